@@ -27,10 +27,9 @@ int main(int argc, char **argv) {
         strcat(strcat(settings, argv[i]), "\n");
     }
     peltzivar_syntax syntax;
-    peltzivar_reader reader;
     const size_t len = strlen(settings), problems = peltzivar_read_settings(settings, len, &syntax);
     for (size_t i = 0; peltzivar_settings_text(settings, len, i, message, sizeof message); i++) puts(message);
-    if (problems || peltzivar_reader_init(&reader, &syntax)) return 1;
+    if (problems) return 1;
 
     for (int number = 1; fgets(line, sizeof line, stdin); number++) {
         size_t size = strlen(line);
@@ -40,7 +39,7 @@ int main(int argc, char **argv) {
         peltzivar_literal literal;
         peltzivar_read_error error;
         peltzivar_explanation why;
-        if (peltzivar_read(&reader, line, size, &literal, &error)) {
+        if (peltzivar_read(&syntax, line, size, &literal, &error)) {
             print_value(&literal);
         } else if (peltzivar_explain(&error, &why)) {
             peltzivar_read_error_text(&error, message, sizeof message);

@@ -20,6 +20,7 @@ SET = [(name.lower(), int(bit)) for name, bit in re.findall(r"\bPELTZIVAR_SET_(\
 TYPES = {"bool": "c_bool", "size_t": "c_size_t", "int64_t": "c_int64", "double": "c_double", "float": "c_float", **STRUCTS}
 TYPES |= {f"uint{bits}_t": f"c_uint{bits}" for bits in (8, 32, 64)}
 TYPES |= {name: TYPES[kind] for kind, name in re.findall(r"typedef (\w+) (\w+);", CODE)}
+POINTERS = {"char": "c_char_p", "peltzivar_forms": "c_void_p"}
 
 
 def defined(name):
@@ -41,7 +42,7 @@ def text(name, call, meaning):
 
 def argument(text):
     kind, pointer, count = re.fullmatch(r"(?:const )?(\w+) (\*?)\w+(?:\[(\d+)\])?", text).groups()
-    kind = "c_char_p" if kind == "char" else f"POINTER({TYPES[kind]})" if pointer else TYPES[kind]
+    kind = POINTERS.get(kind) or (f"POINTER({TYPES[kind]})" if pointer else TYPES[kind])
     return f"{kind} * {count}" if count else kind
 
 

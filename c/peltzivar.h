@@ -8,14 +8,12 @@
  *         const char settings[] = "digit_separator='.'\ninteger_internal_digit_separator=true\npoint=','";
  *         const char number[] = "1.234,50";
  *         peltzivar_syntax syntax;
- *         peltzivar_reader reader;
  *         peltzivar_literal literal;
  *         peltzivar_read_error error;
  *         char message[PELTZIVAR_TEXT_SIZE];
  *         double value;
  *         if (peltzivar_read_settings(settings, strlen(settings), &syntax)) return 2;
- *         if (peltzivar_reader_init(&reader, &syntax)) return 2;
- *         if (!peltzivar_read(&reader, number, strlen(number), &literal, &error)) {
+ *         if (!peltzivar_read(&syntax, number, strlen(number), &literal, &error)) {
  *             peltzivar_read_error_text(&error, message, sizeof message);
  *             return puts(message), 1;
  *         }
@@ -104,11 +102,12 @@ typedef struct {
 
 /* SETTINGS
  *
- * A syntax is a lawful word with an exponent character and a decimal point, or with 0 for both. If both are 0, numbers
- * are integers. The other members are conditions: that a number has the base prefix or the base suffix, that its sign
- * is not `-`, and that the digit separators of its integer, if it has any, make groups of 2 to 8 digits, as in `1,234`.
- * Members that an initialiser leaves out are 0 or false, which is no condition. A later version may have conditions in
- * `reserved`, so a syntax is refused if one of these bytes is not 0. */
+ * A syntax is what texts are read by: a lawful word with an exponent character and a decimal point, or with 0 for both.
+ * If both are 0, numbers are integers. The other members are conditions: that a number has the base prefix or the base
+ * suffix, that its sign is not `-`, and that the digit separators of its integer, if it has any, make groups of 2 to 8
+ * digits, as in `1,234`. Members that an initialiser leaves out are 0 or false, which is no condition. A later version
+ * may have conditions in `reserved`, so a syntax is refused if one of these bytes is not 0. peltzivar_read_settings and
+ * peltzivar_form_syntax write a syntax. Check one of your own with peltzivar_check_syntax. */
 typedef struct {
     peltzivar_word format;
     uint8_t exponent, decimal_point;
@@ -142,12 +141,23 @@ size_t peltzivar_settings_text(const char *text, size_t len, size_t index, char 
  * has no line. An overridden setting has its own line and the one that completes this. */
 size_t peltzivar_settings_lines(const char *text, size_t len, size_t index, size_t *to, size_t to_len);
 
-/* READERS
+/* Returns PELTZIVAR_SUCCESS if the word of a syntax is lawful, if the options fit its normal form or are both 0, and if
+ * the format does not contradict the conditions. Otherwise, returns the error of the first rule that the word breaks,
+ * the error that peltzivar_check_options returns for the normal form, the format error of the field that contradicts a
+ * condition, or PELTZIVAR_INVALID_FLAGS for a reserved byte or a null pointer. Calls that take a syntax do not repeat
+ * this check, which takes longer than reading a text. By a syntax that it refuses, they read and write nothing, or
+ * something that no rule describes, but all of them are safe. */
+peltzivar_error peltzivar_check_syntax(const peltzivar_syntax *syntax);
+
+/* Writes why peltzivar_check_syntax refuses a syntax as a sentence, such as "the exponent character 'e' is a digit in
+ * radix 16". If it accepts the syntax, writes an empty string. */
+size_t peltzivar_syntax_error_text(const peltzivar_syntax *syntax, char *text, size_t len);
+
+/* LITERALS
  *
- * A reader reads the literals of a syntax, which are the texts that are its numbers. FORMAT.md defines them.
- * peltzivar_reader_init makes a reader once, for any number of texts. `syntax` is its syntax, with the normal form of
- * the word. Readers, literals and errors can be copied. Do not change one, or pass it to another build of the library.
- * Calls refuse memory whose `magic` they did not write, such as zeros. */
+ * The literals of a syntax are the texts that are its numbers. FORMAT.md defines them. Literals and errors can be
+ * copied. Do not change one, or pass it to another build of the library. Calls refuse memory whose `magic` they did not
+ * write, such as zeros. */
 #ifdef __GNUC__
 #define PELTZIVAR_ALIGNED __attribute__((aligned(16)))
 #elif defined(__cplusplus)
@@ -155,24 +165,6 @@ size_t peltzivar_settings_lines(const char *text, size_t len, size_t index, size
 #else
 #define PELTZIVAR_ALIGNED _Alignas(16)
 #endif
-typedef struct {
-    PELTZIVAR_ALIGNED uint64_t magic;
-    peltzivar_syntax syntax;
-    uint64_t tables[507];
-} peltzivar_reader;
-
-/* Writes the reader of a syntax to *reader and returns PELTZIVAR_SUCCESS if the word is lawful, if the options fit its
- * normal form or are both 0, and if the format does not contradict the conditions. Otherwise, leaves *reader unchanged
- * and returns the error of the first rule that the word breaks, the error that peltzivar_check_options returns for the
- * normal form, the format error of the field that contradicts a condition, or PELTZIVAR_INVALID_FLAGS for a reserved
- * byte. peltzivar_syntax_error_text has the words for all of them. It takes as long as reading some 400 texts. */
-PELTZIVAR_MUST_USE peltzivar_error peltzivar_reader_init(peltzivar_reader *reader, const peltzivar_syntax *syntax);
-
-/* Writes why peltzivar_reader_init refuses a syntax as a sentence, such as "the exponent character 'e' is a digit in
- * radix 16". If it accepts the syntax, writes an empty string. */
-size_t peltzivar_syntax_error_text(const peltzivar_syntax *syntax, char *text, size_t len);
-
-/* LITERALS */
 
 /* The bytes of a text from the index `start` to below the index `end`. */
 typedef struct {
@@ -207,16 +199,16 @@ typedef struct {
 } peltzivar_read_error;
 
 /* Reads a text of len bytes. If it is a literal, writes its parts to *literal and returns true. Otherwise, writes where
- * reading stopped to *error and returns false. Also refuses a reader that is null or that no call has made, and a text
- * of more than PTRDIFF_MAX bytes. Then `valid_up_to` is 0. */
-PELTZIVAR_MUST_USE bool peltzivar_read(const peltzivar_reader *reader, const char *text, size_t len,
+ * reading stopped to *error and returns false. Also refuses a syntax that is null or has reserved bytes, and a text of
+ * more than PTRDIFF_MAX bytes. Then `valid_up_to` is 0. */
+PELTZIVAR_MUST_USE bool peltzivar_read(const peltzivar_syntax *syntax, const char *text, size_t len,
     peltzivar_literal *literal, peltzivar_read_error *error);
 
 /* Does the same for the longest beginning of the text that is a literal. What follows it may be anything. If there is
  * none, *error is that of peltzivar_read. integer_group_size is tested last: if the groups of this beginning are wrong,
  * it is refused. Reads no byte behind the first that cannot follow or, if it begins a character of UTF-8, behind this
  * character. */
-PELTZIVAR_MUST_USE bool peltzivar_read_prefix(const peltzivar_reader *reader, const char *text, size_t len,
+PELTZIVAR_MUST_USE bool peltzivar_read_prefix(const peltzivar_syntax *syntax, const char *text, size_t len,
     peltzivar_literal *literal, peltzivar_read_error *error);
 
 /* VALUES
@@ -304,8 +296,8 @@ enum {
     PELTZIVAR_CONDITION_INTEGER_GROUP_SIZE = 8
 };
 
-/* Writes why a text is not a literal to *out and returns true. If no call has written *error, or if the reader or the
- * length was refused, leaves *out unchanged and returns false. */
+/* Writes why a text is not a literal to *out and returns true. If no call has written *error, or if the syntax, the
+ * forms or the length were refused, leaves *out unchanged and returns false. */
 PELTZIVAR_MUST_USE bool peltzivar_explain(const peltzivar_read_error *error, peltzivar_explanation *out);
 
 /* SPECIAL VALUES AND LANGUAGES
@@ -321,43 +313,50 @@ typedef struct {
 } peltzivar_special;
 enum { PELTZIVAR_SPELLING_NAN = 1, PELTZIVAR_SPELLING_INF = 2, PELTZIVAR_SPELLING_INFINITY = 3 };
 
-/* Reads a text of len bytes as a special value: an optional sign, and the first of the spellings that matches.
- * The flags of the reader's syntax decide which signs, cases and digit separators match. If the text is a special
- * value, writes it to *out and returns true. Otherwise, or if peltzivar_read refuses the reader or the length,
- * leaves *out unchanged and returns false. A text can also be a literal, such as `inf` in radix 36. So call
- * peltzivar_read first. */
-PELTZIVAR_MUST_USE bool peltzivar_read_special(const peltzivar_reader *reader, const peltzivar_specials *specials,
+/* Reads a text of len bytes as a special value: an optional sign, and the first of the spellings that matches. The
+ * flags of the syntax decide which signs, cases and digit separators match. If the text is a special value, writes it
+ * to *out and returns true. Otherwise, or if peltzivar_read refuses the syntax or the length, leaves *out unchanged and
+ * returns false. A text can also be a literal, such as `inf` in radix 36. So call peltzivar_read first. */
+PELTZIVAR_MUST_USE bool peltzivar_read_special(const peltzivar_syntax *syntax, const peltzivar_specials *specials,
     const char *text, size_t len, peltzivar_special *out);
 
-/* If a language or file format has a name of len bytes, such as "JSON" or "C_SHARP", writes its spellings to
- * *specials and returns its reader. Both last as long as the program. A spelling that it lacks is "". Otherwise, writes
- * nothing and returns a null pointer. Names are case-sensitive. In Python, `help(peltzivar.Language)` describes each.
- *
- * A language has one form of literals or more, such as `10`, `0x1F` and `0b1`. The first form that a text has decides
- * its parts and its value. peltzivar_read_prefix finds the longest literal of any form. `syntax` is that of the first
- * form. */
-PELTZIVAR_MUST_USE const peltzivar_reader *peltzivar_language(
+/* The forms of the literals of a language, such as `10`, `0x1F` and `0b1`, at least one, and its spellings. */
+typedef struct peltzivar_forms peltzivar_forms;
+
+/* If a language or file format has a name of len bytes, such as "JSON" or "C_SHARP", writes its spellings to *specials
+ * and returns its forms. Both last as long as the program. A spelling that it lacks is "". Otherwise, writes nothing
+ * and returns a null pointer. Names are case-sensitive. In Python, `help(peltzivar.Language)` describes each. */
+PELTZIVAR_MUST_USE const peltzivar_forms *peltzivar_language(
     const char *name, size_t len, peltzivar_specials *specials);
 
 /* Returns the name of a language. The languages have the indices from 0 on, in alphabetical order. */
 const char *peltzivar_language_name(size_t index);
 
-/* Returns the name of a form of a language, such as "hexadecimal". Its forms have the indices from 0 on. If
- * peltzivar_language did not return this reader, or a copy of it, returns an empty string. */
-const char *peltzivar_form_name(const peltzivar_reader *reader, size_t form);
+/* Do what peltzivar_read, peltzivar_read_prefix and peltzivar_read_special do, and refuse forms that are null. The
+ * first form that a text has decides its parts and its value. peltzivar_forms_read_prefix finds the longest literal of
+ * any form. peltzivar_forms_read_special takes the language's spellings, and the flags of its first form. */
+PELTZIVAR_MUST_USE bool peltzivar_forms_read(const peltzivar_forms *forms, const char *text, size_t len,
+    peltzivar_literal *literal, peltzivar_read_error *error);
+PELTZIVAR_MUST_USE bool peltzivar_forms_read_prefix(const peltzivar_forms *forms, const char *text, size_t len,
+    peltzivar_literal *literal, peltzivar_read_error *error);
+PELTZIVAR_MUST_USE bool peltzivar_forms_read_special(
+    const peltzivar_forms *forms, const char *text, size_t len, peltzivar_special *out);
 
-/* Writes the syntax of a form of a language to *out and returns true. If peltzivar_form_name returns an empty string,
- * leaves *out unchanged and returns false. An earlier form of the language may read a text otherwise: C's octal form
- * reads `17` as 15. */
-PELTZIVAR_MUST_USE bool peltzivar_form_syntax(const peltzivar_reader *reader, size_t form, peltzivar_syntax *out);
+/* Returns the name of a form, such as "hexadecimal". The forms have the indices from 0 on. A null pointer has none. */
+const char *peltzivar_form_name(const peltzivar_forms *forms, size_t form);
+
+/* Writes the syntax of a form to *out and returns true. If peltzivar_form_name returns an empty string, leaves *out
+ * unchanged and returns false. An earlier form of the language may read a text otherwise: C's octal form reads `17` as
+ * 15. */
+PELTZIVAR_MUST_USE bool peltzivar_form_syntax(const peltzivar_forms *forms, size_t form, peltzivar_syntax *out);
 
 /* WRITING
  *
- * Each call writes a number as a literal of a reader's syntax, or of the first form of a language, and a null
- * terminator to a buffer of len bytes. It writes to *needed the length with the terminator, and returns
- * PELTZIVAR_WRITE_OK if len is at least that. Otherwise, it writes only the beginning and a terminator, if len is not
- * 0, and returns PELTZIVAR_WRITE_BUFFER. If the number cannot be written, it leaves the buffer and *needed unchanged
- * and returns why. Reading the text returns the same value. */
+ * Each call writes a number as a literal of a syntax, such as one of peltzivar_form_syntax, and a null terminator to a
+ * buffer of len bytes. It writes to *needed the length with the terminator, and returns PELTZIVAR_WRITE_OK if len is at
+ * least that. Otherwise, it writes only the beginning and a terminator, if len is not 0, and returns
+ * PELTZIVAR_WRITE_BUFFER. If the number cannot be written, it leaves the buffer and *needed unchanged and returns why.
+ * Reading the text returns the same value. */
 
 /* How numbers are written where a syntax leaves a choice: the number of integer digits in a group, if the format allows
  * separators between them, or 0 for no groups, and whether the base prefix and the base suffix are left out. A
@@ -379,7 +378,7 @@ enum {
     PELTZIVAR_WRITE_FLOAT = 5, /* Each literal has an exponent, and the number is of an integer type. */
     PELTZIVAR_WRITE_SPECIAL = 6, /* The number is NaN or infinity. */
     PELTZIVAR_WRITE_BUFFER = 7, /* The buffer is too short. */
-    PELTZIVAR_WRITE_NOT_MADE = 8 /* No call has made the reader, or the literal. */
+    PELTZIVAR_WRITE_ARGUMENT = 8 /* The syntax is null or refused, or no call has made the literal. */
 };
 
 /* The sizes of buffers for any integer of the next three calls, and for any float of peltzivar_format_f64. */
@@ -387,20 +386,20 @@ enum {
 #define PELTZIVAR_FLOAT_SIZE 622
 
 /* Write an integer, with its digits in the mantissa radix. */
-PELTZIVAR_MUST_USE peltzivar_write_status peltzivar_format_i64(const peltzivar_reader *reader, int64_t value,
+PELTZIVAR_MUST_USE peltzivar_write_status peltzivar_format_i64(const peltzivar_syntax *syntax, int64_t value,
     const peltzivar_style *style, char *text, size_t len, size_t *needed);
-PELTZIVAR_MUST_USE peltzivar_write_status peltzivar_format_u64(const peltzivar_reader *reader, uint64_t value,
+PELTZIVAR_MUST_USE peltzivar_write_status peltzivar_format_u64(const peltzivar_syntax *syntax, uint64_t value,
     const peltzivar_style *style, char *text, size_t len, size_t *needed);
-PELTZIVAR_MUST_USE peltzivar_write_status peltzivar_format_i128(const peltzivar_reader *reader, peltzivar_i128 value,
+PELTZIVAR_MUST_USE peltzivar_write_status peltzivar_format_i128(const peltzivar_syntax *syntax, peltzivar_i128 value,
     const peltzivar_style *style, char *text, size_t len, size_t *needed);
 
 /* Writes the shortest decimal digits that are read as this float, if the mantissa radix and the exponent base are 10. A
  * very large or very small one has an exponent, if the syntax has one. */
-PELTZIVAR_MUST_USE peltzivar_write_status peltzivar_format_f64(const peltzivar_reader *reader, double value,
+PELTZIVAR_MUST_USE peltzivar_write_status peltzivar_format_f64(const peltzivar_syntax *syntax, double value,
     const peltzivar_style *style, char *text, size_t len, size_t *needed);
 
 /* Writes a literal, which may be of another syntax, with the same value and without leading zeros. */
-PELTZIVAR_MUST_USE peltzivar_write_status peltzivar_format_literal(const peltzivar_reader *reader,
+PELTZIVAR_MUST_USE peltzivar_write_status peltzivar_format_literal(const peltzivar_syntax *syntax,
     const peltzivar_literal *literal, const peltzivar_style *style, char *text, size_t len, size_t *needed);
 
 /* Returns what a status means, such as "no literal has this exponent". PELTZIVAR_WRITE_OK has an empty string. */
@@ -571,7 +570,7 @@ peltzivar_word peltzivar_note_mask(const peltzivar_fields *fields, size_t index)
  * not 0. Neither may match a byte that the other option, the digit separator, the base prefix or the base suffix
  * matches. The decimal point matches only itself. If the exponent character is a letter, it matches both cases of the
  * letter unless case_sensitive_exponent is set. PELTZIVAR_RULE_PUNCTUATION_DIFFERS states which bytes the others match.
- * Of a lawful word, peltzivar_reader_init accepts more: 0 for both options, and, since it checks the normal form, a
+ * Of a lawful word, peltzivar_check_syntax accepts more: 0 for both options, and, since it checks the normal form, a
  * digit separator that no flag allows. Returns PELTZIVAR_SUCCESS, or the first of these errors that applies:
  * PELTZIVAR_INVALID_EXPONENT_SYMBOL or PELTZIVAR_INVALID_DECIMAL_POINT if this option is not punctuation, or
  * PELTZIVAR_INVALID_PUNCTUATION. */

@@ -8,7 +8,7 @@ function character(byte, prefix) {
 /* Returns a comment with the reader of all forms of a language. */
 const COMMENTS = {
     rust: (name) => `// The reader of all forms is peltzivar::literal::Language::${name}.\n`,
-    c: (name) => `/* The reader of all forms is peltzivar_language("${name}", ${name.length}, NULL). */\n`,
+    c: (name) => `/* peltzivar_forms_read reads all forms, with peltzivar_language("${name}", ${name.length}, NULL). */\n`,
     python: (name) => `# The reader of all forms is peltzivar.languages.${name}.\n`,
     settings: () => "",
 };
@@ -71,27 +71,25 @@ class Code {
         const lines = this.lines(state).map((line) => `    ${JSON.stringify(`${line}\n`)}`).join("\n");
         const specials = state.specials.join(", ");
         const spelled = specials && `\nstatic const peltzivar_specials SPECIALS = {${specials}};`;
-        const special = specials && "\n        || peltzivar_read_special(reader, &SPECIALS, text, strlen(text), special)";
+        const special = specials && "\n        || peltzivar_read_special(syntax, &SPECIALS, text, strlen(text), special)";
         return `${start}#include <string.h>
 
 /* ${wordText(state.word)} */
 static const char SETTINGS[] =
 ${lines || '    ""'};${spelled}
 
-/* Makes the reader. Call this once, before the first text is read. */
-bool make_reader(peltzivar_reader *reader) {
-    peltzivar_syntax syntax;
-    return !peltzivar_read_settings(SETTINGS, strlen(SETTINGS), &syntax)
-        && peltzivar_reader_init(reader, &syntax) == PELTZIVAR_SUCCESS;
+/* Writes the syntax, and returns whether the settings are right. Call this once, before the first text is read. */
+bool make_syntax(peltzivar_syntax *syntax) {
+    return !peltzivar_read_settings(SETTINGS, strlen(SETTINGS), syntax);
 }
 
 /* Returns whether the text is a number. If special->spelling is 0, it is a literal, and
  * peltzivar_to_i128 or, of a float, peltzivar_to_f64 makes its value. Otherwise, it is NaN or infinity. */
 bool read_number(
-    const peltzivar_reader *reader, const char *text, peltzivar_literal *literal, peltzivar_special *special) {
+    const peltzivar_syntax *syntax, const char *text, peltzivar_literal *literal, peltzivar_special *special) {
     peltzivar_read_error error;
     special->spelling = 0;
-    return peltzivar_read(reader, text, strlen(text), literal, &error)${special};
+    return peltzivar_read(syntax, text, strlen(text), literal, &error)${special};
 }
 `;
     }

@@ -80,15 +80,15 @@ fn show(format: Format, read: fn(&str) -> Result<Number<'_>, FormError>) {
 """
 C = r"""
 #include <stdio.h>
-typedef bool read(const peltzivar_reader *, const char *, peltzivar_literal *, peltzivar_special *);
+typedef bool read(const peltzivar_syntax *, const char *, peltzivar_literal *, peltzivar_special *);
 static void print(uint64_t low, uint64_t high) { printf("0x%016llX%016llX\n", (long long)high, (long long)low); }
-static void show(bool (*make_reader)(peltzivar_reader *), read *read_number) {
-    static peltzivar_reader reader; peltzivar_literal literal; peltzivar_special special; peltzivar_i128 it; double value;
+static void show(bool (*make_syntax)(peltzivar_syntax *), read *read_number) {
+    static peltzivar_syntax syntax; peltzivar_literal literal; peltzivar_special special; peltzivar_i128 it; double value;
     FILE *file = fopen("texts", "r");
-    if (make_reader(&reader)) print(reader.syntax.format.low, reader.syntax.format.high);
+    if (make_syntax(&syntax)) print(syntax.format.low, syntax.format.high);
     for (char text[256]; fgets(text, sizeof text, file);) {
         text[strcspn(text, "\n")] = 0;
-        if (!read_number(&reader, text, &literal, &special)) puts("refused");
+        if (!read_number(&syntax, text, &literal, &special)) puts("refused");
         else if (special.spelling) printf("%c%s\n", special.sign ? special.sign : '+', special.spelling == 1 ? "nan" : "inf");
         else if (!peltzivar_to_i128(&literal, &it)) print(it.low, it.high);
         else if (!peltzivar_to_f64(&literal, &value)) printf("%.17e\n", value);
@@ -284,9 +284,9 @@ class Walk(unittest.TestCase):
         return run("cargo", "run", "--quiet", "--offline", "--target-dir", folder, cwd=folder)
 
     def c(self, folder, codes):
-        names = r"\b(SETTINGS|SPECIALS|WORD|make_reader|read_number)\b"
+        names = r"\b(SETTINGS|SPECIALS|WORD|make_syntax|read_number)\b"
         parts = [re.sub(names, rf"\1_{index}", code) for index, code in enumerate(codes)]
-        show = [("show(make_reader_{0}, read_number_{0});" if "make" in it else "print(WORD_{0}.low, WORD_{0}.high);") for it in codes]
+        show = [("show(make_syntax_{0}, read_number_{0});" if "make" in it else "print(WORD_{0}.low, WORD_{0}.high);") for it in codes]
         calls = " ".join(call.format(index) for index, call in enumerate(show))
         (folder / "main.c").write_text("".join([*parts, C, f"int main(void) {{ {calls} }}\n"]))
         run("cc", "-Wall", "-Wextra", "-Werror", "-I", TOP / "c", "-o", folder / "main", folder / "main.c", BUILD / "release/libpeltzivar_c.a")

@@ -39,7 +39,7 @@ import operator
 import os
 import reprlib
 from ctypes import CDLL, POINTER, Structure, c_bool, c_char_p, c_double, c_float, c_int64, c_size_t
-from ctypes import c_uint8, c_uint32, c_uint64, create_string_buffer, sizeof
+from ctypes import c_uint8, c_uint32, c_uint64, c_void_p, create_string_buffer, sizeof
 from dataclasses import dataclass, field
 from decimal import MAX_EMAX, MIN_EMIN, Context, Decimal, DecimalException, InvalidOperation, Rounded
 from enum import Enum
@@ -270,14 +270,6 @@ class _Syntax(Structure):
     ]
 
 
-class _Reader(Structure):
-    _fields_ = [
-        ("magic", c_uint64),
-        ("syntax", _Syntax),
-        ("tables", c_uint64 * 507),
-    ]
-
-
 class _Span(Structure):
     _fields_ = [
         ("start", c_size_t),
@@ -389,10 +381,10 @@ _CALLS: Dict[str, Tuple[Any, List[Any]]] = {
     "read_settings": (c_size_t, [c_char_p, c_size_t, POINTER(_Syntax)]),
     "settings_text": (c_size_t, [c_char_p, c_size_t, c_size_t, c_char_p, c_size_t]),
     "settings_lines": (c_size_t, [c_char_p, c_size_t, c_size_t, POINTER(c_size_t), c_size_t]),
-    "reader_init": (c_uint32, [POINTER(_Reader), POINTER(_Syntax)]),
+    "check_syntax": (c_uint32, [POINTER(_Syntax)]),
     "syntax_error_text": (c_size_t, [POINTER(_Syntax), c_char_p, c_size_t]),
-    "read": (c_bool, [POINTER(_Reader), c_char_p, c_size_t, POINTER(_Literal), POINTER(_ReadError)]),
-    "read_prefix": (c_bool, [POINTER(_Reader), c_char_p, c_size_t, POINTER(_Literal), POINTER(_ReadError)]),
+    "read": (c_bool, [POINTER(_Syntax), c_char_p, c_size_t, POINTER(_Literal), POINTER(_ReadError)]),
+    "read_prefix": (c_bool, [POINTER(_Syntax), c_char_p, c_size_t, POINTER(_Literal), POINTER(_ReadError)]),
     "to_i64": (c_uint8, [POINTER(_Literal), POINTER(c_int64)]),
     "to_u64": (c_uint8, [POINTER(_Literal), POINTER(c_uint64)]),
     "to_i128": (c_uint8, [POINTER(_Literal), POINTER(_I128)]),
@@ -402,16 +394,19 @@ _CALLS: Dict[str, Tuple[Any, List[Any]]] = {
     "read_error_text": (c_size_t, [POINTER(_ReadError), c_char_p, c_size_t]),
     "part_name": (c_char_p, [c_uint8]),
     "explain": (c_bool, [POINTER(_ReadError), POINTER(_Explanation)]),
-    "read_special": (c_bool, [POINTER(_Reader), POINTER(_Specials), c_char_p, c_size_t, POINTER(_Special)]),
-    "language": (POINTER(_Reader), [c_char_p, c_size_t, POINTER(_Specials)]),
+    "read_special": (c_bool, [POINTER(_Syntax), POINTER(_Specials), c_char_p, c_size_t, POINTER(_Special)]),
+    "language": (c_void_p, [c_char_p, c_size_t, POINTER(_Specials)]),
     "language_name": (c_char_p, [c_size_t]),
-    "form_name": (c_char_p, [POINTER(_Reader), c_size_t]),
-    "form_syntax": (c_bool, [POINTER(_Reader), c_size_t, POINTER(_Syntax)]),
-    "format_i64": (c_uint8, [POINTER(_Reader), c_int64, POINTER(_Style), c_char_p, c_size_t, POINTER(c_size_t)]),
-    "format_u64": (c_uint8, [POINTER(_Reader), c_uint64, POINTER(_Style), c_char_p, c_size_t, POINTER(c_size_t)]),
-    "format_i128": (c_uint8, [POINTER(_Reader), _I128, POINTER(_Style), c_char_p, c_size_t, POINTER(c_size_t)]),
-    "format_f64": (c_uint8, [POINTER(_Reader), c_double, POINTER(_Style), c_char_p, c_size_t, POINTER(c_size_t)]),
-    "format_literal": (c_uint8, [POINTER(_Reader), POINTER(_Literal), POINTER(_Style), c_char_p, c_size_t, POINTER(c_size_t)]),
+    "forms_read": (c_bool, [c_void_p, c_char_p, c_size_t, POINTER(_Literal), POINTER(_ReadError)]),
+    "forms_read_prefix": (c_bool, [c_void_p, c_char_p, c_size_t, POINTER(_Literal), POINTER(_ReadError)]),
+    "forms_read_special": (c_bool, [c_void_p, c_char_p, c_size_t, POINTER(_Special)]),
+    "form_name": (c_char_p, [c_void_p, c_size_t]),
+    "form_syntax": (c_bool, [c_void_p, c_size_t, POINTER(_Syntax)]),
+    "format_i64": (c_uint8, [POINTER(_Syntax), c_int64, POINTER(_Style), c_char_p, c_size_t, POINTER(c_size_t)]),
+    "format_u64": (c_uint8, [POINTER(_Syntax), c_uint64, POINTER(_Style), c_char_p, c_size_t, POINTER(c_size_t)]),
+    "format_i128": (c_uint8, [POINTER(_Syntax), _I128, POINTER(_Style), c_char_p, c_size_t, POINTER(c_size_t)]),
+    "format_f64": (c_uint8, [POINTER(_Syntax), c_double, POINTER(_Style), c_char_p, c_size_t, POINTER(c_size_t)]),
+    "format_literal": (c_uint8, [POINTER(_Syntax), POINTER(_Literal), POINTER(_Style), c_char_p, c_size_t, POINTER(c_size_t)]),
     "write_description": (c_char_p, [c_uint8]),
     "build": (c_bool, [POINTER(_Edit), c_size_t, POINTER(_Word)]),
     "edit_word": (c_bool, [_Word, POINTER(_Edit), c_size_t, POINTER(_Word)]),
@@ -1342,7 +1337,8 @@ class Syntax:
     no_negative_mantissa_sign: bool = False
     integer_group_size: Optional[int] = None
     # End
-    _reader: Any = field(init=False, repr=False, compare=False, default_factory=_Reader)
+    # What calls read by.
+    _by: Any = field(init=False, repr=False, compare=False)
     _fields: Any = field(init=False, repr=False, compare=False)
 
     def __post_init__(self) -> None:
@@ -1355,13 +1351,13 @@ class Syntax:
             raise OptionsError((Reason(sentence, options=(Role.EXPONENT, Role.POINT)),))
         exponent, point = (chr(it) if it else None for it in options)
         conditions = {name: _condition(name, getattr(self, name)) for name in _CONDITIONS}
-        vars(self).update(conditions, format=format, exponent=exponent, point=point, _fields=format._unpacked())
-        numbers = _Syntax(format._halves, *options, *(it or 0 for it in conditions.values()))
-        if _library.reader_init(self._reader, numbers):
-            raise OptionsError((Reason(_text(_library.syntax_error_text, numbers)),))
+        by = _Syntax(format._halves, *options, *(it or 0 for it in conditions.values()))
+        vars(self).update(conditions, format=format, exponent=exponent, point=point, _by=by, _fields=format._unpacked())
+        if _library.check_syntax(by):
+            raise OptionsError((Reason(_text(_library.syntax_error_text, by)),))
 
     def __reduce__(self) -> Tuple[Any, ...]:
-        """Returns what makes the syntax again, since a reader is of this build of the library."""
+        """Returns what makes the syntax again."""
         return type(self), (self.format, self.exponent, self.point, *(getattr(self, it) for it in _CONDITIONS))
 
     @classmethod
@@ -1559,7 +1555,7 @@ class Syntax:
         call, number, _literal = _writing(value, self._fields.mantissa_radix)
         for _ in range(2):
             buffer = create_string_buffer(needed.value)
-            if not (status := call(self._reader, number, style, buffer, len(buffer), needed)):
+            if not (status := call(self._by, number, style, buffer, len(buffer), needed)):
                 return buffer.value.decode()
         raise ValueError(_library.write_description(status).decode())
 
@@ -1598,11 +1594,11 @@ _DECIMALS = Syntax(Format())
 def _read(owner: Union[Syntax, Language], call: Any, text: AnyStr) -> Union[Literal[AnyStr], _ReadError]:
     """Returns the literal of peltzivar_read or peltzivar_read_prefix, or where it stopped."""
     found, data = _Literal(), _readable(text)
-    if call(owner._reader, data, len(data), found, None):
+    if call(owner._by, data, len(data), found, None):
         literal: Literal[AnyStr] = Literal.__new__(Literal)
         return literal._set(owner, text[: found.size], found, data)
     stopped = _ReadError()
-    call(owner._reader, data, len(data), found, stopped)
+    call(owner._by, data, len(data), found, stopped)
     return stopped
 
 
@@ -1689,11 +1685,11 @@ class Specials:
     def read(self, syntax: Syntax, text: Union[str, bytes]) -> Optional[Special]:
         """Returns the special value that a text is, or None. The flags of the syntax decide which signs, cases of
         letters and digit separators it may have. A text can also be a literal, such as `inf` in radix 36."""
-        data, special, reader = _encoded("a text", text), _Special(), _typed("syntax", syntax, Syntax)._reader
+        data, special, by = _encoded("a text", text), _Special(), _typed("syntax", syntax, Syntax)._by
         spellings = [_encoded("a spelling", "" if it is None else it) for it in (self.nan, self.inf, self.infinity)]
         if any(b"\0" in it for it in spellings):
             raise ValueError(f"a spelling has a null character: {self}")
-        if not _library.read_special(reader, _Specials(*spellings), data, len(data), special):
+        if not _library.read_special(by, _Specials(*spellings), data, len(data), special):
             return None
         return Special(chr(special.sign) if special.sign else "", Spelling(special.spelling))
 
@@ -1806,17 +1802,17 @@ class Language(_Named):
     # End
 
     @functools.cached_property
-    def _reader(self) -> Any:
+    def _by(self) -> Any:
         return _library.language(self.name.encode(), len(self.name), None)
 
     @functools.cached_property
     def _names(self) -> Tuple[str, ...]:
-        return tuple(takewhile(bool, (_library.form_name(self._reader, it).decode() for it in count())))
+        return tuple(takewhile(bool, (_library.form_name(self._by, it).decode() for it in count())))
 
     @functools.cached_property
     def _syntaxes(self) -> Tuple[Syntax, ...]:
         made = [_Syntax() for _ in self._names]
-        return tuple(Syntax._of_numbers(it) for form, it in enumerate(made) if _library.form_syntax(self._reader, form, it))
+        return tuple(Syntax._of_numbers(it) for form, it in enumerate(made) if _library.form_syntax(self._by, form, it))
 
     def __repr__(self) -> str:
         return f"languages.{self.name}"
@@ -1835,14 +1831,14 @@ class Language(_Named):
 
     def read(self, text: AnyStr) -> Union[Literal[AnyStr], Special]:
         """Returns the number that a text is: a literal or a special value. Raises LiteralError if it is neither."""
-        found = _read(self, _library.read, text)
+        found = _read(self, _library.forms_read, text)
         if isinstance(found, Literal):
             return found
         return self.specials.read(self._syntaxes[0], text) or _accepted(self, text, found)
 
     def read_prefix(self, text: AnyStr) -> Tuple[Literal[AnyStr], AnyStr]:
         """Returns the longest literal that a text begins with, and the rest. Raises LiteralError if there is none."""
-        literal = _accepted(self, text, _read(self, _library.read_prefix, text))
+        literal = _accepted(self, text, _read(self, _library.forms_read_prefix, text))
         return literal, text[len(literal.text) :]
 
 

@@ -29,15 +29,21 @@ static bool is_word(peltzivar_word word, uint64_t high, uint64_t low) {
     return word.high == high && word.low == low;
 }
 
-/* Returns the reader of a language. */
-static const peltzivar_reader *language(const char *name) {
+/* Returns the forms of a language. */
+static const peltzivar_forms *language(const char *name) {
     return peltzivar_language(name, strlen(name), NULL);
 }
 
-/* Writes the reader that settings build, and returns whether there is one. */
-static bool make_reader(const char *lines, peltzivar_reader *reader) {
+/* Returns the syntax of the first form of a language. */
+static peltzivar_syntax first_form(const char *name) {
     peltzivar_syntax syntax;
-    return !peltzivar_read_settings(lines, strlen(lines), &syntax) && !peltzivar_reader_init(reader, &syntax);
+    CHECK(peltzivar_form_syntax(language(name), 0, &syntax));
+    return syntax;
+}
+
+/* Writes the syntax that settings build, and returns whether there is one. */
+static bool make_syntax(const char *lines, peltzivar_syntax *syntax) {
+    return !peltzivar_read_settings(lines, strlen(lines), syntax) && !peltzivar_check_syntax(syntax);
 }
 
 /* Calls a function that writes a string to `text`, and returns whether it writes this string and nothing after it. */
@@ -49,7 +55,7 @@ static void test_constants(void) {
     CHECK(is_word(peltzivar_pack(&starts[0]), 0x00000A0000000000, 0xC) && is_word(words[0], 0x00000A0000000000, 0xC));
     CHECK(is_word(peltzivar_pack(&PELTZIVAR_NEW_FIELDS), PELTZIVAR_STANDARD.high, PELTZIVAR_STANDARD.low));
     CHECK(sizeof(peltzivar_word) == 16 && sizeof(peltzivar_fields) == 16 && sizeof(peltzivar_edit) == 2);
-    CHECK(sizeof(peltzivar_reader) == 4096 && sizeof(peltzivar_read_error) == 128 && sizeof(peltzivar_literal) == 288);
+    CHECK(sizeof(peltzivar_read_error) == 128 && sizeof(peltzivar_literal) == 288);
     CHECK(sizeof(peltzivar_syntax) == 32 && sizeof(peltzivar_explanation) == 48);
 }
 
@@ -107,41 +113,38 @@ static void test_words(void) {
     CHECK(peltzivar_role_of(RESERVED, 'e', '.', 255) == PELTZIVAR_ROLE_NONE && !peltzivar_separators_of(RESERVED, 255).internal);
 }
 
-static void test_readers(void) {
+static void test_syntaxes(void) {
     static const peltzivar_syntax integers = {PELTZIVAR_STANDARD_INIT, 0, 0, false, false, false, 0, {0}};
     static const peltzivar_syntax wrong[] = {{{0, 0}, 0, 0, false, false, false, 0, {0}},
         {PELTZIVAR_STANDARD_INIT, 'e', 0, false, false, false, 0, {0}}, {PELTZIVAR_STANDARD_INIT, 0, 0, true, false, false, 0, {0}}};
     static const peltzivar_error errors[] = {PELTZIVAR_INVALID_MANTISSA_RADIX, PELTZIVAR_INVALID_DECIMAL_POINT, PELTZIVAR_INVALID_BASE_PREFIX};
-    peltzivar_reader readers[3];
     static const peltzivar_specials specials = {"1", "1", "1"};
-    peltzivar_reader *const out = &readers[1];
     peltzivar_literal literal;
     peltzivar_read_error error, unwritten;
     peltzivar_explanation why = {{1, 2}, 3, {4, 5}, 6, 7, 8, 9, 10};
     peltzivar_special special = {7, 7};
-    memset(&unwritten, 0, sizeof unwritten), memset(readers, 0, sizeof readers), memset(&readers[2], '#', sizeof readers[2]);
-    for (int i = 0; i < 3; i++) {
-        const peltzivar_reader *const none = i ? &readers[i] : NULL;
-        CHECK(peltzivar_reader_init(out, &wrong[i]) == errors[i] && out->magic == 0);
-        CHECK(!peltzivar_read(none, "1", 1, NULL, NULL) && !peltzivar_read_special(none, &specials, "1", 1, &special));
-        CHECK(!peltzivar_read_prefix(none, "1", 1, NULL, &error) && error.valid_up_to == 0 && !peltzivar_explain(&error, &why));
-        CHECK(WRITES("no call has made this reader", peltzivar_read_error_text(&error, text, sizeof text)));
-    }
-    for (size_t i = 0; i < sizeof integers.reserved; i++) {
+    memset(&unwritten, 0, sizeof unwritten);
+    for (int i = 0; i < 3; i++) CHECK(peltzivar_check_syntax(&wrong[i]) == errors[i]);
+    for (size_t i = 0; i <= sizeof integers.reserved; i++) {
         peltzivar_syntax reserved = integers;
-        reserved.reserved[i] = 1;
-        CHECK(peltzivar_reader_init(out, &reserved) == PELTZIVAR_INVALID_FLAGS && out->magic == 0);
-        CHECK(WRITES("the reserved bytes of the syntax are not 0", peltzivar_syntax_error_text(&reserved, text, sizeof text)));
+        const peltzivar_syntax *const refused = i ? &reserved : NULL;
+        if (i) reserved.reserved[i - 1] = 1;
+        CHECK(peltzivar_check_syntax(refused) == PELTZIVAR_INVALID_FLAGS);
+        CHECK(WRITES(i ? "the reserved bytes of the syntax are not 0" : "the syntax is a null pointer",
+                     peltzivar_syntax_error_text(refused, text, sizeof text)));
+        CHECK(!peltzivar_read(refused, "1", 1, NULL, NULL) && !peltzivar_read_special(refused, &specials, "1", 1, &special));
+        CHECK(!peltzivar_read_prefix(refused, "1", 1, NULL, &error) && error.valid_up_to == 0 && !peltzivar_explain(&error, &why));
+        CHECK(WRITES("peltzivar_check_syntax refuses this syntax", peltzivar_read_error_text(&error, text, sizeof text)));
+        CHECK(peltzivar_format_i64(refused, 1, NULL, text, sizeof text, NULL) == PELTZIVAR_WRITE_ARGUMENT);
     }
-    CHECK(!peltzivar_reader_init(out, &integers) && is_word(out->syntax.format, 0x0A0A0A0000000000, 0xC));
-    CHECK(!peltzivar_reader_init(NULL, &integers) && WRITES("", peltzivar_syntax_error_text(&integers, text, sizeof text)));
-    memcpy(&readers[0], out, sizeof *out), memset(out, 0, sizeof *out);
-    CHECK(peltzivar_read(&readers[0], "1", 1, &literal, &error) && literal.form == 0 && !peltzivar_read(&readers[0], "1.", 2, NULL, NULL));
-    CHECK(!peltzivar_read(&readers[0], "1.", 2, NULL, &error) && error.form == 0 && sizeof error.form == sizeof literal.form);
-    CHECK(!peltzivar_read(&readers[0], "1", SIZE_MAX, NULL, &error) && !peltzivar_explain(&error, &why) && why.code == 6);
+    CHECK(!peltzivar_check_syntax(&integers) && WRITES("", peltzivar_syntax_error_text(&integers, text, sizeof text)));
+    CHECK(peltzivar_read(&integers, "1", 1, &literal, &error) && literal.form == 0 && !peltzivar_read(&integers, "1.", 2, NULL, NULL));
+    CHECK(!peltzivar_read(&integers, "1.", 2, NULL, &error) && error.form == 0 && sizeof error.form == sizeof literal.form);
+    CHECK(!peltzivar_read(&integers, "1", SIZE_MAX, NULL, &error) && !peltzivar_explain(&error, &why) && why.code == 6);
     CHECK(WRITES("the text has more than PTRDIFF_MAX bytes", peltzivar_read_error_text(&error, text, sizeof text)));
     CHECK(!peltzivar_explain(&unwritten, &why) && WRITES("", peltzivar_read_error_text(&unwritten, text, sizeof text)));
-    CHECK(!peltzivar_read_special(language("YAML"), &specials, "1", SIZE_MAX, &special) && special.sign == 7);
+    CHECK(!peltzivar_read_special(&integers, &specials, "1", SIZE_MAX, &special) && special.sign == 7);
+    CHECK(peltzivar_read_special(&integers, &specials, "1", 1, &special) && special.spelling == PELTZIVAR_SPELLING_NAN && special.sign == 0);
 }
 
 /* Each cause has a sentence of its own. The flags 0 to 17 and 32 to 43, and then the other settings, refuse the texts. */
@@ -152,7 +155,7 @@ static void test_errors(void) {
     static const char *const others[] = {"required_base_prefix=true", "required_base_suffix=true", "no_negative_mantissa_sign=true",
         "integer_group_size=3", "", "", "", ""};
     char sentences[38][PELTZIVAR_TEXT_SIZE] = {""};
-    peltzivar_reader reader;
+    peltzivar_syntax syntax;
     peltzivar_read_error error, copied;
     peltzivar_explanation why;
     for (int i = 0; i < 38; i++) {
@@ -162,7 +165,7 @@ static void test_errors(void) {
         if (!refused[i]) continue;
         snprintf(text, sizeof text, "digit_separator='_'\ndigit_separator_flags=true\nbase_prefix='x'\nbase_suffix='h'\n%s%s",
             i < 30 ? peltzivar_setter_name((peltzivar_setter)flag) : others[i - 30], i < 18 ? "=true" : i < 30 ? "=false" : "");
-        CHECK(make_reader(text, &reader) && !peltzivar_read(&reader, refused[i], strlen(refused[i]), NULL, &error));
+        CHECK(make_syntax(text, &syntax) && !peltzivar_read(&syntax, refused[i], strlen(refused[i]), NULL, &error));
         CHECK(peltzivar_explain(&error, &why) && why.kind == kind && why.number == flag && !why.mask.low == (i >= 30));
         CHECK(why.conditions == (30 <= i && i < 34 ? 1 << (i - 30) : 0));
         CHECK(why.part == (kind == PELTZIVAR_KIND_SEPARATOR ? i % 3 : kind == PELTZIVAR_KIND_MISSING ? i - 34 : PELTZIVAR_NO_PART));
@@ -182,24 +185,25 @@ static void test_values(void) {
         {"9223372036854775808", "0x8000000000000000"}, {"18446744073709551615", "0xFFFFFFFFFFFFFFFF"},
         {"18446744073709551616", "0x10000000000000000"}, {"170141183460469231731687303715884105727", "0x7FFFFFFFFFFFFFFFFFFFFFFFFFFFFFFF"},
         {"170141183460469231731687303715884105728", "0x80000000000000000000000000000000"}};
-    const peltzivar_reader *const swift = language("SWIFT");
+    const peltzivar_forms *const swift = language("SWIFT");
+    const peltzivar_syntax decimal = first_form("SWIFT");
     peltzivar_literal it;
     float real = 7;
 /* Whether a literal has the value of the row, if a type has the rows from `first` to `last`, or else leaves the 7. */
 #define HAS(number, type, first, last) \
     (peltzivar_to_##type(&it, &number) == (i < first ? PELTZIVAR_VALUE_TOO_SMALL : i > last ? PELTZIVAR_VALUE_TOO_LARGE : PELTZIVAR_VALUE_OK) && \
-        !peltzivar_format_##type(swift, number, NULL, text, sizeof text, NULL) && !strcmp(text, first <= i && i <= last ? rows[i][0] : "7"))
+        !peltzivar_format_##type(&decimal, number, NULL, text, sizeof text, NULL) && !strcmp(text, first <= i && i <= last ? rows[i][0] : "7"))
     for (int i = 0; i < 12; i++) {
         for (int j = 0; j < 2; j++) {
             int64_t integer = 7;
             uint64_t natural = 7;
             peltzivar_i128 wide = {7, 0};
-            CHECK(peltzivar_read(swift, rows[i][j], strlen(rows[i][j]), &it, NULL) && it.text == rows[i][j]);
+            CHECK(peltzivar_forms_read(swift, rows[i][j], strlen(rows[i][j]), &it, NULL) && it.text == rows[i][j]);
             CHECK(HAS(integer, i64, 3, 6) && HAS(natural, u64, 5, 8) && HAS(wide, i128, 1, 10));
             CHECK(!peltzivar_to_f32(&it, &real) && real == strtof(rows[i][0], NULL) && !signbit(real) == (*it.text != '-'));
         }
     }
-    CHECK(peltzivar_read(language("C"), "0x1.8p-1", 8, &it, NULL) && !peltzivar_to_f32(&it, &real) && real == 0.75F);
+    CHECK(peltzivar_forms_read(language("C"), "0x1.8p-1", 8, &it, NULL) && !peltzivar_to_f32(&it, &real) && real == 0.75F);
     CHECK(peltzivar_to_i64(&it, NULL) == 1 && peltzivar_to_u64(&it, NULL) == 1 && peltzivar_to_i128(&it, NULL) == PELTZIVAR_VALUE_FLOAT);
     memset(&it, 0, sizeof it);
     CHECK(peltzivar_to_f32(&it, &real) == PELTZIVAR_VALUE_NO_LITERAL && real == 0.75F && peltzivar_to_i64(&it, NULL));
@@ -212,57 +216,64 @@ static void test_values(void) {
 static void test_writing(void) {
     static const peltzivar_style styles[] = {{3, false}, {3, true}}, bare = {0, true}, ones = {1, false};
     static const peltzivar_i128 least = {0, INT64_MIN}, wide = {1234567, 0};
-    const peltzivar_reader *const json = language("JSON");
+    const peltzivar_syntax json = first_form("JSON"), english = first_form("CSV_EN"), c = first_form("C");
     char integer[PELTZIVAR_INTEGER_SIZE], real[PELTZIVAR_FLOAT_SIZE];
-    peltzivar_reader german, hexadecimal, other, unmade;
+    peltzivar_syntax german, hexadecimal, other;
     peltzivar_literal literal;
     size_t needed = 7;
-    CHECK(make_reader("digit_separator='.'\ninternal_digit_separator=true\npoint=','\nbase_prefix='x'", &german));
-    CHECK(make_reader("radix=16\nbase_prefix='x'\nexponent='p'", &hexadecimal));
-    memset(&unmade, 0, sizeof unmade);
+    CHECK(make_syntax("digit_separator='.'\ninternal_digit_separator=true\npoint=','\nbase_prefix='x'", &german));
+    CHECK(make_syntax("radix=16\nbase_prefix='x'\nexponent='p'", &hexadecimal));
 /* Whether a number is written in groups, and without its base if the style is so. */
 #define IN_GROUPS(wanted, number, type) \
     (!peltzivar_format_##type(&german, number, &styles[i], text, sizeof text, &needed) && !strcmp(text, &(wanted)[2 * i]) && needed == strlen(text) + 1)
-    CHECK(peltzivar_read(json, "1234567", 7, &literal, NULL));
+    CHECK(peltzivar_read(&json, "1234567", 7, &literal, NULL));
     for (int i = 0; i < 2; i++) {
         CHECK(IN_GROUPS("0x1.234.567", 1234567, i64) && IN_GROUPS("0x1.234.567", 1234567, u64) && IN_GROUPS("0x1.234.567", wide, i128));
         CHECK(IN_GROUPS("0x1.234.567,5", 1234567.5, f64) && IN_GROUPS("0x1.234.567", &literal, literal));
     }
     memset(&literal, 0, sizeof literal);
-    CHECK(make_reader("radix=2" LONGEST, &other) && !peltzivar_format_i128(&other, least, &ones, integer, sizeof integer, &needed));
-    CHECK(needed == sizeof integer && make_reader("no_exponent_notation=true" LONGEST, &other));
+    CHECK(make_syntax("radix=2" LONGEST, &other) && !peltzivar_format_i128(&other, least, &ones, integer, sizeof integer, &needed));
+    CHECK(needed == sizeof integer && make_syntax("no_exponent_notation=true" LONGEST, &other));
     CHECK(!peltzivar_format_f64(&other, -DBL_MAX, &ones, real, sizeof real, &needed) && needed == sizeof real);
     CHECK(!peltzivar_format_u64(&hexadecimal, UINT64_MAX, NULL, text, sizeof text, NULL) && !strcmp(text, "0xFFFFFFFFFFFFFFFF"));
     CHECK(!peltzivar_format_u64(&hexadecimal, 31, &bare, text, 3, &needed) && !strcmp(text, "1F") && needed == 3);
-    CHECK(peltzivar_format_f64(language("CSV_EN"), 5e-324, NULL, NULL, 0, &needed) == PELTZIVAR_WRITE_BUFFER && needed == 327);
-    CHECK(make_reader("exponent=none\npoint=none", &other) && peltzivar_format_f64(&other, 1e16, NULL, text, 1, NULL) == PELTZIVAR_WRITE_FRACTION);
-    CHECK(peltzivar_format_f64(json, HUGE_VAL, NULL, text, sizeof text, &needed) == PELTZIVAR_WRITE_SPECIAL && needed == 327);
+    CHECK(peltzivar_format_f64(&english, 5e-324, NULL, NULL, 0, &needed) == PELTZIVAR_WRITE_BUFFER && needed == 327);
+    CHECK(make_syntax("exponent=none\npoint=none", &other) && peltzivar_format_f64(&other, 1e16, NULL, text, 1, NULL) == PELTZIVAR_WRITE_FRACTION);
+    CHECK(peltzivar_format_f64(&json, HUGE_VAL, NULL, text, sizeof text, &needed) == PELTZIVAR_WRITE_SPECIAL && needed == 327);
     CHECK(peltzivar_format_f64(&hexadecimal, 0.5, NULL, text, sizeof text, NULL) == PELTZIVAR_WRITE_RADIX);
-    CHECK(peltzivar_format_i64(language("C"), -1, NULL, text, sizeof text, NULL) == PELTZIVAR_WRITE_NEGATIVE);
-    CHECK(peltzivar_format_i64(&unmade, 1, NULL, text, sizeof text, NULL) == PELTZIVAR_WRITE_NOT_MADE);
-    CHECK(peltzivar_format_literal(json, &literal, NULL, text, sizeof text, NULL) == PELTZIVAR_WRITE_NOT_MADE);
+    CHECK(peltzivar_format_i64(&c, -1, NULL, text, sizeof text, NULL) == PELTZIVAR_WRITE_NEGATIVE);
+    CHECK(peltzivar_format_literal(&json, &literal, NULL, text, sizeof text, NULL) == PELTZIVAR_WRITE_ARGUMENT);
     CHECK(peltzivar_read(&german, "-1.234,50", 9, &literal, NULL));
     memset(text, '#', sizeof text);
-    CHECK(peltzivar_format_literal(json, &literal, NULL, text, 8, &needed) == PELTZIVAR_WRITE_BUFFER && needed == 9);
+    CHECK(peltzivar_format_literal(&json, &literal, NULL, text, 8, &needed) == PELTZIVAR_WRITE_BUFFER && needed == 9);
     CHECK(!strcmp(text, "-1234.5") && text[8] == '#');
 }
 
-/* Each language has forms, and a name by which it is found. A syntax of one form has no forms. */
+/* Each language has a name by which it is found, and forms, whose first takes precedence. A null pointer has no forms. */
 static void test_languages(void) {
     peltzivar_specials specials = {text, text, text};
+    peltzivar_special special = {7, 7};
     peltzivar_syntax syntax;
-    peltzivar_reader same;
+    peltzivar_literal literal;
+    peltzivar_read_error error;
     CHECK(!peltzivar_language("json", 4, &specials) && !peltzivar_language("", 0, &specials) && specials.inf == text);
     CHECK(!peltzivar_language("JSON", SIZE_MAX, &specials) && !peltzivar_language("JSO", 3, &specials));
     for (size_t i = 0; *peltzivar_language_name(i); i++) {
-        const peltzivar_reader *const reader = language(peltzivar_language_name(i));
+        const peltzivar_forms *const forms = language(peltzivar_language_name(i));
         size_t form = 0;
-        CHECK(reader && !peltzivar_reader_init(&same, &reader->syntax) && !*peltzivar_form_name(&same, 0));
-        CHECK(peltzivar_form_syntax(reader, 0, &syntax) && !memcmp(&syntax, &reader->syntax, sizeof syntax));
-        for (; *peltzivar_form_name(reader, form); form++) CHECK(peltzivar_form_syntax(reader, form, &syntax));
-        CHECK(!peltzivar_form_syntax(reader, form, &syntax) && !*peltzivar_form_name(reader, SIZE_MAX));
+        CHECK(forms && *peltzivar_form_name(forms, 0));
+        for (; *peltzivar_form_name(forms, form); form++) CHECK(peltzivar_form_syntax(forms, form, &syntax) && !peltzivar_check_syntax(&syntax));
+        CHECK(!peltzivar_form_syntax(forms, form, &syntax) && !*peltzivar_form_name(forms, SIZE_MAX));
     }
     CHECK(peltzivar_language("JSON", 4, &specials) && !*specials.nan && !*specials.infinity && !*peltzivar_language_name(SIZE_MAX));
+    CHECK(peltzivar_forms_read(language("C"), "017", 3, &literal, &error) && literal.form == 1 && literal.integer.end == 3);
+    CHECK(peltzivar_forms_read_prefix(language("C"), "0x1.8", 5, &literal, &error) && literal.form == 2 && literal.size == 3);
+    CHECK(!peltzivar_forms_read(language("YAML"), "-.inf", 5, &literal, &error) && error.valid_up_to == 2 && error.form == 0);
+    CHECK(peltzivar_forms_read_special(language("YAML"), "-.inf", 5, &special) && special.spelling == PELTZIVAR_SPELLING_INF && special.sign == '-');
+    CHECK(!peltzivar_forms_read_special(language("YAML"), "1", SIZE_MAX, &special) && !peltzivar_forms_read_special(NULL, "-.inf", 5, &special));
+    CHECK(!peltzivar_forms_read(NULL, "1", 1, &literal, NULL) && !peltzivar_forms_read_prefix(NULL, "1", 1, &literal, &error));
+    CHECK(WRITES("the forms are a null pointer", peltzivar_read_error_text(&error, text, sizeof text)) && error.valid_up_to == 0);
+    CHECK(!*peltzivar_form_name(NULL, 0) && !peltzivar_form_syntax(NULL, 0, &syntax));
 }
 
 /* A null pointer with a length of 0 is accepted as an empty array, and a null pointer to output is not written to. Input
@@ -302,7 +313,7 @@ static void test_null(void) {
 
 static void *test_all(void *unused) {
     for (int i = 0; i < 5; i++) {
-        test_constants(), test_setters(), test_words(), test_readers(), test_errors(), test_values(), test_writing();
+        test_constants(), test_setters(), test_words(), test_syntaxes(), test_errors(), test_values(), test_writing();
         test_languages(), test_null();
     }
     return unused;

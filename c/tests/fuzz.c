@@ -1,5 +1,5 @@
-/* Calls the functions of peltzivar.h with random words, edits, strings and buffers, for sanitizers to watch. A call that
- * fails writes nothing, and what is written can be read. The argument is the number of cases. */
+/* Calls the functions of peltzivar.h with random words, syntaxes, edits, strings and buffers, for sanitizers to watch. A
+ * call that fails writes nothing, and what is written can be read. The argument is the number of cases. */
 #include "peltzivar.h"
 
 #include <stdio.h>
@@ -100,24 +100,31 @@ static char *copy(size_t len) {
     return memcpy(bytes, text, len);
 }
 
-/* Writes a reader of the literals of a word that is mostly lawful, or another value, and returns whether it is a reader. */
-static bool draw_reader(peltzivar_word word, peltzivar_reader *reader) {
+/* Writes a syntax of a word, sometimes with other bits, and returns whether it is lawful. */
+static bool draw_syntax(peltzivar_word word, peltzivar_syntax *syntax) {
     static const uint8_t options[][2] = {{'e', '.'}, {'e', '.'}, {'p', '.'}, {'^', ','}, {0, 0}, {0, 0}, {'e', 0}, {'_', 'E'}};
-    for (int tries = 0; peltzivar_check(word) && tries < 9; tries++) word = draw_word();
+    while (peltzivar_check(word) && draw() % 9) word = draw_word();
     const uint8_t *const drawn = options[draw() % 8];
-    peltzivar_syntax syntax = {word, drawn[0], drawn[1], draw() % 8 == 0, draw() % 8 == 0, draw() % 8 == 0,
-        (uint8_t)(draw() % 4 ? 0 : draw() % 5), {0}};
-    if (draw() % 16 == 0) for (size_t i = 0; i < sizeof syntax; i++) ((unsigned char *)&syntax)[i] = (unsigned char)draw();
-    memset(reader, (int)draw(), sizeof *reader), reader->syntax = syntax;
-    const peltzivar_error refused = peltzivar_reader_init(reader, &syntax);
-    WRITE(peltzivar_syntax_error_text, &syntax);
-    CHECK(!*text == !refused && peltzivar_same_format(syntax.format, reader->syntax.format));
-    return !refused;
+    const peltzivar_syntax of = {word, drawn[0], drawn[1], draw() % 8 == 0, draw() % 8 == 0, draw() % 8 == 0,
+        (uint8_t)(draw() % 4 ? 0 : draw() % 9), {0}};
+    *syntax = of;
+    /* Other bytes, of which several may be the same. Most have the radixes as before. */
+    for (uint64_t count = draw() % 2 ? 0 : draw() % 48, all = draw(); count > 0; count--) {
+        const size_t index = draw() % (draw() % 64 ? offsetof(peltzivar_syntax, reserved) : sizeof of);
+        if (index / 4 == 3 && all % 8) continue;
+        ((unsigned char *)syntax)[index] = all % 2 ? draw_edit().value : (uint8_t)"01e.-+_x"[draw() % 8];
+    }
+    const bool is_lawful = !peltzivar_check_syntax(syntax);
+    WRITE(peltzivar_syntax_error_text, syntax);
+    CHECK(!*text == is_lawful);
+    return is_lawful;
 }
 
-/* A literal can be written in its own syntax, and what is written has the same value, or none for the same reason. */
-static void test_written(const peltzivar_reader *reader, const peltzivar_literal *literal) {
+/* A literal can be written in its own lawful syntax, and what is written has the same value, or none for the same
+ * reason. In any other syntax, it may be refused. */
+static void test_written(const peltzivar_syntax *syntax, bool is_lawful, const peltzivar_literal *literal) {
     const peltzivar_style style = {(uint8_t)(draw() % 5), draw() % 2};
+    peltzivar_syntax other;
     peltzivar_literal again;
     struct {
         int64_t integer;
@@ -126,29 +133,33 @@ static void test_written(const peltzivar_reader *reader, const peltzivar_literal
         double real;
     } values[2] = {{7, 7, {7, 7}, 7}, {7, 7, {7, 7}, 7}};
     size_t needed = 0;
-    CHECK(!peltzivar_format_literal(reader, literal, &style, text, sizeof text, &needed) && needed == strlen(text) + 1);
-    CHECK(peltzivar_read(reader, text, needed - 1, &again, NULL));
-    CHECK(peltzivar_to_i64(literal, &values[0].integer) == peltzivar_to_i64(&again, &values[1].integer));
-    CHECK(peltzivar_to_u64(literal, &values[0].natural) == peltzivar_to_u64(&again, &values[1].natural));
-    CHECK(peltzivar_to_i128(literal, &values[0].wide) == peltzivar_to_i128(&again, &values[1].wide));
-    CHECK(peltzivar_to_f64(literal, &values[0].real) == peltzivar_to_f64(&again, &values[1].real));
-    CHECK(!memcmp(&values[0], &values[1], sizeof values[0]));
+    draw_syntax(draw_word(), &other);
+    if (!peltzivar_format_literal(&other, literal, &style, text, sizeof text, &needed)) CHECK(0 < needed && needed <= sizeof text);
+#define CHECK_LAWFUL(condition) do { const bool holds = condition; CHECK(holds || !is_lawful); } while (0)
+    CHECK_LAWFUL(!peltzivar_format_literal(syntax, literal, &style, text, sizeof text, &needed) && needed == strlen(text) + 1);
+    const bool is_read = peltzivar_read(syntax, text, strlen(text), &again, NULL);
+    CHECK_LAWFUL(is_read);
+    if (!is_read) again = *literal;
+    CHECK_LAWFUL(peltzivar_to_i64(literal, &values[0].integer) == peltzivar_to_i64(&again, &values[1].integer));
+    CHECK_LAWFUL(peltzivar_to_u64(literal, &values[0].natural) == peltzivar_to_u64(&again, &values[1].natural));
+    CHECK_LAWFUL(peltzivar_to_i128(literal, &values[0].wide) == peltzivar_to_i128(&again, &values[1].wide));
+    CHECK_LAWFUL(peltzivar_to_f64(literal, &values[0].real) == peltzivar_to_f64(&again, &values[1].real));
+    CHECK_LAWFUL(!memcmp(&values[0], &values[1], sizeof values[0]));
     /* So is any other number that can be written, and it fits the size of the header. */
     const peltzivar_i128 wide = {draw() >> draw() % 64, (int64_t)draw() >> draw() % 64};
     const double real = (double)(int64_t)draw() * (draw() % 2 ? 1e-310 : draw() % 2 ? 1e289 : 1e-9);
-    peltzivar_write_status status = peltzivar_format_i128(reader, wide, &style, text, PELTZIVAR_INTEGER_SIZE, &needed);
-    if (!status) CHECK(peltzivar_read(reader, text, needed - 1, &again, NULL) && !peltzivar_to_i128(&again, &values[0].wide));
-    CHECK(status != PELTZIVAR_WRITE_BUFFER && (status || !memcmp(&wide, &values[0].wide, sizeof wide)));
-    status = peltzivar_format_f64(reader, real, &style, text, PELTZIVAR_FLOAT_SIZE, &needed);
-    if (!status) CHECK(peltzivar_read(reader, text, needed - 1, &again, NULL) && !peltzivar_to_f64(&again, &values[0].real));
-    CHECK(status != PELTZIVAR_WRITE_BUFFER && (status || !memcmp(&real, &values[0].real, sizeof real)));
+    peltzivar_write_status status = peltzivar_format_i128(syntax, wide, &style, text, PELTZIVAR_INTEGER_SIZE, &needed);
+    if (!status) CHECK_LAWFUL(peltzivar_read(syntax, text, needed - 1, &again, NULL) && !peltzivar_to_i128(&again, &values[0].wide));
+    CHECK_LAWFUL(status != PELTZIVAR_WRITE_BUFFER && (status || !memcmp(&wide, &values[0].wide, sizeof wide)));
+    status = peltzivar_format_f64(syntax, real, &style, text, PELTZIVAR_FLOAT_SIZE, &needed);
+    if (!status) CHECK_LAWFUL(peltzivar_read(syntax, text, needed - 1, &again, NULL) && !peltzivar_to_f64(&again, &values[0].real));
+    CHECK_LAWFUL(status != PELTZIVAR_WRITE_BUFFER && (status || !memcmp(&real, &values[0].real, sizeof real)));
 }
 
 /* What is read is written, and nothing else. The parts of a literal are its bytes. */
 static void test_literals(peltzivar_word word) {
-    peltzivar_reader reader;
-    const bool is_made = draw_reader(word, &reader);
-    const peltzivar_syntax syntax = reader.syntax;
+    peltzivar_syntax syntax;
+    const bool is_lawful = draw_syntax(word, &syntax);
     const peltzivar_fields own = peltzivar_fields_of(syntax.format);
     const uint8_t sign = draw() % 2 ? '+' : '-', separator = own.digit_separator;
     const uint8_t bytes[] = {sign, '0', own.base_prefix, separator, '0', '1', separator, '1', syntax.decimal_point, '0', separator,
@@ -161,31 +172,40 @@ static void test_literals(peltzivar_word word) {
     peltzivar_read_error error, error_before;
     memset(&literal, (int)draw(), sizeof literal), memcpy(&literal_before, &literal, sizeof literal);
     memset(&error, (int)draw(), sizeof error), memcpy(&error_before, &error, sizeof error);
-    const bool is_read = peltzivar_read(&reader, from, len, &literal, &error);
+    const bool is_read = peltzivar_read(&syntax, from, len, &literal, &error);
     CHECK(is_read ? !memcmp(&error, &error_before, sizeof error) : !memcmp(&literal, &literal_before, sizeof literal));
     WRITE(peltzivar_read_error_text, &error);
     CHECK(!*text == is_read);
     peltzivar_explanation why;
-    CHECK(peltzivar_explain(&error, &why) == (is_made && !is_read));
-    if (is_made && !is_read) {
+    const bool is_explained = peltzivar_explain(&error, &why);
+    CHECK(is_explained ? !is_read : is_read || !is_lawful);
+    if (is_explained) {
         CHECK(error.valid_up_to <= len && why.span.start <= why.span.end && why.span.end <= len && why.index <= len);
         const bool has_part = why.kind == PELTZIVAR_KIND_MISSING || why.kind == PELTZIVAR_KIND_SEPARATOR;
         CHECK(1 <= why.kind && why.kind <= 5 && has_part == (why.part != PELTZIVAR_NO_PART));
     }
-    if (peltzivar_read_prefix(&reader, from, len, &literal, &error)) {
+    /* The normal form of a lawful word is read in the same way. */
+    peltzivar_syntax normal = syntax;
+    peltzivar_explanation why_normal;
+    normal.format = peltzivar_normal_form(syntax.format);
+    CHECK_LAWFUL(peltzivar_read(&normal, from, len, &literal_before, &error_before) == is_read);
+    if (is_read) CHECK_LAWFUL(!memcmp(&literal.sign, &literal_before.sign, offsetof(peltzivar_literal, is_float) - offsetof(peltzivar_literal, sign)));
+    if (is_explained) CHECK_LAWFUL(peltzivar_explain(&error_before, &why_normal) && !memcmp(&why, &why_normal, sizeof why));
+    if (peltzivar_read_prefix(&syntax, from, len, &literal, &error)) {
         const peltzivar_span *const parts = &literal.sign;
         for (int i = 0; i < 9; i++) CHECK(parts[i].start == (i ? parts[i - 1].end : 0) && parts[i].start <= parts[i].end);
-        CHECK(literal.size == literal.suffix.end && literal.size <= len && (!is_read || literal.size == len));
-        test_written(&reader, &literal);
-    } else CHECK(!is_read);
+        CHECK(literal.size == literal.suffix.end && literal.size <= len);
+        CHECK_LAWFUL(!is_read || literal.size == len);
+        test_written(&syntax, is_lawful, &literal);
+    } else CHECK_LAWFUL(!is_read);
     free(from);
 }
 
 /* A text is a special value only if it is a spelling with other signs, cases and separators. */
 static void test_special_values(peltzivar_word word) {
     static const char *const spellings[] = {NULL, "", "NaN", "inf", "i_n'f", "+e.\377"};
-    peltzivar_reader reader;
-    const bool is_made = draw_reader(word, &reader);
+    peltzivar_syntax syntax;
+    draw_syntax(word, &syntax);
     const peltzivar_specials specials = {spellings[draw() % 6], spellings[draw() % 6], spellings[draw() % 6]};
     const char *const wanted[] = {"", specials.nan, specials.inf, specials.infinity};
     size_t len = 0;
@@ -196,9 +216,9 @@ static void test_special_values(peltzivar_word word) {
     }
     char *const from = copy(len);
     peltzivar_special special = {7, 7};
-    const bool is_read = peltzivar_read_special(&reader, &specials, from, len, &special);
+    const bool is_read = peltzivar_read_special(&syntax, &specials, from, len, &special);
     if (!is_read) CHECK(special.spelling == 7 && special.sign == 7);
-    else CHECK(is_made && special.spelling - 1u < 3 && wanted[special.spelling] && (!special.sign || special.sign == *from));
+    else CHECK(special.spelling - 1u < 3 && wanted[special.spelling] && (!special.sign || special.sign == *from));
     free(from);
 }
 
@@ -216,7 +236,7 @@ static void test_lines(void) {
     char *const from = copy(len);
     peltzivar_syntax syntax = {{1, 2}, 3, 4, true, true, true, 7, {0}};
     const size_t problems = peltzivar_read_settings(from, len, &syntax);
-    CHECK(problems ? syntax.format.low == 1 && syntax.integer_group_size == 7 : !peltzivar_reader_init(NULL, &syntax));
+    CHECK(problems ? syntax.format.low == 1 && syntax.integer_group_size == 7 : !peltzivar_check_syntax(&syntax));
     for (size_t index = 0; index == 0 || *text; index++) {
         size_t blamed[16] = {0};
         WRITE(peltzivar_settings_text, from, len, index);

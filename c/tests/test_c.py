@@ -159,7 +159,7 @@ class Header(unittest.TestCase):
             return in_rust(kind)
         if re.search(rf"\*{name}, size_t (to_)?len\b", others):
             return f"*{'const' if const else 'mut'} {in_rust(kind)}"
-        if const and name in ("reader", "style"):
+        if const and name in ("syntax", "forms", "style"):
             return f"Option<&{in_rust(kind)}>"
         if const or name == "fields":
             return f"&{'' if const else 'mut '}{in_rust(kind)}"

@@ -38,7 +38,7 @@ use crate::word::STANDARD;
 /// - No two flags contradict each other, and all reserved bits are 0.
 #[derive(Clone, Copy, PartialEq, Eq, PartialOrd, Ord, Hash)]
 pub struct Format {
-    word: u128,
+    pub(crate) word: u128,
 }
 
 impl Default for Format {

@@ -82,6 +82,12 @@ REPLACED = [
     ("digit.rt", "VALUES[c as usize] as u32", "VALUES[c as usize]"),
     # A constant panics with a text.
     ("short_text.rt", "pub fn as_str(", "pub const fn as_str("),
+    # `Syntax::unchecked` is written by hand.
+    ("lawful.rt", "pub struct Format {\n    word:", "pub struct Format {\n    pub(crate) word:"),
+    ("syntax.rt", "pub struct Syntax {\n    format:", "pub struct Syntax {\n    pub(crate) format:"),
+    ("syntax.rt", "    options: Option<Options>,\n    conditions: Conditions,\n}\n\nimpl Model for Syntax", "    pub(crate) options: Option<Options>,\n    pub(crate) conditions: Conditions,\n}\n\nimpl Model for Syntax"),
+    # By a syntax that is not lawful, a text may be a literal in one way of reading and not in another.
+    ("read.rt", "unreachable!()", "return self.refuse_byte(text, BEGIN);"),
     # Calls with these names are written by hand: they return a byte, a `Literal` or a range.
     ("syntax.rt", "pub const fn options(&self)", "pub(crate) const fn options(&self)"),
     ("cause.rt", "pub const fn span(&self)", "#[doc(hidden)] pub const fn bounds(&self)"),

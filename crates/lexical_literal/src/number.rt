@@ -28,7 +28,7 @@ impl Reader {
     pub fn read<'a>(&self, text: &'a [u8]) -> Result<Parts<'a>, ReadError>
         ensures { IsRead self.now text.now result }
     {
-        let counted = self.begin(text);
+        let counted = self.begin(text, false);
         if self.is_whole(text, counted) {
             Ok(cut(text, counted.counts))
         } else {

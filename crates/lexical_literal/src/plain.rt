@@ -308,9 +308,10 @@ const fn behind_zero(grammar: Grammar, text: &[u8], part: Part, zero: Run) -> Ru
     }
 }
 
-// Reads a front of `text` with which some literal begins.
+// Reads a front of `text` with which some literal begins. A front that is a literal and not all of `text` is said to be one
+// only if `fronts` is true.
 #[inline(always)]
-pub(crate) const fn plain(grammar: Grammar, text: &[u8]) -> Counted
+pub(crate) const fn plain(grammar: Grammar, text: &[u8], fronts: bool) -> Counted
     requires roles { HasRoles (notation_of grammar) }
     ensures { IsCounted (notation_of grammar) text.now result }
 {
@@ -320,7 +321,7 @@ pub(crate) const fn plain(grammar: Grammar, text: &[u8]) -> Counted
     let Some(opening) = open(grammar, text, sign) else {
         return without_prefix(grammar, text, sign);
     };
-    integer(grammar, text, opening)
+    integer(grammar, text, fronts, opening)
 }
 
 // Returns what comes before the digits of the integer, or `None` if a base prefix is required that does not follow.
@@ -365,7 +366,7 @@ const fn without_prefix(_grammar: Grammar, text: &[u8], sign: usize) -> Counted
 
 // Reads the integer, and what follows it.
 #[inline(always)]
-const fn integer(grammar: Grammar, text: &[u8], opening: Opening) -> Counted
+const fn integer(grammar: Grammar, text: &[u8], fronts: bool, opening: Opening) -> Counted
     requires roles { HasRoles (notation_of grammar) }
     requires opened { IsOpened (notation_of grammar) text.now opening }
     ensures { IsCounted (notation_of grammar) text.now result }
@@ -385,20 +386,20 @@ const fn integer(grammar: Grammar, text: &[u8], opening: Opening) -> Counted
     };
     let at = place(Part::Integer, run.size, run.stage);
     if run.size < text.len() && is_point(grammar, text[run.size]) && takes(grammar, at.read, false, Role::Point) {
-        return fraction(grammar, text, sizes, run);
+        return fraction(grammar, text, fronts, sizes, run);
     }
     if run.size < text.len()
         && is_exponent_character(grammar, text[run.size])
         && takes(grammar, at.read, false, Role::Exponent)
     {
-        return exponent(grammar, text, sizes, run.size + 1);
+        return exponent(grammar, text, fronts, sizes, run.size + 1);
     }
-    end(grammar, text, at, sizes, [0; 3])
+    end(grammar, text, fronts, at, sizes, [0; 3])
 }
 
 // Reads the fraction behind its decimal point, and what follows it.
 #[inline(always)]
-const fn fraction(grammar: Grammar, text: &[u8], sizes: Sizes, integer: Run) -> Counted
+const fn fraction(grammar: Grammar, text: &[u8], fronts: bool, sizes: Sizes, integer: Run) -> Counted
     requires roles { HasRoles (notation_of grammar) }
     requires inside { integer.size < length text.now }
     requires at { IsAt (notation_of grammar) text.now (place Part.Fraction (integer.size + 1) (after_point (has_digit integer.stage)))
@@ -425,9 +426,9 @@ const fn fraction(grammar: Grammar, text: &[u8], sizes: Sizes, integer: Run) -> 
         && is_exponent_character(grammar, text[run.size])
         && takes(grammar, at.read, false, Role::Exponent)
     {
-        return exponent(grammar, text, sizes, run.size + 1);
+        return exponent(grammar, text, fronts, sizes, run.size + 1);
     }
-    end(grammar, text, at, sizes, [0; 3])
+    end(grammar, text, fronts, at, sizes, [0; 3])
 }
 
 // Returns the stage behind a decimal point.
@@ -444,7 +445,7 @@ const fn behind_point(integer: Stage) -> Stage
 
 // Reads the exponent behind its character, and what follows it.
 #[inline(always)]
-const fn exponent(grammar: Grammar, text: &[u8], sizes: Sizes, size: usize) -> Counted
+const fn exponent(grammar: Grammar, text: &[u8], fronts: bool, sizes: Sizes, size: usize) -> Counted
     requires roles { HasRoles (notation_of grammar) }
     requires within { size ≤ length text.now }
     requires at { IsAt (notation_of grammar) text.now (place Part.Exponent size Stage.Mark) (cuts_of (counts_of sizes 1 0 0 0)) }
@@ -456,12 +457,12 @@ const fn exponent(grammar: Grammar, text: &[u8], sizes: Sizes, size: usize) -> C
     let from = size + sign;
     let run = digits(grammar, text, Part::Exponent, from, behind_sign(Part::Exponent, sign), 0);
     let at = place(Part::Exponent, run.size, run.stage);
-    end(grammar, text, at, sizes, [1, sign, run.size - from])
+    end(grammar, text, fronts, at, sizes, [1, sign, run.size - from])
 }
 
 // Reads the suffix, if it follows.
 #[inline(always)]
-const fn end(grammar: Grammar, text: &[u8], at: At, sizes: Sizes, scale: [usize; 3]) -> Counted
+const fn end(grammar: Grammar, text: &[u8], fronts: bool, at: At, sizes: Sizes, scale: [usize; 3]) -> Counted
     requires roles { HasRoles (notation_of grammar) }
     requires at { IsAt (notation_of grammar) text.now at (cuts_of (counts_of sizes (get_or scale 0 0) (get_or scale 1 0) (get_or scale 2 0) 0)) }
     requires going { at.read.ended ≡ false }
@@ -481,6 +482,9 @@ const fn end(grammar: Grammar, text: &[u8], at: At, sizes: Sizes, scale: [usize;
             counts: [sign, prefix, integer, point, fraction, scale[0], scale[1], scale[2], 1],
             complete: is_complete(grammar, read),
         };
+    }
+    if !fronts && size < text.len() {
+        return stopped(at);
     }
     Counted {
         at,

@@ -108,7 +108,7 @@ impl Reader {
     pub(crate) fn front(&self, text: &[u8]) -> (At, Option<Found>)
         ensures { IsFronted self.now text.now result.0 result.1 }
     {
-        let Counted { at, counts, complete } = self.begin(text);
+        let Counted { at, counts, complete } = self.begin(text, true);
         let stop = self.stop(text, at);
         if complete && stop.size == at.size {
             let size = stop.size;
@@ -137,13 +137,14 @@ impl Reader {
         }
     }
 
-    // Reads a front of `text` with which some literal begins.
+    // Reads a front of `text` with which some literal begins. A front that is a literal and not all of `text` is said to be one
+    // only if `fronts` is true.
     #[inline(always)]
-    pub(crate) const fn begin(&self, text: &[u8]) -> Counted
+    pub(crate) const fn begin(&self, text: &[u8], fronts: bool) -> Counted
         ensures { HasFound (notation_of self.now) text.now result }
     {
         role_facts();
-        plain(self.syntax.grammar(), text)
+        plain(self.syntax.grammar(), text, fronts)
     }
 
     // Returns whether all of `text` is a literal that has been read.

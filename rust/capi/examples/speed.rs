@@ -1,8 +1,9 @@
-//! Times `peltzivar_read`, alone and with `peltzivar_to_f64`, beside `strtod`, and prints the nanoseconds of a text, the
-//! least of 2,000 passes. From the top folder, after `make -C c`:
+//! Times `peltzivar_read`, alone and with `peltzivar_to_f64`, beside that of Rust and `strtod`, and prints the nanoseconds
+//! of a text, the least of 2,000 passes. From the top folder, after `make -C c`:
 //!
 //!     RUSTFLAGS="-L rust/target/make/release" cargo run --release -p peltzivar-capi --features speed --example speed
 
+use peltzivar::literal::{Language, Reader};
 use std::ffi::{c_char, c_void};
 use std::hint::black_box;
 use std::mem::MaybeUninit;
@@ -12,7 +13,8 @@ use std::time::Instant;
 #[link(name = "peltzivar_c", kind = "static")]
 extern "C" {
     fn peltzivar_language(name: *const u8, len: usize, specials: *mut c_void) -> *const c_void;
-    fn peltzivar_read(reader: *const c_void, text: *const u8, len: usize, to: *mut u128, error: *mut c_void) -> bool;
+    fn peltzivar_form_syntax(forms: *const c_void, form: usize, syntax: *mut u64) -> bool;
+    fn peltzivar_read(syntax: *const u64, text: *const u8, len: usize, to: *mut u128, error: *mut c_void) -> bool;
     fn peltzivar_to_f64(literal: *const u128, value: *mut f64) -> u8;
     fn strtod(text: *const c_char, end: *mut *mut c_char) -> f64;
 }
@@ -32,13 +34,21 @@ fn time(name: &str, call: impl Fn(&'static str) -> bool) {
 }
 
 fn main() {
-    // SAFETY: the name has four bytes, and the spellings may be null.
-    let reader = unsafe { peltzivar_language(b"JSON".as_ptr(), 4, null_mut()) };
+    // A `peltzivar_syntax` has 32 bytes.
+    let mut syntax = [0; 4];
+    // SAFETY: the name has four bytes, the spellings may be null, and the syntax is large enough.
+    assert!(unsafe {
+        peltzivar_form_syntax(peltzivar_language(b"JSON".as_ptr(), 4, null_mut()), 0, syntax.as_mut_ptr())
+    });
     // A `peltzivar_literal` has 288 bytes.
     let read = |text: &str, literal: &mut MaybeUninit<[u128; 18]>| {
         // SAFETY: the literal is large enough and aligned, the text has this length, and the error may be null.
-        unsafe { peltzivar_read(reader, text.as_ptr(), text.len() - 1, literal.as_mut_ptr().cast(), null_mut()) }
+        unsafe {
+            peltzivar_read(syntax.as_ptr(), text.as_ptr(), text.len() - 1, literal.as_mut_ptr().cast(), null_mut())
+        }
     };
+    let reader = Reader::new(Language::JSON.forms()[0].syntax);
+    time("read of Rust", |text| black_box(black_box(&reader).read(text[..text.len() - 1].as_bytes())).is_ok());
     time("peltzivar_read", |text| read(text, black_box(&mut MaybeUninit::uninit())));
     time("peltzivar_read and peltzivar_to_f64", |text| {
         let (mut literal, mut value) = (MaybeUninit::uninit(), 0.0);

@@ -1,7 +1,7 @@
 //! Calls that find languages, and that read special values.
 
 use crate::arguments::{input, Out};
-use crate::literals::{given, reader_of, Forms, Reader, Syntax};
+use crate::literals::Syntax;
 use crate::names::{at, texts};
 use core::ffi::CStr;
 use core::ptr;
@@ -45,17 +45,10 @@ impl From<Special> for NumberedSpecial {
     }
 }
 
-const COUNT: usize = Language::ALL.len();
+/// The forms of a language. C has pointers to them alone.
+pub type Forms = Language;
 
-/// The readers of the languages.
-static READERS: [Reader; COUNT] = {
-    let (mut readers, mut index) = ([const { reader_of(Language::JSON) }; COUNT], 0);
-    while index < COUNT {
-        readers[index] = reader_of(Language::ALL[index]);
-        index += 1;
-    }
-    readers
-};
+const COUNT: usize = Language::ALL.len();
 
 /// One more than the most forms of a language.
 const FORMS: usize = 18;
@@ -67,14 +60,6 @@ const fn form_name(forms: &[Form], index: usize) -> &str {
         forms[index].name
     } else {
         ""
-    }
-}
-
-/// Returns the index of the language that a reader reads, and its forms.
-fn language_of(reader: Option<&Reader>) -> Option<(usize, &'static [Form])> {
-    match reader.and_then(Reader::value)? {
-        Forms::Language(language) => Some((Language::ALL.iter().position(|it| it == language)?, language.forms())),
-        Forms::Syntax(_) => None,
     }
 }
 
@@ -95,30 +80,36 @@ texts! {
 
 calls! {
     fn peltzivar_read_special(
-        reader: Option<&Reader>, specials: &Specials, text: *const u8, len: usize, out: Out<NumberedSpecial>
+        syntax: Option<&Syntax>, specials: &Specials, text: *const u8, len: usize, out: Out<NumberedSpecial>
     ) -> bool {
         let (nan, inf, infinity) = (spelling(specials.nan), spelling(specials.inf), spelling(specials.infinity));
         let specials = literal::Specials { nan, inf, infinity };
-        let given = given(reader, text, len).ok();
-        out.write_some(given.and_then(|(readers, text)| specials.read(&readers[0].syntax(), text)))
+        let read = |syntax| specials.read(&syntax, input(text, len)?);
+        out.write_some(Syntax::given(syntax).and_then(read))
     }
 
-    fn peltzivar_language(name: *const u8, len: usize, specials: Out<Specials>) -> *const Reader {
+    fn peltzivar_forms_read_special(
+        forms: Option<&Forms>, text: *const u8, len: usize, out: Out<NumberedSpecial>
+    ) -> bool {
+        let read = |forms: &Forms| forms.specials().read(&forms.forms()[0].syntax, input(text, len)?);
+        out.write_some(forms.and_then(read))
+    }
+
+    fn peltzivar_language(name: *const u8, len: usize, specials: Out<Specials>) -> *const Forms {
         let name = input(name, len).unwrap_or_default();
-        let index = NAMES.iter().position(|it| it.split(|byte| *byte == 0).next() == Some(name));
+        let index = Language::ALL.iter().position(|it| it.name().as_bytes() == name);
         specials.write_some(index.map(|it| Specials { nan: at(&NAN, it), inf: at(&INF, it), infinity: at(&INFINITY, it) }));
-        index.map_or(ptr::null(), |it| &READERS[it])
+        index.map_or(ptr::null(), |it| &Language::ALL[it])
     }
 
     fn peltzivar_language_name(index: usize) -> *const u8 { at(&NAMES, index) }
 
-    fn peltzivar_form_name(reader: Option<&Reader>, form: usize) -> *const u8 {
-        let language = language_of(reader).filter(|_| form < FORMS);
-        at(&FORM_NAMES, language.map_or(usize::MAX, |(language, _)| language * FORMS + form))
+    fn peltzivar_form_name(forms: Option<&Forms>, form: usize) -> *const u8 {
+        let language = Language::ALL.iter().position(|it| Some(it) == forms).filter(|_| form < FORMS);
+        at(&FORM_NAMES, language.map_or(usize::MAX, |it| it * FORMS + form))
     }
 
-    fn peltzivar_form_syntax(reader: Option<&Reader>, form: usize, out: Out<Syntax>) -> bool {
-        let form = language_of(reader).and_then(|(_, forms)| forms.get(form));
-        out.write_some(form.map(|form| form.syntax))
+    fn peltzivar_form_syntax(forms: Option<&Forms>, form: usize, out: Out<Syntax>) -> bool {
+        out.write_some(forms.and_then(|forms| forms.forms().get(form)).map(|form| form.syntax))
     }
 }

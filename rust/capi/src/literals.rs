@@ -1,16 +1,16 @@
-//! Calls that make readers, that read literals, and that print why a text is not one.
+//! Calls that check syntaxes, that read literals, and that print why a text is not one.
 
 use crate::arguments::{input, write_text, Out};
+use crate::languages::Forms;
 use crate::numbers::{error_number, ErrorNumber, Setter, Word, NO_PART, NO_SETTER};
 use core::fmt::{self, Display, Formatter};
 use core::mem::ManuallyDrop;
 use core::num::NonZeroU8;
 use core::ops::Range;
-use core::slice;
-use peltzivar::literal::{self, Conditions, FormError, Language, Number, ReadErrorKind, Readers};
+use peltzivar::literal::{self, Conditions, FormError, Number, ReadErrorKind, Readers};
 use peltzivar::{Error, Format, FormatError};
 
-/// A word with an exponent character, a decimal point and conditions, which may be refused. If both are 0, literals are
+/// A word with an exponent character, a decimal point and conditions, of any values. If both are 0, literals are
 /// integers. A condition is 0 if there is none.
 #[repr(C)]
 pub struct Syntax {
@@ -25,50 +25,58 @@ pub struct Syntax {
 }
 
 impl Syntax {
-    /// Returns the checked syntax.
-    fn checked(&self) -> Result<literal::Syntax, Refusal<FormatError>> {
-        if self.reserved != [0; 10] {
-            return Err(Refusal::Argument("the reserved bytes of the syntax are not 0"));
+    /// Returns the exponent character and the decimal point, unless literals are integers.
+    fn options(&self) -> Option<(u8, u8)> {
+        match (self.exponent, self.decimal_point) {
+            (0, 0) => None,
+            options => Some(options),
         }
-        let format = Format::new(self.format.number())?;
-        let syntax = match (self.exponent, self.decimal_point) {
-            (0, 0) => literal::Syntax::integers(format),
-            (exponent, point) => literal::Syntax::new(format, exponent, point)?,
-        };
-        let conditions = Conditions::NONE
+    }
+
+    /// Returns the conditions.
+    fn conditions(&self) -> Conditions {
+        Conditions::NONE
             .required_base_prefix(self.required_base_prefix != 0)
             .required_base_suffix(self.required_base_suffix != 0)
             .no_negative_mantissa_sign(self.no_negative_mantissa_sign != 0)
-            .integer_group_size(NonZeroU8::new(self.integer_group_size).map(NonZeroU8::get));
-        Ok(syntax.with(conditions)?)
+            .integer_group_size(NonZeroU8::new(self.integer_group_size).map(NonZeroU8::get))
     }
 
-    /// Returns the numbers of a syntax.
-    const fn of(syntax: literal::Syntax) -> Syntax {
-        let (exponent, decimal_point) = match (syntax.exponent(), syntax.point()) {
-            (Some(exponent), Some(point)) => (exponent, point),
-            _ => (0, 0),
-        };
-        let conditions = syntax.conditions();
-        Syntax {
-            format: Word::of(syntax.format().word()),
-            exponent,
-            decimal_point,
-            required_base_prefix: conditions.required_base_prefix as u8,
-            required_base_suffix: conditions.required_base_suffix as u8,
-            no_negative_mantissa_sign: conditions.no_negative_mantissa_sign as u8,
-            integer_group_size: match conditions.integer_group_size {
-                Some(size) => size,
-                None => 0,
-            },
-            reserved: [0; 10],
+    /// Returns the syntax, which may not be lawful, or `None` if there is none or if a later version may read it otherwise.
+    #[inline(always)]
+    pub fn given(syntax: Option<&Syntax>) -> Option<literal::Syntax> {
+        let syntax = syntax.filter(|it| it.reserved == [0; 10])?;
+        Some(literal::Syntax::unchecked(syntax.format.number(), syntax.options(), syntax.conditions()))
+    }
+
+    /// Returns the checked syntax.
+    fn checked(syntax: Option<&Syntax>) -> Result<literal::Syntax, Refusal<FormatError>> {
+        let syntax = syntax.ok_or(Refusal::Argument("the syntax is a null pointer"))?;
+        if syntax.reserved != [0; 10] {
+            return Err(Refusal::Argument("the reserved bytes of the syntax are not 0"));
         }
+        let format = Format::new(syntax.format.number())?;
+        let made = match syntax.options() {
+            None => literal::Syntax::integers(format),
+            Some((exponent, point)) => literal::Syntax::new(format, exponent, point)?,
+        };
+        Ok(made.with(syntax.conditions())?)
     }
 }
 
 impl From<literal::Syntax> for Syntax {
     fn from(syntax: literal::Syntax) -> Syntax {
-        Syntax::of(syntax)
+        let conditions = syntax.conditions();
+        Syntax {
+            format: Word::of(syntax.format().word()),
+            exponent: syntax.exponent().unwrap_or(0),
+            decimal_point: syntax.point().unwrap_or(0),
+            required_base_prefix: conditions.required_base_prefix.into(),
+            required_base_suffix: conditions.required_base_suffix.into(),
+            no_negative_mantissa_sign: conditions.no_negative_mantissa_sign.into(),
+            integer_group_size: conditions.integer_group_size.unwrap_or(0),
+            reserved: [0; 10],
+        }
     }
 }
 
@@ -90,7 +98,7 @@ union Words<T, const WORDS: usize> {
 impl<Shown, T, const WORDS: usize> Made<Shown, T, WORDS> {
     const MAGIC: u64 = u64::from_le_bytes(*b"\0\0zivar\xB6") + WORDS as u64;
 
-    const fn new(shown: Shown, value: T) -> Self {
+    fn new(shown: Shown, value: T) -> Self {
         Made { magic: Self::MAGIC, shown, words: Words { value: ManuallyDrop::new(value) } }
     }
 
@@ -98,26 +106,6 @@ impl<Shown, T, const WORDS: usize> Made<Shown, T, WORDS> {
     pub fn value(&self) -> Option<&T> {
         // SAFETY: with this number, `new` made the value, as the header requires.
         (self.magic == Self::MAGIC).then(|| unsafe { &*self.words.value })
-    }
-}
-
-/// A reader. It has no pointer to itself, so a copy is a reader, too.
-pub type Reader = Made<Syntax, Forms, 506>;
-
-/// What a reader reads: the literals of a syntax, or those of a language.
-#[allow(clippy::large_enum_variant, reason = "C has the memory of a reader, and nothing is allocated")]
-pub enum Forms {
-    Syntax(literal::Reader),
-    Language(Language),
-}
-
-impl Forms {
-    /// Returns the readers, at least one.
-    pub fn readers(&self) -> &[literal::Reader] {
-        match self {
-            Forms::Syntax(reader) => slice::from_ref(reader),
-            Forms::Language(language) => language.readers().as_slice(),
-        }
     }
 }
 
@@ -135,7 +123,7 @@ pub type ReadError = Made<Stop, Refusal<literal::ReadError>, 12>;
 pub type Literal<'a> = Made<Parts, literal::Literal<'a>, 14>;
 
 // The sizes and the alignment in the header.
-const _: () = assert!(size_of::<Reader>() == 4096 && align_of::<Reader>() <= 16);
+const _: () = assert!(size_of::<Syntax>() == 32);
 const _: () = assert!(size_of::<ReadError>() == 128 && align_of::<ReadError>() <= 16);
 const _: () = assert!(size_of::<Literal>() == 288 && align_of::<Literal>() <= 16);
 
@@ -160,11 +148,6 @@ impl<E: Into<FormatError>> From<E> for Refusal<FormatError> {
     }
 }
 
-/// Returns the reader of a language.
-pub const fn reader_of(language: Language) -> Reader {
-    Made::new(Syntax::of(language.forms()[0].syntax), Forms::Language(language))
-}
-
 /// The range of a piece of a text.
 #[repr(C)]
 pub struct Span {
@@ -185,25 +168,14 @@ pub struct Parts {
 impl<'a> Literal<'a> {
     #[inline(always)]
     fn of(literal: literal::Literal<'a>, form: usize) -> Literal<'a> {
-        let mut size = 0;
-        let parts = [
-            literal.sign(),
-            literal.prefix(),
-            literal.integer(),
-            literal.point(),
-            literal.fraction(),
-            literal.exponent_character(),
-            literal.exponent_sign(),
-            literal.exponent(),
-            literal.suffix(),
-        ];
-        let parts = parts.map(|part| {
+        let (lengths, mut size) = (literal.lengths(), 0);
+        let parts = lengths.map(|length| {
             let start = size;
-            size += part.len();
+            size += length;
             Span { start, end: size }
         });
-        // `is_float` is not inlined.
-        let is_float = !literal.point().is_empty() || !literal.exponent_character().is_empty();
+        // That of the point, and that of the exponent character.
+        let is_float = lengths[3] | lengths[5] != 0;
         Made::new(Parts { text: literal.as_bytes().as_ptr(), parts, size, is_float, form: form as u8 }, literal)
     }
 }
@@ -252,74 +224,90 @@ impl From<literal::ReadError> for Explanation {
     }
 }
 
-/// Returns the readers of the forms, at least one, and the text, or why there are none.
-///
-/// # Safety
-///
-/// As that of [`input`].
-pub unsafe fn given<'a>(
-    reader: Option<&Reader>,
-    text: *const u8,
-    len: usize,
-) -> Result<(&[literal::Reader], &'a [u8]), Refusal<literal::ReadError>> {
-    let forms = reader.and_then(Reader::value).ok_or(Refusal::Argument("no call has made this reader"))?;
-    Ok((forms.readers(), input(text, len).ok_or(Refusal::Argument("the text has more than PTRDIFF_MAX bytes"))?))
+const TOO_LONG: &str = "the text has more than PTRDIFF_MAX bytes";
+
+/// Writes what `read` returns for a text by a syntax, and returns whether it is a literal.
+#[inline(always)]
+unsafe fn read_by<'a>(
+    (syntax, text, len): (Option<&Syntax>, *const u8, usize),
+    (literal, error): (Out<Literal<'a>>, Out<ReadError>),
+    read: impl FnOnce(literal::Reader, &'a [u8]) -> Result<literal::Literal<'a>, literal::ReadError>,
+) -> bool {
+    let Some(syntax) = Syntax::given(syntax) else {
+        return refuse("peltzivar_check_syntax refuses this syntax", error);
+    };
+    let Some(text) = input(text, len) else { return refuse(TOO_LONG, error) };
+    match read(literal::Reader::new(syntax), text) {
+        Ok(found) => literal.write_some(Some(Literal::of(found, 0))),
+        Err(why) => stop(why, 0, error),
+    }
 }
 
-/// Writes what `read` or, of several forms, `read_forms` returns for a text, and returns whether it is a literal.
-unsafe fn read_by<'a>(
-    (reader, text, len): (Option<&Reader>, *const u8, usize),
+/// Writes what `read` returns for a text by the forms of a language, and returns whether it is a literal.
+#[inline(always)]
+unsafe fn read_by_forms<'a>(
+    (forms, text, len): (Option<&Forms>, *const u8, usize),
     (literal, error): (Out<Literal<'a>>, Out<ReadError>),
-    read: impl Fn(&literal::Reader, &'a [u8]) -> Result<literal::Literal<'a>, literal::ReadError>,
-    read_forms: impl Fn(&Readers<'_>, &'a [u8]) -> Result<Number<'a>, FormError>,
+    read: impl FnOnce(&Readers<'_>, &'a [u8]) -> Result<Number<'a>, FormError>,
 ) -> bool {
-    let (form, refusal) = match given(reader, text, len) {
-        Err(refusal) => (0, refusal),
-        Ok(([reader], text)) => match read(reader, text) {
-            Ok(found) => {
-                literal.write(Literal::of(found, 0));
-                return true;
-            }
-            Err(error) => (0, Refusal::Library(error)),
-        },
-        Ok((readers, text)) => match Readers::new(readers).map(|readers| read_forms(&readers, text)) {
-            Some(Ok(Number::Literal { literal: found, form })) => {
-                literal.write(Literal::of(found, form));
-                return true;
-            }
-            Some(Err(FormError { form, error, .. })) => (form, Refusal::Library(error)),
-            _ => (0, Refusal::Argument("a number that is not a literal")),
-        },
-    };
-    let valid_up_to = if let Refusal::Library(error) = &refusal { error.valid_up_to() } else { 0 };
-    error.write(Made::new(Stop { valid_up_to, form: form as u8 }, refusal));
+    let readers = forms.and_then(|forms| Readers::new(forms.readers().as_slice()));
+    let Some(readers) = readers else { return refuse("the forms are a null pointer", error) };
+    let Some(text) = input(text, len) else { return refuse(TOO_LONG, error) };
+    match read(&readers, text) {
+        Ok(Number::Literal { literal: found, form }) => literal.write_some(Some(Literal::of(found, form))),
+        Ok(Number::Special(_)) => refuse("a special value", error),
+        Err(FormError { form, error: why, .. }) => stop(why, form, error),
+    }
+}
+
+/// Writes why an argument is refused.
+#[cold]
+fn refuse(sentence: &'static str, error: Out<ReadError>) -> bool {
+    error.write(Made::new(Stop { valid_up_to: 0, form: 0 }, Refusal::Argument(sentence)));
+    false
+}
+
+/// Writes why a text is not a literal of a form.
+fn stop(why: literal::ReadError, form: usize, error: Out<ReadError>) -> bool {
+    error.write(Made::new(Stop { valid_up_to: why.valid_up_to(), form: form as u8 }, Refusal::Library(why)));
     false
 }
 
 calls! {
-    fn peltzivar_reader_init(reader: Out<Reader>, syntax: &Syntax) -> ErrorNumber {
-        let made = |syntax| Reader::new(Syntax::of(syntax), Forms::Syntax(literal::Reader::new(syntax)));
-        reader.write_ok(syntax.checked().map(made).map_err(|refusal| match refusal {
-            Refusal::Argument(_) => Error::InvalidFlags,
-            Refusal::Library(error) => error.into(),
-        }))
+    fn peltzivar_check_syntax(syntax: Option<&Syntax>) -> ErrorNumber {
+        error_number(match Syntax::checked(syntax) {
+            Ok(_) => Error::Success,
+            Err(Refusal::Argument(_)) => Error::InvalidFlags,
+            Err(Refusal::Library(error)) => error.into(),
+        })
     }
 
-    fn peltzivar_syntax_error_text(syntax: &Syntax, text: *mut u8, len: usize) -> usize {
-        write_text(text, len, syntax.checked().err())
+    fn peltzivar_syntax_error_text(syntax: Option<&Syntax>, text: *mut u8, len: usize) -> usize {
+        write_text(text, len, Syntax::checked(syntax).err())
     }
 
     fn peltzivar_read(
-        reader: Option<&Reader>, text: *const u8, len: usize, literal: Out<Literal>, error: Out<ReadError>
+        syntax: Option<&Syntax>, text: *const u8, len: usize, literal: Out<Literal>, error: Out<ReadError>
     ) -> bool {
-        read_by((reader, text, len), (literal, error), |it, text| it.read(text), |it, text| it.read(text))
+        read_by((syntax, text, len), (literal, error), |it, text| it.read(text))
     }
 
     fn peltzivar_read_prefix(
-        reader: Option<&Reader>, text: *const u8, len: usize, literal: Out<Literal>, error: Out<ReadError>
+        syntax: Option<&Syntax>, text: *const u8, len: usize, literal: Out<Literal>, error: Out<ReadError>
     ) -> bool {
-        let read = |reader: &literal::Reader, text| Ok(reader.read_prefix(text)?.0);
-        read_by((reader, text, len), (literal, error), read, |it, text| Ok(it.read_prefix(text)?.0))
+        read_by((syntax, text, len), (literal, error), |it, text| Ok(it.read_prefix(text)?.0))
+    }
+
+    fn peltzivar_forms_read(
+        forms: Option<&Forms>, text: *const u8, len: usize, literal: Out<Literal>, error: Out<ReadError>
+    ) -> bool {
+        read_by_forms((forms, text, len), (literal, error), |forms, text| forms.read(text))
+    }
+
+    fn peltzivar_forms_read_prefix(
+        forms: Option<&Forms>, text: *const u8, len: usize, literal: Out<Literal>, error: Out<ReadError>
+    ) -> bool {
+        read_by_forms((forms, text, len), (literal, error), |forms, text| Ok(forms.read_prefix(text)?.0))
     }
 
     fn peltzivar_explain(error: &ReadError, out: Out<Explanation>) -> bool {

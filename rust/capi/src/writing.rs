@@ -1,12 +1,12 @@
 //! Calls that write numbers.
 
 use crate::arguments::{write_text, Out};
-use crate::literals::{Literal, Reader};
+use crate::literals::{Literal, Syntax};
 use crate::names::{at, texts};
 use crate::values::I128;
 use core::fmt::{self, Write};
 use peltzivar::format::STANDARD;
-use peltzivar::literal::{self, Syntax, WriteError, Written};
+use peltzivar::literal::{self, WriteError, Written};
 use peltzivar::Format;
 
 /// Whether a number is written: the index of one of [`DESCRIPTIONS`].
@@ -14,7 +14,7 @@ type WriteStatus = u8;
 
 const EXPONENT: WriteStatus = 4;
 const BUFFER: WriteStatus = 7;
-const NOT_MADE: WriteStatus = 8;
+const ARGUMENT: WriteStatus = 8;
 
 texts! {
     DESCRIPTIONS: [96; 9] = |status| match status {
@@ -25,7 +25,7 @@ texts! {
         5 => b"each literal has an exponent, and an integer has none",
         6 => b"no literal is NaN or infinity",
         7 => b"the buffer is too short",
-        8 => b"no call has made this reader or this literal",
+        8 => b"peltzivar_check_syntax refuses the syntax, or no call has made the literal",
         _ => b"",
     };
 }
@@ -62,14 +62,16 @@ impl Write for Shortest {
     }
 }
 
-/// The reader of the texts of floats.
-static FLOATS: literal::Reader = literal::Reader::new(Syntax::new_or_panic(Format::of::<STANDARD>(), b'e', b'.'));
+/// The syntax of the texts of floats.
+const FLOATS: literal::Syntax = literal::Syntax::new_or_panic(Format::of::<STANDARD>(), b'e', b'.');
 
-/// Returns the syntax of the first form of a reader, and the style.
-fn given(reader: Option<&Reader>, style: Option<&Style>) -> Option<(Syntax, literal::Style)> {
-    let syntax = reader.and_then(Reader::value)?.readers()[0].syntax();
+/// Returns a syntax in whose radixes calls can write, and the style.
+fn given(syntax: Option<&Syntax>, style: Option<&Style>) -> Option<(literal::Syntax, literal::Style)> {
+    let syntax = Syntax::given(syntax)?;
+    let format = syntax.format();
+    let mut radixes = [format.mantissa_radix(), format.exponent_base(), format.exponent_radix()].into_iter();
     let plain = literal::Style::PLAIN;
-    Some((
+    radixes.all(|it| (2..=36).contains(&it)).then_some((
         syntax,
         style.map_or(plain, |style| {
             let plain = if style.without_base != 0 { plain.without_base() } else { plain };
@@ -78,13 +80,13 @@ fn given(reader: Option<&Reader>, style: Option<&Style>) -> Option<(Syntax, lite
     ))
 }
 
-/// Writes what `format` returns for the syntax of a reader and a style, and the size that is enough.
+/// Writes what `format` returns for a syntax and a style, and the size that is enough.
 unsafe fn write<'a>(
-    (reader, style): (Option<&Reader>, Option<&Style>),
+    (syntax, style): (Option<&Syntax>, Option<&Style>),
     (text, len, needed): (*mut u8, usize, Out<usize>),
-    format: impl FnOnce(&Syntax, literal::Style) -> Result<Written<'a>, WriteError>,
+    format: impl FnOnce(&literal::Syntax, literal::Style) -> Result<Written<'a>, WriteError>,
 ) -> WriteStatus {
-    let Some((syntax, style)) = given(reader, style) else { return NOT_MADE };
+    let Some((syntax, style)) = given(syntax, style) else { return ARGUMENT };
     match format(&syntax, style) {
         Ok(written) => {
             let length = write_text(text, len, Some(written));
@@ -108,28 +110,30 @@ unsafe fn write<'a>(
 
 calls! {
     fn peltzivar_format_i64(
-        reader: Option<&Reader>, value: i64, style: Option<&Style>, text: *mut u8, len: usize, needed: Out<usize>
+        syntax: Option<&Syntax>, value: i64, style: Option<&Style>, text: *mut u8, len: usize, needed: Out<usize>
     ) -> WriteStatus {
-        write((reader, style), (text, len, needed), |syntax, style| syntax.format_integer(value, style))
+        write((syntax, style), (text, len, needed), |syntax, style| syntax.format_integer(value, style))
     }
 
     fn peltzivar_format_u64(
-        reader: Option<&Reader>, value: u64, style: Option<&Style>, text: *mut u8, len: usize, needed: Out<usize>
+        syntax: Option<&Syntax>, value: u64, style: Option<&Style>, text: *mut u8, len: usize, needed: Out<usize>
     ) -> WriteStatus {
-        write((reader, style), (text, len, needed), |syntax, style| syntax.format_integer(value, style))
+        write((syntax, style), (text, len, needed), |syntax, style| syntax.format_integer(value, style))
     }
 
     fn peltzivar_format_i128(
-        reader: Option<&Reader>, value: I128, style: Option<&Style>, text: *mut u8, len: usize, needed: Out<usize>
+        syntax: Option<&Syntax>, value: I128, style: Option<&Style>, text: *mut u8, len: usize, needed: Out<usize>
     ) -> WriteStatus {
-        write((reader, style), (text, len, needed), |syntax, style| syntax.format_integer(i128::from(value), style))
+        write((syntax, style), (text, len, needed), |syntax, style| syntax.format_integer(i128::from(value), style))
     }
 
     fn peltzivar_format_f64(
-        reader: Option<&Reader>, value: f64, style: Option<&Style>, text: *mut u8, len: usize, needed: Out<usize>
+        syntax: Option<&Syntax>, value: f64, style: Option<&Style>, text: *mut u8, len: usize, needed: Out<usize>
     ) -> WriteStatus {
-        let format = |digits: Shortest| write((reader, style), (text, len, needed), |syntax, style| {
-            let literal = FLOATS.read(&digits.bytes[..digits.len]).map_err(|_| WriteError::Special)?;
+        let format = |digits: Shortest| write((syntax, style), (text, len, needed), |syntax, style| {
+            let digits = &digits.bytes[..digits.len];
+            // `read` has one caller, so it is inlined there.
+            let (literal, _) = literal::Reader::new(FLOATS).read_prefix(digits).map_err(|_| WriteError::Special)?;
             match syntax.point() {
                 // No float type has a value of a literal with these digits and another exponent base.
                 _ if syntax.format().exponent_base() != 10 => Err(WriteError::Radix),
@@ -145,10 +149,10 @@ calls! {
     }
 
     fn peltzivar_format_literal(
-        reader: Option<&Reader>, literal: &Literal, style: Option<&Style>, text: *mut u8, len: usize, needed: Out<usize>
+        syntax: Option<&Syntax>, literal: &Literal, style: Option<&Style>, text: *mut u8, len: usize, needed: Out<usize>
     ) -> WriteStatus {
-        let Some(literal) = literal.value() else { return NOT_MADE };
-        write((reader, style), (text, len, needed), |syntax, style| syntax.format_literal(literal, style))
+        let Some(literal) = literal.value() else { return ARGUMENT };
+        write((syntax, style), (text, len, needed), |syntax, style| syntax.format_literal(literal, style))
     }
 
     fn peltzivar_write_description(status: WriteStatus) -> *const u8 { at(&DESCRIPTIONS, status) }

@@ -46,7 +46,7 @@ impl<'a> ReaderList<'a> {
         let mut form = 0;
         while form < self.readers.len() {
             let reader = &self.readers[form];
-            let counted = reader.begin(text);
+            let counted = reader.begin(text, false);
             if reader.is_whole(text, counted) {
                 let counts = counted.counts;
                 return Ok((form, counts));

@@ -37,7 +37,7 @@ impl Reader {
     ///
     /// If `text` is not a literal, returns why, and how far it is right.
     pub const fn read<'a>(&self, text: &'a [u8]) -> Result<Literal<'a>, ReadError> {
-        let counted = self.begin(text);
+        let counted = self.begin(text, false);
         if self.is_whole(text, counted) {
             Ok(Literal { text, counts: counted.counts, view: self.syntax.format().view() })
         } else {
@@ -145,6 +145,18 @@ impl<'a> Literal<'a> {
     #[inline]
     pub(super) const fn cut(&self) -> Parts<'a> {
         cut(self.text, self.counts)
+    }
+
+    /// Returns the lengths of the nine parts, in the order of the text.
+    #[doc(hidden)]
+    #[must_use]
+    #[inline]
+    pub const fn lengths(&self) -> [usize; 9] {
+        let mut lengths = self.counts;
+        // The zero of a prefix is counted as a digit of the integer.
+        lengths[2] = lengths[2].wrapping_sub(lengths[1]);
+        lengths[1] += lengths[1];
+        lengths
     }
 
     /// Returns all bytes of the literal.

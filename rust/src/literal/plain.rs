@@ -200,16 +200,17 @@ const fn behind_zero(grammar: Grammar, text: &[u8], part: Part, zero: Run) -> Ru
     }
 }
 
-// Reads a front of `text` with which some literal begins.
+// Reads a front of `text` with which some literal begins. A front that is a literal and not all of `text` is said to be one
+// only if `fronts` is true.
 #[inline(always)]
-pub(crate) const fn plain(grammar: Grammar, text: &[u8]) -> Counted {
+pub(crate) const fn plain(grammar: Grammar, text: &[u8], fronts: bool) -> Counted {
     let Some(sign) = sign(grammar, text, Part::Integer, 0) else {
         return stopped(BEGIN);
     };
     let Some(opening) = open(grammar, text, sign) else {
         return without_prefix(grammar, text, sign);
     };
-    integer(grammar, text, opening)
+    integer(grammar, text, fronts, opening)
 }
 
 // Returns what comes before the digits of the integer, or `None` if a base prefix is required that does not follow.
@@ -236,7 +237,7 @@ const fn without_prefix(_grammar: Grammar, text: &[u8], sign: usize) -> Counted 
 
 // Reads the integer, and what follows it.
 #[inline(always)]
-const fn integer(grammar: Grammar, text: &[u8], opening: Opening) -> Counted {
+const fn integer(grammar: Grammar, text: &[u8], fronts: bool, opening: Opening) -> Counted {
     let Opening { sign, prefix, size, stage } = opening;
     let run = digits(grammar, text, Part::Integer, size, stage, 0);
     if run.size == size {
@@ -246,20 +247,20 @@ const fn integer(grammar: Grammar, text: &[u8], opening: Opening) -> Counted {
     let sizes = Sizes { sign, prefix, integer, point: 0, fraction: 0 };
     let at = place(Part::Integer, run.size, run.stage);
     if run.size < text.len() && is_point(grammar, text[run.size]) && takes(grammar, at.read, false, Role::Point) {
-        return fraction(grammar, text, sizes, run);
+        return fraction(grammar, text, fronts, sizes, run);
     }
     if run.size < text.len()
         && is_exponent_character(grammar, text[run.size])
         && takes(grammar, at.read, false, Role::Exponent)
     {
-        return exponent(grammar, text, sizes, run.size + 1);
+        return exponent(grammar, text, fronts, sizes, run.size + 1);
     }
-    end(grammar, text, at, sizes, [0; 3])
+    end(grammar, text, fronts, at, sizes, [0; 3])
 }
 
 // Reads the fraction behind its decimal point, and what follows it.
 #[inline(always)]
-const fn fraction(grammar: Grammar, text: &[u8], sizes: Sizes, integer: Run) -> Counted {
+const fn fraction(grammar: Grammar, text: &[u8], fronts: bool, sizes: Sizes, integer: Run) -> Counted {
     let from = integer.size + 1;
     let stage = behind_point(integer.stage);
     let run = digits(grammar, text, Part::Fraction, from, stage, integer.sum);
@@ -273,9 +274,9 @@ const fn fraction(grammar: Grammar, text: &[u8], sizes: Sizes, integer: Run) -> 
         && is_exponent_character(grammar, text[run.size])
         && takes(grammar, at.read, false, Role::Exponent)
     {
-        return exponent(grammar, text, sizes, run.size + 1);
+        return exponent(grammar, text, fronts, sizes, run.size + 1);
     }
-    end(grammar, text, at, sizes, [0; 3])
+    end(grammar, text, fronts, at, sizes, [0; 3])
 }
 
 // Returns the stage behind a decimal point.
@@ -290,19 +291,19 @@ const fn behind_point(integer: Stage) -> Stage {
 
 // Reads the exponent behind its character, and what follows it.
 #[inline(always)]
-const fn exponent(grammar: Grammar, text: &[u8], sizes: Sizes, size: usize) -> Counted {
+const fn exponent(grammar: Grammar, text: &[u8], fronts: bool, sizes: Sizes, size: usize) -> Counted {
     let Some(sign) = sign(grammar, text, Part::Exponent, size) else {
         return stopped(place(Part::Exponent, size, Stage::Mark));
     };
     let from = size + sign;
     let run = digits(grammar, text, Part::Exponent, from, behind_sign(Part::Exponent, sign), 0);
     let at = place(Part::Exponent, run.size, run.stage);
-    end(grammar, text, at, sizes, [1, sign, run.size - from])
+    end(grammar, text, fronts, at, sizes, [1, sign, run.size - from])
 }
 
 // Reads the suffix, if it follows.
 #[inline(always)]
-const fn end(grammar: Grammar, text: &[u8], at: At, sizes: Sizes, scale: [usize; 3]) -> Counted {
+const fn end(grammar: Grammar, text: &[u8], fronts: bool, at: At, sizes: Sizes, scale: [usize; 3]) -> Counted {
     let Sizes { sign, prefix, integer, point, fraction } = sizes;
     let At { size, read } = at;
     if size < text.len() && grammar.view().is_base_suffix(text[size]) && takes(grammar, read, false, Role::Suffix) {
@@ -313,6 +314,9 @@ const fn end(grammar: Grammar, text: &[u8], at: At, sizes: Sizes, scale: [usize;
             counts: [sign, prefix, integer, point, fraction, scale[0], scale[1], scale[2], 1],
             complete: is_complete(grammar, read),
         };
+    }
+    if !fronts && size < text.len() {
+        return stopped(at);
     }
     Counted {
         at,

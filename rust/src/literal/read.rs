@@ -74,7 +74,7 @@ impl Reader {
     // Returns where reading `text` stops, and the longest front that is a literal, apart from its groups, if there is one.
     #[inline(always)]
     pub(crate) const fn front(&self, text: &[u8]) -> (At, Option<Found>) {
-        let Counted { at, counts, complete } = self.begin(text);
+        let Counted { at, counts, complete } = self.begin(text, true);
         let stop = self.stop(text, at);
         if complete && stop.size == at.size {
             let size = stop.size;
@@ -100,10 +100,11 @@ impl Reader {
         }
     }
 
-    // Reads a front of `text` with which some literal begins.
+    // Reads a front of `text` with which some literal begins. A front that is a literal and not all of `text` is said to be one
+    // only if `fronts` is true.
     #[inline(always)]
-    pub(crate) const fn begin(&self, text: &[u8]) -> Counted {
-        plain(self.syntax.grammar(), text)
+    pub(crate) const fn begin(&self, text: &[u8], fronts: bool) -> Counted {
+        plain(self.syntax.grammar(), text, fronts)
     }
 
     // Returns whether all of `text` is a literal that has been read.
@@ -218,7 +219,9 @@ impl Reader {
     const fn ungrouped(&self, text: &[u8]) -> ReadError {
         let counts = self.count(text);
         let grammar = self.syntax.grammar();
-        let Some(size) = grammar.conditions.integer_group_size else { unreachable!() };
+        let Some(size) = grammar.conditions.integer_group_size else {
+            return self.refuse_byte(text, BEGIN);
+        };
         let parts = cut(text, counts);
         let before = parts.sign.len() + parts.prefix.len();
         let (start, end) = wrong_group(grammar, size, parts.integer);

@@ -144,8 +144,8 @@ const fn requirement(mask: u128) -> ShortText {
     const ZEROS: u128 = NO_INTEGER_LEADING_ZEROS | NO_FLOAT_LEADING_ZEROS;
     let lowest = mask & mask.wrapping_neg();
     let named = if lowest & ZEROS == 0 { lowest } else { mask & ZEROS };
-    // Flags below bit 18 are at the index of their bit.
-    let flag = FlagSetter::FLAGS[lowest.trailing_zeros() as usize];
+    // Flags below bit 18 are at the index of their bit. By a syntax that is not lawful, there may be none.
+    let flag = FlagSetter::FLAGS[lowest.trailing_zeros() as usize % FlagSetter::FLAGS.len()];
     let text = names(ShortText::of(required_by(flag)).and(", which"), named, " and ");
     text.and(match flag.name().as_bytes().first_chunk() {
         Some(b"required") => " requires",

@@ -105,9 +105,9 @@ impl Grammar {
 /// come first.
 #[derive(Clone, Copy, PartialEq, Eq, PartialOrd, Ord, Hash)]
 pub struct Syntax {
-    format: Format,
-    options: Option<Options>,
-    conditions: Conditions,
+    pub(crate) format: Format,
+    pub(crate) options: Option<Options>,
+    pub(crate) conditions: Conditions,
 }
 
 impl Syntax {

@@ -1,11 +1,23 @@
 //! Syntaxes as constants, and their text.
 
+use crate::literal::syntax::Options;
 use crate::literal::{Conditions, Syntax};
 use crate::{edits::Setter, lawful::Rejected, short_text::ShortText, word_text::word_text};
 use crate::{Error, Format, FormatError};
 use core::{fmt, mem, str::FromStr};
 
 impl Syntax {
+    /// Returns the syntax of a word, of an exponent character and a decimal point, and of conditions, lawful or not, in
+    /// any form. No call panics on a syntax that is not lawful, except one that writes, if a radix is not from 2 to 36.
+    /// What calls return then is not specified.
+    #[doc(hidden)]
+    #[must_use]
+    #[inline]
+    pub fn unchecked(word: u128, options: Option<(u8, u8)>, conditions: Conditions) -> Syntax {
+        let options = options.map(|(exponent, point)| Options { exponent, point });
+        Syntax { format: Format { word }, options, conditions }
+    }
+
     /// Returns the syntax that [`new`][Self::new] returns, for constants.
     ///
     /// # Panics
