@@ -97,7 +97,7 @@ impl<'a> ReaderList<'a> {
         let mut form = first + 1;
         while form < readers.len() {
             let reader = &readers[form];
-            let reached = reader.stop(text, reader.begin(text).at);
+            let reached = reader.stop(text, reader.begin(text, false).at);
             if reached.size == stop.size {
                 let other = reader.refuse(text, reached);
                 if !other.is_byte() && error.is_byte() {
