@@ -1,13 +1,12 @@
 -- What has been read where one part ends and the next one begins.
-use Rattle.std.proofs.Common.{ℕ, ◌≡◌, ◌<◌, ◌≤◌, ◌+◌, ◌-◌, ◌==◌, ◌&&◌, Bool, true, false, IsTrue, List, [], ◌∷◌, if◌then◌else◌}
+use Rattle.std.proofs.Common.{ℕ, ◌≡◌, ◌<◌, ◌+◌, ◌-◌, ◌==◌, Bool, true, false, List, [], ◌∷◌, if◌then◌else◌}
 use Rattle.std.proofs.Common.{get_or, length, refl, sym, ap, subst, ◌∙◌, arith, replicate}
-use Rattle.std.proofs.lemmas.Bool.{false≢true}
 use Rattle.lexical_util.specs.declared.feature_format.roles.Role.TheVariants as roles
 use Rattle.lexical_util.specs.declared.format_flags.Part.{Part}
 use Rattle.lexical_util.specs.declared.format_flags.Part.TheVariants as parts
 use Rattle.lexical_literal.specs.Notation.{Notation}
 use Rattle.lexical_literal.specs.Additions.Plain.{HasRoles, IsAt, IsCounted, IsFirst, IsOpened, IsReadOn, IsSign, behind_sign, counts_of, fresh, is_free, place}
-use Rattle.lexical_literal.specs.Additions.Summary.{Cuts, add, add_more, after_mark, after_point, cuts_of, digits_piece, has_digit, is_begun, is_complete, is_signed, no_cuts, start, takes}
+use Rattle.lexical_literal.specs.Additions.Summary.{Cuts, add, add_more, after_mark, after_point, cuts_of, has_digit, is_begun, is_signed, no_cuts, takes}
 use Rattle.lexical_literal.specs.declared.plain.At.{At}
 use Rattle.lexical_literal.specs.declared.plain.Counted.{Counted}
 use Rattle.lexical_literal.specs.declared.plain.Opening.{Opening}
@@ -18,7 +17,7 @@ use Rattle.lexical_literal.specs.declared.steps.Stage.{Stage}
 use Rattle.lexical_literal.specs.declared.steps.Stage.TheVariants as stages
 use Rattle.lexical_literal.specs.declared.syntax.Condition.TheVariants as conditions
 use Rattle.lexical_literal.proofs.CountLemmas.{count_more, count_one, no_counts}
-use Rattle.lexical_literal.proofs.PlainLemmas.{admits_free, complete_at, none_begun, one_read, read_one, read_prefix, read_zero, stay, stopped_at}
+use Rattle.lexical_literal.proofs.PlainLemmas.{admits_free, none_begun, one_read, read_one, read_zero, stopped_at}
 use Rattle.lexical_literal.proofs.ScanLemmas.{is_role}
 
 -- Stages behind a sign.
@@ -82,7 +81,7 @@ module _ (m : Notation) (text : List ℕ) where
   -- Behind a base prefix.
   pub opened_prefix : HasRoles m → (sign : ℕ) → IsSign m text parts.Integer 0 sign
       → ((stage : Stage) (c : Cuts) → IsFirst m stage → IsAt m text (place parts.Integer sign stage) c
-          → IsAt m text (place parts.Integer (sign + 2) stages.Free) (add (add c pieces.Integer) pieces.Prefix))
+      → IsAt m text (place parts.Integer (sign + 2) stages.Free) (add (add c pieces.Integer) pieces.Prefix))
       → IsOpened m text (record { sign = sign; prefix = 1; size = sign + 2; stage = stages.Free })
   opened_prefix h sign is prefix = record {
     at = subst (IsAt m text (place parts.Integer (sign + 2) stages.Free))

@@ -1,7 +1,7 @@
 -- What is read of a text part after part.
-use Rattle.std.proofs.Common.{ℕ, ◌≡◌, ◌<◌, ◌≤◌, ◌+◌, ◌-◌, ◌==◌, ◌&&◌, ◌||◌, Bool, true, false, not, IsTrue, zero, suc, if◌then◌else◌, List, [], ◌∷◌, ◌++◌, Option, Some, None}
+use Rattle.std.proofs.Common.{ℕ, ◌≡◌, ◌<◌, ◌≤◌, ◌+◌, ◌-◌, ◌==◌, ◌&&◌, ◌||◌, Bool, true, false, not, IsTrue, if◌then◌else◌, List, [], ◌∷◌, Some, None}
 use Rattle.std.proofs.Common.{get_or, length, take, refl, sym, ap, subst, ◌∙◌, arith}
-use Rattle.std.proofs.lemmas.Bool.{false≢true, and_parts}
+use Rattle.std.proofs.lemmas.Bool.{false≢true}
 use Rattle.std.proofs.lemmas.List.{take_more}
 use Rattle.lexical_util.specs.Layout.{separators_in}
 use Rattle.lexical_util.specs.declared.feature_format.roles.Role.{Role}
@@ -176,7 +176,7 @@ module _ (m : Notation) (text : List ℕ) where
         let two : size + 1 + 1 ≡ size + 2 = omega arith in
         let first : IsReadOn m text (place part size stage) (digits_piece part) gap =
         subst (λ after. IsReadOn m text (place part size stage) (digits_piece part)
-            (record { size = size + 1; read = record { part = part; stage = after; gap = true; ended = false } })) (same_mark m part stage run)
+        (record { size = size + 1; read = record { part = part; stage = after; gap = true; ended = false } })) (same_mark m part stage run)
         (read_one (place part size stage) roles.Separator (omega (arith, inside)) (is_role m h part roles.Separator b (λ same. cc) separator) refl
         (takes_separator m part stage run (b == 43) allowed)
         (admits_free m part stage (place part size stage).read (b == 43) (b == 48) roles.Separator (λ same. cc) (run_is_free m part stage run))) in

@@ -1,6 +1,6 @@
 -- The digits of a run, their number, and the number that they represent, modulo `2 ^ 64`.
 use Rattle.std.proofs.Common.{ℕ, ◌≡◌, ◌<◌, ◌≤◌, ◌+◌, ◌-◌, ◌*◌, ◌%◌, ◌^◌, ◌∙◌, Bool, true, false, List, [], ◌∷◌, ◌++◌, Option, Some, None, nat_lt, cond}
-use Rattle.std.proofs.Common.{get_or, length, take, drop, refl, sym, ap, subst, arith, append-nil}
+use Rattle.std.proofs.Common.{get_or, length, take, drop, refl, sym, ap, arith}
 use Rattle.std.proofs.lemmas.Int.Digits.{number_after_append}
 use Rattle.std.proofs.lemmas.List.Elements.{filter_map-append}
 use Rattle.std.proofs.lemmas.List.{drop-drop, get_or-drop, length-drop, take_more}
@@ -11,7 +11,6 @@ use Rattle.std.specs.Int.Digits.{number_from_digits_after}
 use Rattle.std.specs.List.{cons_option}
 use lib.ListN.{length-append}
 use Rattle.lexical_util.specs.Digits.{byte_value, digit_of}
-use Rattle.lexical_util.specs.Layout.{separators_in}
 use Rattle.lexical_util.specs.Record.{raw}
 use Rattle.lexical_util.specs.declared.format_flags.Part.{Part}
 use Rattle.lexical_literal.specs.Notation.{Notation, notation_of, radix_of}
@@ -138,7 +137,7 @@ module _ (g : Grammar) (text : List ℕ) (part : Part) (run : Run) (v : ℕ) (h 
       let inside : run.size < length text = omega (arith, separated.digit.0) in
       let first = byte_between radix text run.size None inside
       (no_value radix (get_or text run.size 0) (no_digit m h part (get_or text run.size 0)
-          (is_role m h part roles.Separator (get_or text run.size 0) (λ same. cc) separated.separator))) in
+      (is_role m h part roles.Separator (get_or text run.size 0) (λ same. cc) separated.separator))) in
       let second = byte_between radix text (run.size + 1) (Some v) separated.digit.0 separated.digit.1 in
       let one : digits_in radix (between text run.size (run.size + 2)) ≡ v ∷ [] =
       both_between radix text run.size (run.size + 1) (run.size + 2) (omega arith) (omega arith)

@@ -11,8 +11,9 @@ ghost use Rattle.lexical_literal.specs.Additions.Summary.{Cuts, add, after_mark,
 ghost use Rattle.lexical_literal.specs.declared.steps.Piece.TheVariants as pieces;
 
 use crate::steps::{
-    START, Stage, Summary, allows_minus, allows_plus, digit_value, has_digit, is_begun, is_complete, is_exponent_character, is_point,
-    is_separator, is_signed, may_follow, radix_of, takes,
+    START, Stage, Summary, allows_minus, allows_plus, digit_value, has_digit, is_begun,
+    is_complete, is_exponent_character, is_point, is_separator, is_signed, may_follow, radix_of,
+    takes,
 };
 use crate::syntax::Grammar;
 use lexical_util::format::{Part, Role};
@@ -249,7 +250,14 @@ const fn groups(grammar: Grammar, text: &[u8], part: Part, begun: Run) -> Run
 
 // Reads the digits of `part` that begin at `from`, behind `stage`, and separators between them.
 #[inline(always)]
-const fn digits(grammar: Grammar, text: &[u8], part: Part, from: usize, stage: Stage, before: u64) -> Run
+const fn digits(
+    grammar: Grammar,
+    text: &[u8],
+    part: Part,
+    from: usize,
+    stage: Stage,
+    before: u64,
+) -> Run
     requires roles { HasRoles (notation_of grammar) }
     requires within { from ≤ length text.now }
     requires none { has_digit stage ≡ false }
@@ -302,7 +310,12 @@ const fn behind_zero(grammar: Grammar, text: &[u8], part: Part, zero: Run) -> Ru
 {
     match value_at(grammar, text, part, zero.size) {
         Some(value) if may_follow(grammar, Stage::Bare) => {
-            groups(grammar, text, part, staged(push(grammar, part, zero, value, 1), Stage::Led))
+            groups(
+                grammar,
+                text,
+                part,
+                staged(push(grammar, part, zero, value, 1), Stage::Led),
+            )
         }
         _ => zero,
     }
@@ -371,7 +384,12 @@ const fn integer(grammar: Grammar, text: &[u8], fronts: bool, opening: Opening) 
     requires opened { IsOpened (notation_of grammar) text.now opening }
     ensures { IsCounted (notation_of grammar) text.now result }
 {
-    let Opening { sign, prefix, size, stage } = opening;
+    let Opening {
+        sign,
+        prefix,
+        size,
+        stage,
+    } = opening;
     let run = digits(grammar, text, Part::Integer, size, stage, 0);
     if run.size == size {
         return stopped(place(Part::Integer, size, stage));
@@ -385,7 +403,10 @@ const fn integer(grammar: Grammar, text: &[u8], fronts: bool, opening: Opening) 
         fraction: 0,
     };
     let at = place(Part::Integer, run.size, run.stage);
-    if run.size < text.len() && is_point(grammar, text[run.size]) && takes(grammar, at.read, false, Role::Point) {
+    if run.size < text.len()
+        && is_point(grammar, text[run.size])
+        && takes(grammar, at.read, false, Role::Point)
+    {
         return fraction(grammar, text, fronts, sizes, run);
     }
     if run.size < text.len()
@@ -399,7 +420,13 @@ const fn integer(grammar: Grammar, text: &[u8], fronts: bool, opening: Opening) 
 
 // Reads the fraction behind its decimal point, and what follows it.
 #[inline(always)]
-const fn fraction(grammar: Grammar, text: &[u8], fronts: bool, sizes: Sizes, integer: Run) -> Counted
+const fn fraction(
+    grammar: Grammar,
+    text: &[u8],
+    fronts: bool,
+    sizes: Sizes,
+    integer: Run,
+) -> Counted
     requires roles { HasRoles (notation_of grammar) }
     requires inside { integer.size < length text.now }
     requires at { IsAt (notation_of grammar) text.now (place Part.Fraction (integer.size + 1) (after_point (has_digit integer.stage)))
@@ -413,7 +440,12 @@ const fn fraction(grammar: Grammar, text: &[u8], fronts: bool, sizes: Sizes, int
     if run.size == from {
         return stopped(place(Part::Fraction, from, stage));
     }
-    let Sizes { sign, prefix, integer, .. } = sizes;
+    let Sizes {
+        sign,
+        prefix,
+        integer,
+        ..
+    } = sizes;
     let sizes = Sizes {
         sign,
         prefix,
@@ -455,31 +487,66 @@ const fn exponent(grammar: Grammar, text: &[u8], fronts: bool, sizes: Sizes, siz
         return stopped(place(Part::Exponent, size, Stage::Mark));
     };
     let from = size + sign;
-    let run = digits(grammar, text, Part::Exponent, from, behind_sign(Part::Exponent, sign), 0);
+    let run = digits(
+        grammar,
+        text,
+        Part::Exponent,
+        from,
+        behind_sign(Part::Exponent, sign),
+        0,
+    );
     let at = place(Part::Exponent, run.size, run.stage);
     end(grammar, text, fronts, at, sizes, [1, sign, run.size - from])
 }
 
 // Reads the suffix, if it follows.
 #[inline(always)]
-const fn end(grammar: Grammar, text: &[u8], fronts: bool, at: At, sizes: Sizes, scale: [usize; 3]) -> Counted
+const fn end(
+    grammar: Grammar,
+    text: &[u8],
+    fronts: bool,
+    at: At,
+    sizes: Sizes,
+    scale: [usize; 3],
+) -> Counted
     requires roles { HasRoles (notation_of grammar) }
     requires at { IsAt (notation_of grammar) text.now at (cuts_of (counts_of sizes (get_or scale 0 0) (get_or scale 1 0) (get_or scale 2 0) 0)) }
     requires going { at.read.ended ≡ false }
     requires free { is_free (notation_of grammar) at.read.stage ≡ true }
     ensures { IsCounted (notation_of grammar) text.now result }
 {
-    let Sizes { sign, prefix, integer, point, fraction } = sizes;
+    let Sizes {
+        sign,
+        prefix,
+        integer,
+        point,
+        fraction,
+    } = sizes;
     let At { size, read } = at;
     if size < text.len()
         && grammar.view().is_base_suffix(text[size])
         && takes(grammar, read, false, Role::Suffix)
     {
-        let Summary { part, stage, gap, .. } = read;
-        let read = Summary { part, stage, gap, ended: true };
+        let Summary {
+            part,
+            stage,
+            gap,
+            ..
+        } = read;
+        let read = Summary {
+            part,
+            stage,
+            gap,
+            ended: true,
+        };
         return Counted {
-            at: At { size: size + 1, read },
-            counts: [sign, prefix, integer, point, fraction, scale[0], scale[1], scale[2], 1],
+            at: At {
+                size: size + 1,
+                read,
+            },
+            counts: [
+                sign, prefix, integer, point, fraction, scale[0], scale[1], scale[2], 1,
+            ],
             complete: is_complete(grammar, read),
         };
     }
@@ -488,7 +555,9 @@ const fn end(grammar: Grammar, text: &[u8], fronts: bool, at: At, sizes: Sizes, 
     }
     Counted {
         at,
-        counts: [sign, prefix, integer, point, fraction, scale[0], scale[1], scale[2], 0],
+        counts: [
+            sign, prefix, integer, point, fraction, scale[0], scale[1], scale[2], 0,
+        ],
         complete: is_complete(grammar, read),
     }
 }

@@ -14,8 +14,8 @@ ghost use Rattle.lexical_literal.specs.Takes.{IsError, IsUngrouped, Refuses};
 
 use crate::cause::{Marks, ReadError, Spot};
 use crate::groups::{is_grouped, wrong_group};
-use crate::span::marks;
 use crate::plain::{At, BEGIN, Counted, plain};
+use crate::span::marks;
 use crate::steps::{Summary, byte_class, is_complete, piece_number, step, step_at};
 use crate::syntax::Syntax;
 use lexical_util::laws::flags::role_facts;
@@ -108,7 +108,11 @@ impl Reader {
     pub(crate) fn front(&self, text: &[u8]) -> (At, Option<Found>)
         ensures { IsFronted self.now text.now result.0 result.1 }
     {
-        let Counted { at, counts, complete } = self.begin(text, true);
+        let Counted {
+            at,
+            counts,
+            complete,
+        } = self.begin(text, true);
         let stop = self.stop(text, at);
         if complete && stop.size == at.size {
             let size = stop.size;

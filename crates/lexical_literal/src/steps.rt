@@ -402,7 +402,13 @@ const fn is_negative(part: Part, plus: bool, role: Role) -> bool
 
 // Returns whether the conditions let a byte with the role `role` follow.
 #[inline(always)]
-pub(crate) const fn admits(conditions: Conditions, read: Summary, plus: bool, zero: bool, role: Role) -> bool
+pub(crate) const fn admits(
+    conditions: Conditions,
+    read: Summary,
+    plus: bool,
+    zero: bool,
+    role: Role,
+) -> bool
     ensures { result ≡ admits (has conditions) read plus zero role }
 {
     if conditions.are_free() {

@@ -1,7 +1,7 @@
 -- The exponent, and its sign.
-use Rattle.std.proofs.Common.{◌≡◌, ◌+◌, ◌-◌, sym, subst, ◌∙◌, true, false}
+use Rattle.std.proofs.Common.{◌≡◌, ◌+◌, ◌-◌, sym, subst, true, false}
 use Rattle.lexical_literal.specs.Notation.{notation_of}
-use Rattle.lexical_literal.specs.Additions.Plain.{IsAt, IsReadOn, counts_of, behind_sign, is_free, place}
+use Rattle.lexical_literal.specs.Additions.Plain.{IsAt, IsReadOn, counts_of, is_free, place}
 use Rattle.lexical_literal.specs.Additions.Summary.{cuts_of, has_digit, is_signed}
 use Rattle.lexical_literal.specs.declared.plain.At.{At}
 use Rattle.lexical_literal.specs.declared.steps.Piece.TheVariants as pieces

@@ -1,13 +1,11 @@
 -- The fraction, and what follows it.
-use Rattle.std.proofs.Common.{◌≡◌, ◌+◌, ◌-◌, Bool, sym, subst, ◌∙◌, true, false}
+use Rattle.std.proofs.Common.{◌≡◌, ◌+◌, ◌-◌, sym, subst, ◌∙◌, true, false}
 use Rattle.lexical_literal.specs.Notation.{notation_of}
 use Rattle.lexical_literal.specs.Additions.Plain.{IsAt, IsReadOn, counts_of, is_free, place}
 use Rattle.lexical_literal.specs.Additions.Summary.{after_point, cuts_of, has_digit, is_signed, takes}
 use Rattle.lexical_literal.specs.declared.plain.At.{At}
-use Rattle.lexical_literal.specs.declared.plain.Run.{Run}
 use Rattle.lexical_literal.specs.declared.plain.Sizes.{Sizes}
 use Rattle.lexical_literal.specs.declared.steps.Piece.TheVariants as pieces
-use Rattle.lexical_literal.specs.declared.steps.Stage.TheVariants as stages
 use Rattle.lexical_util.specs.declared.feature_format.roles.Role.TheVariants as roles
 use Rattle.lexical_util.specs.declared.format_flags.Part.TheVariants as parts
 use Rattle.lexical_literal.proofs.JoinLemmas.{fraction_at, mark_at, point_none, point_free}

@@ -1,7 +1,7 @@
 -- What comes before the digits.
-use Rattle.std.proofs.Common.{◌≡◌, false, sym, subst, ◌∙◌, arith}
+use Rattle.std.proofs.Common.{sym, subst}
 use Rattle.lexical_literal.specs.Notation.{notation_of}
-use Rattle.lexical_literal.specs.Additions.Plain.{IsOpened, behind_sign}
+use Rattle.lexical_literal.specs.Additions.Plain.{IsOpened}
 use Rattle.lexical_literal.proofs.JoinLemmas.{opened, opened_prefix}
 use Rattle.lexical_literal.proofs.plain.open.Goals as goal
 

@@ -1,7 +1,7 @@
 -- A sign, or none.
 use Rattle.std.proofs.Common.{◌≡◌, ◌+◌, sym, subst, ◌∙◌, ap, arith}
 use Rattle.lexical_literal.specs.Notation.{notation_of}
-use Rattle.lexical_literal.specs.Additions.Plain.{IsReadOn, behind_sign, fresh, place}
+use Rattle.lexical_literal.specs.Additions.Plain.{IsReadOn, fresh, place}
 use Rattle.lexical_literal.specs.Additions.Summary.{is_signed, piece_of}
 use Rattle.lexical_util.specs.declared.feature_format.roles.Role.TheVariants as roles
 use Rattle.lexical_literal.proofs.JoinLemmas.{signed_behind}

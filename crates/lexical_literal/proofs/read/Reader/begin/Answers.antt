@@ -8,11 +8,10 @@ use Rattle.lexical_literal.proofs.RoleLemmas.{ready}
 use Rattle.lexical_literal.proofs.ScanLemmas.{IsReady}
 use Rattle.lexical_literal.proofs.read.Reader.begin.Goals as goal
 
-
 pub plain-requires : goal.plain-requires
 plain-requires c = record {
   roles = (subst (λ (g : Grammar). IsReady (notation_of g)) (sym c.grammar.ensures.value)
-    (ready c.role_facts.ensures.disjoint c.role_facts.ensures.five c.role_facts.ensures.lawful c.self.inside.syntax c.self.invariant)).roles;
+      (ready c.role_facts.ensures.disjoint c.role_facts.ensures.five c.role_facts.ensures.lawful c.self.inside.syntax c.self.invariant)).roles;
 }
 
 pub returns : goal.returns

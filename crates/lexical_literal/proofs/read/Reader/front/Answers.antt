@@ -1,5 +1,5 @@
 -- The longest front that is a literal, and the lengths of its parts.
-use Rattle.std.proofs.Common.{sym, ◌∙◌, subst, take}
+use Rattle.std.proofs.Common.{sym, ◌∙◌, subst}
 use Rattle.lexical_literal.specs.Literal.{Reads}
 use Rattle.lexical_literal.proofs.LongestLemmas.{found_there, front_literal, fronted}
 use Rattle.lexical_literal.proofs.read.Reader.front.Goals as goal

@@ -1,5 +1,5 @@
 -- The loop reads the text, and is left at the first wrong byte.
-use Rattle.std.proofs.Common.{ℕ, ◌≡◌, Bool, true, false, ◌&&◌, if◌then◌else◌, List, Option, Some, None, ◌<◌, ◌+◌, length, length-set, get_or, set, refl, sym, ap, ◌∙◌, arith, rules, subst}
+use Rattle.std.proofs.Common.{ℕ, ◌≡◌, Bool, true, false, ◌&&◌, if◌then◌else◌, List, Option, Some, None, ◌<◌, ◌+◌, length, length-set, get_or, set, refl, sym, ap, ◌∙◌, arith, subst}
 use Rattle.std.proofs.lemmas.Option.{slice_get-get_or}
 use Rattle.std.specs.Prelude.{is_some}
 use Rattle.lexical_literal.specs.Notation.{Notation, notation_of}

@@ -1,5 +1,5 @@
 -- One step decides.
-use Rattle.std.proofs.Common.{ℕ, ◌≡◌, Option, Some, None, get_or, length, sym, subst, ◌∙◌, arith, refl}
+use Rattle.std.proofs.Common.{ℕ, ◌≡◌, Option, Some, None, get_or, sym, subst, ◌∙◌, arith, refl}
 use Rattle.lexical_literal.specs.Additions.Summary.{byte_class, step}
 use Rattle.lexical_literal.specs.Notation.{notation_of}
 use Rattle.lexical_literal.specs.declared.steps.Summary.{Summary}
