@@ -4,7 +4,7 @@ use crate::literal::{FormError, FromLiteral, Number, ParseError, Readers, Specia
 use core::{fmt, hash};
 
 /// How a language, or a file, writes numbers: the syntax and the reader of each form, such as decimal and hexadecimal,
-/// and the spellings of NaN and infinity. The readers are constants, so no tables are made at run time.
+/// and the spellings of NaN and infinity. The readers are constants.
 ///
 /// A text is a number if it is one token of the language. So `-1` is one only where the grammar says so, and a suffix that
 /// names a type, as in `10u`, belongs to no number: [`read_prefix`][Self::read_prefix] returns `10` and `u`. Decimal is the
@@ -33,7 +33,7 @@ pub struct Language(&'static Definition);
 struct Definition {
     name: &'static str,
     forms: &'static [Form],
-    readers: fn() -> &'static Readers<'static>,
+    readers: Readers<'static>,
     specials: Specials<'static>,
 }
 
@@ -62,8 +62,8 @@ impl Language {
 
     /// Returns the readers of the forms, in the same order, with the special values.
     #[must_use]
-    pub fn readers(&self) -> &'static Readers<'static> {
-        (self.0.readers)()
+    pub const fn readers(&self) -> &'static Readers<'static> {
+        &self.0.readers
     }
 
     /// Returns the spellings of NaN and infinity. A language in which they are names, or do not exist, has none.
@@ -77,7 +77,7 @@ impl Language {
     /// # Errors
     ///
     /// If `text` is neither a literal nor a special value, returns why it is not a literal.
-    pub fn read<'a>(&self, text: &'a [u8]) -> Result<Number<'a>, FormError> {
+    pub const fn read<'a>(&self, text: &'a [u8]) -> Result<Number<'a>, FormError> {
         self.readers().read(text)
     }
 
@@ -86,7 +86,7 @@ impl Language {
     /// # Errors
     ///
     /// If `text` does not begin with a literal, returns why it is not one.
-    pub fn read_prefix<'a>(&self, text: &'a [u8]) -> Result<(Number<'a>, &'a [u8]), FormError> {
+    pub const fn read_prefix<'a>(&self, text: &'a [u8]) -> Result<(Number<'a>, &'a [u8]), FormError> {
         self.readers().read_prefix(text)
     }
 
@@ -129,17 +129,6 @@ impl fmt::Debug for Language {
     }
 }
 
-/// A type for each language, which has its readers.
-trait Grammar {
-    const READERS: Readers<'static>;
-}
-
-/// Returns the readers of a language. It and the types that implement [`Grammar`] are generic, so that the compiler makes
-/// the tables of those languages alone that a program reads, and none where the library is compiled alone.
-fn readers<T: Grammar>() -> &'static Readers<'static> {
-    const { &T::READERS }
-}
-
 /// Defines the constants: the documentation and the name of each, the name and the syntax of each form, and the special
 /// values, if there are any.
 macro_rules! languages {
@@ -150,17 +139,12 @@ macro_rules! languages {
 
             $($(#[$about])+
             pub const $name: Language = {
-                enum It<const N: u8> {}
                 const SPECIALS: Specials<'static> = [$($specials,)? Specials { nan: None, inf: None, infinity: None }][0];
-                impl<const N: u8> Grammar for It<N> {
-                    const READERS: Readers<'static> =
-                        Readers::new_or_panic(const { &[$(Reader::new($syntax)),+] }).with_specials(SPECIALS);
-                }
                 $(assert!($syntax.supports_floats());)+
                 Language(&Definition {
                     name: stringify!($name),
                     forms: &[$(Form { name: $form, syntax: $syntax }),+],
-                    readers: readers::<It<0>>,
+                    readers: Readers::new_or_panic(const { &[$(Reader::new($syntax)),+] }).with_specials(SPECIALS),
                     specials: SPECIALS,
                 })
             };)+

@@ -94,7 +94,7 @@ impl Reader {
     }
 }
 
-/// Makes the tables of a syntax, as [`Reader::new`] does.
+/// Returns the reader of a syntax, as [`Reader::new`] does.
 impl From<Syntax> for Reader {
     fn from(syntax: Syntax) -> Self {
         Reader::new(syntax)

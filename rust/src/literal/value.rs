@@ -38,7 +38,7 @@ pub trait Sealed:
     /// What errors name.
     const TARGET: &'static Target;
 
-    /// Returns the value of some literals that need no tables, and `None` for all other texts.
+    /// Returns the value of some literals that are digits alone, and `None` for all other texts.
     fn from_plain(reader: &Reader, text: &[u8]) -> Option<Self>;
 }
 

@@ -1,6 +1,6 @@
 //! The forms of each language. The comment of a setter has a text that is accepted or rejected because of the setter.
 
-use super::{readers, Definition, Form, Grammar, Language};
+use super::{Definition, Form, Language};
 use crate::literal::{Reader, Readers, Specials, Syntax};
 use crate::NumberFormatBuilder;
 use core::num::NonZeroU8;
