@@ -269,9 +269,12 @@ const _: () = { const fn call(it: &'static FormatView, byte: u8) -> bool { <Form
 const _: () = { const fn call(it: &'static FormatView, exponent: u8, byte: u8) -> bool { <FormatView>::is_exponent_character(it, exponent, byte) } };
 const _: () = { const fn call(it: &'static FormatView, exponent: u8, decimal_point: u8, byte: u8) -> Option<Role> { <FormatView>::role_of(it, exponent, decimal_point, byte) } };
 const _: () = { const fn call(it: &'static FormatView, part: Part) -> Separators { <FormatView>::separators(it, part) } };
+const _: () = { const fn call(it: &'static Language) -> &'static Readers<'static> { <Language>::readers(it) } };
 const _: () = { const fn call(it: &'static Language) -> &'static [Form] { <Language>::forms(it) } };
 const _: () = { const fn call(it: &'static Language) -> &'static str { <Language>::name(it) } };
 const _: () = { const fn call(it: &'static Language) -> Specials<'static> { <Language>::specials(it) } };
+const _: () = { const fn call(it: &'static Language, text: &'static [u8]) -> Result<(Number<'static>, &'static [u8]), FormError> { <Language>::read_prefix(it, text) } };
+const _: () = { const fn call(it: &'static Language, text: &'static [u8]) -> Result<Number<'static>, FormError> { <Language>::read(it, text) } };
 const _: () = { const fn call(it: &'static LineError) -> EditErrorKind { <LineError>::kind(it) } };
 const _: () = { const fn call(it: &'static LineError) -> usize { <LineError>::index(it) } };
 const _: () = { const fn call(it: &'static Literal<'static>) -> &'static [u8] { <Literal<'static>>::as_bytes(it) } };
@@ -541,9 +544,6 @@ const _: () = { fn call(it: &'static FormatView) -> impl Iterator<Item = Note> +
 const _: () = { fn call(it: &'static FormatView) -> impl Iterator<Item = Reason> + Clone { <FormatView>::reasons(it) } };
 const _: () = { fn call(it: &'static FormatView) -> impl Iterator<Item = Rule> + Clone { <FormatView>::broken_rules(it) } };
 const _: () = { fn call(it: &'static FormatView, exponent: u8, decimal_point: u8) -> impl Iterator<Item = Reason> + Clone { <FormatView>::options_reasons(it, exponent, decimal_point) } };
-const _: () = { fn call(it: &'static Language) -> &'static Readers<'static> { <Language>::readers(it) } };
-const _: () = { fn call(it: &'static Language, text: &'static [u8]) -> Result<(Number<'static>, &'static [u8]), FormError> { <Language>::read_prefix(it, text) } };
-const _: () = { fn call(it: &'static Language, text: &'static [u8]) -> Result<Number<'static>, FormError> { <Language>::read(it, text) } };
 const _: () = { fn call(it: &'static Literal<'static>) -> Option<impl Display + Clone + 'static> { <Literal<'static>>::plain(it) } };
 const _: () = { fn call(it: &'static Literal<'static>) -> impl Iterator<Item = (&'static str, &'static [u8])> + Clone { <Literal<'static>>::parts(it) } };
 const _: () = { fn call(it: &'static Literal<'static>, part: Part) -> Digits<'static> { <Literal<'static>>::digits(it, part) } };
