@@ -46,7 +46,7 @@ class Install(InFolder):
 
     @unittest.skipUnless(shutil.which("pkg-config"), "pkg-config")
     def test_a_program_is_built_by_the_lines_of_the_pages(self):
-        self.environment["HOME"] = str(self.prefix.parent)
+        self.environment |= {"HOME": str(self.prefix.parent), "RUSTUP_HOME": os.environ.get("RUSTUP_HOME", os.path.expanduser("~/.rustup"))}
         for lines in (INSTALL, *re.findall(r"^\| C \| `(.*?)`", README, re.M)):
             self.run_in("bash", "-ec", lines, cwd=C.parent)
         shutil.copy(C / "example.c", self.folder)
