@@ -189,8 +189,8 @@ typedef struct {
 /* Where reading stopped. The first `valid_up_to` bytes are the longest beginning of the text that some literal begins
  * with. If these are all of its bytes, bytes are missing, and a longer text may be a literal. integer_group_size is
  * tested last: a text that it alone refuses is valid up to its end, and a longer text may not be a literal. `form` is
- * the form of a language for which this beginning is the longest, and otherwise 0. Of several such forms, it is the first
- * whose kind is not PELTZIVAR_KIND_BYTE, or the first if the kind of each is this one. */
+ * the form of a language for which this beginning is the longest, and otherwise 0. Of several such forms, it is the
+ * first whose kind is not PELTZIVAR_KIND_BYTE, or the first if the kind of each is this one. */
 typedef struct {
     PELTZIVAR_ALIGNED uint64_t magic;
     size_t valid_up_to;

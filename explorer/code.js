@@ -1,4 +1,4 @@
-/* The code of a state, with its spellings of special values in quotes. Without a reader, it is the word, and says why. */
+/* The code of a state, with its spellings of special values in quotes. If nothing can be read, it is the word, and says why. */
 
 /* Returns a byte as a character of Rust or C. */
 function character(byte, prefix) {
@@ -18,10 +18,10 @@ class Code {
         this.library = library;
     }
 
-    /* Returns why a state has no reader: the first reason, or an empty text. */
+    /* Returns why nothing can be read: the first reason, or an empty text. */
     problem({ reasons, options, conditions }) {
         const [first] = [...reasons, ...options, ...conditions];
-        return first ? `There is no reader: ${first.text}.` : "";
+        return first ? `Nothing can be read: ${first.text}.` : "";
     }
 
     rust(state, shown) {

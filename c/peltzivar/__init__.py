@@ -633,7 +633,7 @@ class Edit:
     def of(cls, setter: Union[Setter, str], value: Value) -> Edit:
         """Returns the edit with this setter, or the setter with this name, and this value, such as
         `Edit.of("digit_separator", "_")`. Raises TypeError or ValueError if the setter does not take the value."""
-        named = _SETTERS.get(setter) if isinstance(setter, str) else _typed("setter", setter, Setter)
+        named = _SETTERS.get(setter.strip(" \t\n\f\r")) if isinstance(setter, str) else _typed("setter", setter, Setter)
         if named is None:
             raise ValueError(f"setter {reprlib.repr(setter)}: {_refusal(f'{setter}=')}")
         edit = cls.__new__(cls)
@@ -1548,8 +1548,8 @@ class Syntax:
         replaces any `group` but 0. `without_base` leaves out the base prefix and the base suffix, unless conditions
         require them. Raises ValueError for NaN and infinity, for a sign `-`, a decimal point or an exponent if no
         literal has one, for an int if each literal has an exponent, for an int of more than 4300 digits in radix 10, as
-        `str` does, and for another mantissa radix, which is 10 for a float and a Decimal, or exponent base than that of
-        the syntax. A `Literal` keeps its exponent, and a Decimal has one from 1E+401 on and below 1E-400.
+        `str` does, for another mantissa radix than that of the syntax, which is 10 for a float and a Decimal, and, of a
+        float or an exponent, for another exponent base. A `Literal` keeps its exponent, and a Decimal has one from 1E+401 on and below 1E-400.
         """
         style, needed = _Style(_number("group", group), _typed("without_base", without_base, bool)), c_size_t(64)
         call, number, _literal = _writing(value, self._fields.mantissa_radix)

@@ -273,7 +273,8 @@ impl Settings {
 fn parse(index: usize, text: &[u8]) -> Result<(Option<usize>, Edit), LineError> {
     let refuse = |error, option, refused: &[u8]| {
         let piece = array::from_fn(|at| refused.get(at).copied().unwrap_or_default());
-        let has_comment = text.windows(2).any(|it| it[0].is_ascii_whitespace() && it[1] == b'#');
+        let value = text.splitn(2, |byte| *byte == b'=').last().unwrap_or(text).trim_ascii();
+        let has_comment = value.windows(2).any(|it| it[0].is_ascii_whitespace() && it[1] == b'#');
         LineError { index, error, option, piece, length: refused.len(), has_comment }
     };
     let equals = text.iter().position(|byte| *byte == b'=');

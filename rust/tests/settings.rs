@@ -12,7 +12,7 @@ use settings::load;
 #[test]
 fn files_give_a_syntax_and_what_is_found() {
     #[rustfmt::skip]
-    let rows: [(&[u8], &str, &[&str]); 47] = [
+    let rows: [(&[u8], &str, &[&str]); 48] = [
         (include_bytes!("../examples/settings.txt"), "0x100A10007800005F000000010000000C 112 46", &[]),
         // Nothing is set.
         (b"\n \t\r\n\r\n", "0x0A0A0A0000000000000000000000000C 101 46", &[]),
@@ -46,6 +46,7 @@ fn files_give_a_syntax_and_what_is_found() {
         (b"# caf\xC3\xA9 = 1\n  # no = yes\nno_special=true # no", "", &["line 3: a comment has a line of its own, so no_special does not take `true # no`"]),
         (b"x = 3 # comment\nexponent='p'\t#", "", &["line 1: unknown setting `x`; a comment has a line of its own",
             "line 2: a comment has a line of its own, so exponent does not take `'p'\\x09#`"]),
+        (b"base_prefix = #", "", &["line 1: base_prefix takes a character such as '_', a number from 0 to 255, or `none`, not `#`; did you mean `'#'`?"]),
         // A character is in single quotes.
         (b"digit_separator=\"_\"\npoint=,", "", &[
             "line 1: digit_separator takes a character such as '_', a number from 0 to 255, or `none`, not `\"_\"`; did you mean `'_'`?",

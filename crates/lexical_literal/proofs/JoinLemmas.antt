@@ -60,7 +60,8 @@ module _ (m : Notation) (text : List ℕ) where
       let same : 0 + sign ≡ sign = omega arith in
       let none : 0 + sign - 0 ≡ sign = omega arith in
       subst (λ n. IsAt m text (place parts.Integer n (behind_sign parts.Integer sign)) (cuts_of (sign ∷ 0 ∷ 0 ∷ 0 ∷ 0 ∷ 0 ∷ 0 ∷ 0 ∷ 0 ∷ []))) same
-      (at_more (place parts.Integer 0 stages.Start) (place parts.Integer (0 + sign) (behind_sign parts.Integer sign)) pieces.Sign no_cuts (sign ∷ 0 ∷ 0 ∷ 0 ∷ 0 ∷ 0 ∷ 0 ∷ 0 ∷ 0 ∷ []) is.on begun
+      (at_more (place parts.Integer 0 stages.Start) (place parts.Integer (0 + sign) (behind_sign parts.Integer sign)) pieces.Sign no_cuts (sign ∷ 0 ∷ 0 ∷ 0
+      ∷ 0 ∷ 0 ∷ 0 ∷ 0 ∷ 0 ∷ []) is.on begun
       (ap (λ n. add_more no_cuts pieces.Sign n) none ∙ ap (λ c. add_more c pieces.Sign sign) no_counts
       ∙ count_more (replicate 9 0) refl pieces.Sign sign ∙ ap (λ n. cuts_of (n ∷ 0 ∷ 0 ∷ 0 ∷ 0 ∷ 0 ∷ 0 ∷ 0 ∷ 0 ∷ [])) same))
 
@@ -114,17 +115,20 @@ module _ (m : Notation) (text : List ℕ) where
   nothing_at counted at incomplete = stopped_at m text counted no_cuts (subst (λ at. IsAt m text at no_cuts) (sym at) begun) incomplete
 
   -- The digits of the integer.
-  pub integer_at : (o : Opening) → IsOpened m text o → (size : ℕ) (stage : Stage) → IsReadOn m text (place parts.Integer o.size o.stage) pieces.Integer (place parts.Integer size stage)
+  pub integer_at : (o : Opening) → IsOpened m text o → (size : ℕ) (stage : Stage) → IsReadOn m text (place parts.Integer o.size o.stage) pieces.Integer
+      (place parts.Integer size stage)
       → IsAt m text (place parts.Integer size stage) (cuts_of (o.sign ∷ o.prefix ∷ (size - o.sign - o.prefix) ∷ 0 ∷ 0 ∷ 0 ∷ 0 ∷ 0 ∷ 0 ∷ []))
   integer_at o is size stage on =
       let sum : o.prefix + (size - o.size) ≡ size - o.sign - o.prefix = omega (arith, is.size, on.more) in
       at_more (place parts.Integer o.size o.stage) (place parts.Integer size stage) pieces.Integer
-      (cuts_of (o.sign ∷ o.prefix ∷ o.prefix ∷ 0 ∷ 0 ∷ 0 ∷ 0 ∷ 0 ∷ 0 ∷ [])) (o.sign ∷ o.prefix ∷ (size - o.sign - o.prefix) ∷ 0 ∷ 0 ∷ 0 ∷ 0 ∷ 0 ∷ 0 ∷ []) on is.at
+      (cuts_of (o.sign ∷ o.prefix ∷ o.prefix ∷ 0 ∷ 0 ∷ 0 ∷ 0 ∷ 0 ∷ 0 ∷ [])) (o.sign ∷ o.prefix ∷ (size - o.sign - o.prefix) ∷ 0 ∷ 0 ∷ 0 ∷ 0 ∷ 0 ∷ 0 ∷ []) on
+      is.at
       (count_more (o.sign ∷ o.prefix ∷ o.prefix ∷ 0 ∷ 0 ∷ 0 ∷ 0 ∷ 0 ∷ 0 ∷ []) refl pieces.Integer (size - o.size)
       ∙ ap (λ n. cuts_of (o.sign ∷ o.prefix ∷ n ∷ 0 ∷ 0 ∷ 0 ∷ 0 ∷ 0 ∷ 0 ∷ [])) sum)
 
   -- The digits of the fraction.
-  pub fraction_at : (s : Sizes) (from size : ℕ) (first stage : Stage) → s.fraction ≡ 0 → IsAt m text (place parts.Fraction from first) (cuts_of (counts_of s 0 0 0 0))
+  pub fraction_at : (s : Sizes) (from size : ℕ) (first stage : Stage) → s.fraction ≡ 0 → IsAt m text (place parts.Fraction from first) (cuts_of (counts_of s
+      0 0 0 0))
       → IsReadOn m text (place parts.Fraction from first) pieces.Fraction (place parts.Fraction size stage)
       → IsAt m text (place parts.Fraction size stage) (cuts_of (counts_of (record s { fraction = size - from }) 0 0 0 0))
   fraction_at s from size first stage none is on =

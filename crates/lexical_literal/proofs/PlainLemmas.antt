@@ -10,7 +10,8 @@ use Rattle.lexical_util.specs.declared.format_flags.Part.{Part}
 use Rattle.lexical_util.specs.declared.format_flags.Part.TheVariants as parts
 use Rattle.lexical_literal.specs.Notation.{Notation}
 use Rattle.lexical_literal.specs.Additions.Plain.{HasRoles, IsAt, IsCounted, IsFirst, IsReadOn, fresh, is_free, place}
-use Rattle.lexical_literal.specs.Additions.Summary.{Cuts, add, add_more, admits, after, after_digit, after_mark, cuts_of, digits_piece, forbids_plus, has_digit, is_begun, is_complete, is_negative, is_run, is_signed, may_follow}
+use Rattle.lexical_literal.specs.Additions.Summary.{Cuts, add, add_more, admits, after, after_digit, after_mark, cuts_of, digits_piece, forbids_plus}
+use Rattle.lexical_literal.specs.Additions.Summary.{has_digit, is_begun, is_complete, is_negative, is_run, is_signed, may_follow}
 use Rattle.lexical_literal.specs.Additions.Summary.{no_cuts, piece_of, start, takes}
 use Rattle.lexical_literal.specs.declared.plain.At.{At}
 use Rattle.lexical_literal.specs.declared.plain.Counted.{Counted}
@@ -129,7 +130,8 @@ module _ (m : Notation) (text : List ℕ) where
 
   -- One byte of a piece is one more byte.
   pub one_read : (at next : At) (p : Piece) → IsReadOn m text at p next → next.size ≡ at.size + 1 → (c : Cuts) → IsAt m text at c → IsAt m text next (add c p)
-  one_read at next p is one c begun = subst (IsAt m text next) (λ j other. (ap (λ n. add_more c p (n - at.size) other) one ∙ one_more c p other at.size) j) (is.reads c begun)
+  one_read at next p is one c begun = subst (IsAt m text next) (λ j other. (ap (λ n. add_more c p (n - at.size) other) one ∙ one_more c p other at.size) j)
+      (is.reads c begun)
 
   module _ (h : HasRoles m) where
     -- One byte is read.
@@ -142,7 +144,8 @@ module _ (m : Notation) (text : List ℕ) where
       reads = λ c is. record {
         within = omega arith;
         read = rw (take_more text at.size 0 inside, scan_append m.condition m (Some start) (take at.size text) (b ∷ []), is.read)
-            (moved m.condition m h at.read b (Some r) plays ∙ (λ j. if not (going j) && (taken j && admitted j) then Some (after at.read (b == 48) r) else None));
+            (moved m.condition m h at.read b (Some r) plays ∙ (λ j. if not (going j) && (taken j && admitted j) then Some (after at.read (b == 48) r) else
+            None));
         counted = rw (take_more text at.size 0 inside, tally_append m.condition m (Some start) no_cuts (take at.size text) (b ∷ []), is.read, is.counted, plays)
             (sym (λ j other. one_more c (piece_of at.read.part r) other at.size j));
       };
@@ -162,7 +165,8 @@ module _ (m : Notation) (text : List ℕ) where
         → IsReadOn m text (place part size stage) (digits_piece part) (place part (size + 1) stage)
     read_digit part size stage run inside digit = let b = get_or text size 0 in
         subst (λ after. IsReadOn m text (place part size stage) (digits_piece part) (place part (size + 1) after)) (same_digit m part stage run false (b == 48))
-        (read_one (place part size stage) roles.Digit inside (digit_role m h part b digit) refl (takes_more m part stage run (b == 43) false (λ gap. absurd (false≢true gap)))
+        (read_one (place part size stage) roles.Digit inside (digit_role m h part b digit) refl (takes_more m part stage run (b == 43) false (λ gap. absurd
+        (false≢true gap)))
         (admits_free m part stage (place part size stage).read (b == 43) (b == 48) roles.Digit (λ same. cc) (run_is_free m part stage run)))
 
     -- A separator and a digit behind it, which change no stage.
@@ -195,7 +199,8 @@ module _ (m : Notation) (text : List ℕ) where
         read_one (place part size (fresh part)) roles.Sign inside (is_role m h part roles.Sign b (λ same. cc) (some_sign part b allowed)) refl
         (sign_taken part b allowed) (sign_admitted part b (b == 48) allowed) where
           allows : Part → ℕ → Bool
-          allows part b = ((b == 43) && not (forbids_plus m part)) || ((b == 45) && not (m.condition conditions.NegativeSign && is_negative part false roles.Sign))
+          allows part b = ((b == 43) && not (forbids_plus m part)) || ((b == 45) && not (m.condition conditions.NegativeSign && is_negative part false
+              roles.Sign))
 
           some_sign : (part : Part) (b : ℕ) → allows part b ≡ true → ((b == 43) || (b == 45)) ≡ true
           some_sign part b is = grind arith
@@ -205,13 +210,15 @@ module _ (m : Notation) (text : List ℕ) where
           sign_taken parts.Integer b is = grind arith
           sign_taken parts.Fraction b is = grind arith
 
-          sign_admitted : (part : Part) (b : ℕ) (z : Bool) → allows part b ≡ true → admits m.condition (place part 0 (fresh part)).read (b == 43) z roles.Sign ≡ true
+          sign_admitted : (part : Part) (b : ℕ) (z : Bool) → allows part b ≡ true → admits m.condition (place part 0 (fresh part)).read (b == 43) z
+              roles.Sign ≡ true
           sign_admitted parts.Exponent b z is = grind arith
           sign_admitted parts.Integer b z is = grind arith
           sign_admitted parts.Fraction b z is = grind arith
 
     -- The digit behind a zero that begins the integer.
-    pub read_led : (part : Part) (size : ℕ) → size < length text → m.digit part (get_or text size 0) ≡ true → may_follow m stages.Bare ≡ true → is_free m stages.Bare ≡ true
+    pub read_led : (part : Part) (size : ℕ) → size < length text → m.digit part (get_or text size 0) ≡ true → may_follow m stages.Bare ≡ true
+        → is_free m stages.Bare ≡ true
         → IsReadOn m text (place part size stages.Bare) (digits_piece part) (place part (size + 1) stages.Led)
     read_led part size inside digit may free = let b = get_or text size 0 in
         read_one (place part size stages.Bare) roles.Digit inside (digit_role m h part b digit) refl may
@@ -239,8 +246,10 @@ module _ (m : Notation) (text : List ℕ) where
           admitted _ plus is = absurd (false≢true is)
 
     -- The base prefix, with its zero.
-    pub read_prefix : (size : ℕ) (stage : Stage) → size + 1 < length text → get_or text size 0 ≡ 48 → m.prefix (get_or text (size + 1) 0) ≡ true → IsFirst m stage
-        → (c : Cuts) → IsAt m text (place parts.Integer size stage) c → IsAt m text (place parts.Integer (size + 2) stages.Free) (add (add c pieces.Integer) pieces.Prefix)
+    pub read_prefix : (size : ℕ) (stage : Stage) → size + 1 < length text → get_or text size 0 ≡ 48 → m.prefix (get_or text (size + 1) 0) ≡ true
+        → IsFirst m stage
+        → (c : Cuts) → IsAt m text (place parts.Integer size stage) c → IsAt m text (place parts.Integer (size + 2) stages.Free) (add (add c pieces.Integer)
+        pieces.Prefix)
     read_prefix size stage inside naught prefix is c begun =
         let b = get_or text (size + 1) 0 in
         let zero_at : At = place parts.Integer (size + 1) stages.Bare in
@@ -263,7 +272,8 @@ stopped_at m text counted c is incomplete = record {
 }
 
 -- Where a literal may have been found.
-pub complete_at : (m : Notation) (text : List ℕ) (counted : Counted) → IsAt m text counted.at (cuts_of counted.counts) → counted.complete ≡ is_complete m counted.at.read
+pub complete_at : (m : Notation) (text : List ℕ) (counted : Counted) → IsAt m text counted.at (cuts_of counted.counts)
+    → counted.complete ≡ is_complete m counted.at.read
     → IsCounted m text counted
 complete_at m text counted is complete = record {
   begun = record { within = is.within; read = is.read };

@@ -38,7 +38,12 @@ record AreMarks (k : Marks) : Type 0 where
 are_marks : (m : Notation) (front : List ℕ) → AreMarks (marks_of m front)
 are_marks m front = let run = behind_within (λ byte. not (m.separator byte)) front in record {
   exponent = behind_within _ front;
-  first = let first = first_within (m.digit parts.Integer) (take (marks_of m front).run front) in omega (arith, first, length-take-le (marks_of m front).run front run);
+  first = let first = first_within (m.digit parts.Integer) (take (marks_of m front).run front) in omega (
+    arith,
+    first,
+    length-take-le (marks_of m front).run
+        front run,
+  );
   run = run;
 }
 
@@ -77,7 +82,12 @@ refused_span m text error is =
     let end = within error.byte is.byte in (span.0, omega (arith, span.1, end)) where
       within : (next : Option ℕ) → next ≡ slice_get text error.valid_up_to → wrong_end (marks_of m (take error.valid_up_to text)) next ≤ length text
       within None same = omega (arith, length-take-le error.valid_up_to text is.valid_up_to.within, is.valid_up_to.within)
-      within (Some byte) same = omega (arith, length-take-le error.valid_up_to text is.valid_up_to.within, slice_get_within text error.valid_up_to byte (sym same))
+      within (Some byte) same = omega (
+        arith,
+        length-take-le error.valid_up_to text is.valid_up_to.within,
+        slice_get_within text error.valid_up_to byte (sym
+            same),
+      )
 
 ungrouped_span : (g : Grammar) (text : List ℕ) (error : Refusal) → IsUngrouped g text error → IsIn (length text) (error.start, error.end)
 ungrouped_span g text error is = (

@@ -40,7 +40,8 @@ push_same radix s t v same =
     sym (mul-mod_first s radix (2 ^ 64)) ∙ ap (λ n. n * radix % 2 ^ 64) same ∙ mul-mod_first t radix (2 ^ 64) in
     sym (mod-add-mod (s * radix) (2 ^ 64) v) ∙ ap (λ n. (n + v) % 2 ^ 64) product ∙ mod-add-mod (t * radix) (2 ^ 64) v
 
-after_same : (radix s t : ℕ) (ds : List ℕ) → s % 2 ^ 64 ≡ t % 2 ^ 64 → number_from_digits_after radix s ds % 2 ^ 64 ≡ number_from_digits_after radix t ds % 2 ^ 64
+after_same : (radix s t : ℕ) (ds : List ℕ) → s % 2 ^ 64 ≡ t % 2 ^ 64 → number_from_digits_after radix s ds % 2 ^ 64 ≡ number_from_digits_after radix t ds %
+    2 ^ 64
 after_same radix s t [] same = same
 after_same radix s t (v ∷ ds) same = after_same radix (s * radix + v) (t * radix + v) ds (push_same radix s t v same)
 
@@ -93,7 +94,8 @@ module _ (m : Notation) (radix : ℕ) (text : List ℕ) (part : Part) where
           length-append (digits_in radix (between text a.size b.size)) (digits_in radix (between text b.size c.size)),
         );
         sum = second.sum ∙ after_same radix b.sum _ (digits_in radix (between text b.size c.size)) first.sum
-            ∙ ap (λ n. n % 2 ^ 64) (sym (number_after_append radix a.sum (digits_in radix (between text a.size b.size)) (digits_in radix (between text b.size c.size))))
+            ∙ ap (λ n. n % 2 ^ 64) (sym (number_after_append radix a.sum (digits_in radix (between text a.size b.size)) (digits_in radix (between text
+            b.size c.size))))
             ∙ ap (λ ds. number_from_digits_after radix a.sum ds % 2 ^ 64) (sym all);
       }
 

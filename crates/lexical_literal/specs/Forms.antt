@@ -1,5 +1,6 @@
 -- Several forms of one language: which form has a text, and which error a text has that is of no form.
-use Rattle.std.specs.Prelude.{ℕ, ◌≡◌, ◌+◌, ◌*◌, ◌<◌, ◌≤◌, ◌⊎◌, Bool, true, false, if◌then◌else◌, IfErr, IfOk, IsErr, IsSomeAnd, List, Result, All, slice_get, take}
+use Rattle.std.specs.Prelude.{ℕ, ◌≡◌, ◌+◌, ◌*◌, ◌<◌, ◌≤◌, ◌⊎◌, Bool, true, false, if◌then◌else◌, IfErr, IfOk, IsErr, IsSomeAnd, List, Result, All}
+use Rattle.std.specs.Prelude.{slice_get, take}
 use Rattle.lexical_literal.specs.Front.{ReadsFront}
 use Rattle.lexical_literal.specs.Literal.{Literal}
 use Rattle.lexical_literal.specs.Notation.{notation_of}

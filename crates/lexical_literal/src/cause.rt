@@ -91,8 +91,8 @@ pub struct Refusal {
 /// is not a literal either, its error says it.
 ///
 /// An error holds where reading stopped. Each call but `valid_up_to` and `byte` finds the cause anew. `==` compares the
-/// syntax, the index at which reading stopped, the character there, and the state of the reader, but not the bytes before
-/// it. Equal errors have equal answers. Errors of two syntaxes differ, even if their answers are the same.
+/// syntax, the index at which reading stopped, the character there, and a summary of what has been read, but not the bytes
+/// before it. Equal errors have equal answers. Errors of two syntaxes differ, even if their answers are the same.
 #[derive(Debug, Clone, Copy, PartialEq, Eq, Hash)]
 pub struct ReadError {
     pub(crate) spot: Spot,

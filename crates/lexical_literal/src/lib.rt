@@ -1,8 +1,7 @@
 //! Number literals: what a literal of a format is, calls that read one, and why a text is not one.
 //!
-//! A [`Syntax`][syntax::Syntax] reads a text, and a [`Reader`][read::Reader] many texts in less time. The error of both
-//! has the cause of a refusal. Special values, such as NaN and infinity, are not literals:
-//! [`Specials`][specials::Specials] reads them.
+//! A [`Reader`][read::Reader] reads the literals of a [`Syntax`][syntax::Syntax]. Its error has the cause of a refusal.
+//! Special values, such as NaN and infinity, are not literals: [`Specials`][specials::Specials] reads them.
 #![tactic(auto)]
 
 pub mod cause;

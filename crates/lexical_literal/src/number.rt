@@ -36,7 +36,7 @@ impl Reader {
         }
     }
 
-    // Returns the same, where `at` has been read.
+    // Returns what `read` returns, where `at` has been read.
     #[inline(never)]
     fn read_slowly<'a>(&self, text: &'a [u8], at: At) -> Result<Parts<'a>, ReadError>
         requires { IsBegun (notation_of self.now) text.now at }

@@ -1,6 +1,6 @@
 //! How the parts of a literal are read, one after another.
 //!
-//! What is read here may stop anywhere: where it stops, one step decides whether reading goes on.
+//! Reading may stop anywhere here: where it stops, one step decides whether it goes on.
 
 ghost use Rattle.std.specs.Prelude.{◌≡◌, ◌<◌, ◌≤◌, ◌+◌, ◌-◌, ◌*◌, ◌%◌, ◌^◌, ◌∷◌, [], false, true, IfSome, IsTrue, get_or, length};
 ghost use Rattle.lexical_util.specs.Record.{raw};
@@ -149,7 +149,8 @@ const fn reads_prefix(grammar: Grammar, text: &[u8], size: usize) -> bool
     requires roles { HasRoles (notation_of grammar) }
     requires within { size ≤ length text.now }
     ensures inside { IsTrue result → size + 1 < length text.now }
-    ensures on { IsTrue result → (stage : Stage) (c : Cuts) → IsFirst (notation_of grammar) stage → IsAt (notation_of grammar) text.now (place Part.Integer size stage) c
+    ensures on { IsTrue result → (stage : Stage) (c : Cuts) → IsFirst (notation_of grammar) stage
+        → IsAt (notation_of grammar) text.now (place Part.Integer size stage) c
         → IsAt (notation_of grammar) text.now (place Part.Integer (size + 2) Stage.Free) (add (add c pieces.Integer) pieces.Prefix) }
 {
     if size + 1 >= text.len() {
@@ -321,8 +322,8 @@ const fn behind_zero(grammar: Grammar, text: &[u8], part: Part, zero: Run) -> Ru
     }
 }
 
-// Reads a front of `text` with which some literal begins. A front that is a literal and not all of `text` is said to be one
-// only if `fronts` is true.
+// Reads a front of `text` with which some literal begins. Unless `fronts` is true, a front that is a literal, but not all of
+// `text`, may not be said to be one, which takes less time.
 #[inline(always)]
 pub(crate) const fn plain(grammar: Grammar, text: &[u8], fronts: bool) -> Counted
     requires roles { HasRoles (notation_of grammar) }

@@ -141,8 +141,8 @@ impl Reader {
         }
     }
 
-    // Reads a front of `text` with which some literal begins. A front that is a literal and not all of `text` is said to be one
-    // only if `fronts` is true.
+    // Reads a front of `text` with which some literal begins. Unless `fronts` is true, a front that is a literal, but not all of
+    // `text`, may not be said to be one, which takes less time.
     #[inline(always)]
     pub(crate) const fn begin(&self, text: &[u8], fronts: bool) -> Counted
         ensures { HasFound (notation_of self.now) text.now result }

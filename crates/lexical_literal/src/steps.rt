@@ -1,4 +1,4 @@
-//! The steps of a reader: what has been read of a number, changed by the class of one byte.
+//! The steps of reading: what has been read of a number, changed by the class of one byte.
 
 ghost use Rattle.std.specs.Prelude.{◌≡◌, ◌<◌, ◌&&◌, false, not, nat_lt};
 ghost use Rattle.lexical_util.specs.Digits.{byte_value, digit_of};
@@ -9,7 +9,8 @@ ghost use Rattle.lexical_literal.specs.Run.{is_place};
 ghost use Rattle.lexical_literal.specs.Additions.Plain.{HasRoles};
 ghost use Rattle.lexical_literal.specs.declared.syntax.Condition.TheVariants as conditions;
 ghost use Rattle.lexical_literal.specs.Additions.Summary.{byte_class, role_of, in_part, piece_number, piece_of, has_digit, may_follow};
-ghost use Rattle.lexical_literal.specs.Additions.Summary.{admits, finishes, forbids_plus, gap_fits, is_begun, is_negative, is_signed, lacks_prefix, leads_to_prefix, needs_exponent};
+ghost use Rattle.lexical_literal.specs.Additions.Summary.{admits, finishes, forbids_plus, gap_fits, is_begun, is_negative, is_signed, lacks_prefix};
+ghost use Rattle.lexical_literal.specs.Additions.Summary.{leads_to_prefix, needs_exponent};
 ghost use Rattle.lexical_literal.specs.Additions.Summary.{continues, ends, is_complete, step, takes, after, IsMove};
 
 use crate::syntax::{Conditions, Grammar};

@@ -132,7 +132,7 @@ calls! {
     ) -> WriteStatus {
         let format = |digits: Shortest| write((syntax, style), (text, len, needed), |syntax, style| {
             let digits = &digits.bytes[..digits.len];
-            // `read` has one caller, so it is inlined there.
+            // With a second caller, `read` would not be inlined in `peltzivar_read`.
             let (literal, _) = literal::Reader::new(FLOATS).read_prefix(digits).map_err(|_| WriteError::Special)?;
             match syntax.point() {
                 // No float type has a value of a literal with these digits and another exponent base.

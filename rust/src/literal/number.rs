@@ -45,7 +45,7 @@ impl Reader {
         }
     }
 
-    // Returns the same, where `at` has been read.
+    // Returns what `read` returns, where `at` has been read.
     #[inline(never)]
     const fn read_slowly<'a>(&self, text: &'a [u8], at: At) -> Result<Literal<'a>, ReadError> {
         let stop = self.stop(text, at);

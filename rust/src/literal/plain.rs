@@ -2,7 +2,7 @@
 
 //! How the parts of a literal are read, one after another.
 //!
-//! What is read here may stop anywhere: where it stops, one step decides whether reading goes on.
+//! Reading may stop anywhere here: where it stops, one step decides whether it goes on.
 
 use crate::literal::steps::{
     allows_minus, allows_plus, digit_value, has_digit, is_begun, is_complete, is_exponent_character, is_point,
@@ -200,8 +200,8 @@ const fn behind_zero(grammar: Grammar, text: &[u8], part: Part, zero: Run) -> Ru
     }
 }
 
-// Reads a front of `text` with which some literal begins. A front that is a literal and not all of `text` is said to be one
-// only if `fronts` is true.
+// Reads a front of `text` with which some literal begins. Unless `fronts` is true, a front that is a literal, but not all of
+// `text`, may not be said to be one, which takes less time.
 #[inline(always)]
 pub(crate) const fn plain(grammar: Grammar, text: &[u8], fronts: bool) -> Counted {
     let Some(sign) = sign(grammar, text, Part::Integer, 0) else {

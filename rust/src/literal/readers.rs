@@ -116,8 +116,9 @@ impl<'a> Readers<'a> {
     ///
     /// # Errors
     ///
-    /// If `text` is neither, returns the error of the form for which most of the text is right. Of several, it is the first
-    /// whose cause is not a wrong byte, or the first if the cause of each is one. So `0b12` has the error of the binary form.
+    /// If `text` is neither, returns the error of the form for which most of the text is right. Of several, it is the
+    /// first whose cause is not a wrong byte, or the first if the cause of each is one. So `0b12` has the error of the
+    /// binary form.
     pub const fn read<'t>(&self, text: &'t [u8]) -> Result<Number<'t>, FormError> {
         match self.list.find(text) {
             Ok((form, counts)) => Ok(self.number(form, text, counts)),

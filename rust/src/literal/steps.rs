@@ -1,6 +1,6 @@
 // Made by rust/tools/erase.py from crates/lexical_literal/src/steps.rt: change that file.
 
-//! The steps of a reader: what has been read of a number, changed by the class of one byte.
+//! The steps of reading: what has been read of a number, changed by the class of one byte.
 
 use crate::format_flags::digit_separator;
 use crate::literal::syntax::{Conditions, Grammar};

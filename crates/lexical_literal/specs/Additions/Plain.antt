@@ -1,5 +1,6 @@
 -- What is read of a text part after part.
-use Rattle.std.specs.Prelude.{ℕ, ◌≡◌, ◌<◌, ◌≤◌, ◌+◌, ◌-◌, ◌%◌, ◌^◌, ◌==◌, ◌&&◌, if◌then◌else◌, Bool, not, IsTrue, List, [], ◌∷◌, Some, true, false, drop, get_or, length, take}
+use Rattle.std.specs.Prelude.{ℕ, ◌≡◌, ◌<◌, ◌≤◌, ◌+◌, ◌-◌, ◌%◌, ◌^◌, ◌==◌, ◌&&◌, if◌then◌else◌, Bool, not, IsTrue, List, [], ◌∷◌, Some, true, false, drop}
+use Rattle.std.specs.Prelude.{get_or, length, take}
 use Rattle.std.specs.Int.Digits.{number_from_digits_after}
 use Rattle.std.specs.List.{filter_map}
 use Rattle.lexical_util.specs.Digits.{digit_of}
@@ -9,7 +10,8 @@ use Rattle.lexical_util.specs.declared.feature_format.roles.Role.TheVariants as 
 use Rattle.lexical_util.specs.declared.format_flags.Part.{Part}
 use Rattle.lexical_util.specs.declared.format_flags.Part.TheVariants as parts
 use Rattle.lexical_literal.specs.Notation.{Notation, set_of_role}
-use Rattle.lexical_literal.specs.Additions.Summary.{Cuts, add_more, after_mark, cuts_of, digits_piece, has_digit, is_begun, is_complete, is_signed, lacks_prefix, no_cuts, piece_of, scan, start, tally}
+use Rattle.lexical_literal.specs.Additions.Summary.{Cuts, add_more, after_mark, cuts_of, digits_piece, has_digit, is_begun, is_complete, is_signed}
+use Rattle.lexical_literal.specs.Additions.Summary.{lacks_prefix, no_cuts, piece_of, scan, start, tally}
 use Rattle.lexical_literal.specs.declared.plain.At.{At}
 use Rattle.lexical_literal.specs.declared.plain.Counted.{Counted}
 use Rattle.lexical_literal.specs.declared.plain.Opening.{Opening}
@@ -52,7 +54,8 @@ fresh part = stages.Start
 abbrev pub behind_sign : Part → ℕ → Stage
 behind_sign part sign = if sign == 0 then fresh part else after_mark (fresh part)
 
--- `IsSign m text part size sign` holds if a sign with this length, or none, is read, and if digits of `part` may follow.
+-- `IsSign m text part size sign` holds if a sign with the length `sign`, or none, is read behind the first `size` bytes, and if
+-- digits of `part` may follow.
 pub record IsSign (m : Notation) (text : List ℕ) (part : Part) (size sign : ℕ) : Type 0 where
   pub within : size + sign ≤ length text
   pub on : IsReadOn m text (place part size (fresh part)) (piece_of part roles.Sign) (place part (size + sign) (behind_sign part sign))

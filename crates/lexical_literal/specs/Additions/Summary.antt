@@ -258,12 +258,6 @@ after s zero roles.Point = record s { part = parts.Fraction; stage = after_point
 after s zero roles.Exponent = record s { part = parts.Exponent; stage = stages.Mark; gap = false }
 after s zero roles.Suffix = record s { ended = true }
 
--- `part_after part role` is the part that a digit belongs to after a byte with the role `role` in `part`.
-abbrev pub part_after : Part → Role → Part
-part_after part roles.Point = parts.Fraction
-part_after part roles.Exponent = parts.Exponent
-part_after part role = part
-
 -- `move_by C m s plus zero role` is the summary after a byte with this role, or `None` if no literal of the format of `m` and
 -- the conditions `C` begins so.
 abbrev pub move_by : (Condition → Bool) → Notation → Summary → Bool → Bool → Option Role → Option Summary

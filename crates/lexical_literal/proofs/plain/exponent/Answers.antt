@@ -13,7 +13,8 @@ pub digits-run-requires-clause-none : goal.digits-run-requires-clause-none
 digits-run-requires-clause-none c = subst (λ stage. has_digit stage ≡ false) (sym c.behind_sign.ensures) (exponent_behind c.in-Some.sign)
 
 pub digits-run-requires-clause-signed : goal.digits-run-requires-clause-signed
-digits-run-requires-clause-signed c = subst (λ stage. is_signed (notation_of c.args.grammar) parts.Exponent stage ≡ true) (sym c.behind_sign.ensures) c.in-Some.ensures.signed
+digits-run-requires-clause-signed c = subst (λ stage. is_signed (notation_of c.args.grammar) parts.Exponent stage ≡ true) (sym c.behind_sign.ensures)
+    c.in-Some.ensures.signed
 
 pub digits-run-requires-clause-free : goal.digits-run-requires-clause-free
 digits-run-requires-clause-free c = subst (λ stage. is_free (notation_of c.args.grammar) stage ≡ true) (sym c.behind_sign.ensures)

@@ -49,6 +49,7 @@ exponent-requires-clause-at c =
     let on : IsReadOn m text (place parts.Fraction from first) pieces.Fraction (place parts.Fraction run.size run.stage) =
     subst (λ stage. IsReadOn m text (place parts.Fraction from stage) pieces.Fraction (place parts.Fraction run.size run.stage)) c.behind_point-stage.ensures
     c.digits-run.ensures.run.on in
-    mark_at m text c.requires.roles more parts.Fraction run.size run.stage c.if-run-text.true (sym c.is_exponent_character.ensures ∙ c.if-is_exponent_character.true)
+    mark_at m text c.requires.roles more parts.Fraction run.size run.stage c.if-run-text.true (sym c.is_exponent_character.ensures ∙
+    c.if-is_exponent_character.true)
     (subst (λ (at : At). takes m at.read false roles.Exponent ≡ true) c.place-at.ensures (sym c.takes.ensures ∙ c.if-takes.true)) c.digits-run.ensures.free
     (fraction_at m text s from run.size first run.stage c.requires.none c.requires.at on)

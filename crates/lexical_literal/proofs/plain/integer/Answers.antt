@@ -28,7 +28,8 @@ exponent-requires-clause-at c =
     let run = c.digits-run.result in
     let o = c.args.opening in
     let s : Sizes = record { sign = o.sign; prefix = o.prefix; integer = run.size - o.sign - o.prefix; point = 0; fraction = 0 } in
-    mark_at m text c.requires.roles s parts.Integer run.size run.stage c.if-run-text-2.true (sym c.is_exponent_character.ensures ∙ c.if-is_exponent_character.true)
+    mark_at m text c.requires.roles s parts.Integer run.size run.stage c.if-run-text-2.true (sym c.is_exponent_character.ensures ∙
+    c.if-is_exponent_character.true)
     (subst (λ (at : At). takes m at.read false roles.Exponent ≡ true) c.place-at.ensures (sym c.takes-then-is_exponent_character.ensures ∙ c.if-takes-2.true))
     c.digits-run.ensures.free (integer_at m text o c.requires.opened run.size run.stage c.digits-run.ensures.run.on)
 

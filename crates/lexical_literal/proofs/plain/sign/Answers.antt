@@ -22,6 +22,7 @@ returns-then-is_signed c =
     record {
       within = let within = c.requires.within in omega (arith, within);
       on = subst (λ n. IsReadOn m c.args.text.now (place c.args.part c.args.size (fresh c.args.part)) (piece_of c.args.part roles.Sign)
-          (place c.args.part n (fresh c.args.part))) (sym same) (stay m c.args.text.now (place c.args.part c.args.size (fresh c.args.part)) (piece_of c.args.part roles.Sign));
+          (place c.args.part n (fresh c.args.part))) (sym same) (stay m c.args.text.now (place c.args.part c.args.size (fresh c.args.part)) (piece_of
+          c.args.part roles.Sign));
       signed = ap (is_signed m c.args.part) (sym c.behind_sign.ensures) ∙ sym c.is_signed.ensures ∙ c.if-is_signed.true;
     }

@@ -1,8 +1,6 @@
 -- The kind is that of the cause.
 use Rattle.std.proofs.Common.{◌≡◌, false, refl, sym, ap, ◌∙◌}
-use Rattle.lexical_literal.specs.Additions.Explained.{blame}
 use Rattle.lexical_literal.specs.Forms.{is_byte}
-use Rattle.lexical_literal.specs.Notation.{notation_of}
 use Rattle.lexical_literal.specs.declared.cause.Blame.{Blame}
 use Rattle.lexical_literal.specs.declared.cause.ReadErrorKind.{ReadErrorKind}
 use Rattle.lexical_literal.specs.declared.cause.ReadErrorKind.TheVariants as causes

@@ -1,5 +1,6 @@
 -- The loop reads the text, and is left at the first wrong byte.
-use Rattle.std.proofs.Common.{ℕ, ◌≡◌, Bool, true, false, ◌&&◌, if◌then◌else◌, List, Option, Some, None, ◌<◌, ◌+◌, length, length-set, get_or, set, refl, sym, ap, ◌∙◌, arith, subst}
+use Rattle.std.proofs.Common.{ℕ, ◌≡◌, Bool, true, false, ◌&&◌, if◌then◌else◌, List, Option, Some, None, ◌<◌, ◌+◌, length, length-set, get_or, set, refl}
+use Rattle.std.proofs.Common.{sym, ap, ◌∙◌, arith, subst}
 use Rattle.std.proofs.lemmas.Option.{slice_get-get_or}
 use Rattle.std.specs.Prelude.{is_some}
 use Rattle.lexical_literal.specs.Notation.{Notation, notation_of}
@@ -52,7 +53,8 @@ loop-size-preserved-then-is_complete c =
     let now = c.loop-size.invariant in
     let k = c.piece_number.result in
     let next = c.in-Some.next in
-    let move = move_of g c.grammar-grammar.result c.loop-size.read (get_or text i 0) c.byte_class.result (Some next) same c.byte_class.ensures c.in-Some.ensures in
+    let move = move_of g c.grammar-grammar.result c.loop-size.read (get_or text i 0) c.byte_class.result (Some next) same c.byte_class.ensures
+    c.in-Some.ensures in
     let complete : is_complete m next.summary ≡ true =
     subst (λ (g : Grammar). is_complete (notation_of g) next.summary ≡ true) same (sym c.is_complete.ensures ∙ c.if-is_complete.true) in
     let inside : k < length counts = omega (arith, c.piece_number.ensures.small, now.nine) in
@@ -61,7 +63,8 @@ loop-size-preserved-then-is_complete c =
       small = small_more counts i k inside now.small;
       has = subst (HasRead m c.args.seeks text (i + 1) next.summary (cuts_of (set counts k (get_or counts k 0 + 1))))
           (λ j. if c.if-seeks.true j && complete j then Some (i + 1) else c.loop-size.literal)
-          (counted_more m text c.args.seeks i c.loop-size.read counts c.loop-size.literal k next now.has now.nine c.loop-size-test.true move c.piece_number.ensures.value);
+          (counted_more m text c.args.seeks i c.loop-size.read counts c.loop-size.literal k next now.has now.nine c.loop-size-test.true move
+          c.piece_number.ensures.value);
     }
 
 pub loop-size-preserved : goal.loop-size-preserved
@@ -75,7 +78,8 @@ loop-size-preserved c =
     let now = c.loop-size.invariant in
     let k = c.piece_number.result in
     let next = c.in-Some.next in
-    let move = move_of g c.grammar-grammar.result c.loop-size.read (get_or text i 0) c.byte_class.result (Some next) same c.byte_class.ensures c.in-Some.ensures in
+    let move = move_of g c.grammar-grammar.result c.loop-size.read (get_or text i 0) c.byte_class.result (Some next) same c.byte_class.ensures
+    c.in-Some.ensures in
     let not_new : (c.args.seeks && is_complete m next.summary) ≡ false = elim c.else-seeks.branch [
       | else-seeks-via-then-seeks+else-is_complete w ↦ let incomplete : is_complete m next.summary ≡ false =
           subst (λ (g : Grammar). is_complete (notation_of g) next.summary ≡ false) same (sym w.is_complete.ensures ∙ w.if-is_complete.false) in
@@ -88,7 +92,8 @@ loop-size-preserved c =
       small = small_more counts i k inside now.small;
       has = subst (HasRead m c.args.seeks text (i + 1) next.summary (cuts_of (set counts k (get_or counts k 0 + 1))))
           (λ j. if not_new j then Some (i + 1) else c.loop-size.literal)
-          (counted_more m text c.args.seeks i c.loop-size.read counts c.loop-size.literal k next now.has now.nine c.loop-size-test.true move c.piece_number.ensures.value);
+          (counted_more m text c.args.seeks i c.loop-size.read counts c.loop-size.literal k next now.has now.nine c.loop-size-test.true move
+          c.piece_number.ensures.value);
     }
 
 pub returns-in_default : goal.returns-in_default
