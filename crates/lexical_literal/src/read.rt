@@ -2,7 +2,7 @@
 
 ghost use Rattle.std.specs.Prelude.{◌≡◌, ◌+◌, ◌++◌, ◌∷◌, ◌<◌, ◌≤◌, Bool, IfSome, IsNone, IsTrue, None, ℕ, List, [], false, true, length, slice_get, take};
 ghost use Rattle.lexical_literal.specs.Additions.Explained.{tail_byte};
-ghost use Rattle.lexical_literal.specs.Additions.Longest.{HasFound, IsCountedFront, IsFronted, IsGrouped, IsMeasured, IsScanned, IsStopped};
+ghost use Rattle.lexical_literal.specs.Additions.Longest.{HasFound, IsCountedFront, IsFronted, IsGrouped, IsLongest, IsMeasured, IsScanned, IsStopped};
 ghost use Rattle.lexical_literal.specs.Additions.Plain.{IsBegun};
 ghost use Rattle.lexical_literal.specs.Additions.Summary.{HasLengths, cuts_of, is_complete};
 ghost use Rattle.lexical_literal.specs.Additions.Causes.{lets};
@@ -83,7 +83,7 @@ impl Syntax {
             let size = stop.size;
             return (stop, Some(Found { size, counts }));
         }
-        match self.read_on(text, true).literal {
+        match self.seek(text) {
             None => (stop, None),
             Some(size) => {
                 let counts = self.count(front_of(text, size));
@@ -197,6 +197,14 @@ impl Syntax {
         ensures { (l : Literal) → Reads (notation_of self.now) l text.now → HasLengths l (cuts_of result) }
     {
         self.read_on(text, false).counts
+    }
+
+    // Returns the length of the longest front of `text` that is a literal, if there is one.
+    #[cold]
+    const fn seek(&self, text: &[u8]) -> Option<usize>
+        ensures { IsLongest (notation_of self.now) text.now (length text.now) result }
+    {
+        self.read_on(text, true).literal
     }
 
     // Reads `text` until no literal begins with what has been read, and counts the bytes of each part. Seeks the longest front

@@ -62,7 +62,7 @@ impl Syntax {
             let size = stop.size;
             return (stop, Some(Found { size, counts }));
         }
-        match self.read_on(text, true).literal {
+        match self.seek(text) {
             None => (stop, None),
             Some(size) => {
                 let counts = self.count(front_of(text, size));
@@ -147,6 +147,12 @@ impl Syntax {
     #[cold]
     const fn count(&self, text: &[u8]) -> [usize; 9] {
         self.read_on(text, false).counts
+    }
+
+    // Returns the length of the longest front of `text` that is a literal, if there is one.
+    #[cold]
+    const fn seek(&self, text: &[u8]) -> Option<usize> {
+        self.read_on(text, true).literal
     }
 
     // Reads `text` until no literal begins with what has been read, and counts the bytes of each part. Seeks the longest front

@@ -1,5 +1,5 @@
 -- The longest front that is a literal, and the lengths of its parts.
-use Rattle.std.proofs.Common.{refl, sym, ◌∙◌, subst}
+use Rattle.std.proofs.Common.{sym, ◌∙◌, subst}
 use Rattle.lexical_literal.specs.Literal.{Reads}
 use Rattle.lexical_literal.proofs.LongestLemmas.{found_there, front_literal, fronted}
 use Rattle.lexical_literal.proofs.syntax.Syntax.front.Goals as goal
@@ -12,12 +12,12 @@ pub returns-in-None : goal.returns-in-None
 returns-in-None c = record {
   reached = c.stop-stop.ensures;
   longest = λ found is. absurd (cc);
-  none = λ _ size below. (c.read_on.ensures.longest refl).no_longer size below (λ other same. absurd (let clash = sym c.in-None.is ∙ same in cc));
+  none = λ _ size below. c.seek.ensures.no_longer size below (λ other same. absurd (let clash = sym c.in-None.is ∙ same in cc));
 }
 
 pub returns-in-Some : goal.returns-in-Some
 returns-in-Some c =
-    let l = front_literal _ _ _ (c.read_on.ensures.longest refl) c.in-Some.size c.in-Some.is in
+    let l = front_literal _ _ _ c.seek.ensures c.in-Some.size c.in-Some.is in
     fronted _ _ _ _ c.stop-stop.ensures (record {
       literal = l.0;
       reads = l.1;
