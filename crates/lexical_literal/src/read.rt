@@ -1,6 +1,6 @@
 //! How literals are found, and the lengths of their parts.
 
-ghost use Rattle.std.specs.Prelude.{◌≡◌, ◌+◌, ◌++◌, ◌∷◌, ◌<◌, ◌≤◌, Bool, IfSome, IsNone, IsTrue, None, ℕ, List, [], false, true, length, slice_get, take};
+ghost use Rattle.std.specs.Prelude.{◌≡◌, ◌+◌, ◌++◌, ◌∷◌, ◌<◌, ◌≤◌, Bool, IfSome, IsErrAnd, IsNone, IsTrue, None, ℕ, List, [], false, true, length, slice_get, take};
 ghost use Rattle.lexical_literal.specs.Additions.Explained.{tail_byte};
 ghost use Rattle.lexical_literal.specs.Additions.Longest.{HasFound, IsCountedFront, IsFronted, IsGrouped, IsLongest, IsMeasured, IsScanned, IsStopped};
 ghost use Rattle.lexical_literal.specs.Additions.Plain.{IsBegun};
@@ -100,7 +100,7 @@ impl Syntax {
     {
         let front = front_of(text, found.size);
         match self.grammar().conditions.integer_group_size {
-            Some(size) if !self.has_groups(front, found.counts) => Err(self.ungrouped(front, size)),
+            Some(size) if !self.has_groups(front, found.counts) => self.ungrouped(front, size),
             _ => Ok(()),
         }
     }
@@ -250,12 +250,13 @@ impl Syntax {
         is_complete(self.grammar(), read)
     }
 
-    // Returns why `text`, of which reading stopped at `stop`, is not a literal.
+    // Returns why `text`, of which reading stopped at `stop`, is not a literal, as the result of the caller, which takes less
+    // time than to copy an error.
     #[inline(always)]
-    pub(crate) fn refuse(&self, text: &[u8], stop: At) -> ReadError
+    pub(crate) fn refuse<T>(&self, text: &[u8], stop: At) -> Result<T, ReadError>
         requires stopped { IsStopped (notation_of self.now) text.now stop }
         requires refuses { Refuses self.now text.now }
-        ensures { IsError self.now text.now result.refusal }
+        ensures { IsErrAnd result (λ error. IsError self.now text.now error.refusal) }
     {
         match self.grammar().conditions.integer_group_size {
             Some(size) if stop.size == text.len() && self.is_complete(stop.read) => {
@@ -267,18 +268,18 @@ impl Syntax {
 
     // Returns that the integer of `text` is not in groups of `size`, and the first wrong group.
     #[cold]
-    fn ungrouped(&self, text: &[u8], size: u8) -> ReadError
+    fn ungrouped<T>(&self, text: &[u8], size: u8) -> Result<T, ReadError>
         requires size { self.now.conditions.integer_group_size ≡ Some size }
         requires read { (l : Literal) × Reads (notation_of self.now) l text.now }
         requires refuses { Refuses self.now text.now }
-        ensures { IsUngrouped self.now text.now result.refusal }
+        ensures { IsErrAnd result (λ error. IsUngrouped self.now text.now error.refusal) }
     {
         let counts = self.count(text);
         let grammar = self.grammar();
         let parts = cut(text, counts);
         let before = parts.sign.len() + parts.prefix.len();
         let (start, end) = wrong_group(grammar, size, parts.integer);
-        ReadError {
+        Err(ReadError {
             spot: Spot {
                 grammar,
                 read: BEGIN.read,
@@ -292,21 +293,21 @@ impl Syntax {
                 },
                 is_ungrouped: true,
             },
-        }
+        })
     }
 
     // Returns why the byte that follows is not allowed, or what is missing.
     #[cold]
-    fn refuse_byte(&self, text: &[u8], stop: At) -> ReadError
+    fn refuse_byte<T>(&self, text: &[u8], stop: At) -> Result<T, ReadError>
         requires stopped { IsStopped (notation_of self.now) text.now stop }
         requires refused { lets (notation_of self.now) stop.read (slice_get text.now stop.size) ≡ false }
-        ensures { IsRefusal (notation_of self.now) text.now result.refusal }
+        ensures { IsErrAnd result (λ error. IsRefusal (notation_of self.now) text.now error.refusal) }
     {
         role_facts();
         let grammar = self.grammar();
         let size = stop.size;
         let byte = byte_at(text, size);
-        ReadError {
+        Err(ReadError {
             spot: Spot {
                 grammar,
                 read: stop.read,
@@ -315,7 +316,7 @@ impl Syntax {
                 marks: marks(grammar, front_of(text, size)),
                 is_ungrouped: false,
             },
-        }
+        })
     }
 }
 
@@ -358,6 +359,9 @@ const fn tail_at(text: &[u8], size: usize, byte: Option<u8>) -> [u8; 3]
     ensures { result ≡ tail_of text.now size }
 {
     let tail = tail_size(byte);
+    if tail == 0 {
+        return [0; 3];
+    }
     [
         tail_byte(text, size, tail, 1),
         tail_byte(text, size, tail, 2),

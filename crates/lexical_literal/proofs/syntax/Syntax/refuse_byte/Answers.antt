@@ -14,7 +14,7 @@ use Rattle.lexical_literal.proofs.RoleLemmas.{ready}
 use Rattle.lexical_literal.proofs.syntax.Syntax.refuse_byte.Goals as goal
 
 pub returns : goal.returns
-returns c =
+returns _ c =
     let g = c.args.self.now in
     let m = notation_of g in
     let size = c.args.stop.size in
