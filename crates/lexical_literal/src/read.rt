@@ -2,7 +2,7 @@
 
 ghost use Rattle.std.specs.Prelude.{◌≡◌, ◌+◌, ◌++◌, ◌∷◌, ◌<◌, ◌≤◌, Bool, IfSome, IsNone, IsTrue, None, ℕ, List, [], false, true, length, slice_get, take};
 ghost use Rattle.lexical_literal.specs.Additions.Explained.{tail_byte};
-ghost use Rattle.lexical_literal.specs.Additions.Longest.{HasFound, IsCountedFront, IsFronted, IsGrouped, IsLongest, IsMeasured, IsScanned, IsStopped};
+ghost use Rattle.lexical_literal.specs.Additions.Longest.{HasFound, IsCountedFront, IsFronted, IsGrouped, IsLongest, IsMeasured, IsStopped};
 ghost use Rattle.lexical_literal.specs.Additions.Plain.{IsBegun};
 ghost use Rattle.lexical_literal.specs.Additions.Summary.{HasLengths, cuts_of, is_complete};
 ghost use Rattle.lexical_literal.specs.Additions.Causes.{lets};
@@ -16,7 +16,7 @@ use crate::cause::{Marks, ReadError, Spot};
 use crate::groups::{is_grouped, wrong_group};
 use crate::plain::{At, BEGIN, Counted, plain};
 use crate::span::marks;
-use crate::steps::{Summary, byte_class, is_complete, piece_number, step, step_at};
+use crate::steps::{Summary, is_complete, piece_number, piece_of, role_at, step};
 use crate::syntax::Syntax;
 use lexical_util::laws::flags::role_facts;
 use std::marker::Model;
@@ -118,13 +118,7 @@ impl Reader {
             let size = stop.size;
             return (stop, Some(Found { size, counts }));
         }
-        match self.seek(text) {
-            None => (stop, None),
-            Some(size) => {
-                let counts = self.count(front_of(text, size));
-                (stop, Some(Found { size, counts }))
-            }
-        }
+        (stop, self.longest(text))
     }
 
     // Returns why the integer of the front `found` of `text` is not in groups, or `Ok` if it is.
@@ -205,7 +199,7 @@ impl Reader {
         if size == text.len() {
             return None;
         }
-        match step_at(grammar, read, text[size]) {
+        match step(grammar, read, text[size]) {
             None => None,
             Some(read) => Some(At {
                 size: size + 1,
@@ -232,50 +226,34 @@ impl Reader {
     const fn count(&self, text: &[u8]) -> [usize; 9]
         ensures { (l : Literal) → Reads (notation_of self.now) l text.now → HasLengths l (cuts_of result) }
     {
-        self.read_on(text, false).counts
+        match self.longest(text) {
+            None => [0; 9],
+            Some(found) => found.counts,
+        }
     }
 
-    // Returns the length of the longest front of `text` that is a literal, if there is one.
+    // Returns the longest front of `text` that is a literal, and the lengths of its parts, if there is one.
     #[cold]
-    const fn seek(&self, text: &[u8]) -> Option<usize>
+    const fn longest(&self, text: &[u8]) -> Option<Found>
         ensures { IsLongest (notation_of self.now) text.now (length text.now) result }
-    {
-        self.read_on(text, true).literal
-    }
-
-    // Reads `text` until no literal begins with what has been read, and counts the bytes of each part. Seeks the longest front
-    // that is a literal if `seeks` is true.
-    #[cold]
-    const fn read_on(&self, text: &[u8], seeks: bool) -> Scanned
-        ensures { IsScanned (notation_of self.now) seeks text.now result }
     {
         role_facts();
         let grammar = self.syntax.grammar();
-        let At { mut size, mut read } = BEGIN;
+        let mut at = BEGIN;
         let mut counts = [0; 9];
-        let mut literal = None;
-        while size < text.len() {
-            let Some(next) = step(grammar, read, byte_class(grammar, text[size])) else {
-                let stop = At { size, read };
-                return Scanned {
-                    stop,
-                    literal,
-                    counts,
-                };
+        let mut found = None;
+        while let Some(next) = self.step(text, at) {
+            let Some(role) = role_at(grammar, at.read.part, text[at.size]) else {
+                return found;
             };
-            read = next.summary;
-            counts[piece_number(next.piece)] += 1;
-            size += 1;
-            if seeks && is_complete(grammar, read) {
-                literal = Some(size);
+            counts[piece_number(piece_of(at.read.part, role))] += 1;
+            at = next;
+            if is_complete(grammar, at.read) {
+                let size = at.size;
+                found = Some(Found { size, counts });
             }
         }
-        let stop = At { size, read };
-        Scanned {
-            stop,
-            literal,
-            counts,
-        }
+        found
     }
 
     // Returns whether what has been read is a literal.
@@ -354,15 +332,6 @@ impl Reader {
             },
         }
     }
-}
-
-// What a pass over a text finds: where it stops, the length of the longest front that is a literal, if it was sought, and
-// the lengths of the parts of what has been read.
-#[derive(Clone, Copy)]
-pub(crate) struct Scanned {
-    stop: At,
-    literal: Option<usize>,
-    counts: [usize; 9],
 }
 
 // Returns the byte behind the first `size`, if there is one.

@@ -10,8 +10,8 @@ ghost use Rattle.lexical_literal.specs.declared.syntax.Options.{Options};
 ghost use Rattle.lexical_literal.specs.Notation.{has, no_conditions, notation_of, IsOnlyRole};
 ghost use Rattle.lexical_literal.specs.Syntax.{IsSyntax, contradiction, groups_error};
 
-use crate::steps::{byte_class, role_of};
-use lexical_util::format::{Format, FormatError, NumberFormat, Role};
+use crate::steps::role_at;
+use lexical_util::format::{Format, FormatError, NumberFormat, Part, Role};
 use lexical_util::format_flags::{base_prefix, base_suffix};
 use lexical_util::laws::flags::role_facts;
 use std::marker::Model;
@@ -234,7 +234,11 @@ impl Syntax {
         ensures { IsOnlyRole (notation_of self.now) byte result }
     {
         role_facts();
-        role_of(byte_class(self.grammar(), byte))
+        let grammar = self.grammar();
+        match role_at(grammar, Part::Integer, byte) {
+            None => role_at(grammar, Part::Exponent, byte),
+            role => role,
+        }
     }
 
     // Returns the format, the options and the conditions.

@@ -30,10 +30,14 @@ pub record HasRoles (m : Notation) : Type 0 where
   pub one_mantissa : (byte : ℕ) → m.digit parts.Fraction byte ≡ m.digit parts.Integer byte
   pub integers : m.integers_only ≡ true → (byte : ℕ) → (m.point byte ≡ false) × (m.exponent_character byte ≡ false)
 
--- `IsAt m text at c` holds if `at` has the summary of the first bytes of `text`, and `c` has the lengths of their parts.
-pub record IsAt (m : Notation) (text : List ℕ) (at : At) (c : Cuts) : Type 0 where
+-- `IsBegun m text at` holds if `at` has the summary of the first bytes of `text`, with which some literal begins, and
+-- `IsAt m text at c` if `c` has the lengths of their parts, too.
+pub record IsBegun (m : Notation) (text : List ℕ) (at : At) : Type 0 where
   pub within : at.size ≤ length text
   pub read : scan m (Some start) (take at.size text) ≡ Some at.read
+
+pub record IsAt (m : Notation) (text : List ℕ) (at : At) (c : Cuts) : Type 0 where
+  pub begun : IsBegun m text at
   pub counted : tally m (Some start) no_cuts (take at.size text) ≡ c
 
 -- `IsReadOn m text at piece next` holds if some bytes of `piece`, or none, are read between `at` and `next`.
@@ -108,11 +112,6 @@ pub record IsOpened (m : Notation) (text : List ℕ) (opening : Opening) : Type 
   pub signed : is_signed m parts.Integer opening.stage ≡ true
   pub free : is_free m opening.stage ≡ true
   pub none : has_digit opening.stage ≡ false
-
--- `IsBegun m text at` holds if `at` has the summary of the first bytes of `text`, with which some literal begins.
-pub record IsBegun (m : Notation) (text : List ℕ) (at : At) : Type 0 where
-  pub within : at.size ≤ length text
-  pub read : scan m (Some start) (take at.size text) ≡ Some at.read
 
 -- `IsCounted m text counted` holds if `counted` has what has been read of `text` and, if it says that this is a literal, the
 -- lengths of its parts.
