@@ -51,7 +51,7 @@ const SHOWN: usize = 40;
 /// The *index* of a text is the number of texts before it, so the index of the first line is 0.
 ///
 /// ```
-/// use peltzivar::{literal::Reader, Settings};
+/// use peltzivar::Settings;
 ///
 /// let file = "# hexadecimal\nradix = 16\nbase_prefix = 'b'\nexponent = 'p'\ndigit_separator = '_'";
 /// let mut settings = Settings::read(file.lines())?;
@@ -60,7 +60,7 @@ const SHOWN: usize = 40;
 /// assert_eq!(reason.indexes(), [1, 2]);
 ///
 /// settings.add("base_prefix = 'x'")?;
-/// assert!(Reader::new(settings.build_syntax()?).read(b"0x1.8p3").is_ok());
+/// assert!(settings.build_syntax()?.read("0x1.8p3").is_ok());
 /// let notes: Vec<_> = settings.notes().map(|note| (note.to_string(), note.indexes().to_vec())).collect();
 /// assert_eq!(notes, [
 ///     ("a later setting overrides base_prefix".into(), vec![2, 5]),

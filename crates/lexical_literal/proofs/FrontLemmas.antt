@@ -7,7 +7,7 @@ use Rattle.lexical_util.specs.declared.feature_format.roles.Role.{Role}
 use Rattle.lexical_util.specs.declared.feature_format.roles.Role.TheVariants as roles
 use Rattle.lexical_util.specs.declared.format_flags.Part.{Part}
 use Rattle.lexical_util.specs.declared.format_flags.Part.TheVariants as parts
-use Rattle.lexical_literal.specs.Additions.Plain.{HasRoles}
+use Rattle.lexical_literal.specs.Additions.Plain.{IsReady, HasRoles}
 use Rattle.lexical_literal.specs.Notation.{Notation}
 use Rattle.lexical_literal.specs.Front.{IsFront}
 use Rattle.lexical_literal.specs.Additions.Summary.{admits, continues, implies, has_digit, is_fresh, is_led, after_digit, after_mark, after_point, may_lead}
@@ -19,7 +19,7 @@ use Rattle.lexical_literal.specs.declared.steps.Summary.{Summary}
 use Rattle.lexical_literal.specs.declared.syntax.Condition.{Condition}
 use Rattle.lexical_literal.specs.declared.syntax.Condition.TheVariants as conditions
 use Rattle.lexical_literal.proofs.ConditionLemmas.{literal_from, literal_arrives}
-use Rattle.lexical_literal.proofs.ScanLemmas.{IsReady, Accepts, scan_none, scan_append, took, arrives_byte, digit_role, is_role}
+use Rattle.lexical_literal.proofs.ScanLemmas.{Accepts, scan_none, scan_append, took, arrives_byte, digit_role, is_role}
 use Rattle.lexical_literal.proofs.StepLemmas.{begins, reading}
 
 -- `is_integer part` is true if `part` is the integer.

@@ -7,7 +7,7 @@ use Rattle.lexical_util.specs.Layout as layout
 use Rattle.lexical_util.specs.Layout.{Flag, separators_in}
 use Rattle.lexical_util.specs.declared.format_flags.Part.{Part}
 use Rattle.lexical_util.specs.declared.format_flags.Part.TheVariants as parts
-use Rattle.lexical_literal.specs.Additions.Plain.{HasRoles}
+use Rattle.lexical_literal.specs.Additions.Plain.{IsReady, HasRoles}
 use Rattle.lexical_literal.specs.Notation.{Notation}
 use Rattle.lexical_literal.specs.Run.{is_place, is_fit, are_fit}
 use Rattle.lexical_literal.specs.Literal.{Literal, IsLiteral, IsSpelled, requirement}
@@ -18,7 +18,7 @@ use Rattle.lexical_literal.specs.Additions.Summary.{after, scan, step, is_accept
 use Rattle.lexical_literal.specs.declared.steps.Summary.{Summary}
 use Rattle.lexical_literal.specs.declared.syntax.Condition.{Condition}
 use Rattle.lexical_literal.specs.declared.syntax.Condition.TheVariants as conditions
-use Rattle.lexical_literal.proofs.ScanLemmas.{IsReady, scan_append, took}
+use Rattle.lexical_literal.proofs.ScanLemmas.{scan_append, took}
 use Rattle.lexical_literal.proofs.ConditionLemmas.{literal_from, literal_arrives}
 use Rattle.lexical_literal.proofs.FrontLemmas.{front_from, front_is_read}
 use Rattle.lexical_literal.proofs.PartOfLemmas.{none_after}

@@ -2,7 +2,6 @@
 use Rattle.std.proofs.Common.{ℕ, ◌≡◌, Bool, true, false, not, ◌==◌, ◌&&◌, if◌then◌else◌, List, [], ◌∷◌, ◌++◌, Option, Some, None}
 use Rattle.std.proofs.Common.{refl, sym, ap, subst, ◌∙◌, arith}
 use Rattle.std.proofs.lemmas.Bool.{false≢true, false_from_ne_true}
-use Rattle.lexical_util.specs.Layout as layout
 use Rattle.lexical_util.specs.declared.feature_format.roles.Role.{Role}
 use Rattle.lexical_util.specs.declared.feature_format.roles.Role.TheVariants as roles
 use Rattle.lexical_util.specs.declared.format_flags.Part.{Part}
@@ -13,21 +12,6 @@ use Rattle.lexical_literal.specs.Additions.Summary.{move_by, scan_by, step_by, a
 use Rattle.lexical_literal.specs.declared.steps.Piece.{Piece}
 use Rattle.lexical_literal.specs.declared.steps.Summary.{Summary}
 use Rattle.lexical_literal.specs.declared.syntax.Condition.{Condition}
-use Rattle.lexical_literal.specs.declared.syntax.Condition.TheVariants as conditions
-
--- `IsReady m` holds if `m` is the notation of a syntax.
-pub record IsReady (m : Notation) : Type 0 where
-  pub roles : HasRoles m
-  pub exponent : ℕ
-  pub point : ℕ
-  pub has_exponent : m.integers_only ≡ false → m.exponent_character exponent ≡ true
-  pub has_point : m.integers_only ≡ false → m.point point ≡ true
-  pub prefix : ℕ
-  pub suffix : ℕ
-  pub has_prefix : m.condition conditions.BasePrefix ≡ true → m.prefix prefix ≡ true
-  pub has_suffix : m.condition conditions.BaseSuffix ≡ true → m.suffix suffix ≡ true
-  pub some_sign : (m.flag layout.no_positive_mantissa_sign && m.flag layout.required_mantissa_sign) ≡ false
-  pub agree : (m.flag layout.no_exponent_notation && m.flag layout.required_exponent_notation) ≡ false
 
 -- `Accepts C m o text` holds if `text` is accepted with the conditions `C`.
 abbrev pub Accepts : (Condition → Bool) → Notation → Option Summary → List ℕ → Type 0

@@ -7,8 +7,8 @@ use Rattle.lexical_util.specs.declared.format_flags.Part.TheVariants as parts
 use Rattle.lexical_literal.specs.Additions.Summary.{role_at}
 use Rattle.lexical_literal.specs.Notation.{IsOnlyRole, notation_of, set_of_role}
 use Rattle.lexical_literal.specs.declared.syntax.Grammar.{Grammar}
-use Rattle.lexical_literal.proofs.ScanLemmas.{IsReady, as_role, no_role}
-use Rattle.lexical_literal.proofs.RoleLemmas.{ready}
+use Rattle.lexical_literal.specs.Additions.Plain.{IsReady}
+use Rattle.lexical_literal.proofs.ScanLemmas.{as_role, no_role}
 use Rattle.lexical_literal.proofs.syntax.Syntax.role_of.Goals as goal
 
 module _ (g : Grammar) (is_ready : IsReady (notation_of g)) (b : ℕ) where
@@ -25,7 +25,7 @@ module _ (g : Grammar) (is_ready : IsReady (notation_of g)) (b : ℕ) where
 pub returns-in-None : goal.returns-in-None
 returns-in-None c =
     let g = c.args.self.now in
-    let is_ready = ready c.role_facts.ensures.disjoint c.role_facts.ensures.five c.role_facts.ensures.lawful g c.grammar-grammar.ensures.lawful in
+    let is_ready = c.grammar-grammar.ensures.ready in
     let first : role_at (notation_of g) parts.Integer c.args.byte ≡ None =
     ap (λ (g : Grammar). role_at (notation_of g) parts.Integer c.args.byte) (sym c.grammar-grammar.ensures.value) ∙ sym c.role_at.ensures ∙ c.in-None.is in
     rw (c.role_at-in-None.ensures, c.grammar-grammar.ensures.value) (only g is_ready c.args.byte _
@@ -34,7 +34,7 @@ returns-in-None c =
 pub returns-in_default : goal.returns-in_default
 returns-in_default c =
     let g = c.args.self.now in
-    let is_ready = ready c.role_facts.ensures.disjoint c.role_facts.ensures.five c.role_facts.ensures.lawful g c.grammar-grammar.ensures.lawful in
+    let is_ready = c.grammar-grammar.ensures.ready in
     let same = c.role_at.ensures ∙ ap (λ (g : Grammar). role_at (notation_of g) parts.Integer c.args.byte) c.grammar-grammar.ensures.value in
     only g is_ready c.args.byte _ (λ r is. as_role (notation_of g) parts.Integer c.args.byte r (sym same ∙ is))
     (λ is. absurd (c.in_default.not-None is))
