@@ -2,7 +2,7 @@
 
 ghost use Rattle.std.specs.Prelude.{◌≡◌, ◌+◌, ◌++◌, ◌∷◌, ◌<◌, ◌≤◌, Bool, IfSome, IsErrAnd, IsNone, IsTrue, None, ℕ, List, [], false, true, length, slice_get, take};
 ghost use Rattle.lexical_literal.specs.Additions.Explained.{tail_byte};
-ghost use Rattle.lexical_literal.specs.Additions.Longest.{HasFound, IsCountedFront, IsFronted, IsGrouped, IsLongest, IsMeasured, IsScanned, IsStopped};
+ghost use Rattle.lexical_literal.specs.Additions.Longest.{HasFound, IsCountedFront, IsFronted, IsGrouped, IsLongest, IsMeasured, IsStopped};
 ghost use Rattle.lexical_literal.specs.Additions.Plain.{IsBegun};
 ghost use Rattle.lexical_literal.specs.Additions.Summary.{HasLengths, cuts_of, is_complete};
 ghost use Rattle.lexical_literal.specs.Additions.Causes.{lets};
@@ -16,9 +16,8 @@ use crate::cause::{Marks, ReadError, Spot};
 use crate::groups::{is_grouped, wrong_group};
 use crate::plain::{At, BEGIN, Counted, plain};
 use crate::span::marks;
-use crate::steps::{Summary, byte_class, is_complete, piece_number, step, step_at};
+use crate::steps::{Summary, is_complete, piece_number, piece_of, role_at, step};
 use crate::syntax::Syntax;
-use lexical_util::laws::flags::role_facts;
 
 /// The parts of a literal, in the order of the text. An absent part has no bytes.
 #[derive(Debug, Clone, Copy, PartialEq, Eq, Hash)]
@@ -83,13 +82,7 @@ impl Syntax {
             let size = stop.size;
             return (stop, Some(Found { size, counts }));
         }
-        match self.seek(text) {
-            None => (stop, None),
-            Some(size) => {
-                let counts = self.count(front_of(text, size));
-                (stop, Some(Found { size, counts }))
-            }
-        }
+        (stop, self.longest(text))
     }
 
     // Returns why the integer of the front `found` of `text` is not in groups, or `Ok` if it is.
@@ -111,7 +104,6 @@ impl Syntax {
     pub(crate) const fn begin(&self, text: &[u8], fronts: bool) -> Counted
         ensures { HasFound (notation_of self.now) text.now result }
     {
-        role_facts();
         plain(self.grammar(), text, fronts)
     }
 
@@ -163,13 +155,12 @@ impl Syntax {
         ensures next { IfSome result (λ next. IsBegun (notation_of self.now) text.now next × (next.size ≡ at.size + 1)) }
         ensures stop { IsNone result → IsStopped (notation_of self.now) text.now at }
     {
-        role_facts();
         let grammar = self.grammar();
         let At { size, read } = at;
         if size == text.len() {
             return None;
         }
-        match step_at(grammar, read, text[size]) {
+        match step(grammar, read, text[size]) {
             None => None,
             Some(read) => Some(At {
                 size: size + 1,
@@ -196,50 +187,33 @@ impl Syntax {
     const fn count(&self, text: &[u8]) -> [usize; 9]
         ensures { (l : Literal) → Reads (notation_of self.now) l text.now → HasLengths l (cuts_of result) }
     {
-        self.read_on(text, false).counts
+        match self.longest(text) {
+            None => [0; 9],
+            Some(found) => found.counts,
+        }
     }
 
-    // Returns the length of the longest front of `text` that is a literal, if there is one.
+    // Returns the longest front of `text` that is a literal, and the lengths of its parts, if there is one.
     #[cold]
-    const fn seek(&self, text: &[u8]) -> Option<usize>
+    const fn longest(&self, text: &[u8]) -> Option<Found>
         ensures { IsLongest (notation_of self.now) text.now (length text.now) result }
     {
-        self.read_on(text, true).literal
-    }
-
-    // Reads `text` until no literal begins with what has been read, and counts the bytes of each part. Seeks the longest front
-    // that is a literal if `seeks` is true.
-    #[cold]
-    const fn read_on(&self, text: &[u8], seeks: bool) -> Scanned
-        ensures { IsScanned (notation_of self.now) seeks text.now result }
-    {
-        role_facts();
         let grammar = self.grammar();
-        let At { mut size, mut read } = BEGIN;
+        let mut at = BEGIN;
         let mut counts = [0; 9];
-        let mut literal = None;
-        while size < text.len() {
-            let Some(next) = step(grammar, read, byte_class(grammar, text[size])) else {
-                let stop = At { size, read };
-                return Scanned {
-                    stop,
-                    literal,
-                    counts,
-                };
+        let mut found = None;
+        while let Some(next) = self.step(text, at) {
+            let Some(role) = role_at(grammar, at.read.part, text[at.size]) else {
+                return found;
             };
-            read = next.summary;
-            counts[piece_number(next.piece)] += 1;
-            size += 1;
-            if seeks && is_complete(grammar, read) {
-                literal = Some(size);
+            counts[piece_number(piece_of(at.read.part, role))] += 1;
+            at = next;
+            if is_complete(grammar, at.read) {
+                let size = at.size;
+                found = Some(Found { size, counts });
             }
         }
-        let stop = At { size, read };
-        Scanned {
-            stop,
-            literal,
-            counts,
-        }
+        found
     }
 
     // Returns whether what has been read is a literal.
@@ -303,7 +277,6 @@ impl Syntax {
         requires refused { lets (notation_of self.now) stop.read (slice_get text.now stop.size) ≡ false }
         ensures { IsErrAnd result (λ error. IsRefusal (notation_of self.now) text.now error.refusal) }
     {
-        role_facts();
         let grammar = self.grammar();
         let size = stop.size;
         let byte = byte_at(text, size);
@@ -318,15 +291,6 @@ impl Syntax {
             },
         })
     }
-}
-
-// What a pass over a text finds: where it stops, the length of the longest front that is a literal, if it was sought, and
-// the lengths of the parts of what has been read.
-#[derive(Clone, Copy)]
-pub(crate) struct Scanned {
-    stop: At,
-    literal: Option<usize>,
-    counts: [usize; 9],
 }
 
 // Returns the byte behind the first `size`, if there is one.

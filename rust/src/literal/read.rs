@@ -6,7 +6,7 @@ use crate::literal::cause::{Marks, ReadError, Spot};
 use crate::literal::groups::{is_grouped, wrong_group};
 use crate::literal::plain::{plain, At, Counted, BEGIN};
 use crate::literal::span::marks;
-use crate::literal::steps::{byte_class, is_complete, piece_number, step, step_at, Summary};
+use crate::literal::steps::{is_complete, piece_number, piece_of, role_at, step, Summary};
 use crate::literal::syntax::Syntax;
 
 /// The parts of a literal, in the order of the text. An absent part has no bytes.
@@ -62,13 +62,7 @@ impl Syntax {
             let size = stop.size;
             return (stop, Some(Found { size, counts }));
         }
-        match self.seek(text) {
-            None => (stop, None),
-            Some(size) => {
-                let counts = self.count(front_of(text, size));
-                (stop, Some(Found { size, counts }))
-            }
-        }
+        (stop, self.longest(text))
     }
 
     // Returns why the integer of the front `found` of `text` is not in groups, or `Ok` if it is.
@@ -127,7 +121,7 @@ impl Syntax {
         if size == text.len() {
             return None;
         }
-        match step_at(grammar, read, text[size]) {
+        match step(grammar, read, text[size]) {
             None => None,
             Some(read) => Some(At { size: size + 1, read }),
         }
@@ -146,37 +140,31 @@ impl Syntax {
     // Returns the lengths of the parts of the literal `text`.
     #[cold]
     const fn count(&self, text: &[u8]) -> [usize; 9] {
-        self.read_on(text, false).counts
+        match self.longest(text) {
+            None => [0; 9],
+            Some(found) => found.counts,
+        }
     }
 
-    // Returns the length of the longest front of `text` that is a literal, if there is one.
+    // Returns the longest front of `text` that is a literal, and the lengths of its parts, if there is one.
     #[cold]
-    const fn seek(&self, text: &[u8]) -> Option<usize> {
-        self.read_on(text, true).literal
-    }
-
-    // Reads `text` until no literal begins with what has been read, and counts the bytes of each part. Seeks the longest front
-    // that is a literal if `seeks` is true.
-    #[cold]
-    const fn read_on(&self, text: &[u8], seeks: bool) -> Scanned {
+    const fn longest(&self, text: &[u8]) -> Option<Found> {
         let grammar = self.grammar();
-        let At { mut size, mut read } = BEGIN;
+        let mut at = BEGIN;
         let mut counts = [0; 9];
-        let mut literal = None;
-        while size < text.len() {
-            let Some(next) = step(grammar, read, byte_class(grammar, text[size])) else {
-                let stop = At { size, read };
-                return Scanned { stop, literal, counts };
+        let mut found = None;
+        while let Some(next) = self.step(text, at) {
+            let Some(role) = role_at(grammar, at.read.part, text[at.size]) else {
+                return found;
             };
-            read = next.summary;
-            counts[piece_number(next.piece)] += 1;
-            size += 1;
-            if seeks && is_complete(grammar, read) {
-                literal = Some(size);
+            counts[piece_number(piece_of(at.read.part, role))] += 1;
+            at = next;
+            if is_complete(grammar, at.read) {
+                let size = at.size;
+                found = Some(Found { size, counts });
             }
         }
-        let stop = At { size, read };
-        Scanned { stop, literal, counts }
+        found
     }
 
     // Returns whether what has been read is a literal.
@@ -231,15 +219,6 @@ impl Syntax {
             },
         }
     }
-}
-
-// What a pass over a text finds: where it stops, the length of the longest front that is a literal, if it was sought, and
-// the lengths of the parts of what has been read.
-#[derive(Clone, Copy)]
-pub(crate) struct Scanned {
-    stop: At,
-    literal: Option<usize>,
-    counts: [usize; 9],
 }
 
 // Returns the byte behind the first `size`, if there is one.
