@@ -94,14 +94,17 @@ impl<'a> SyntaxList<'a> {
     const fn refuse(&self, text: &[u8], furthest: Option<(usize, At)>) -> FormError {
         let Some((first, stop)) = furthest else { unreachable!() };
         let syntaxes = self.syntaxes();
-        let error = syntaxes[first].refuse(text, stop);
+        let Err(error) = syntaxes[first].refuse::<()>(text, stop) else { unreachable!() };
+        if !error.is_byte() {
+            return FormError { form: first, error };
+        }
         let mut form = first + 1;
         while form < syntaxes.len() {
             let syntax = &syntaxes[form];
             let reached = syntax.stop(text, syntax.begin(text, false).at);
             if reached.size == stop.size {
-                let other = syntax.refuse(text, reached);
-                if !other.is_byte() && error.is_byte() {
+                let Err(other) = syntax.refuse::<()>(text, reached) else { unreachable!() };
+                if !other.is_byte() {
                     return FormError { form, error: other };
                 }
             }

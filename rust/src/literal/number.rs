@@ -67,7 +67,7 @@ impl Syntax {
         let stop = self.stop(text, at);
         match self.lengths(text, stop) {
             Some(counts) => Ok(self.literal(text, counts)),
-            None => Err(self.refuse(text, stop)),
+            None => self.refuse(text, stop),
         }
     }
 
@@ -106,7 +106,7 @@ impl Syntax {
     /// Those of `read_prefix`.
     pub const fn read_prefix_bytes<'t>(&self, text: &'t [u8]) -> Result<(Literal<'t>, &'t [u8]), ReadError> {
         match self.front(text) {
-            (stop, None) => Err(self.refuse(text, stop)),
+            (stop, None) => self.refuse(text, stop),
             (_, Some(found)) => match self.grouped(text, found) {
                 Ok(()) => {
                     let Found { size, counts } = found;

@@ -70,7 +70,7 @@ impl Syntax {
     pub(crate) const fn grouped(&self, text: &[u8], found: Found) -> Result<(), ReadError> {
         let front = front_of(text, found.size);
         match self.grammar().conditions.integer_group_size {
-            Some(size) if !self.has_groups(front, found.counts) => Err(self.ungrouped(front, size)),
+            Some(size) if !self.has_groups(front, found.counts) => self.ungrouped(front, size),
             _ => Ok(()),
         }
     }
@@ -173,9 +173,10 @@ impl Syntax {
         is_complete(self.grammar(), read)
     }
 
-    // Returns why `text`, of which reading stopped at `stop`, is not a literal.
+    // Returns why `text`, of which reading stopped at `stop`, is not a literal, as the result of the caller, which takes less
+    // time than to copy an error.
     #[inline(always)]
-    pub(crate) const fn refuse(&self, text: &[u8], stop: At) -> ReadError {
+    pub(crate) const fn refuse<T>(&self, text: &[u8], stop: At) -> Result<T, ReadError> {
         match self.grammar().conditions.integer_group_size {
             Some(size) if stop.size == text.len() && self.is_complete(stop.read) => self.ungrouped(text, size),
             _ => self.refuse_byte(text, stop),
@@ -184,13 +185,13 @@ impl Syntax {
 
     // Returns that the integer of `text` is not in groups of `size`, and the first wrong group.
     #[cold]
-    const fn ungrouped(&self, text: &[u8], size: u8) -> ReadError {
+    const fn ungrouped<T>(&self, text: &[u8], size: u8) -> Result<T, ReadError> {
         let counts = self.count(text);
         let grammar = self.grammar();
         let parts = cut(text, counts);
         let before = parts.sign.len() + parts.prefix.len();
         let (start, end) = wrong_group(grammar, size, parts.integer);
-        ReadError {
+        Err(ReadError {
             spot: Spot {
                 grammar,
                 read: BEGIN.read,
@@ -199,16 +200,16 @@ impl Syntax {
                 marks: Marks { size: text.len(), exponent: 0, first: before + start, run: before + end },
                 is_ungrouped: true,
             },
-        }
+        })
     }
 
     // Returns why the byte that follows is not allowed, or what is missing.
     #[cold]
-    const fn refuse_byte(&self, text: &[u8], stop: At) -> ReadError {
+    const fn refuse_byte<T>(&self, text: &[u8], stop: At) -> Result<T, ReadError> {
         let grammar = self.grammar();
         let size = stop.size;
         let byte = byte_at(text, size);
-        ReadError {
+        Err(ReadError {
             spot: Spot {
                 grammar,
                 read: stop.read,
@@ -217,7 +218,7 @@ impl Syntax {
                 marks: marks(grammar, front_of(text, size)),
                 is_ungrouped: false,
             },
-        }
+        })
     }
 }
 
@@ -243,6 +244,9 @@ const fn tail_size(byte: Option<u8>) -> usize {
 // Returns the bytes that follow `byte`, the one behind the first `size`, in its character, and 0 for each that does not.
 const fn tail_at(text: &[u8], size: usize, byte: Option<u8>) -> [u8; 3] {
     let tail = tail_size(byte);
+    if tail == 0 {
+        return [0; 3];
+    }
     [tail_byte(text, size, tail, 1), tail_byte(text, size, tail, 2), tail_byte(text, size, tail, 3)]
 }
 

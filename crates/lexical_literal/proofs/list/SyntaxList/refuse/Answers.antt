@@ -1,10 +1,10 @@
 -- The form that goes furthest has the error, or another that goes as far.
-use Rattle.std.proofs.Common.{◌≡◌, All, inl, inr, true, false, refl, sym, ap, subst, ◌∙◌, arith}
+use Rattle.std.proofs.Common.{All, refl, sym, ap, subst, ◌∙◌, arith}
 use Rattle.std.proofs.lemmas.List.{take_all}
 use Rattle.std.proofs.lemmas.List.Elements.{All-more}
 use Rattle.std.proofs.lemmas.Option.{slice_get-get_or, slice_get_within}
 use Rattle.std.specs.Prelude.{Some}
-use Rattle.lexical_literal.specs.Forms.{IsFormError, is_byte}
+use Rattle.lexical_literal.specs.Forms.{IsFormError}
 use Rattle.lexical_literal.specs.Front.{IsValidUpTo}
 use Rattle.lexical_literal.specs.Notation.{notation_of}
 use Rattle.lexical_literal.specs.Takes.{Refuses}

@@ -1,4 +1,4 @@
-use Rattle.std.proofs.Common.{ℕ, ◌≡◌, ◌≤◌, ◌*◌, All, length, take, ◌-◌}
+use Rattle.std.proofs.Common.{ℕ, ◌≤◌, ◌*◌, All, length, take, ◌-◌}
 use Rattle.lexical_literal.specs.Forms.{Reaches}
 use Rattle.lexical_literal.proofs.list.SyntaxList.refuse.Given as goal
 
