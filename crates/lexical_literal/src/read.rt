@@ -317,15 +317,24 @@ const fn tail_size(byte: Option<u8>) -> usize
 }
 
 // Returns the bytes that follow `byte`, the one behind the first `size`, in its character, and 0 for each that does not.
+#[inline(always)]
 const fn tail_at(text: &[u8], size: usize, byte: Option<u8>) -> [u8; 3]
     requires size { size ≤ length text.now }
     requires byte { byte ≡ slice_get text.now size }
     ensures { result ≡ tail_of text.now size }
 {
-    let tail = tail_size(byte);
-    if tail == 0 {
-        return [0; 3];
+    match tail_size(byte) {
+        0 => [0; 3],
+        tail => tail_bytes(text, size, tail),
     }
+}
+
+// Returns the `tail` bytes behind the first `size + 1`, of three, and 0 for each other and where there is none.
+#[cold]
+const fn tail_bytes(text: &[u8], size: usize, tail: usize) -> [u8; 3]
+    requires { size ≤ length text.now }
+    ensures { result ≡ tail_byte text.now size tail 1 ∷ tail_byte text.now size tail 2 ∷ tail_byte text.now size tail 3 ∷ [] }
+{
     [
         tail_byte(text, size, tail, 1),
         tail_byte(text, size, tail, 2),

@@ -242,11 +242,17 @@ const fn tail_size(byte: Option<u8>) -> usize {
 }
 
 // Returns the bytes that follow `byte`, the one behind the first `size`, in its character, and 0 for each that does not.
+#[inline(always)]
 const fn tail_at(text: &[u8], size: usize, byte: Option<u8>) -> [u8; 3] {
-    let tail = tail_size(byte);
-    if tail == 0 {
-        return [0; 3];
+    match tail_size(byte) {
+        0 => [0; 3],
+        tail => tail_bytes(text, size, tail),
     }
+}
+
+// Returns the `tail` bytes behind the first `size + 1`, of three, and 0 for each other and where there is none.
+#[cold]
+const fn tail_bytes(text: &[u8], size: usize, tail: usize) -> [u8; 3] {
     [tail_byte(text, size, tail, 1), tail_byte(text, size, tail, 2), tail_byte(text, size, tail, 3)]
 }
 
