@@ -6,7 +6,7 @@ ghost use Rattle.lexical_literal.specs.Forms.{IsFormError};
 ghost use Rattle.lexical_literal.specs.Takes.{Refuses};
 
 use crate::cause::ReadError;
-use crate::plain::At;
+use crate::plain::{At, BEGIN};
 use crate::read::Found;
 use crate::syntax::Syntax;
 use std::marker::Model;
@@ -135,7 +135,7 @@ impl<'a> SyntaxList<'a> {
         let mut form = first + 1;
         while form < syntaxes.len() {
             let syntax = &syntaxes[form];
-            let reached = syntax.stop(text, syntax.begin(text, false).at);
+            let reached = syntax.walk(text, BEGIN);
             if reached.size == stop.size {
                 let Err(other) = syntax.refuse::<()>(text, reached) else {
                     unreachable!()

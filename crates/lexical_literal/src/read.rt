@@ -171,7 +171,7 @@ impl Syntax {
 
     // Returns where reading stops, step by step.
     #[cold]
-    const fn walk(&self, text: &[u8], at: At) -> At
+    pub(crate) const fn walk(&self, text: &[u8], at: At) -> At
         requires { IsBegun (notation_of self.now) text.now at }
         ensures { IsStopped (notation_of self.now) text.now result }
     {

@@ -3,7 +3,7 @@
 //! Lists of syntaxes: the numbers of a language that has several forms, such as `10`, `0x1F` and `0b1`.
 
 use crate::literal::cause::ReadError;
-use crate::literal::plain::At;
+use crate::literal::plain::{At, BEGIN};
 use crate::literal::read::Found;
 use crate::literal::syntax::Syntax;
 
@@ -101,7 +101,7 @@ impl<'a> SyntaxList<'a> {
         let mut form = first + 1;
         while form < syntaxes.len() {
             let syntax = &syntaxes[form];
-            let reached = syntax.stop(text, syntax.begin(text, false).at);
+            let reached = syntax.walk(text, BEGIN);
             if reached.size == stop.size {
                 let Err(other) = syntax.refuse::<()>(text, reached) else { unreachable!() };
                 if !other.is_byte() {

@@ -129,7 +129,7 @@ impl Syntax {
 
     // Returns where reading stops, step by step.
     #[cold]
-    const fn walk(&self, text: &[u8], at: At) -> At {
+    pub(crate) const fn walk(&self, text: &[u8], at: At) -> At {
         let mut stop = at;
         while let Some(next) = self.step(text, stop) {
             stop = next;

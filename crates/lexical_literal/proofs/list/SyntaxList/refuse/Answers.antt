@@ -60,7 +60,7 @@ returns-then-not-is_byte-2 c =
     let at = slice_get-get_or forms c.loop-form.form g c.loop-form-test.true ∙ ap Some (sym c.index-syntaxes-form.is) in
     subst (λ l. IsFormError l c.args.text.now (record { form = c.loop-form.form; error = c.in-Err-refuse.other })) c.syntaxes-syntaxes.ensures.list
     (other_error forms c.args.text.now c.in-Some.first c.in-Some.stop.size a.0 c.loop-form.form g c.in-Err-refuse.other at c.in-Err-refuse.ensures
-    (subst (IsValidUpTo (notation_of g) c.args.text.now) c.if-reached-stop.true c.stop-reached.ensures.valid) (sym c.if-not-is_byte-2.ensures)
+    (subst (IsValidUpTo (notation_of g) c.args.text.now) c.if-reached-stop.true c.walk-reached.ensures.valid) (sym c.if-not-is_byte-2.ensures)
     c.loop-form.invariant)
 
 pub loop-form-preserved : goal.loop-form-preserved
@@ -76,9 +76,9 @@ loop-form-preserved c =
     (elim c.if-reached-stop.branch [
       | then-reached-stop+in-Err-refuse+else-not-is_byte-2 w ↦
           at_byte forms text c.in-Some.first c.in-Some.stop.size a.0 g w.in-Err-refuse.other.refusal w.in-Err-refuse.ensures
-          (subst (IsValidUpTo (notation_of g) text) w.if-reached-stop.true c.stop-reached.ensures.valid) (sym w.if-not-is_byte-2.ensures)
-      | else-reached-stop w ↦ elsewhere forms text c.in-Some.first c.in-Some.stop.size a.0 c.loop-form.form g c.stop-reached.result.size at
-          c.stop-reached.ensures.valid w.if-reached-stop.false
+          (subst (IsValidUpTo (notation_of g) text) w.if-reached-stop.true c.walk-reached.ensures.valid) (sym w.if-not-is_byte-2.ensures)
+      | else-reached-stop w ↦ elsewhere forms text c.in-Some.first c.in-Some.stop.size a.0 c.loop-form.form g c.walk-reached.result.size at
+          c.walk-reached.ensures.valid w.if-reached-stop.false
     ]))
 
 pub returns : goal.returns
