@@ -14,10 +14,10 @@ use Rattle.lexical_literal.specs.Cause.{Allows, IsCaseFlag, IsCause, IsRefusal, 
 use Rattle.lexical_literal.specs.Cause.{bare, binds, case_set, error_of, first_unmet, is_at, is_one_of, is_same, lowest, marks_of, number_separator_flags}
 use Rattle.lexical_literal.specs.Cause.{requirement_flags, requiring, span_of, tail_of, with_rules}
 use Rattle.lexical_literal.specs.Front.{IsValidUpTo}
-use Rattle.lexical_literal.specs.Additions.Causes.{IsReadOf, IsWeaker, class_of_next, is_at_gap, lets, place_of}
+use Rattle.lexical_literal.specs.Additions.Causes.{IsReadOf, IsWeaker, is_at_gap, lets, place_of}
 use Rattle.lexical_literal.specs.Additions.Explained.{alone, blame, cases, conditions_of, mask_of, otherwise, refusal_of, requirements, separators}
 use Rattle.lexical_literal.specs.Additions.Explained.{some_unmet, unmet, zeros}
-use Rattle.lexical_literal.specs.Additions.Summary.{byte_class, in_part, no_condition}
+use Rattle.lexical_literal.specs.Additions.Summary.{no_condition, role_at}
 use Rattle.lexical_literal.specs.declared.cause.Blame.{Blame}
 use Rattle.lexical_literal.specs.declared.cause.Marks.{Marks}
 use Rattle.lexical_literal.specs.declared.cause.ReadErrorKind.{ReadErrorKind}
@@ -121,10 +121,10 @@ module _ (m : Notation) (s : Summary) (front : List ℕ) (read : IsReadOf m s fr
 
   module _ (allowed : lets (bare m) s next ≡ true) (refused : lets m s next ≡ false) where
     -- Where no condition is to blame, the flags refuse.
-    flags_refuse : ((c : Condition) → unmet m s next c ≡ false) → free_allows m s (class_of_next m next) ≡ false
-    flags_refuse none = flags _ _ (sym (split m s (class_of_next m next)) ∙ refused) (each_passes m.condition s (class_of_next m next) (λ c set.
+    flags_refuse : ((c : Condition) → unmet m s next c ≡ false) → free_allows m m s next ≡ false
+    flags_refuse none = flags _ _ (sym (split m m.flag m.condition s next) ∙ refused) (each_passes m m.condition s next (λ c set.
         passes (m.condition c) (lets (bare m) s next) (lets (requiring c (bare m)) s next) _ _ set allowed (none c)
-        (split (requiring c (bare m)) s (class_of_next m next)))) where
+        (split m (bare m).flag (requiring c (bare m)).condition s next))) where
           flags : (f p : Bool) → (f && p) ≡ false → p ≡ true → f ≡ false
           flags f p none pass = grind arith
 
@@ -139,13 +139,13 @@ module _ (m : Notation) (s : Summary) (front : List ℕ) (read : IsReadOf m s fr
         let both = and_parts (mask_of (alone m s next) == 0) _ none in
         let no = none_of (alone m s next) both.0 in
         let no_unmet = none_unmet (none_there _ both.1) in
-        let free_bare = sym (free_is m (bare m).flag s (class_of_next m next)) ∙ allowed in
-        let free : Alone m (λ n. free_allows n s (class_of_next m next)) = record {
+        let free_bare = sym (free_is m (bare m).flag s next) ∙ allowed in
+        let free : Alone m (λ n. free_allows m n s next) = record {
           free = free_bare;
-          each = λ f is. sym (free_is m (adding f (bare m)).flag s (class_of_next m next)) ∙ met (binds m f) _ (no f) is;
+          each = λ f is. sym (free_is m (adding f (bare m)).flag s next) ∙ met (binds m f) _ (no f) is;
         } in
         let shut = flags_refuse no_unmet in
-        let float = joint m s (class_of_next m next) (going m s (class_of_next m next) free_bare shut) free shut in
+        let float = joint m s next (going m s next free_bare shut) free shut in
         let none_alone = λ (g : Flag) (refuses : RefusesAlone m front next g). false≢true (sym (no g) ∙ (alone_refuses g).1 refuses) in
         as_flags (IsRequirement m front next) (zeros m) (record {
           refused = not_allowed;
@@ -205,10 +205,10 @@ module _ (m : Notation) (s : Summary) (front : List ℕ) (read : IsReadOf m s fr
     not_allowed = (refuses m s front read (Some byte) (bare m).flag no_condition (bare_weaker m)).0 (ap not none)
 
     at_place : (f : Flag) → is_one_of number_separator_flags f ≡ true → lets (adding f (bare m)) s (Some byte) ≡ true
-        → (is_at_gap m s (Some byte) ≡ true) × (is_at (place_of m s (in_part s.part (byte_class m byte))) s.part f ≡ true)
+        → (is_at_gap m s (Some byte) ≡ true) × (is_at (place_of m s (role_at m s.part byte)) s.part f ≡ true)
     at_place f separates allowed = and_parts (is_at_gap m s (Some byte)) _
-        (at_next m f s (byte_class m byte) separates (sym (free_is m (bare m).flag s (Some (byte_class m byte))) ∙ none)
-        (sym (free_is m (adding f (bare m)).flag s (Some (byte_class m byte))) ∙ allowed))
+        (at_next m f s byte separates (sym (free_is m (bare m).flag s (Some byte)) ∙ none)
+        (sym (free_is m (adding f (bare m)).flag s (Some byte)) ∙ allowed))
 
     found : (f : Flag) → separators m s (Some byte) f ≡ true
         → (is_one_of number_separator_flags f ≡ true) × (lets (adding f (bare m)) s (Some byte) ≡ true)
@@ -222,7 +222,7 @@ module _ (m : Notation) (s : Summary) (front : List ℕ) (read : IsReadOf m s fr
           and_from _ _ (at_place f is.0 allowed).0 (and_from _ _ is.0 allowed),
     )
 
-    at : (f : Flag) → separators m s (Some byte) f ≡ true → is_at (place_of m s (in_part s.part (byte_class m byte))) s.part f ≡ true
+    at : (f : Flag) → separators m s (Some byte) f ≡ true → is_at (place_of m s (role_at m s.part byte)) s.part f ≡ true
     at f is = let both = found f is in (at_place f both.0 both.1).1
 
     is_case : (f : Flag) → IsTrue (cases m s byte f) ↔ IsCaseFlag m front byte f
@@ -246,7 +246,7 @@ module _ (m : Notation) (s : Summary) (front : List ℕ) (read : IsReadOf m s fr
         })
         (λ some. as_flags (IsCause m front (Some byte) causes.Case) (cases m s byte)
         (record { refused = not_allowed; no_separator = no_flag _ permits zero; some = some_of _ some; each = is_case })))
-        (λ some. as_flags (IsCause m front (Some byte) (causes.Separator s.part (place_of m s (in_part s.part (byte_class m byte)))))
+        (λ some. as_flags (IsCause m front (Some byte) (causes.Separator s.part (place_of m s (role_at m s.part byte))))
         (separators m s (Some byte)) (record { refused = not_allowed; some = some_of _ some; each = permits; at = at }))
 
   is_otherwise : (next : Option ℕ) → lets (bare m) s next ≡ false → IsCause m front next (otherwise m s next).kind (raw (otherwise m s next).mask).flag

@@ -11,8 +11,8 @@ use Rattle.lexical_literal.specs.Additions.Plain.{HasRoles}
 use Rattle.lexical_literal.specs.Notation.{Notation}
 use Rattle.lexical_literal.specs.Literal.{Literal, IsLiteral, IsSpelled, Reads, condition, is_absent, is_none_or_one, is_none_or_prefix, is_plus, is_present}
 use Rattle.lexical_literal.specs.Literal.{text_of}
-use Rattle.lexical_literal.specs.Additions.Summary.{Cuts, HasLengths, add, admits, after, count, finishes, is_fresh, is_negative}
-use Rattle.lexical_literal.specs.Additions.Summary.{lacks_prefix, no_condition, no_cuts, piece_number, piece_of, start, step_by, byte_class, takes, tally_by}
+use Rattle.lexical_literal.specs.Additions.Summary.{Cuts, HasLengths, add, admits, after, count, finishes, is_fresh, is_negative, role_at}
+use Rattle.lexical_literal.specs.Additions.Summary.{lacks_prefix, no_condition, no_cuts, piece_number, piece_of, start, step_by, takes, tally_by}
 use Rattle.lexical_literal.specs.declared.steps.Piece.{Piece}
 use Rattle.lexical_literal.specs.declared.steps.Piece.TheVariants as pieces
 use Rattle.lexical_literal.specs.declared.steps.Stage.{Stage}
@@ -21,7 +21,7 @@ use Rattle.lexical_literal.specs.declared.steps.Summary.{Summary}
 use Rattle.lexical_literal.specs.declared.syntax.Condition.{Condition}
 use Rattle.lexical_literal.specs.declared.syntax.Condition.TheVariants as conditions
 use Rattle.lexical_literal.proofs.LiteralLemmas.{all_cuts, is_tail, spelled_arrives, spelled_from}
-use Rattle.lexical_literal.proofs.ScanLemmas.{Accepts, Arrives, Took, add_all, arrives_byte, digit_role, is_role, moved, none_accepts, role_in, took}
+use Rattle.lexical_literal.proofs.ScanLemmas.{Accepts, Arrives, Took, add_all, arrives_byte, digit_role, is_role, moved, none_accepts, took}
 use Rattle.lexical_literal.proofs.StepLemmas.{begins, reading}
 
 -- LENGTHS
@@ -72,9 +72,9 @@ module _ (m : Notation) (h : HasRoles m) where
   stays : (o : Option Summary) (c : Cuts) (text : List ℕ) (q : Piece) → nat_lt 0 (c q) ≡ true → nat_lt 0 (tally_by O m o c text q) ≡ true
   stays o c [] q some = some
   stays None c (b ∷ text) q some = some
-  stays (Some s) c (b ∷ text) q some = go (role_in m s.part b) (λ c. stays (step_by O m s (byte_class m b)) c text q) where
-    go : (r : Option Role) → ((c : Cuts) → nat_lt 0 (c q) ≡ true → nat_lt 0 (tally_by O m (step_by O m s (byte_class m b)) c text q) ≡ true)
-        → nat_lt 0 (tally_by O m (step_by O m s (byte_class m b)) (count s.part r c) text q) ≡ true
+  stays (Some s) c (b ∷ text) q some = go (role_at m s.part b) (λ c. stays (step_by O m s b) c text q) where
+    go : (r : Option Role) → ((c : Cuts) → nat_lt 0 (c q) ≡ true → nat_lt 0 (tally_by O m (step_by O m s b) c text q) ≡ true)
+        → nat_lt 0 (tally_by O m (step_by O m s b) (count s.part r c) text q) ≡ true
     go None more = more c some
     go (Some r) more = more (add c (piece_of s.part r)) (still c (piece_of s.part r) q some)
 
@@ -96,8 +96,8 @@ module _ (m : Notation) (h : HasRoles m) where
   counted : {P : Option Summary → Type 0} (s : Summary) (b : ℕ) (c : Cuts) (text : List ℕ) (t : Took C m s b P)
       → tally_by O m (Some s) c (b ∷ text) ≡ tally_by O m (Some (after s (b == 48) t.role)) (add c (piece_of s.part t.role)) text
   counted s b c text t = λ j. tally_by O m (is j) (count s.part (t.plays j) c) text where
-    is : step_by O m s (byte_class m b) ≡ Some (after s (b == 48) t.role)
-    is = moved O m h s b (Some t.role) t.plays ∙ (λ j. if not (t.going j) && (t.taken j && true) then Some (after s (b == 48) t.role) else None)
+    is : step_by O m s b ≡ Some (after s (b == 48) t.role)
+    is = moved O m s b t.role t.plays t.going t.taken refl
 
   -- `Meets d` holds if the lengths `d` are as the conditions on the prefix and the suffix require.
   abbrev Meets : Cuts → Type 0
@@ -110,7 +110,7 @@ module _ (m : Notation) (h : HasRoles m) where
         λ set. let here = shows.suffix in grind arith,
       )
   meets s c (b ∷ text) shows is =
-      let t = took C m h s b (λ o. Accepts C m o text) (none_accepts C m text) is in
+      let t = took C m s b (λ o. Accepts C m o text) (none_accepts C m text) is in
       subst Meets (sym (counted s b c text t))
       (meets (after s (b == 48) t.role) (add c (piece_of s.part t.role)) text (shows_after s c (b == 43) (b == 48) t.role t.going t.admitted shows) t.rest)
 
@@ -118,8 +118,8 @@ module _ (m : Notation) (h : HasRoles m) where
       → (is_absent sign || is_plus sign) ≡ true
   positive [] rest one set is = refl
   positive (b ∷ []) rest one set is =
-      let t = took C m h start b (λ o. Accepts C m o rest) (none_accepts C m rest) is in
-      let same : t.role ≡ roles.Sign = let a = t.plays in let b = is_role m h parts.Integer roles.Sign b (λ e. cc) one in cc in
+      let t = took C m start b (λ o. Accepts C m o rest) (none_accepts C m rest) is in
+      let same : t.role ≡ roles.Sign = let a = t.plays in let b = is_role m parts.Integer b h roles.Sign (λ e. cc) one in cc in
       let admitted = subst (λ r. admits C start (b == 43) (b == 48) r ≡ true) same t.admitted in grind arith
   positive (b ∷ x ∷ sign) rest one set is = absurd (false≢true one)
 
@@ -158,8 +158,8 @@ module _ (m : Notation) (h : HasRoles m) where
   calm_after s zero r calm = record { prefix = let a = calm.prefix in grind arith; sign = let b = calm.sign in grind arith }
 
   peel : (s : Summary) (b : ℕ) (c : Cuts) (text : List ℕ) (d : Cuts) → Arrives O m (Some s) c (b ∷ text) d
-      → Took O m s b (λ o. Arrives O m o (count s.part (role_in m s.part b) c) text d)
-  peel s b c text d is = took O m h s b (λ o. Arrives O m o (count s.part (role_in m s.part b) c) text d) (λ none. none_accepts O m text none.0) is
+      → Took O m s b (λ o. Arrives O m o (count s.part (role_at m s.part b) c) text d)
+  peel s b c text d is = took O m s b (λ o. Arrives O m o (count s.part (role_at m s.part b) c) text d) (λ none. none_accepts O m text none.0) is
 
   module _ (d : Cuts) (has_suffix : C conditions.BaseSuffix ≡ true → nat_lt 0 (d pieces.Suffix) ≡ true) where
     finished : (s : Summary) (c : Cuts) → (C conditions.BasePrefix && lacks_prefix s.stage) ≡ false → nat_lt 0 (c pieces.Suffix) ≡ s.ended
@@ -179,12 +179,12 @@ module _ (m : Notation) (h : HasRoles m) where
     lift s c (b ∷ text) calm suffix is =
         let t = peel s b c text d is in
         let more = subst (λ o. Arrives O m (Some (after s (b == 48) t.role)) (count s.part o c) text d) t.plays t.rest in
-        arrives_byte C m h s b t.role c text d t.going t.plays t.taken (calm_admits s (b == 43) (b == 48) t.role calm t.taken)
+        arrives_byte C m s b t.role c text d t.going t.plays t.taken (calm_admits s (b == 43) (b == 48) t.role calm t.taken)
         (lift (after s (b == 48) t.role) (add c (piece_of s.part t.role)) text (calm_after s (b == 48) t.role calm)
         (shown s c (b == 48) t.role t.going suffix) more)
 
     -- One byte whose role is known, and what follows it.
-    one_byte : (s : Summary) (b : ℕ) (r : Role) (c : Cuts) (text : List ℕ) → role_in m s.part b ≡ Some r → admits C s (b == 43) (b == 48) r ≡ true
+    one_byte : (s : Summary) (b : ℕ) (r : Role) (c : Cuts) (text : List ℕ) → role_at m s.part b ≡ Some r → admits C s (b == 43) (b == 48) r ≡ true
         → (Arrives O m (Some (after s (b == 48) r)) (add c (piece_of s.part r)) text d
         → Arrives C m (Some (after s (b == 48) r)) (add c (piece_of s.part r)) text d)
         → Arrives O m (Some s) c (b ∷ text) d → Arrives C m (Some s) c (b ∷ text) d
@@ -193,7 +193,7 @@ module _ (m : Notation) (h : HasRoles m) where
         let same : t.role ≡ r = let a = t.plays in cc in
         let rest = subst (λ r. Arrives O m (Some (after s (b == 48) r)) (add c (piece_of s.part r)) text d) same
         (subst (λ o. Arrives O m (Some (after s (b == 48) t.role)) (count s.part o c) text d) t.plays t.rest) in
-        arrives_byte C m h s b r c text d t.going role (subst (λ r. takes m s (b == 43) r ≡ true) same t.taken) admitted (more rest)
+        arrives_byte C m s b r c text d t.going role (subst (λ r. takes m s (b == 43) r ≡ true) same t.taken) admitted (more rest)
 
     -- The first byte behind the sign, which is none, where no prefix is required.
     first_byte : (stage : Stage) (c : Cuts) (text : List ℕ) → C conditions.BasePrefix ≡ false → begins stage ≡ true → nat_lt 0 (c pieces.Suffix) ≡ false
@@ -209,7 +209,7 @@ module _ (m : Notation) (h : HasRoles m) where
         let counted = subst (λ r. Arrives O m (Some (after s (b == 48) r)) (add c (piece_of parts.Integer r)) text d) sign more in
         false≢true (sym (unsigned fresh) ∙ ap (λ (c : Cuts). nat_lt 0 (c pieces.Sign)) (sym counted.1)
         ∙ stays (Some (after s (b == 48) roles.Sign)) (add c pieces.Sign) text pieces.Sign (grind (arith, nat_tests))) in
-        arrives_byte C m h s b t.role c text d t.going t.plays t.taken (admitted t.role other)
+        arrives_byte C m s b t.role c text d t.going t.plays t.taken (admitted t.role other)
         (lift (after s (b == 48) t.role) (add c (piece_of parts.Integer t.role)) text (calm t.role other t.taken)
         (shown s c (b == 48) t.role refl suffix) more) where
           admitted : (r : Role) → (r ≡ roles.Sign → ⊥) → admits C (reading parts.Integer stage false) (b == 43) (b == 48) r ≡ true
@@ -233,10 +233,10 @@ module _ (m : Notation) (h : HasRoles m) where
           let s = reading parts.Integer stage false in
           let bare : after s true roles.Digit ≡ reading parts.Integer stages.Bare false = grind arith in
           subst (λ z. Arrives C m (Some s) c (z ∷ b ∷ rest) d) (sym zero)
-          (one_byte s 48 roles.Digit c (b ∷ rest) (digit_role m h parts.Integer 48 (h.zero_is_digit parts.Integer)) (grind arith)
+          (one_byte s 48 roles.Digit c (b ∷ rest) (digit_role m parts.Integer 48 (h.zero_is_digit parts.Integer)) (grind arith)
           (λ more. subst (λ s. Arrives C m (Some s) (add c pieces.Integer) (b ∷ rest) d) (sym bare)
           (one_byte (reading parts.Integer stages.Bare false) b roles.Prefix (add c pieces.Integer) rest
-          (is_role m h parts.Integer roles.Prefix b (λ e. cc) both.1) (grind arith)
+          (is_role m parts.Integer b h roles.Prefix (λ e. cc) both.1) (grind arith)
           (λ more. lift (reading parts.Integer stages.Free false) (add (add c pieces.Integer) pieces.Prefix) rest
           (record { prefix = grind arith; sign = grind arith }) (grind (arith, nat_tests)) more)
           (subst (λ s. Arrives O m (Some s) (add c pieces.Integer) (b ∷ rest) d) bare more)))
@@ -256,7 +256,7 @@ module _ (m : Notation) (h : HasRoles m) where
           → Arrives O m (Some start) no_cuts (sign ++ (prefix ++ rest)) d → Arrives C m (Some start) no_cuts (sign ++ (prefix ++ rest)) d
       signed [] one plus count is = begun stages.Start no_cuts refl refl (λ fresh. count) is
       signed (b ∷ []) one plus count is =
-          one_byte start b roles.Sign no_cuts (prefix ++ rest) (is_role m h parts.Integer roles.Sign b (λ e. cc) one) (let need = plus in grind arith)
+          one_byte start b roles.Sign no_cuts (prefix ++ rest) (is_role m parts.Integer b h roles.Sign (λ e. cc) one) (let need = plus in grind arith)
           (begun stages.Empty (add no_cuts pieces.Sign) refl refl (λ fresh. absurd (false≢true fresh))) is
       signed (b ∷ x ∷ sign) one plus count is = absurd (false≢true one)
 

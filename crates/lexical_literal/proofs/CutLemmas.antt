@@ -11,13 +11,13 @@ use Rattle.lexical_literal.specs.Additions.Plain.{HasRoles}
 use Rattle.lexical_literal.specs.Notation.{Notation}
 use Rattle.lexical_literal.specs.Literal.{Literal, is_none_or_one}
 use Rattle.lexical_literal.specs.Additions.Summary.{implies, has_digit, is_fresh, is_bare, after_digit, after_mark, after_point, is_open, may_follow}
-use Rattle.lexical_literal.specs.Additions.Summary.{is_signed, forbids_plus, gap_fits, digits_suffice, ends, continues, may_float, takes, after}
+use Rattle.lexical_literal.specs.Additions.Summary.{is_signed, forbids_plus, gap_fits, digits_suffice, ends, continues, may_float, takes, after, role_at}
 use Rattle.lexical_literal.specs.declared.steps.Stage.{Stage}
 use Rattle.lexical_literal.specs.declared.steps.Stage.TheVariants as stages
 use Rattle.lexical_literal.specs.declared.steps.Summary.{Summary}
 use Rattle.lexical_literal.specs.declared.syntax.Condition.{Condition}
 use Rattle.lexical_literal.proofs.RunLemmas.{is_rest}
-use Rattle.lexical_literal.proofs.ScanLemmas.{Accepts, took, none_accepts, role_in, as_digit, no_digit, as_role}
+use Rattle.lexical_literal.proofs.ScanLemmas.{Accepts, took, none_accepts, as_digit, no_digit, as_role}
 use Rattle.lexical_literal.proofs.StepLemmas.{reading, begins, stage_after, after_byte, stage_at, gap_at, sign_fits, prefix_fits, ends_part, text_after}
 
 -- A sign, a prefix, digits, and the parts of `more` behind the digits of `part`.
@@ -140,28 +140,28 @@ module _ (m : Notation) where
     -- Nothing follows the suffix.
     ended : (s : Summary) (text : List ℕ) → s.ended ≡ true → Accepts C m (Some s) text → text ≡ []
     ended s [] over is = refl
-    ended s (b ∷ text) over is = absurd (false≢true (sym (took C m h s b (λ o. Accepts C m o text) (none_accepts C m text) is).going ∙ over))
+    ended s (b ∷ text) over is = absurd (false≢true (sym (took C m s b (λ o. Accepts C m o text) (none_accepts C m text) is).going ∙ over))
 
     -- What is accepted can be cut into parts.
     pub cut_of : (part : Part) (stage : Stage) (gap : Bool) (text : List ℕ) → Accepts C m (Some (reading part stage gap)) text → Cut m part stage gap text
     cut_of part stage gap [] is = stopped part stage gap [] (and_parts (ends m (reading part stage gap) && continues m part stage roles.Suffix) _ is).0 refl
     cut_of part stage gap (b ∷ text) is =
-        let t = took C m h (reading part stage gap) b (λ o. Accepts C m o text) (none_accepts C m text) is in
+        let t = took C m (reading part stage gap) b (λ o. Accepts C m o text) (none_accepts C m text) is in
         go t.role t.plays t.taken t.rest (λ part stage gap. cut_of part stage gap text) where
-          go : (r : Role) → role_in m part b ≡ Some r → takes m (reading part stage gap) (b == 43) r ≡ true
+          go : (r : Role) → role_at m part b ≡ Some r → takes m (reading part stage gap) (b == 43) r ≡ true
               → Accepts C m (Some (after (reading part stage gap) (b == 48) r)) text
               → ((part : Part) (stage : Stage) (gap : Bool) → Accepts C m (Some (reading part stage gap)) text → Cut m part stage gap text)
               → Cut m part stage gap (b ∷ text)
           go roles.Digit role taken is cut =
-              digit_first part stage gap b text (as_digit m h part b role) (grind arith) (grind arith) (cut part (after_digit stage gap (b == 48)) false is)
+              digit_first part stage gap b text (as_digit m part b role) (grind arith) (grind arith) (cut part (after_digit stage gap (b == 48)) false is)
           go roles.Separator role taken is cut =
-              separator_first part stage gap b text (no_digit m h part b role) (as_role m h part _ b role) (grind arith) (grind arith)
+              separator_first part stage gap b text (no_digit m part b role) (as_role m part b _ role) (grind arith) (grind arith)
               (cut part (after_mark stage) true is)
-          go roles.Sign role taken is cut = sign_first part stage gap b text (as_role m h part _ b role) taken (cut part (after_mark stage) gap is)
-          go roles.Prefix role taken is cut = prefix_first part stage gap b text (as_role m h part _ b role) taken (cut part stages.Free false is)
+          go roles.Sign role taken is cut = sign_first part stage gap b text (as_role m part b _ role) taken (cut part (after_mark stage) gap is)
+          go roles.Prefix role taken is cut = prefix_first part stage gap b text (as_role m part b _ role) taken (cut part stages.Free false is)
           go roles.Point role taken is cut =
-              point_first part stage gap b text (as_role m h part _ b role) taken (cut parts.Fraction (after_point (has_digit stage)) false is)
+              point_first part stage gap b text (as_role m part b _ role) taken (cut parts.Fraction (after_point (has_digit stage)) false is)
           go roles.Exponent role taken is cut =
-              exponent_first part stage gap b text (as_role m h part _ b role) taken (cut parts.Exponent stages.Mark false is)
+              exponent_first part stage gap b text (as_role m part b _ role) taken (cut parts.Exponent stages.Mark false is)
           go roles.Suffix role taken is cut = stopped part stage gap (b ∷ text) taken
-              (subst (λ t. is_none_or_one m.suffix (b ∷ t) ≡ true) (sym (ended _ text refl is)) (as_role m h part _ b role))
+              (subst (λ t. is_none_or_one m.suffix (b ∷ t) ≡ true) (sym (ended _ text refl is)) (as_role m part b _ role))

@@ -7,19 +7,19 @@ use Rattle.lexical_util.specs.declared.feature_format.roles.Role.{Role}
 use Rattle.lexical_util.specs.declared.feature_format.roles.Role.TheVariants as roles
 use Rattle.lexical_util.specs.declared.format_flags.Part.{Part}
 use Rattle.lexical_util.specs.declared.format_flags.Part.TheVariants as parts
-use Rattle.lexical_literal.specs.Additions.Plain.{HasRoles}
+use Rattle.lexical_literal.specs.Additions.Plain.{IsReady, HasRoles}
 use Rattle.lexical_literal.specs.Notation.{Notation}
 use Rattle.lexical_literal.specs.Front.{IsFront}
 use Rattle.lexical_literal.specs.Additions.Summary.{admits, continues, implies, has_digit, is_fresh, is_led, after_digit, after_mark, after_point, may_lead}
 use Rattle.lexical_literal.specs.Additions.Summary.{is_negative, lacks_prefix, needs_exponent, may_follow, gap_fits, ends, is_open, is_signed, takes, after}
-use Rattle.lexical_literal.specs.Additions.Summary.{scan, is_accepted, start, no_cuts}
+use Rattle.lexical_literal.specs.Additions.Summary.{scan, is_accepted, start, no_cuts, role_at}
 use Rattle.lexical_literal.specs.declared.steps.Stage.{Stage}
 use Rattle.lexical_literal.specs.declared.steps.Stage.TheVariants as stages
 use Rattle.lexical_literal.specs.declared.steps.Summary.{Summary}
 use Rattle.lexical_literal.specs.declared.syntax.Condition.{Condition}
 use Rattle.lexical_literal.specs.declared.syntax.Condition.TheVariants as conditions
 use Rattle.lexical_literal.proofs.ConditionLemmas.{literal_from, literal_arrives}
-use Rattle.lexical_literal.proofs.ScanLemmas.{IsReady, Accepts, role_in, scan_none, scan_append, took, arrives_byte, digit_role, is_role}
+use Rattle.lexical_literal.proofs.ScanLemmas.{Accepts, scan_none, scan_append, took, arrives_byte, digit_role, is_role}
 use Rattle.lexical_literal.proofs.StepLemmas.{begins, reading}
 
 -- `is_integer part` is true if `part` is the integer.
@@ -51,7 +51,7 @@ module _ (m : Notation) where
   all_go_on : HasRoles m → (s : Summary) (text : List ℕ) (last : Summary) → CanGoOn m s → scan m (Some s) text ≡ Some last → CanGoOn m last
   all_go_on h s [] last can is = let same : s ≡ last = cc in subst (CanGoOn m) same can
   all_go_on h s (b ∷ text) last can is =
-      let t = took C m h s b (λ o. scan m o text ≡ Some last) (λ is. let none = sym (scan_none C m text) ∙ is in cc) is in
+      let t = took C m s b (λ o. scan m o text ≡ Some last) (λ is. let none = sym (scan_none C m text) ∙ is in cc) is in
       all_go_on h (after s (b == 48) t.role) text last (goes_on s (b == 43) (b == 48) t.role can t.taken t.admitted) t.rest
 
   -- WAYS TO GO ON
@@ -60,10 +60,10 @@ module _ (m : Notation) where
   Completed s = (more : List ℕ) × Accepts C m (Some s) more
 
   module _ (ready : IsReady m) where
-    then_byte : (s : Summary) (b : ℕ) (r : Role) → s.ended ≡ false → role_in m s.part b ≡ Some r → takes m s (b == 43) r ≡ true
+    then_byte : (s : Summary) (b : ℕ) (r : Role) → s.ended ≡ false → role_at m s.part b ≡ Some r → takes m s (b == 43) r ≡ true
         → admits C s (b == 43) (b == 48) r ≡ true → Completed (after s (b == 48) r) → Completed s
     then_byte s b r going role is admitted more =
-        (b ∷ more.0, (arrives_byte C m ready.roles s b r no_cuts more.0 _ going role is admitted (more.1, refl)).0)
+        (b ∷ more.0, (arrives_byte C m s b r no_cuts more.0 _ going role is admitted (more.1, refl)).0)
 
     -- `is_settled stage` is true if no prefix is missing.
     abbrev is_settled : Stage → Bool
@@ -74,7 +74,7 @@ module _ (m : Notation) where
         → (ends m (reading part stage gap) && continues m part stage roles.Suffix) ≡ true → Completed (reading part stage gap)
     stopped part stage gap settled may = elim (cases_Bool (C conditions.BaseSuffix)) [
       | inl needs ↦ then_byte (reading part stage gap) ready.suffix roles.Suffix refl
-          (is_role m ready.roles part roles.Suffix ready.suffix (λ e. cc) (ready.has_suffix needs)) may (grind arith) ([], grind arith)
+          (is_role m part ready.suffix ready.roles roles.Suffix (λ e. cc) (ready.has_suffix needs)) may (grind arith) ([], grind arith)
       | inr none ↦ ([], and_from _ _ may (grind arith))
     ]
 
@@ -89,7 +89,7 @@ module _ (m : Notation) where
     digit_completed part stage gap settled signed can finishes = elim (closed part (has_digit stage) gap (may_follow m stage) can.closes) [
       | inl here ↦ finishes stage gap settled here.0 (and_from _ _ signed (and_from _ _ here.1 (let digit = here.0 in grind arith))) can.led
       | inr more ↦
-          then_byte (reading part stage gap) 48 roles.Digit refl (digit_role m ready.roles part 48 (ready.roles.zero_is_digit part))
+          then_byte (reading part stage gap) 48 roles.Digit refl (digit_role m part 48 (ready.roles.zero_is_digit part))
           (and_from _ _ signed (and_from _ _ more.0 (let digit = more.1 in grind arith))) (grind arith)
           (finishes (after_digit stage gap true) false (grind arith) (grind arith) (grind arith) (let led = can.led in grind arith))
     ]
@@ -101,10 +101,10 @@ module _ (m : Notation) where
         elim (cases_Bool (C conditions.NegativeSign && is_negative part false roles.Sign)) [
           | inl forbidden ↦ elim (cases_Bool (is_signed m part stage)) [
             | inl signed ↦ unsigned signed
-            | inr needs ↦ then_byte (reading part stage gap) 43 roles.Sign refl (is_role m ready.roles part roles.Sign 43 (λ e. cc) refl)
+            | inr needs ↦ then_byte (reading part stage gap) 43 roles.Sign refl (is_role m part 43 ready.roles roles.Sign (λ e. cc) refl)
                 (plus part forbidden needs) (grind arith) behind
           ]
-          | inr may ↦ then_byte (reading part stage gap) 45 roles.Sign refl (is_role m ready.roles part roles.Sign 45 (λ e. cc) refl)
+          | inr may ↦ then_byte (reading part stage gap) 45 roles.Sign refl (is_role m part 45 ready.roles roles.Sign (λ e. cc) refl)
               (grind arith) (grind arith) behind
         ] where
           plus : (part : Part) → (C conditions.NegativeSign && is_negative part false roles.Sign) ≡ true → is_signed m part stage ≡ false
@@ -130,7 +130,7 @@ module _ (m : Notation) where
       | inl needs ↦
           let agree = ready.agree in
           then_byte (reading parts.Fraction stage gap) ready.exponent roles.Exponent refl
-          (is_role m ready.roles parts.Fraction roles.Exponent ready.exponent (λ e. cc) (ready.has_exponent (grind arith))) (and_from _ _ end (grind arith))
+          (is_role m parts.Fraction ready.exponent ready.roles roles.Exponent (λ e. cc) (ready.has_exponent (grind arith))) (and_from _ _ end (grind arith))
           (grind arith)
           (part_completed parts.Exponent stages.Mark false (grind arith)
           (record { closes = refl; led = refl; prefixed = grind arith; inside = refl }) exponent_finishes)
@@ -142,7 +142,7 @@ module _ (m : Notation) where
       | inl no_point ↦ stopped parts.Integer stage gap settled (and_from _ _ end (grind arith))
       | inr point ↦
           then_byte (reading parts.Integer stage gap) ready.point roles.Point refl
-          (is_role m ready.roles parts.Integer roles.Point ready.point (λ e. cc) (ready.has_point (grind arith))) (and_from _ _ end (grind arith))
+          (is_role m parts.Integer ready.point ready.roles roles.Point (λ e. cc) (ready.has_point (grind arith))) (and_from _ _ end (grind arith))
           (grind arith)
           (part_completed parts.Fraction (after_point (has_digit stage)) false (grind arith)
           (record { closes = refl; led = grind arith; prefixed = grind arith; inside = grind arith })
@@ -153,14 +153,14 @@ module _ (m : Notation) where
     bare_completed : C conditions.BasePrefix ≡ true → Completed (reading parts.Integer stages.Bare false)
     bare_completed set =
         then_byte (reading parts.Integer stages.Bare false) ready.prefix roles.Prefix refl
-        (is_role m ready.roles parts.Integer roles.Prefix ready.prefix (λ e. cc) (ready.has_prefix set)) refl (grind arith)
+        (is_role m parts.Integer ready.prefix ready.roles roles.Prefix (λ e. cc) (ready.has_prefix set)) refl (grind arith)
         (digit_completed parts.Integer stages.Free false (grind arith) refl
         (record { closes = refl; led = refl; prefixed = grind arith; inside = refl }) integer_finishes)
 
     zero_completed : C conditions.BasePrefix ≡ true → (stage : Stage) → begins stage ≡ true → is_signed m parts.Integer stage ≡ true
         → Completed (reading parts.Integer stage false)
     zero_completed set stage begin signed =
-        then_byte (reading parts.Integer stage false) 48 roles.Digit refl (digit_role m ready.roles parts.Integer 48 (ready.roles.zero_is_digit parts.Integer))
+        then_byte (reading parts.Integer stage false) 48 roles.Digit refl (digit_role m parts.Integer 48 (ready.roles.zero_is_digit parts.Integer))
         (grind arith) (grind arith)
         (subst Completed (let is : reading parts.Integer stages.Bare false ≡ after (reading parts.Integer stage false) true roles.Digit
         = grind arith in is) (bare_completed set))

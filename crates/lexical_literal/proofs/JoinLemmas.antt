@@ -51,7 +51,7 @@ module _ (m : Notation) (text : List ℕ) where
   at_more at next p c counts on is same = subst (IsAt m text next) same (on.reads c is)
 
   begun : IsAt m text (place parts.Integer 0 stages.Start) no_cuts
-  begun = record { within = omega arith; read = refl; counted = refl }
+  begun = record { begun = record { within = omega arith; read = refl }; counted = refl }
 
   -- The sign of the mantissa.
   pub sign_at : (sign : ℕ) → IsSign m text parts.Integer 0 sign → IsAt m text (place parts.Integer sign (behind_sign parts.Integer sign))
@@ -165,7 +165,7 @@ module _ (m : Notation) (text : List ℕ) where
         subst (IsAt m text (place parts.Fraction (size + 1) (after_point (has_digit stage))))
         (count_one (counts_of s 0 0 0 0) refl pieces.Point ∙ ap (λ n. cuts_of (counts_of (record s { point = n + 1 }) 0 0 0 0)) none)
         (one_read m text (place parts.Integer size stage) (place parts.Fraction (size + 1) (after_point (has_digit stage))) pieces.Point
-        (read_one m text h (place parts.Integer size stage) roles.Point inside (is_role m h parts.Integer roles.Point b (λ same. cc) point) refl taken
+        (read_one m text h (place parts.Integer size stage) roles.Point inside (is_role m parts.Integer b h roles.Point (λ same. cc) point) refl taken
         (admits_free m parts.Integer stage (place parts.Integer size stage).read (b == 43) (b == 48) roles.Point (λ same. cc) free)) refl _ is)
 
     -- The exponent character.
@@ -176,7 +176,7 @@ module _ (m : Notation) (text : List ℕ) where
     mark_at s part size stage inside mark taken free is = let b = get_or text size 0 in
         subst (IsAt m text (place parts.Exponent (size + 1) stages.Mark)) (count_one (counts_of s 0 0 0 0) refl pieces.ExponentCharacter)
         (one_read m text (place part size stage) (place parts.Exponent (size + 1) stages.Mark) pieces.ExponentCharacter
-        (read_one m text h (place part size stage) roles.Exponent inside (is_role m h part roles.Exponent b (λ same. cc) mark) refl taken
+        (read_one m text h (place part size stage) roles.Exponent inside (is_role m part b h roles.Exponent (λ same. cc) mark) refl taken
         (admits_free m part stage (place part size stage).read (b == 43) (b == 48) roles.Exponent (λ same. cc) free)) refl _ is)
 
     -- The suffix.
@@ -187,7 +187,7 @@ module _ (m : Notation) (text : List ℕ) where
     suffix_at s a b c at inside suffix going taken free is = let byte = get_or text at.size 0 in
         subst (IsAt m text (record { size = at.size + 1; read = record at.read { ended = true } })) (count_one (counts_of s a b c 0) refl pieces.Suffix)
         (one_read m text at (record { size = at.size + 1; read = record at.read { ended = true } }) pieces.Suffix
-        (read_one m text h at roles.Suffix inside (is_role m h at.read.part roles.Suffix byte (λ same. cc) suffix) going taken
+        (read_one m text h at roles.Suffix inside (is_role m at.read.part byte h roles.Suffix (λ same. cc) suffix) going taken
         (admits_free m at.read.part at.read.stage at.read (byte == 43) (byte == 48) roles.Suffix (λ same. cc) free)) refl _ is)
 
 -- Stages behind a decimal point.

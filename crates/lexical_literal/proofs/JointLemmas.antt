@@ -1,5 +1,5 @@
 -- Which flags refuse what is allowed without requirements: flags that refuse alone, or those on leading zeros.
-use Rattle.std.proofs.Common.{◌≡◌, Bool, true, false, not, ◌&&◌, ◌||◌, if◌then◌else◌, Option, Some, None, refl, sym, ap, subst, ◌∙◌, arith}
+use Rattle.std.proofs.Common.{ℕ, ◌≡◌, ◌==◌, Bool, true, false, not, ◌&&◌, ◌||◌, if◌then◌else◌, Option, Some, None, refl, sym, ap, subst, ◌∙◌, arith}
 use Rattle.std.proofs.lemmas.Bool.{false≢true}
 use Rattle.std.specs.Prelude.{is_some}
 use Rattle.lexical_util.specs.Layout as layout
@@ -11,10 +11,9 @@ use Rattle.lexical_util.specs.declared.format_flags.Part.TheVariants as parts
 use Rattle.lexical_literal.specs.Notation.{Notation}
 use Rattle.lexical_literal.specs.Run.{is_place}
 use Rattle.lexical_literal.specs.Cause.{adding, bare, binds, is_at, is_one_of, is_same, number_separator_flags, with_rules}
-use Rattle.lexical_literal.specs.Additions.Causes.{allows, is_plus_next, is_separator, place_of, role_of_next}
-use Rattle.lexical_literal.specs.Additions.Summary.{admits, after, complete_by, continues, ends, finishes, has_digit, implies, in_part}
-use Rattle.lexical_literal.specs.Additions.Summary.{is_plus_class, is_zero, may_follow, move_by, no_condition, step_by, takes}
-use Rattle.lexical_literal.specs.declared.steps.Class.{Class}
+use Rattle.lexical_literal.specs.Additions.Causes.{is_separator, lets, place_of}
+use Rattle.lexical_literal.specs.Additions.Summary.{admits, after, complete_by, continues, ends, finishes, has_digit, implies, may_follow}
+use Rattle.lexical_literal.specs.Additions.Summary.{move_by, no_condition, role_at, takes}
 use Rattle.lexical_literal.specs.declared.steps.Stage.{Stage}
 use Rattle.lexical_literal.specs.declared.steps.Stage.TheVariants as stages
 use Rattle.lexical_literal.specs.declared.steps.Summary.{Summary}
@@ -29,18 +28,9 @@ abbrev pub taken : Notation → Summary → Bool → Option Role → Bool
 taken n s plus None = false
 taken n s plus (Some role) = takes n s plus role
 
--- `free_allows n s next` is true if `next` may follow without conditions, and `passes C s next` if the conditions `C` let it.
-abbrev pub free_allows : Notation → Summary → Option Class → Bool
-free_allows n s None = complete_by no_condition n s
-free_allows n s (Some class) = is_some (step_by no_condition n s class)
-
 abbrev passes_role : (Condition → Bool) → Summary → Bool → Bool → Option Role → Bool
 passes_role C s plus zero None = true
 passes_role C s plus zero (Some role) = admits C s plus zero role
-
-abbrev pub passes : (Condition → Bool) → Summary → Option Class → Bool
-passes C s None = finishes C s
-passes C s (Some class) = passes_role C s (is_plus_class class) (is_zero class) (in_part s.part class)
 
 split_role : (n : Notation) (s : Summary) (plus zero : Bool) (o : Option Role)
     → is_some (move_by n.condition n s plus zero o) ≡ (is_some (move_by no_condition n s plus zero o) && passes_role n.condition s plus zero o)
@@ -50,50 +40,69 @@ split_role n s plus zero (Some role) = gate s.ended (takes n s plus role) (admit
       → is_some (if not e && (t && a) then Some x else None) ≡ (is_some (if not e && (t && true) then Some x else None) && a)
   gate e t a x = grind arith
 
--- What is allowed is what the flags and the conditions let.
-pub split : (n : Notation) (s : Summary) (next : Option Class) → allows n s next ≡ (free_allows n s next && passes n.condition s next)
-split n s None = both (s.ended || (ends n s && continues n s.part s.stage roles.Suffix)) (finishes n.condition s) where
-  both : (x f : Bool) → (x && f) ≡ ((x && true) && f)
-  both x f = grind arith
-split n s (Some class) = split_role n s (is_plus_class class) (is_zero class) (in_part s.part class)
-
-passes_free : (s : Summary) (next : Option Class) → passes no_condition s next ≡ true
-passes_free s None = refl
-passes_free s (Some class) = go (in_part s.part class) where
-  go : (o : Option Role) → passes_role no_condition s (is_plus_class class) (is_zero class) o ≡ true
-  go None = refl
-  go (Some role) = refl
-
-pub free_is : (n : Notation) (A : Flag → Bool) (s : Summary) (next : Option Class)
-    → allows (with_rules n A no_condition) s next ≡ free_allows (with_rules n A no_condition) s next
-free_is n A s next = split (with_rules n A no_condition) s next ∙ (let pass = passes_free s next in grind arith)
-
--- What one condition refuses, with others it is refused too.
-pub each_passes : (C : Condition → Bool) (s : Summary) (next : Option Class)
-    → ((c : Condition) → C c ≡ true → passes (λ d. is_same c d || false) s next ≡ true) → passes C s next ≡ true
-each_passes C s None each =
-    let prefix = each conditions.BasePrefix in let suffix = each conditions.BaseSuffix in grind arith
-each_passes C s (Some class) each = go (in_part s.part class) (λ c. each c) where
-  go : (o : Option Role) → ((c : Condition) → C c ≡ true → passes_role (λ d. is_same c d || false) s (is_plus_class class) (is_zero class) o ≡ true)
-      → passes_role C s (is_plus_class class) (is_zero class) o ≡ true
-  go None each = refl
-  go (Some role) each = let prefix = each conditions.BasePrefix in let sign = each conditions.NegativeSign in grind arith
-
 moved : (n : Notation) (s : Summary) (ended plus zero : Bool) (o : Option Role)
     → is_some (move_by no_condition n (record s { ended = ended }) plus zero o) ≡ (not ended && taken n (reading s.part s.stage s.gap) plus o)
 moved n s ended plus zero None = grind arith
 moved n s ended plus zero (Some role) = grind arith
 
--- What is allowed without conditions is a question of roles, before a suffix.
-pub allows_is : (n : Notation) (s : Summary) (next : Option Class) → s.ended ≡ false
-    → free_allows n s next ≡ taken n (reading s.part s.stage s.gap) (is_plus_next next) (role_of_next s next)
-allows_is n s None going = unended s.ended (ends n s && continues n s.part s.stage roles.Suffix) going where
-  unended : (e x : Bool) → e ≡ false → ((e || x) && true) ≡ x
-  unended e x going = grind arith
-allows_is n s (Some class) going = moved n s s.ended (is_plus_class class) (is_zero class) (in_part s.part class)
-    ∙ ap (λ e. not e && taken n (reading s.part s.stage s.gap) (is_plus_class class) (in_part s.part class)) going
-
 module _ (m : Notation) where
+  -- `role_of_next s next` is the role of the byte `next` after `s`, or that of a suffix, where `next` is `None`.
+  abbrev role_of_next : Summary → Option ℕ → Option Role
+  role_of_next s None = Some roles.Suffix
+  role_of_next s (Some byte) = role_at m s.part byte
+
+  abbrev is_plus_next : Option ℕ → Bool
+  is_plus_next None = false
+  is_plus_next (Some byte) = byte == 43
+
+  -- `free_allows n s next` is true if `next` may follow without conditions, and `passes C s next` if the conditions `C` let it.
+  -- The notation `n` has the roles of `m`.
+  abbrev pub free_allows : Notation → Summary → Option ℕ → Bool
+  free_allows n s None = complete_by no_condition n s
+  free_allows n s (Some byte) = is_some (move_by no_condition n s (byte == 43) (byte == 48) (role_at m s.part byte))
+
+  abbrev pub passes : (Condition → Bool) → Summary → Option ℕ → Bool
+  passes C s None = finishes C s
+  passes C s (Some byte) = passes_role C s (byte == 43) (byte == 48) (role_at m s.part byte)
+
+  -- What is allowed is what the flags and the conditions let.
+  pub split : (A : Flag → Bool) (D : Condition → Bool) (s : Summary) (next : Option ℕ)
+      → lets (with_rules m A D) s next ≡ (free_allows (with_rules m A D) s next && passes D s next)
+  split A D s None = both (s.ended || (ends (with_rules m A D) s && continues (with_rules m A D) s.part s.stage roles.Suffix)) (finishes D s) where
+    both : (x f : Bool) → (x && f) ≡ ((x && true) && f)
+    both x f = grind arith
+  split A D s (Some byte) = split_role (with_rules m A D) s (byte == 43) (byte == 48) (role_at m s.part byte)
+
+  passes_free : (s : Summary) (next : Option ℕ) → passes no_condition s next ≡ true
+  passes_free s None = refl
+  passes_free s (Some byte) = go (role_at m s.part byte) where
+    go : (o : Option Role) → passes_role no_condition s (byte == 43) (byte == 48) o ≡ true
+    go None = refl
+    go (Some role) = refl
+
+  pub free_is : (A : Flag → Bool) (s : Summary) (next : Option ℕ) → lets (with_rules m A no_condition) s next ≡ free_allows (with_rules m A no_condition) s next
+  free_is A s next = split A no_condition s next ∙ (let pass = passes_free s next in grind arith)
+
+  -- What one condition refuses, with others it is refused too.
+  pub each_passes : (C : Condition → Bool) (s : Summary) (next : Option ℕ)
+      → ((c : Condition) → C c ≡ true → passes (λ d. is_same c d || false) s next ≡ true) → passes C s next ≡ true
+  each_passes C s None each =
+      let prefix = each conditions.BasePrefix in let suffix = each conditions.BaseSuffix in grind arith
+  each_passes C s (Some byte) each = go (role_at m s.part byte) (λ c. each c) where
+    go : (o : Option Role) → ((c : Condition) → C c ≡ true → passes_role (λ d. is_same c d || false) s (byte == 43) (byte == 48) o ≡ true)
+        → passes_role C s (byte == 43) (byte == 48) o ≡ true
+    go None each = refl
+    go (Some role) each = let prefix = each conditions.BasePrefix in let sign = each conditions.NegativeSign in grind arith
+
+  -- What is allowed without conditions is a question of roles, before a suffix.
+  allows_is : (n : Notation) (s : Summary) (next : Option ℕ) → s.ended ≡ false
+      → free_allows n s next ≡ taken n (reading s.part s.stage s.gap) (is_plus_next next) (role_of_next s next)
+  allows_is n s None going = unended s.ended (ends n s && continues n s.part s.stage roles.Suffix) going where
+    unended : (e x : Bool) → e ≡ false → ((e || x) && true) ≡ x
+    unended e x going = grind arith
+  allows_is n s (Some byte) going = moved n s s.ended (byte == 43) (byte == 48) (role_at m s.part byte)
+      ∙ ap (λ e. not e && taken n (reading s.part s.stage s.gap) (byte == 43) (role_at m s.part byte)) going
+
   -- FLAGS THAT REFUSE TOGETHER
 
   -- `Alone P` holds if `P` is true of `m` without requirements, and with each one that binds.
@@ -165,13 +174,13 @@ module _ (m : Notation) where
   -- THE SAME OF WHAT IS ALLOWED
 
   -- What is allowed without requirements, and refused with them, follows no suffix.
-  pub going : (s : Summary) (next : Option Class) → free_allows (bare m) s next ≡ true → free_allows m s next ≡ false → s.ended ≡ false
+  pub going : (s : Summary) (next : Option ℕ) → free_allows (bare m) s next ≡ true → free_allows m s next ≡ false → s.ended ≡ false
   going s None free refused = unended s.ended (ends m s && continues m s.part s.stage roles.Suffix) refused where
     unended : (e x : Bool) → ((e || x) && true) ≡ false → e ≡ false
     unended e x none = grind arith
-  going s (Some class) free refused = let is = sym (moved (bare m) s s.ended (is_plus_class class) (is_zero class) (in_part s.part class)) ∙ free in grind arith
+  going s (Some byte) free refused = let is = sym (moved (bare m) s s.ended (byte == 43) (byte == 48) (role_at m s.part byte)) ∙ free in grind arith
 
-  module _ (s : Summary) (next : Option Class) (unended : s.ended ≡ false) where
+  module _ (s : Summary) (next : Option ℕ) (unended : s.ended ≡ false) where
     abbrev o : Option Role
     o = role_of_next s next
 
@@ -183,12 +192,12 @@ module _ (m : Notation) where
     joint = subst (λ P. Alone P → P m ≡ false → m.flag layout.no_float_leading_zeros ≡ true) same (joint_role s.part s.stage s.gap (is_plus_next next) o)
 
   -- A flag that allows the byte is of the place and the part.
-  pub at_next : (f : Flag) (s : Summary) (class : Class) → is_one_of number_separator_flags f ≡ true → free_allows (bare m) s (Some class) ≡ false
-      → free_allows (adding f (bare m)) s (Some class) ≡ true
-      → ((s.gap || is_separator (in_part s.part class)) && is_at (place_of m s (in_part s.part class)) s.part f) ≡ true
-  at_next f s class is refused allowed =
+  pub at_next : (f : Flag) (s : Summary) (byte : ℕ) → is_one_of number_separator_flags f ≡ true → free_allows (bare m) s (Some byte) ≡ false
+      → free_allows (adding f (bare m)) s (Some byte) ≡ true
+      → ((s.gap || is_separator (role_at m s.part byte)) && is_at (place_of m s (role_at m s.part byte)) s.part f) ≡ true
+  at_next f s byte is refused allowed =
       subst (λ (P : Notation → Bool). P (bare m) ≡ false → P (adding f (bare m)) ≡ true
-      → ((s.gap || is_separator (in_part s.part class)) && is_at (place_of m s (in_part s.part class)) s.part f) ≡ true)
-      (same s (Some class) (let is = sym (moved (adding f (bare m)) s s.ended (is_plus_class class) (is_zero class) (in_part s.part class))
+      → ((s.gap || is_separator (role_at m s.part byte)) && is_at (place_of m s (role_at m s.part byte)) s.part f) ≡ true)
+      (same s (Some byte) (let is = sym (moved (adding f (bare m)) s s.ended (byte == 43) (byte == 48) (role_at m s.part byte))
       ∙ allowed in grind arith))
-      (at_role f s.part s.stage s.gap (is_plus_class class) (in_part s.part class) is) refused allowed
+      (at_role f s.part s.stage s.gap (byte == 43) (role_at m s.part byte) is) refused allowed

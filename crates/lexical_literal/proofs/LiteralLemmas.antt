@@ -240,13 +240,13 @@ module _ (m : Notation) (h : HasRoles m) where
       elim (cases_Bool (m.digit part b)) [
         | inl digit ↦
             let may = follow (m.digit part) stage gap (b ∷ run) goes.leads (or_left _ _ digit) in
-            free_byte m h (reading part stage gap) b roles.Digit c (run ++ rest) d refl (digit_role m h part b digit) (grind arith)
+            free_byte m (reading part stage gap) b roles.Digit c (run ++ rest) d refl (digit_role m part b digit) (grind arith)
             (run_arrives part (after_digit stage gap (b == 48)) false run rest more d (grind arith) (grind arith) (rw (digit) at goes))
         | inr other ↦
             let may = λ (some : list_any (m.digit part) run ≡ true). follow (m.digit part) stage gap (b ∷ run) goes.leads (or_right (m.digit part b) _ some) in
             let closes = opens m part (has_digit stage) (may_follow m stage) run (grind arith) may in
-            free_byte m h (reading part stage gap) b roles.Separator c (run ++ rest) d refl
-            (is_role m h part roles.Separator b (λ e. cc) (grind arith)) (grind arith)
+            free_byte m (reading part stage gap) b roles.Separator c (run ++ rest) d refl
+            (is_role m part b h roles.Separator (λ e. cc) (grind arith)) (grind arith)
             (run_arrives part (after_mark stage) true run rest more d (grind arith) (grind arith) (rw (other) at goes))
       ]
 
@@ -268,7 +268,7 @@ module _ (m : Notation) (h : HasRoles m) where
       → Arrives no_condition m (Some (reading part stage gap)) c (sign ++ rest) d
   sign_arrives part stage gap [] rest c d fits more = more (and_parts (implies (forbids_plus m part) true) (is_signed m part stage) fits).1
   sign_arrives part stage gap (b ∷ []) rest c d fits more =
-      free_byte m h (reading part stage gap) b roles.Sign c rest d refl (is_role m h part roles.Sign b (λ e. cc) (grind arith))
+      free_byte m (reading part stage gap) b roles.Sign c rest d refl (is_role m part b h roles.Sign (λ e. cc) (grind arith))
       (grind arith) (more (grind arith))
   sign_arrives part stage gap (b ∷ x ∷ sign) rest c d fits more = absurd (false≢true fits)
 
@@ -278,7 +278,7 @@ module _ (m : Notation) (h : HasRoles m) where
       → Arrives no_condition m (Some (reading part stage gap)) c suffix (add_all c pieces.Suffix suffix)
   stop_arrives part stage gap c [] is one = (and_from _ true is refl, refl)
   stop_arrives part stage gap c (b ∷ []) is one =
-      free_byte m h (reading part stage gap) b roles.Suffix c [] _ refl (is_role m h part roles.Suffix b (λ e. cc) one) is (refl, refl)
+      free_byte m (reading part stage gap) b roles.Suffix c [] _ refl (is_role m part b h roles.Suffix (λ e. cc) one) is (refl, refl)
   stop_arrives part stage gap c (b ∷ x ∷ suffix) is one = absurd (false≢true one)
 
   -- What follows an exponent character.
@@ -305,8 +305,8 @@ module _ (m : Notation) (h : HasRoles m) where
         stop_arrives part stage gap c l.suffix (and_from _ _ end both.0) both.1
     go (b ∷ []) sign exponent fits =
         let scale = and_parts (continues m part stage roles.Exponent) _ (and_parts (m.exponent_character b) _ fits).1 in
-        free_byte m h (reading part stage gap) b roles.Exponent c (sign ++ (exponent ++ l.suffix)) _ refl
-        (is_role m h part roles.Exponent b (λ e. cc) (and_parts (m.exponent_character b) _ fits).0) (and_from _ _ end scale.0)
+        free_byte m (reading part stage gap) b roles.Exponent c (sign ++ (exponent ++ l.suffix)) _ refl
+        (is_role m part b h roles.Exponent (λ e. cc) (and_parts (m.exponent_character b) _ fits).0) (and_from _ _ end scale.0)
         (power_arrives (record l { exponent_character = b ∷ []; exponent_sign = sign; exponent = exponent })
         (add c pieces.ExponentCharacter) (let fit = scale.1 in grind arith) (let fit = scale.1 in grind arith))
     go _ sign exponent fits = absurd (grind arith)
@@ -325,8 +325,8 @@ module _ (m : Notation) (h : HasRoles m) where
         let point = and_parts (m.point b) _ fits in
         let both = and_parts (fraction_fits m l stage) _ point.1 in
         let float = both.0 in
-        free_byte m h (reading parts.Integer stage gap) b roles.Point c (fraction ++ text_after parts.Fraction l) (end_cuts l c) refl
-        (is_role m h parts.Integer roles.Point b (λ e. cc) point.0) (grind arith)
+        free_byte m (reading parts.Integer stage gap) b roles.Point c (fraction ++ text_after parts.Fraction l) (end_cuts l c) refl
+        (is_role m parts.Integer b h roles.Point (λ e. cc) point.0) (grind arith)
         (unled_arrives parts.Fraction (after_point (has_digit stage)) fraction (text_after parts.Fraction l) more (end_cuts l c)
         (grind arith) (grind arith) (grind arith) (grind arith)
         (λ gap closed signed. tail_arrives l parts.Fraction (fraction_last m l (has_digit stage)) gap (add_all more pieces.Fraction fraction)
@@ -344,10 +344,10 @@ module _ (m : Notation) (h : HasRoles m) where
       let both = and_parts (z == 48) _ one in
       let zero = add c pieces.Integer in
       subst (λ z. Arrives no_condition m (Some (reading parts.Integer stage false)) c (z ∷ b ∷ rest) d) (sym (eqb-true z 48 both.0))
-      (free_byte m h (reading parts.Integer stage false) 48 roles.Digit c (b ∷ rest) d refl (digit_role m h parts.Integer 48 (h.zero_is_digit parts.Integer))
+      (free_byte m (reading parts.Integer stage false) 48 roles.Digit c (b ∷ rest) d refl (digit_role m parts.Integer 48 (h.zero_is_digit parts.Integer))
       (and_from _ _ signed follows) (subst (λ s. Arrives no_condition m (Some (reading parts.Integer s false)) zero (b ∷ rest) d) (sym bare)
-      (free_byte m h (reading parts.Integer stages.Bare false) b roles.Prefix zero rest d refl
-      (is_role m h parts.Integer roles.Prefix b (λ e. cc) both.1) refl (more refl))))
+      (free_byte m (reading parts.Integer stages.Bare false) b roles.Prefix zero rest d refl
+      (is_role m parts.Integer b h roles.Prefix (λ e. cc) both.1) refl (more refl))))
   prefix_arrives stage _ rest c d follows bare signed one more = absurd (false≢true one)
 
   module _ (l : Literal) (is : IsSpelled m l) where

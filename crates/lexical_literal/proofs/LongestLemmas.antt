@@ -1,26 +1,29 @@
 -- Fronts of a text, and where the loop is left.
-use Rattle.std.proofs.Common.{ℕ, Bool, IsTrue, ◌&&◌, Option, if◌then◌else◌, ◌≡◌, ◌<◌, ◌≤◌, ◌+◌, inl, inr, true, false, List, [], ◌∷◌, ◌++◌}
-use Rattle.std.proofs.Common.{length, get_or, take, drop, Some, None, refl, sym, ap, subst, append_assoc, append-nil, take-append-drop, ◌∙◌, arith}
+use Rattle.std.proofs.Common.{ℕ, Bool, IsNone, Option, if◌then◌else◌, ◌≡◌, ◌<◌, ◌≤◌, ◌+◌, inl, inr, true, false, List, [], ◌∷◌, ◌++◌}
+use Rattle.std.proofs.Common.{length, length-set, get_or, replicate, set, take, drop, Some, None, refl, sym, ap, subst, append_assoc, append-nil, take-append-drop, ◌∙◌, arith}
 use Rattle.std.specs.Prelude.{is_some, slice_get}
 use Rattle.std.proofs.lemmas.Bool.{false≢true, cases_lt}
 use Rattle.std.proofs.lemmas.Option.{slice_get-get_or, slice_get_past}
 use Rattle.std.proofs.lemmas.List.{take-take, take_more, take_all}
 use Rattle.lexical_literal.specs.Notation.{Notation, notation_of}
 use Rattle.lexical_literal.specs.Literal.{Literal, IsLiteral, Reads}
-use Rattle.lexical_literal.specs.Additions.Summary.{Cuts, cuts_of, byte_class, in_part, scan, step, is_accepted, is_complete}
-use Rattle.lexical_literal.specs.Additions.Summary.{tally, count, start, no_cuts, HasLengths}
+use Rattle.lexical_literal.specs.Additions.Summary.{cuts_of, role_at, scan, step, is_accepted, is_complete}
+use Rattle.lexical_literal.specs.Additions.Summary.{tally, start, no_cuts, HasLengths, move_by, piece_number, piece_of}
 use Rattle.lexical_literal.specs.Front.{IsFront, IsValidUpTo, NoLiteral, ReadsFront}
-use Rattle.lexical_literal.specs.Additions.Longest.{HasFound, IsCountedFront, IsFronted, IsLongest, IsScanned, IsStopped}
+use Rattle.lexical_literal.specs.Takes.{NoFront}
+use Rattle.lexical_literal.specs.Additions.Longest.{HasFound, IsCountedFront, IsFronted, IsLongest, IsStopped}
 use Rattle.lexical_literal.specs.Additions.Causes.{lets}
-use Rattle.lexical_literal.specs.Additions.Plain.{IsBegun, IsCounted}
+use Rattle.lexical_literal.specs.Additions.Plain.{IsReady, IsAt, IsBegun, IsCounted}
 use Rattle.lexical_literal.specs.declared.read.Found.{Found}
 use Rattle.lexical_literal.specs.declared.plain.At.{At}
 use Rattle.lexical_literal.specs.declared.plain.Counted.{Counted}
 use Rattle.lexical_literal.specs.declared.syntax.Grammar.{Grammar}
 use Rattle.lexical_literal.specs.declared.steps.Summary.{Summary}
-use Rattle.lexical_literal.proofs.ScanLemmas.{IsReady, scan_append, tally_append}
+use Rattle.lexical_literal.proofs.ScanLemmas.{scan_append, tally_append}
 use Rattle.lexical_literal.proofs.ConditionLemmas.{has_lengths, literal_from, literal_arrives}
 use Rattle.lexical_literal.proofs.LiteralLemmas.{all_cuts}
+use Rattle.lexical_literal.proofs.CountLemmas.{count_one, no_counts, small_at_first, small_more}
+use Rattle.lexical_util.specs.declared.feature_format.roles.Role.{Role}
 use Rattle.lexical_literal.proofs.FrontLemmas.{front_from, front_is_read}
 
 front_shorter : (m : Notation) (text : List ℕ) (k n : ℕ) → k ≤ n → IsFront m (take n text) → IsFront m (take k text)
@@ -33,14 +36,13 @@ front_shorter m text k n below is = record {
   };
 }
 
--- `HasRead m text i s c longest` holds if the first `i` bytes of `text` have the summary `s` and parts with the lengths `c`,
--- and if `longest` is their longest front that is a literal, provided that `seeks` is true.
-pub record HasRead (m : Notation) (seeks : Bool) (text : List ℕ) (i : ℕ) (s : Summary) (c : Cuts) (longest : Option ℕ) : Type 0 where
-  pub ready : IsReady m
-  pub within : i ≤ length text
-  pub read : scan m (Some start) (take i text) ≡ Some s
-  pub counted : tally m (Some start) no_cuts (take i text) ≡ c
-  pub longest_is : IsTrue seeks → IsLongest m text i longest
+-- `HasCounted m text at counts found` holds if `at` has what has been read of `text`, `counts` the lengths of its parts, and
+-- `found` the longest front that is a literal.
+pub record HasCounted (m : Notation) (text : List ℕ) (at : At) (counts : List ℕ) (found : Option Found) : Type 0 where
+  pub nine : length counts ≡ 9
+  pub small : (k : ℕ) → get_or counts k 0 ≤ at.size
+  pub read : IsAt m text at (cuts_of counts)
+  pub longest : IsLongest m text at.size found
 
 module _ (m : Notation) (text : List ℕ) where
   -- A literal is no longer than the longest front that some literal begins with.
@@ -84,16 +86,47 @@ module _ (m : Notation) (text : List ℕ) where
       ]
 
   -- The longest front that is a literal.
-  pub front_literal : (literal : Option ℕ) → IsLongest m text (length text) literal → (size : ℕ) → literal ≡ Some size → (l : Literal)
-      × ReadsFront m l text size
-  front_literal literal longest size found = let l = longest.found size found in (
-    l.1,
-    record {
+  pub front_literal : (found : Found) → IsLongest m text (length text) (Some found) → IsCountedFront m text found
+  front_literal found is = let l = is.found found refl in record {
+    literal = l.1;
+    reads = record {
       within = l.0;
       reads = l.2;
-      no_longer = λ more past below. longest.no_longer more below (λ other same. let equal : size ≡ other = cc in subst (λ n. n < more) equal past);
-    },
-  )
+      no_longer = λ more past below. is.no_longer more below (λ other same. let equal : found ≡ other = cc in subst (λ (f : Found). f.size < more) equal past);
+    };
+    counted = is.counted found refl;
+  }
+
+  -- The longest front where reading stops.
+  pub longest_all : (stop : At) (longest : Option Found) → IsStopped m text stop → IsLongest m text stop.size longest → IsLongest m text (length text) longest
+  longest_all stop longest stopped is = record {
+    found = λ found some. let before = is.found found some in let within = stopped.valid.within in (omega (arith, before.0, within), before.1, before.2);
+    counted = is.counted;
+    no_longer = λ more within past l reads. is.no_longer more (no_longer_than stop.size stopped.valid more within l reads) past l reads;
+  }
+
+  -- All of a literal is its longest front.
+  pub all_counted : (longest : Option Found) → IsLongest m text (length text) longest → (l : Literal) → Reads m l text
+      → (found : Found) × (longest ≡ Some found) × HasLengths l (cuts_of found.counts)
+  all_counted longest is l reads = go longest refl where
+    whole : Reads m l (take (length text) text)
+    whole = subst (Reads m l) (sym (take_all (length text) text (omega arith))) reads
+
+    go : (o : Option Found) → longest ≡ o → (found : Found) × (longest ≡ Some found) × HasLengths l (cuts_of found.counts)
+    go None none = absurd (is.no_longer (length text) (omega arith) (λ other same. let clash : None ≡ Some other = sym none ∙ same in cc) l whole)
+    go (Some found) some =
+        let within = (is.found found some).0 in
+        let all : length text ≤ found.size = elim (cases_lt found.size (length text)) [
+          | inl short ↦ absurd (is.no_longer (length text) (omega arith)
+              (λ other same. let equal : found ≡ other = cc in subst (λ (f : Found). f.size < length text) equal short) l whole)
+          | inr long ↦ long
+        ] in
+        (found, some, is.counted found some l (subst (Reads m l) (sym (take_all found.size text all)) reads))
+
+-- Without a longest front, no front is a literal.
+pub no_front : (g : Grammar) (text : List ℕ) (longest : Option Found) → IsLongest (notation_of g) text (length text) longest → IsNone longest → NoFront text g
+no_front g text None is none size below = is.no_longer size below (λ other same. absurd (let clash : None ≡ Some other = same in cc))
+no_front g text (Some found) is none size below = absurd (false≢true (sym none))
 
 -- A literal that has been found is the longest front that is one if reading stops behind it.
 pub found_there : (m : Notation) (text : List ℕ) (counted : Counted) → HasFound m text counted → counted.complete ≡ true → (stop : At) → IsStopped m text stop
@@ -117,123 +150,112 @@ module _ (m : Notation) (ready : IsReady m) (text : List ℕ) where
   accepted : (n : ℕ) (l : Literal) → Reads m l (take n text) → is_accepted m (scan m (Some start) (take n text)) ≡ true
   accepted n l reads = rw (reads.whole) (literal_arrives m ready.roles l reads.literal).0
 
-  -- What has been read at first.
-  pub has_begun : (seeks : Bool) → HasRead m seeks text 0 start no_cuts None
-  has_begun seeks = grind arith
-
-  -- What has been read where `at` is.
-  pub has_read : (at : At) → IsBegun m text at → HasRead m false text at.size at.read (tally m (Some start) no_cuts (take at.size text)) None
-  has_read at is = record { ready = ready; within = is.within; read = is.read; counted = refl; longest_is = λ no. absurd (false≢true no) }
-
-  module _ (seeks : Bool) (i : ℕ) (s : Summary) (c : Cuts) (longest : Option ℕ) (has : HasRead m seeks text i s c longest) where
-    next_scan : i < length text → scan m (Some start) (take (i + 1) text) ≡ step m s (byte_class m (get_or text i 0))
-    next_scan inside = rw (take_more text i 0 inside, scan_append m.condition m (Some start) (take i text) (get_or text i 0 ∷ []), has.read) refl
-
-    next_longest : (t : Summary) → scan m (Some start) (take (i + 1) text) ≡ Some t → IsTrue seeks
-        → IsLongest m text (i + 1) (if seeks && is_complete m t then Some (i + 1) else longest)
-    next_longest t read sought = rw (sought) (go (is_complete m t) refl) where
-      go : (is : Bool) → is_complete m t ≡ is → IsLongest m text (i + 1) (if is then Some (i + 1) else longest)
-      go true complete = record {
-        found = λ size is. let same : i + 1 ≡ size = cc in
-            rw (← same) (let l = literal_from m ready.roles (take (i + 1) text) (ap (is_accepted m) read ∙ complete) in (omega arith, l.0, l.1));
-        no_longer = λ more over past. absurd (let low : i + 1 < more = past (i + 1) refl in omega arith);
-      }
-      go false incomplete = record {
-        found = λ size is. let old = (has.longest_is sought).found size is in (omega (arith, old.0), old.1, old.2);
-        no_longer = λ more over past l reads. elim (cases_lt i more) [
-          | inl new ↦ let same : more ≡ i + 1 = omega arith in
-              false≢true (sym incomplete ∙ ap (is_accepted m) (sym read) ∙ accepted (i + 1) l (subst (λ n. Reads m l (take n text)) same reads))
-          | inr old ↦ (has.longest_is sought).no_longer more old past l reads
-        ];
-      }
-
-    -- One more byte.
-    pub read_more : (t : Summary) (d : Cuts) → i < length text → step m s (byte_class m (get_or text i 0)) ≡ Some t
-        → count s.part (in_part s.part (byte_class m (get_or text i 0))) c ≡ d
-        → HasRead m seeks text (i + 1) t d (if seeks && is_complete m t then Some (i + 1) else longest)
-    read_more t d inside taken counted = record {
-      ready = ready;
-      within = omega arith;
-      read = next_scan inside ∙ taken;
-      counted = rw (
-        take_more text i 0 inside,
-        tally_append m.condition m (Some start) no_cuts (take i text)
-            (get_or text i 0 ∷ []),
-        has.read,
-        has.counted,
-      ) counted;
-      longest_is = next_longest t (next_scan inside ∙ taken);
-    }
-
-    -- A byte that is not taken, and the end of the text.
-    pub wrong_at : i < length text → step m s (byte_class m (get_or text i 0)) ≡ None → IsValidUpTo m text i
-    wrong_at inside none = record {
-      within = omega arith;
-      front = front_from m ready (take i text) s has.read;
-      no_longer = λ more over within is.
-          front_is_read m ready (take (i + 1) text) (front_shorter m text (i + 1) more (omega arith) is) (next_scan inside ∙ none);
-    }
-
-    pub wrong_at_end : length text ≤ i → IsValidUpTo m text i
-    wrong_at_end end = record {
-      within = has.within;
-      front = front_from m ready (take i text) s has.read;
-      no_longer = λ more over within is. absurd (omega arith);
-    }
-
-    -- Where reading stops.
-    pub is_stopped : IsValidUpTo m text i → (i < length text → lets m s (slice_get text i) ≡ false) → IsStopped m text (record { size = i; read = s })
-    is_stopped wrong refused = record {
-      valid = wrong;
-      read = has.read;
-      refused = refused;
-      complete = λ complete. literal_from m ready.roles (take i text) (ap (is_accepted m) has.read ∙ complete);
-      incomplete = λ incomplete l reads. false≢true (sym incomplete ∙ ap (is_accepted m) (sym has.read) ∙ accepted i l reads);
-    }
-
-    -- The lengths of the parts of a literal.
-    pub has_counted : (counts : List ℕ) → c ≡ cuts_of counts → (l : Literal) → Reads m l (take i text) → HasLengths l (cuts_of counts)
-    has_counted counts lengths l reads =
-        rw (← lengths, ← has.counted, reads.whole, (literal_arrives m ready.roles l reads.literal).1) (has_lengths m l reads.literal.spelled)
-
-    -- What the loop has found where it is left.
-    pub is_scanned : (counts : List ℕ) → c ≡ cuts_of counts → IsValidUpTo m text i
-        → (i < length text → lets m s (slice_get text i) ≡ false)
-        → IsScanned m seeks text (record { stop = record { size = i; read = s }; literal = longest; counts = counts })
-    is_scanned counts lengths wrong refused = record {
-      stop = is_stopped wrong refused;
-      longest = λ sought. record {
-        found = λ size is. let old = (has.longest_is sought).found size is in (omega (arith, old.0, has.within), old.1, old.2);
-        no_longer = λ more within past l reads. (has.longest_is sought).no_longer more (no_longer_than m text i wrong more within l reads) past l reads;
-      };
-      counted = has_counted counts lengths;
-    }
-
   module _ (at : At) (is : IsBegun m text at) where
     abbrev step_of : Option Summary
-    step_of = step m at.read (byte_class m (get_or text at.size 0))
+    step_of = step m at.read (get_or text at.size 0)
 
-    -- One more byte, a byte that is not taken, and the end of the text.
+    next_scan : at.size < length text → scan m (Some start) (take (at.size + 1) text) ≡ step_of
+    next_scan inside = rw (take_more text at.size 0 inside, scan_append m.condition m (Some start) (take at.size text) (get_or text at.size 0 ∷ []), is.read) refl
+
+    -- One more byte.
     pub begun_more : (t : Summary) → at.size < length text → step_of ≡ Some t → IsBegun m text (record { size = at.size + 1; read = t })
-    begun_more t inside taken = record {
-      within = omega (arith, inside);
-      read = next_scan false at.size at.read _ None (has_read at is) inside ∙ taken;
+    begun_more t inside taken = record { within = omega (arith, inside); read = next_scan inside ∙ taken }
+
+    -- A byte that is not taken, or the end of the text.
+    pub stops_at : (at.size < length text → step_of ≡ None) → IsStopped m text at
+    stops_at none = record {
+      valid = record {
+        within = is.within;
+        front = front_from m ready (take at.size text) at.read is.read;
+        no_longer = λ more over within front. let inside : at.size < length text = omega (arith, over, within) in
+            front_is_read m ready (take (at.size + 1) text) (front_shorter m text (at.size + 1) more (omega (arith, over)) front) (next_scan inside ∙ none inside);
+      };
+      read = is.read;
+      refused = λ inside. rw (slice_get-get_or text at.size 0 inside) (ap is_some (none inside));
+      complete = λ complete. literal_from m ready.roles (take at.size text) (ap (is_accepted m) is.read ∙ complete);
+      incomplete = λ incomplete l reads. false≢true (sym incomplete ∙ ap (is_accepted m) (sym is.read) ∙ accepted at.size l reads);
     }
 
-    pub stops_at : at.size < length text → step_of ≡ None → IsStopped m text at
-    stops_at inside none = is_stopped false at.size at.read _ None (has_read at is) (wrong_at false at.size at.read _ None (has_read at is) inside none)
-        (λ inside. rw (slice_get-get_or text at.size 0 inside) (ap is_some none))
+  -- The lengths of the parts of a literal.
+  pub has_counted : (n : ℕ) (counts : List ℕ) → tally m (Some start) no_cuts (take n text) ≡ cuts_of counts → (l : Literal) → Reads m l (take n text)
+      → HasLengths l (cuts_of counts)
+  has_counted n counts lengths l reads =
+      rw (← lengths, reads.whole, (literal_arrives m ready.roles l reads.literal).1) (has_lengths m l reads.literal.spelled)
 
-    pub stops_at_end : length text ≤ at.size → IsStopped m text at
-    stops_at_end end = is_stopped false at.size at.read _ None (has_read at is) (wrong_at_end false at.size at.read _ None (has_read at is) end)
-        (λ inside. absurd (omega (arith, inside, end)))
+  -- Nothing is the longest front of nothing.
+  pub first_counted : HasCounted m text (record { size = 0; read = start }) (replicate 9 0) None
+  first_counted = record {
+    nine = refl;
+    small = small_at_first;
+    read = record { begun = record { within = omega arith; read = refl }; counted = no_counts };
+    longest = record {
+      found = λ found is. absurd (cc);
+      counted = λ found is. absurd (cc);
+      no_longer = λ more over past l reads. let none : 0 ≡ more = omega (arith, over) in false≢true (sym incomplete
+          ∙ ap (λ n. is_accepted m (scan m (Some start) (take n text))) none ∙ accepted more l reads);
+    };
+  } where
+    incomplete : is_complete m start ≡ false
+    incomplete = grind arith
+
+  module _ (at next : At) (counts : List ℕ) (found : Option Found) (has : HasCounted m text at counts found) (begun : IsBegun m text next)
+      (size : next.size ≡ at.size + 1) where
+    inside : at.size < length text
+    inside = omega (arith, begun.within, size)
+
+    -- A byte that is read has a role.
+    pub has_role : role_at m at.read.part (get_or text at.size 0) ≡ None → ⊥
+    has_role none = let is : None ≡ Some next.read = sym (next_scan at has.read.begun inside ∙ ap (move_by m.condition m at.read _ _) none)
+        ∙ ap (λ n. scan m (Some start) (take n text)) (sym size) ∙ begun.read in cc
+
+    -- A longer front that is a literal, or none.
+    longer : (counts : List ℕ) → tally m (Some start) no_cuts (take next.size text) ≡ cuts_of counts → (complete : Bool) → complete ≡ is_complete m next.read
+        → IsLongest m text next.size (if complete then Some (record { size = next.size; counts = counts }) else found)
+    longer counts counted true complete = record {
+      found = λ found is. let same : record { size = next.size; counts = counts } ≡ found = cc in
+          subst (λ (f : Found). (f.size ≤ next.size) × (l : Literal) × Reads m l (take f.size text)) same
+          (let l = literal_from m ready.roles (take next.size text) (ap (is_accepted m) begun.read ∙ sym complete) in (omega arith, l.0, l.1));
+      counted = λ found is. let same : record { size = next.size; counts = counts } ≡ found = cc in
+          subst (λ (f : Found). (l : Literal) → Reads m l (take f.size text) → HasLengths l (cuts_of f.counts)) same (has_counted next.size counts counted);
+      no_longer = λ more over past. absurd (let low : next.size < more = past _ refl in omega (arith, over, low));
+    }
+    longer counts counted false incomplete = record {
+      found = λ found is. let before = has.longest.found found is in (omega (arith, size, before.0), before.1, before.2);
+      counted = has.longest.counted;
+      no_longer = λ more over past l reads. elim (cases_lt at.size more) [
+        | inl new ↦ let same : more ≡ next.size = omega (arith, over, new, size) in
+            false≢true (incomplete ∙ ap (is_accepted m) (sym begun.read) ∙ accepted next.size l (subst (λ n. Reads m l (take n text)) same reads))
+        | inr before ↦ has.longest.no_longer more before past l reads
+      ];
+    }
+
+    -- One more byte is counted.
+    pub more_counted : (r : Role) (k : ℕ) → role_at m at.read.part (get_or text at.size 0) ≡ Some r → k ≡ piece_number (piece_of at.read.part r) → k < 9
+        → (complete : Bool) → complete ≡ is_complete m next.read → let more = set counts k (get_or counts k 0 + 1) in
+        HasCounted m text next more (if complete then Some (record { size = next.size; counts = more }) else found)
+    more_counted r k plays same small complete is =
+        let more = set counts k (get_or counts k 0 + 1) in
+        let counted : tally m (Some start) no_cuts (take next.size text) ≡ cuts_of more = ap (λ n. tally m (Some start) no_cuts (take n text)) size
+        ∙ rw (
+          take_more text at.size 0 inside,
+          tally_append m.condition m (Some start) no_cuts (take at.size text) (get_or text at.size 0 ∷ []),
+          has.read.begun.read,
+          has.read.counted,
+          plays,
+        )
+        (count_one counts has.nine (piece_of at.read.part r) ∙ ap (λ k. cuts_of (set counts k (get_or counts k 0 + 1))) (sym same)) in record {
+          nine = length-set counts k (get_or counts k 0 + 1) ∙ has.nine;
+          small = λ j. let one = small_more counts at.size k (omega (arith, small, has.nine)) has.small j in omega (arith, one, size);
+          read = record { begun = begun; counted = counted };
+          longest = longer more counted complete is;
+        }
 
   -- What has been found at first.
   pub has_found : (counted : Counted) → IsCounted m text counted → HasFound m text counted
   has_found counted is = record {
     begun = is.begun;
     literal = λ yes. literal_from m ready.roles (take counted.at.size text) (ap (is_accepted m) is.begun.read ∙ is.complete yes);
-    lengths = λ yes. has_counted false counted.at.size counted.at.read _ None (has_read counted.at is.begun) counted.counts (is.lengths yes);
+    lengths = λ yes. has_counted counted.at.size counted.counts (is.lengths yes);
   }
 
   -- A text has one reading.

@@ -1,5 +1,5 @@
 -- What is read of a text part after part.
-use Rattle.std.proofs.Common.{ℕ, ◌≡◌, ◌<◌, ◌≤◌, ◌+◌, ◌-◌, ◌==◌, ◌&&◌, ◌||◌, Bool, true, false, not, IsTrue, if◌then◌else◌, List, [], ◌∷◌, Some, None}
+use Rattle.std.proofs.Common.{ℕ, ◌≡◌, ◌<◌, ◌≤◌, ◌+◌, ◌-◌, ◌==◌, ◌&&◌, ◌||◌, Bool, true, false, not, IsTrue, if◌then◌else◌, List, [], ◌∷◌, Some}
 use Rattle.std.proofs.Common.{get_or, length, take, refl, sym, ap, subst, ◌∙◌, arith}
 use Rattle.std.proofs.lemmas.Bool.{false≢true}
 use Rattle.std.proofs.lemmas.List.{take_more}
@@ -12,7 +12,7 @@ use Rattle.lexical_literal.specs.Notation.{Notation}
 use Rattle.lexical_literal.specs.Additions.Plain.{HasRoles, IsAt, IsCounted, IsFirst, IsReadOn, fresh, is_free, place}
 use Rattle.lexical_literal.specs.Additions.Summary.{Cuts, add, add_more, admits, after, after_digit, after_mark, cuts_of, digits_piece, forbids_plus}
 use Rattle.lexical_literal.specs.Additions.Summary.{has_digit, is_begun, is_complete, is_negative, is_run, is_signed, may_follow}
-use Rattle.lexical_literal.specs.Additions.Summary.{no_cuts, piece_of, start, takes}
+use Rattle.lexical_literal.specs.Additions.Summary.{no_cuts, piece_of, start, takes, role_at}
 use Rattle.lexical_literal.specs.declared.plain.At.{At}
 use Rattle.lexical_literal.specs.declared.plain.Counted.{Counted}
 use Rattle.lexical_literal.specs.declared.steps.Piece.{Piece}
@@ -21,7 +21,7 @@ use Rattle.lexical_literal.specs.declared.steps.Stage.{Stage}
 use Rattle.lexical_literal.specs.declared.steps.Stage.TheVariants as stages
 use Rattle.lexical_literal.specs.declared.steps.Summary.{Summary}
 use Rattle.lexical_literal.specs.declared.syntax.Condition.TheVariants as conditions
-use Rattle.lexical_literal.proofs.ScanLemmas.{digit_role, is_role, moved, role_in, scan_append, tally_append}
+use Rattle.lexical_literal.proofs.ScanLemmas.{digit_role, is_role, moved, scan_append, tally_append}
 
 -- Sums of lengths.
 none_more : (c : Cuts) (p other : Piece) (n : ℕ) → add_more c p (n - n) other ≡ c other
@@ -135,18 +135,19 @@ module _ (m : Notation) (text : List ℕ) where
 
   module _ (h : HasRoles m) where
     -- One byte is read.
-    pub read_one : (at : At) (r : Role) → at.size < length text → role_in m at.read.part (get_or text at.size 0) ≡ Some r → at.read.ended ≡ false
+    pub read_one : (at : At) (r : Role) → at.size < length text → role_at m at.read.part (get_or text at.size 0) ≡ Some r → at.read.ended ≡ false
         → takes m at.read (get_or text at.size 0 == 43) r ≡ true
         → admits m.condition at.read (get_or text at.size 0 == 43) (get_or text at.size 0 == 48) r ≡ true
         → IsReadOn m text at (piece_of at.read.part r) (record { size = at.size + 1; read = after at.read (get_or text at.size 0 == 48) r })
     read_one at r inside plays going taken admitted = let b = get_or text at.size 0 in record {
       more = omega arith;
       reads = λ c is. record {
-        within = omega arith;
-        read = rw (take_more text at.size 0 inside, scan_append m.condition m (Some start) (take at.size text) (b ∷ []), is.read)
-            (moved m.condition m h at.read b (Some r) plays ∙ (λ j. if not (going j) && (taken j && admitted j) then Some (after at.read (b == 48) r) else
-            None));
-        counted = rw (take_more text at.size 0 inside, tally_append m.condition m (Some start) no_cuts (take at.size text) (b ∷ []), is.read, is.counted, plays)
+        begun = record {
+          within = omega arith;
+          read = rw (take_more text at.size 0 inside, scan_append m.condition m (Some start) (take at.size text) (b ∷ []), is.begun.read)
+              (moved m.condition m at.read b r plays going taken admitted);
+        };
+        counted = rw (take_more text at.size 0 inside, tally_append m.condition m (Some start) no_cuts (take at.size text) (b ∷ []), is.begun.read, is.counted, plays)
             (sym (λ j other. one_more c (piece_of at.read.part r) other at.size j));
       };
     }
@@ -157,7 +158,7 @@ module _ (m : Notation) (text : List ℕ) where
         (place part (size + 1) (if (get_or text size 0 == 48) && is_begun stage then stages.Bare else stages.Digits))
     read_first part size stage inside digit none signed free = let b = get_or text size 0 in
         subst (λ after. IsReadOn m text (place part size stage) (digits_piece part) (place part (size + 1) after)) (after_first m part stage none (b == 48))
-        (read_one (place part size stage) roles.Digit inside (digit_role m h part b digit) refl (takes_first m part stage none (b == 43) signed)
+        (read_one (place part size stage) roles.Digit inside (digit_role m part b digit) refl (takes_first m part stage none (b == 43) signed)
         (admits_free m part stage (place part size stage).read (b == 43) (b == 48) roles.Digit (λ same. cc) free))
 
     -- A digit that changes no stage.
@@ -165,7 +166,7 @@ module _ (m : Notation) (text : List ℕ) where
         → IsReadOn m text (place part size stage) (digits_piece part) (place part (size + 1) stage)
     read_digit part size stage run inside digit = let b = get_or text size 0 in
         subst (λ after. IsReadOn m text (place part size stage) (digits_piece part) (place part (size + 1) after)) (same_digit m part stage run false (b == 48))
-        (read_one (place part size stage) roles.Digit inside (digit_role m h part b digit) refl (takes_more m part stage run (b == 43) false (λ gap. absurd
+        (read_one (place part size stage) roles.Digit inside (digit_role m part b digit) refl (takes_more m part stage run (b == 43) false (λ gap. absurd
         (false≢true gap)))
         (admits_free m part stage (place part size stage).read (b == 43) (b == 48) roles.Digit (λ same. cc) (run_is_free m part stage run)))
 
@@ -181,12 +182,12 @@ module _ (m : Notation) (text : List ℕ) where
         let first : IsReadOn m text (place part size stage) (digits_piece part) gap =
         subst (λ after. IsReadOn m text (place part size stage) (digits_piece part)
         (record { size = size + 1; read = record { part = part; stage = after; gap = true; ended = false } })) (same_mark m part stage run)
-        (read_one (place part size stage) roles.Separator (omega (arith, inside)) (is_role m h part roles.Separator b (λ same. cc) separator) refl
+        (read_one (place part size stage) roles.Separator (omega (arith, inside)) (is_role m part b h roles.Separator (λ same. cc) separator) refl
         (takes_separator m part stage run (b == 43) allowed)
         (admits_free m part stage (place part size stage).read (b == 43) (b == 48) roles.Separator (λ same. cc) (run_is_free m part stage run))) in
         let second : IsReadOn m text gap (digits_piece part) (place part (size + 1 + 1) stage) =
         subst (λ after. IsReadOn m text gap (digits_piece part) (place part (size + 1 + 1) after)) (same_digit m part stage run true (d == 48))
-        (read_one gap roles.Digit inside (digit_role m h part d digit) refl (takes_more m part stage run (d == 43) true (λ _. allowed))
+        (read_one gap roles.Digit inside (digit_role m part d digit) refl (takes_more m part stage run (d == 43) true (λ _. allowed))
         (admits_free m part stage gap.read (d == 43) (d == 48) roles.Digit (λ same. cc) (run_is_free m part stage run))) in
         go_on (place part size stage) gap (place part (size + 2) stage) (digits_piece part) first
         (subst (λ n. IsReadOn m text gap (digits_piece part) (place part n stage)) two second)
@@ -196,7 +197,7 @@ module _ (m : Notation) (text : List ℕ) where
         || ((get_or text size 0 == 45) && not (m.condition conditions.NegativeSign && is_negative part false roles.Sign)))
         → IsReadOn m text (place part size (fresh part)) (piece_of part roles.Sign) (place part (size + 1) (after_mark (fresh part)))
     read_sign part size inside allowed = let b = get_or text size 0 in
-        read_one (place part size (fresh part)) roles.Sign inside (is_role m h part roles.Sign b (λ same. cc) (some_sign part b allowed)) refl
+        read_one (place part size (fresh part)) roles.Sign inside (is_role m part b h roles.Sign (λ same. cc) (some_sign part b allowed)) refl
         (sign_taken part b allowed) (sign_admitted part b (b == 48) allowed) where
           allows : Part → ℕ → Bool
           allows part b = ((b == 43) && not (forbids_plus m part)) || ((b == 45) && not (m.condition conditions.NegativeSign && is_negative part false
@@ -221,7 +222,7 @@ module _ (m : Notation) (text : List ℕ) where
         → is_free m stages.Bare ≡ true
         → IsReadOn m text (place part size stages.Bare) (digits_piece part) (place part (size + 1) stages.Led)
     read_led part size inside digit may free = let b = get_or text size 0 in
-        read_one (place part size stages.Bare) roles.Digit inside (digit_role m h part b digit) refl may
+        read_one (place part size stages.Bare) roles.Digit inside (digit_role m part b digit) refl may
         (admits_free m part stages.Bare (place part size stages.Bare).read (b == 43) (b == 48) roles.Digit (λ same. cc) free)
 
     -- The zero that begins the integer.
@@ -232,7 +233,7 @@ module _ (m : Notation) (text : List ℕ) where
         let is_zero : (b == 48) ≡ true = grind arith in
         subst (λ after. IsReadOn m text (place parts.Integer size stage) pieces.Integer (place parts.Integer (size + 1) after))
         (ap (after_digit stage false) is_zero ∙ bare stage is.begun)
-        (read_one (place parts.Integer size stage) roles.Digit inside (digit_role m h parts.Integer b digit) refl
+        (read_one (place parts.Integer size stage) roles.Digit inside (digit_role m parts.Integer b digit) refl
         (takes_first m parts.Integer stage (none_begun stage is.begun) (b == 43) is.signed)
         (ap (λ z. admits m.condition (place parts.Integer size stage).read (b == 43) z roles.Digit) is_zero ∙ admitted stage (b == 43) is.begun)) where
           bare : (stage : Stage) → is_begun stage ≡ true → after_digit stage false true ≡ stages.Bare
@@ -256,7 +257,7 @@ module _ (m : Notation) (text : List ℕ) where
         let two : size + 1 + 1 ≡ size + 2 = omega arith in
         let first = read_zero size stage (omega (arith, inside)) naught is in
         let second : IsReadOn m text zero_at pieces.Prefix (place parts.Integer (size + 1 + 1) stages.Free) =
-        read_one zero_at roles.Prefix inside (is_role m h parts.Integer roles.Prefix b (λ same. cc) prefix) refl refl (prefix_admitted (b == 43) (b == 48)) in
+        read_one zero_at roles.Prefix inside (is_role m parts.Integer b h roles.Prefix (λ same. cc) prefix) refl refl (prefix_admitted (b == 43) (b == 48)) in
         subst (λ n. IsAt m text (place parts.Integer n stages.Free) (add (add c pieces.Integer) pieces.Prefix)) two
         (one_read zero_at (place parts.Integer (size + 1 + 1) stages.Free) pieces.Prefix second refl (add c pieces.Integer)
         (one_read (place parts.Integer size stage) zero_at pieces.Integer first refl c begun)) where
@@ -266,7 +267,7 @@ module _ (m : Notation) (text : List ℕ) where
 -- Where reading stops before a literal has been found.
 pub stopped_at : (m : Notation) (text : List ℕ) (counted : Counted) (c : Cuts) → IsAt m text counted.at c → counted.complete ≡ false → IsCounted m text counted
 stopped_at m text counted c is incomplete = record {
-  begun = record { within = is.within; read = is.read };
+  begun = is.begun;
   complete = λ yes. absurd (false≢true (sym incomplete ∙ yes));
   lengths = λ yes. absurd (false≢true (sym incomplete ∙ yes));
 }
@@ -276,7 +277,7 @@ pub complete_at : (m : Notation) (text : List ℕ) (counted : Counted) → IsAt 
     → counted.complete ≡ is_complete m counted.at.read
     → IsCounted m text counted
 complete_at m text counted is complete = record {
-  begun = record { within = is.within; read = is.read };
+  begun = is.begun;
   complete = λ yes. sym complete ∙ yes;
   lengths = λ yes. is.counted;
 }

@@ -7,18 +7,18 @@ use Rattle.lexical_util.specs.Layout as layout
 use Rattle.lexical_util.specs.Layout.{Flag, separators_in}
 use Rattle.lexical_util.specs.declared.format_flags.Part.{Part}
 use Rattle.lexical_util.specs.declared.format_flags.Part.TheVariants as parts
-use Rattle.lexical_literal.specs.Additions.Plain.{HasRoles}
+use Rattle.lexical_literal.specs.Additions.Plain.{IsReady, HasRoles}
 use Rattle.lexical_literal.specs.Notation.{Notation}
 use Rattle.lexical_literal.specs.Run.{is_place, is_fit, are_fit}
 use Rattle.lexical_literal.specs.Literal.{Literal, IsLiteral, IsSpelled, requirement}
 use Rattle.lexical_literal.specs.Front.{IsFront}
 use Rattle.lexical_literal.specs.Cause.{Allows, is_one_of, requirement_flags, number_separator_flags, with_rules}
-use Rattle.lexical_literal.specs.Additions.Causes.{class_of_next, IsWeaker, allows}
-use Rattle.lexical_literal.specs.Additions.Summary.{after, scan, byte_class, step, is_accepted, start}
+use Rattle.lexical_literal.specs.Additions.Causes.{IsWeaker, lets}
+use Rattle.lexical_literal.specs.Additions.Summary.{after, scan, step, is_accepted, start}
 use Rattle.lexical_literal.specs.declared.steps.Summary.{Summary}
 use Rattle.lexical_literal.specs.declared.syntax.Condition.{Condition}
 use Rattle.lexical_literal.specs.declared.syntax.Condition.TheVariants as conditions
-use Rattle.lexical_literal.proofs.ScanLemmas.{IsReady, scan_append, took}
+use Rattle.lexical_literal.proofs.ScanLemmas.{scan_append, took}
 use Rattle.lexical_literal.proofs.ConditionLemmas.{literal_from, literal_arrives}
 use Rattle.lexical_literal.proofs.FrontLemmas.{front_from, front_is_read}
 use Rattle.lexical_literal.proofs.PartOfLemmas.{none_after}
@@ -113,8 +113,8 @@ module _ (m : Notation) (A : Flag → Bool) (D : Condition → Bool) where
   same_last : HasRoles m → (t : Summary) (text : List ℕ) (s r : Summary) → scan m (Some t) text ≡ Some s → scan n (Some t) text ≡ Some r → s ≡ r
   same_last h t [] s r is_s is_r = cc
   same_last h t (b ∷ text) s r is_s is_r =
-      let one = took m.condition m h t b (λ o. scan m o text ≡ Some s) (none_after m text s) is_s in
-      let two = took D n (other_roles h) t b (λ o. scan n o text ≡ Some r) (none_after n text r) is_r in
+      let one = took m.condition m t b (λ o. scan m o text ≡ Some s) (none_after m text s) is_s in
+      let two = took D n t b (λ o. scan n o text ≡ Some r) (none_after n text r) is_r in
       let same : two.role ≡ one.role = let first = one.plays in let second = two.plays in cc in
       same_last h (after t (b == 48) one.role) text s r one.rest (subst (λ x. scan n (Some (after t (b == 48) x)) text ≡ Some r) same two.rest)
 
@@ -129,16 +129,16 @@ module _ (m : Notation) (A : Flag → Bool) (D : Condition → Bool) where
         let some = some_of (scan n (Some start) front) (front_is_read n (other_ready weaker ready) front front_is) in
         some.1 ∙ ap Some (sym (same_last ready.roles start front s some.0 read some.1))
 
-    one_more : (b : ℕ) → scan n (Some start) (front ++ b ∷ []) ≡ step n s (byte_class m b)
+    one_more : (b : ℕ) → scan n (Some start) (front ++ b ∷ []) ≡ step n s b
     one_more b = scan_append D n (Some start) front (b ∷ []) ∙ ap (λ o. scan n o (b ∷ [])) read_too
 
-    pub decided : (next : Option ℕ) → (allows n s (class_of_next m next) ≡ true) ↔ Allows n front next
+    pub decided : (next : Option ℕ) → (lets n s next ≡ true) ↔ Allows n front next
     decided None = (
       λ is. literal_from n (other_roles ready.roles) front (ap (is_accepted n) read_too ∙ is),
       λ l. sym (ap (is_accepted n) read_too) ∙ rw (l.1.whole) (literal_arrives n (other_roles ready.roles) l.0 l.1.literal).0,
     )
     decided (Some b) = (
-      λ is. let some = some_of (step n s (byte_class m b)) (λ none. false≢true (sym (ap is_some none) ∙ is)) in
+      λ is. let some = some_of (step n s b) (λ none. false≢true (sym (ap is_some none) ∙ is)) in
           front_from n (other_ready weaker ready) (front ++ b ∷ []) some.0 (one_more b ∙ some.1),
-      λ is. ap is_some (some_of (step n s (byte_class m b)) (λ none. front_is_read n (other_ready weaker ready) (front ++ b ∷ []) is (one_more b ∙ none))).1,
+      λ is. ap is_some (some_of (step n s b) (λ none. front_is_read n (other_ready weaker ready) (front ++ b ∷ []) is (one_more b ∙ none))).1,
     )

@@ -24,7 +24,7 @@ use Rattle.lexical_literal.specs.Syntax.{IsSyntax, FitIfAny, contradiction}
 use Rattle.lexical_literal.specs.declared.syntax.Conditions.{Conditions}
 use Rattle.lexical_literal.specs.declared.syntax.Options.{Options}
 use Rattle.lexical_literal.specs.declared.syntax.Grammar.{Grammar}
-use Rattle.lexical_literal.proofs.ScanLemmas.{IsReady}
+use Rattle.lexical_literal.specs.Additions.Plain.{IsReady}
 
 -- The exponent character and the decimal point, or 0 without options.
 abbrev exponent_byte : Option Options → ℕ

@@ -1,7 +1,8 @@
 -- The bytes to show for a text that is refused are of the text.
-use Rattle.std.proofs.Common.{ℕ, ◌≡◌, ◌≤◌, ◌⊎◌, Bool, not, inl, inr, List, [], ◌∷◌, length, length-append, take, Option, None, Some}
-use Rattle.std.proofs.Common.{if◌then◌else◌, sym, ap, subst, arith}
-use Rattle.std.proofs.lemmas.List.{length-take-le}
+use Rattle.std.proofs.Common.{ℕ, ◌≡◌, ◌≤◌, ◌+◌, ◌⊎◌, Bool, not, inl, inr, List, [], ◌∷◌, length, length-append, take, Option, None, Some}
+use Rattle.std.proofs.Common.{if◌then◌else◌, get_or, sym, ap, subst, ◌∙◌, arith}
+use Rattle.std.proofs.Math.Seq.{take-length}
+use Rattle.std.proofs.lemmas.List.{length-take-le, take_more}
 use Rattle.std.proofs.lemmas.Option.{slice_get_within}
 use Rattle.std.specs.Prelude.{slice_get}
 use Rattle.lexical_util.specs.Ascii.{ByteSet}
@@ -19,11 +20,20 @@ use Rattle.lexical_literal.specs.declared.cause.Refusal.{Refusal}
 use Rattle.lexical_literal.specs.declared.syntax.Condition.{Condition}
 use Rattle.lexical_literal.specs.declared.syntax.Condition.TheVariants as conditions
 use Rattle.lexical_literal.specs.declared.syntax.Grammar.{Grammar}
+use Rattle.lexical_literal.proofs.CauseLemmas.{behind_more}
 
 module _ (A : ByteSet) where
   pub behind_within : (text : List ℕ) → behind A text ≤ length text
   behind_within [] = omega arith
   behind_within (b ∷ text) = let more = behind_within text in grind arith
+
+  -- The last byte decides.
+  pub behind_last : (text : List ℕ) (k : ℕ) → length text ≡ k + 1
+      → behind A text ≡ (if A (get_or text k 0) then length text else behind A (take k text))
+  behind_last text k size =
+      let short = length-take-le k text (omega arith) in
+      ap (behind A) (sym (take-length text) ∙ ap (λ n. take n text) size ∙ take_more text k 0 (omega arith)) ∙ behind_more A (take k text) (get_or text k 0)
+      ∙ ap (λ n. if A (get_or text k 0) then n else behind A (take k text)) (omega arith)
 
   first_within : (text : List ℕ) → first_in A text ≤ length text
   first_within [] = omega arith

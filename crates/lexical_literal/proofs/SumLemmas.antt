@@ -138,8 +138,8 @@ module _ (g : Grammar) (text : List ℕ) (part : Part) (run : Run) (v : ℕ) (h 
       let two : run.size + 1 + 1 ≡ run.size + 2 = omega arith in
       let inside : run.size < length text = omega (arith, separated.digit.0) in
       let first = byte_between radix text run.size None inside
-      (no_value radix (get_or text run.size 0) (no_digit m h part (get_or text run.size 0)
-      (is_role m h part roles.Separator (get_or text run.size 0) (λ same. cc) separated.separator))) in
+      (no_value radix (get_or text run.size 0) (no_digit m part (get_or text run.size 0)
+      (is_role m part (get_or text run.size 0) h roles.Separator (λ same. cc) separated.separator))) in
       let second = byte_between radix text (run.size + 1) (Some v) separated.digit.0 separated.digit.1 in
       let one : digits_in radix (between text run.size (run.size + 2)) ≡ v ∷ [] =
       both_between radix text run.size (run.size + 1) (run.size + 2) (omega arith) (omega arith)

@@ -8,10 +8,10 @@ use Rattle.lexical_literal.specs.Additions.Plain.{HasRoles}
 use Rattle.lexical_literal.specs.Notation.{Notation}
 use Rattle.lexical_literal.specs.Literal.{Literal, Reads}
 use Rattle.lexical_literal.specs.Readings.{AllIn}
-use Rattle.lexical_literal.specs.Additions.Summary.{byte_class, needs_exponent, move_by, step, scan, is_accepted, start}
+use Rattle.lexical_literal.specs.Additions.Summary.{needs_exponent, move_by, step, scan, is_accepted, start}
 use Rattle.lexical_literal.specs.declared.steps.Stage.{Stage}
 use Rattle.lexical_literal.specs.declared.steps.Stage.TheVariants as stages
-use Rattle.lexical_literal.proofs.ScanLemmas.{scan_none, moved, digit_role, is_role}
+use Rattle.lexical_literal.proofs.ScanLemmas.{scan_none, digit_role, is_role}
 use Rattle.lexical_literal.proofs.StepLemmas.{reading}
 use Rattle.lexical_literal.specs.declared.syntax.Condition.TheVariants as conditions
 use Rattle.lexical_literal.proofs.ConditionLemmas.{literal_from, literal_arrives}
@@ -32,16 +32,16 @@ module _ (m : Notation) (h : HasRoles m) where
   more_digits (b ∷ digits) all =
       let is : move_by m.condition m (reading parts.Integer stages.Digits false) (b == 43) (b == 48) (Some roles.Digit)
       ≡ Some (reading parts.Integer stages.Digits false) = grind arith in
-      ap (λ o. is_accepted m (scan m o digits)) (moved m.condition m h (reading parts.Integer stages.Digits false) b (Some roles.Digit)
-      (digit_role m h parts.Integer b all.0) ∙ is) ∙ more_digits digits all.1
+      ap (λ o. is_accepted m (scan m o digits)) (ap (move_by m.condition m (reading parts.Integer stages.Digits false) (b == 43) (b == 48))
+      (digit_role m parts.Integer b all.0) ∙ is) ∙ more_digits digits all.1
 
   module _ (first : ℕ) (digits : List ℕ) (not_zero : first ≢ 48) (all : AllIn (m.digit parts.Integer) (first ∷ digits)) where
     -- The first digit, which is not 0.
-    first_digit : (stage : Stage) → let s = reading parts.Integer stage false in step m s (byte_class m first) ≡ move_by m.condition m s (first == 43) false
+    first_digit : (stage : Stage) → let s = reading parts.Integer stage false in step m s first ≡ move_by m.condition m s (first == 43) false
         (Some roles.Digit)
     first_digit stage =
         let other : (first == 48) ≡ false = grind (arith, nat_tests) in
-        moved m.condition m h (reading parts.Integer stage false) first (Some roles.Digit) (digit_role m h parts.Integer first all.0)
+        ap (move_by m.condition m (reading parts.Integer stage false) (first == 43) (first == 48)) (digit_role m parts.Integer first all.0)
         ∙ ap (λ zero. move_by m.condition m (reading parts.Integer stage false) (first == 43) zero (Some roles.Digit)) other
 
     pub digits_read : ((l : Literal) × Reads m l (first ∷ digits))
@@ -53,7 +53,7 @@ module _ (m : Notation) (h : HasRoles m) where
     pub negative_read : ((l : Literal) × Reads m l (45 ∷ first ∷ digits)) ↔ IsFalse ((m.condition conditions.BasePrefix || m.condition conditions.BaseSuffix)
         || (m.condition conditions.NegativeSign || (m.flag layout.required_exponent_notation && not m.integers_only)))
     negative_read = literal_exactly (45 ∷ first ∷ digits) _ (ap (λ o. is_accepted m (scan m o (first ∷ digits)))
-        (moved m.condition m h start 45 (Some roles.Sign) (is_role m h parts.Integer roles.Sign 45 (λ e. cc) refl)) ∙ go
+        (ap (move_by m.condition m start false false) (is_role m parts.Integer 45 h roles.Sign (λ e. cc) refl)) ∙ go
         (m.condition conditions.NegativeSign) refl) where
           go : (minus : Bool) → m.condition conditions.NegativeSign ≡ minus
               → is_accepted m (scan m (move_by m.condition m start false false (Some roles.Sign)) (first ∷ digits))

@@ -7,14 +7,14 @@ ghost use Rattle.lexical_util.specs.Roles.{other_case};
 ghost use Rattle.lexical_literal.specs.Additions.Causes.{is_at_gap, lets, place_of};
 ghost use Rattle.lexical_literal.specs.Additions.Explained.{alone, blame, cases, conditions_of, mask_of, refusal_of, requirements, separators};
 ghost use Rattle.lexical_literal.specs.Additions.Explained.{ungrouped_of, unmet, zeros};
-ghost use Rattle.lexical_literal.specs.Additions.Summary.{byte_class, in_part};
+ghost use Rattle.lexical_literal.specs.Additions.Summary.{role_at};
 ghost use Rattle.lexical_literal.specs.Cause.{adding, bare, binds, case_set, first_unmet, is_same, with_rules};
 ghost use Rattle.lexical_literal.specs.Forms.{is_byte};
 ghost use Rattle.lexical_literal.specs.Notation.{has, notation_of};
 
 use crate::span::{error, span};
 use crate::steps::{
-    self, Summary, byte_class, has_digit, in_part, is_exponent_character, needs_exponent,
+    Summary, has_digit, is_complete, is_exponent_character, moved, needs_exponent, role_at,
 };
 use crate::syntax::{Condition, Conditions, Grammar};
 use lexical_util::error::Error;
@@ -348,11 +348,11 @@ impl Stop {
             conditions,
         };
         match self.byte {
-            None => steps::is_complete(other, self.read),
-            Some(byte) => matches!(
-                steps::step(other, self.read, byte_class(self.grammar, byte)),
-                Some(_)
-            ),
+            None => is_complete(other, self.read),
+            Some(byte) => match role_at(self.grammar, self.read.part, byte) {
+                None => false,
+                Some(role) => matches!(moved(other, self.read, byte, role), Some(_)),
+            },
         }
     }
 
@@ -469,7 +469,7 @@ impl Stop {
         match self.byte {
             None => self.read.gap,
             Some(byte) => {
-                let role = in_part(self.read.part, byte_class(self.grammar, byte));
+                let role = role_at(self.grammar, self.read.part, byte);
                 self.read.gap || matches!(role, Some(Role::Separator))
             }
         }
@@ -477,9 +477,9 @@ impl Stop {
 
     // Returns where a separator is not allowed, before or after `byte`.
     const fn place(self, byte: u8) -> Place
-        ensures { result ≡ place_of (notation_of self.grammar) self.read (in_part self.read.part (byte_class (notation_of self.grammar) byte)) }
+        ensures { result ≡ place_of (notation_of self.grammar) self.read (role_at (notation_of self.grammar) self.read.part byte) }
     {
-        let role = in_part(self.read.part, byte_class(self.grammar, byte));
+        let role = role_at(self.grammar, self.read.part, byte);
         let is_consecutive = self.read.gap
             && !self.grammar.view().separators(self.read.part).consecutive;
         if is_consecutive && matches!(role, Some(Role::Separator)) {

@@ -6,7 +6,7 @@ ghost use Rattle.lexical_literal.specs.Forms.{IsFormError};
 ghost use Rattle.lexical_literal.specs.Takes.{Refuses};
 
 use crate::cause::ReadError;
-use crate::plain::At;
+use crate::plain::{At, BEGIN};
 use crate::read::Found;
 use crate::syntax::Syntax;
 use std::marker::Model;
@@ -126,14 +126,21 @@ impl<'a> SyntaxList<'a> {
             unreachable!()
         };
         let syntaxes = self.syntaxes();
-        let error = syntaxes[first].refuse(text, stop);
+        let Err(error) = syntaxes[first].refuse::<()>(text, stop) else {
+            unreachable!()
+        };
+        if !error.is_byte() {
+            return FormError { form: first, error };
+        }
         let mut form = first + 1;
         while form < syntaxes.len() {
             let syntax = &syntaxes[form];
-            let reached = syntax.stop(text, syntax.begin(text, false).at);
+            let reached = syntax.walk(text, BEGIN);
             if reached.size == stop.size {
-                let other = syntax.refuse(text, reached);
-                if !other.is_byte() && error.is_byte() {
+                let Err(other) = syntax.refuse::<()>(text, reached) else {
+                    unreachable!()
+                };
+                if !other.is_byte() {
                     return FormError { form, error: other };
                 }
             }

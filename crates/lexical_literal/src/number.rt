@@ -46,7 +46,7 @@ impl Syntax {
         let stop = self.stop(text, at);
         match self.lengths(text, stop) {
             Some(counts) => Ok(cut(text, counts)),
-            None => Err(self.refuse(text, stop)),
+            None => self.refuse(text, stop),
         }
     }
 
@@ -62,7 +62,7 @@ impl Syntax {
     {
         let (stop, found) = self.front(text);
         match found {
-            None => Err(self.refuse(text, stop)),
+            None => self.refuse(text, stop),
             Some(found) => match self.grouped(text, found) {
                 Ok(()) => {
                     let Found { size, counts } = found;

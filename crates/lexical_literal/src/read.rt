@@ -1,8 +1,8 @@
 //! How literals are found, and the lengths of their parts.
 
-ghost use Rattle.std.specs.Prelude.{◌≡◌, ◌+◌, ◌++◌, ◌∷◌, ◌<◌, ◌≤◌, Bool, IfSome, IsNone, IsTrue, None, ℕ, List, [], false, true, length, slice_get, take};
+ghost use Rattle.std.specs.Prelude.{◌≡◌, ◌+◌, ◌++◌, ◌∷◌, ◌<◌, ◌≤◌, Bool, IfSome, IsErrAnd, IsNone, IsTrue, None, ℕ, List, [], false, true, length, slice_get, take};
 ghost use Rattle.lexical_literal.specs.Additions.Explained.{tail_byte};
-ghost use Rattle.lexical_literal.specs.Additions.Longest.{HasFound, IsCountedFront, IsFronted, IsGrouped, IsLongest, IsMeasured, IsScanned, IsStopped};
+ghost use Rattle.lexical_literal.specs.Additions.Longest.{HasFound, IsCountedFront, IsFronted, IsGrouped, IsLongest, IsMeasured, IsStopped};
 ghost use Rattle.lexical_literal.specs.Additions.Plain.{IsBegun};
 ghost use Rattle.lexical_literal.specs.Additions.Summary.{HasLengths, cuts_of, is_complete};
 ghost use Rattle.lexical_literal.specs.Additions.Causes.{lets};
@@ -16,9 +16,8 @@ use crate::cause::{Marks, ReadError, Spot};
 use crate::groups::{is_grouped, wrong_group};
 use crate::plain::{At, BEGIN, Counted, plain};
 use crate::span::marks;
-use crate::steps::{Summary, byte_class, is_complete, piece_number, step, step_at};
+use crate::steps::{Summary, is_complete, piece_number, piece_of, role_at, step};
 use crate::syntax::Syntax;
-use lexical_util::laws::flags::role_facts;
 
 /// The parts of a literal, in the order of the text. An absent part has no bytes.
 #[derive(Debug, Clone, Copy, PartialEq, Eq, Hash)]
@@ -83,13 +82,7 @@ impl Syntax {
             let size = stop.size;
             return (stop, Some(Found { size, counts }));
         }
-        match self.seek(text) {
-            None => (stop, None),
-            Some(size) => {
-                let counts = self.count(front_of(text, size));
-                (stop, Some(Found { size, counts }))
-            }
-        }
+        (stop, self.longest(text))
     }
 
     // Returns why the integer of the front `found` of `text` is not in groups, or `Ok` if it is.
@@ -100,7 +93,7 @@ impl Syntax {
     {
         let front = front_of(text, found.size);
         match self.grammar().conditions.integer_group_size {
-            Some(size) if !self.has_groups(front, found.counts) => Err(self.ungrouped(front, size)),
+            Some(size) if !self.has_groups(front, found.counts) => self.ungrouped(front, size),
             _ => Ok(()),
         }
     }
@@ -111,7 +104,6 @@ impl Syntax {
     pub(crate) const fn begin(&self, text: &[u8], fronts: bool) -> Counted
         ensures { HasFound (notation_of self.now) text.now result }
     {
-        role_facts();
         plain(self.grammar(), text, fronts)
     }
 
@@ -163,13 +155,12 @@ impl Syntax {
         ensures next { IfSome result (λ next. IsBegun (notation_of self.now) text.now next × (next.size ≡ at.size + 1)) }
         ensures stop { IsNone result → IsStopped (notation_of self.now) text.now at }
     {
-        role_facts();
         let grammar = self.grammar();
         let At { size, read } = at;
         if size == text.len() {
             return None;
         }
-        match step_at(grammar, read, text[size]) {
+        match step(grammar, read, text[size]) {
             None => None,
             Some(read) => Some(At {
                 size: size + 1,
@@ -180,7 +171,7 @@ impl Syntax {
 
     // Returns where reading stops, step by step.
     #[cold]
-    const fn walk(&self, text: &[u8], at: At) -> At
+    pub(crate) const fn walk(&self, text: &[u8], at: At) -> At
         requires { IsBegun (notation_of self.now) text.now at }
         ensures { IsStopped (notation_of self.now) text.now result }
     {
@@ -196,50 +187,33 @@ impl Syntax {
     const fn count(&self, text: &[u8]) -> [usize; 9]
         ensures { (l : Literal) → Reads (notation_of self.now) l text.now → HasLengths l (cuts_of result) }
     {
-        self.read_on(text, false).counts
+        match self.longest(text) {
+            None => [0; 9],
+            Some(found) => found.counts,
+        }
     }
 
-    // Returns the length of the longest front of `text` that is a literal, if there is one.
+    // Returns the longest front of `text` that is a literal, and the lengths of its parts, if there is one.
     #[cold]
-    const fn seek(&self, text: &[u8]) -> Option<usize>
+    const fn longest(&self, text: &[u8]) -> Option<Found>
         ensures { IsLongest (notation_of self.now) text.now (length text.now) result }
     {
-        self.read_on(text, true).literal
-    }
-
-    // Reads `text` until no literal begins with what has been read, and counts the bytes of each part. Seeks the longest front
-    // that is a literal if `seeks` is true.
-    #[cold]
-    const fn read_on(&self, text: &[u8], seeks: bool) -> Scanned
-        ensures { IsScanned (notation_of self.now) seeks text.now result }
-    {
-        role_facts();
         let grammar = self.grammar();
-        let At { mut size, mut read } = BEGIN;
+        let mut at = BEGIN;
         let mut counts = [0; 9];
-        let mut literal = None;
-        while size < text.len() {
-            let Some(next) = step(grammar, read, byte_class(grammar, text[size])) else {
-                let stop = At { size, read };
-                return Scanned {
-                    stop,
-                    literal,
-                    counts,
-                };
+        let mut found = None;
+        while let Some(next) = self.step(text, at) {
+            let Some(role) = role_at(grammar, at.read.part, text[at.size]) else {
+                return found;
             };
-            read = next.summary;
-            counts[piece_number(next.piece)] += 1;
-            size += 1;
-            if seeks && is_complete(grammar, read) {
-                literal = Some(size);
+            counts[piece_number(piece_of(at.read.part, role))] += 1;
+            at = next;
+            if is_complete(grammar, at.read) {
+                let size = at.size;
+                found = Some(Found { size, counts });
             }
         }
-        let stop = At { size, read };
-        Scanned {
-            stop,
-            literal,
-            counts,
-        }
+        found
     }
 
     // Returns whether what has been read is a literal.
@@ -250,12 +224,13 @@ impl Syntax {
         is_complete(self.grammar(), read)
     }
 
-    // Returns why `text`, of which reading stopped at `stop`, is not a literal.
+    // Returns why `text`, of which reading stopped at `stop`, is not a literal, as the result of the caller, which takes less
+    // time than to copy an error.
     #[inline(always)]
-    pub(crate) fn refuse(&self, text: &[u8], stop: At) -> ReadError
+    pub(crate) fn refuse<T>(&self, text: &[u8], stop: At) -> Result<T, ReadError>
         requires stopped { IsStopped (notation_of self.now) text.now stop }
         requires refuses { Refuses self.now text.now }
-        ensures { IsError self.now text.now result.refusal }
+        ensures { IsErrAnd result (λ error. IsError self.now text.now error.refusal) }
     {
         match self.grammar().conditions.integer_group_size {
             Some(size) if stop.size == text.len() && self.is_complete(stop.read) => {
@@ -267,18 +242,18 @@ impl Syntax {
 
     // Returns that the integer of `text` is not in groups of `size`, and the first wrong group.
     #[cold]
-    fn ungrouped(&self, text: &[u8], size: u8) -> ReadError
+    fn ungrouped<T>(&self, text: &[u8], size: u8) -> Result<T, ReadError>
         requires size { self.now.conditions.integer_group_size ≡ Some size }
         requires read { (l : Literal) × Reads (notation_of self.now) l text.now }
         requires refuses { Refuses self.now text.now }
-        ensures { IsUngrouped self.now text.now result.refusal }
+        ensures { IsErrAnd result (λ error. IsUngrouped self.now text.now error.refusal) }
     {
         let counts = self.count(text);
         let grammar = self.grammar();
         let parts = cut(text, counts);
         let before = parts.sign.len() + parts.prefix.len();
         let (start, end) = wrong_group(grammar, size, parts.integer);
-        ReadError {
+        Err(ReadError {
             spot: Spot {
                 grammar,
                 read: BEGIN.read,
@@ -292,21 +267,20 @@ impl Syntax {
                 },
                 is_ungrouped: true,
             },
-        }
+        })
     }
 
     // Returns why the byte that follows is not allowed, or what is missing.
     #[cold]
-    fn refuse_byte(&self, text: &[u8], stop: At) -> ReadError
+    fn refuse_byte<T>(&self, text: &[u8], stop: At) -> Result<T, ReadError>
         requires stopped { IsStopped (notation_of self.now) text.now stop }
         requires refused { lets (notation_of self.now) stop.read (slice_get text.now stop.size) ≡ false }
-        ensures { IsRefusal (notation_of self.now) text.now result.refusal }
+        ensures { IsErrAnd result (λ error. IsRefusal (notation_of self.now) text.now error.refusal) }
     {
-        role_facts();
         let grammar = self.grammar();
         let size = stop.size;
         let byte = byte_at(text, size);
-        ReadError {
+        Err(ReadError {
             spot: Spot {
                 grammar,
                 read: stop.read,
@@ -315,17 +289,8 @@ impl Syntax {
                 marks: marks(grammar, front_of(text, size)),
                 is_ungrouped: false,
             },
-        }
+        })
     }
-}
-
-// What a pass over a text finds: where it stops, the length of the longest front that is a literal, if it was sought, and
-// the lengths of the parts of what has been read.
-#[derive(Clone, Copy)]
-pub(crate) struct Scanned {
-    stop: At,
-    literal: Option<usize>,
-    counts: [usize; 9],
 }
 
 // Returns the byte behind the first `size`, if there is one.
@@ -352,12 +317,24 @@ const fn tail_size(byte: Option<u8>) -> usize
 }
 
 // Returns the bytes that follow `byte`, the one behind the first `size`, in its character, and 0 for each that does not.
+#[inline(always)]
 const fn tail_at(text: &[u8], size: usize, byte: Option<u8>) -> [u8; 3]
     requires size { size ≤ length text.now }
     requires byte { byte ≡ slice_get text.now size }
     ensures { result ≡ tail_of text.now size }
 {
-    let tail = tail_size(byte);
+    match tail_size(byte) {
+        0 => [0; 3],
+        tail => tail_bytes(text, size, tail),
+    }
+}
+
+// Returns the `tail` bytes behind the first `size + 1`, of three, and 0 for each other and where there is none.
+#[cold]
+const fn tail_bytes(text: &[u8], size: usize, tail: usize) -> [u8; 3]
+    requires { size ≤ length text.now }
+    ensures { result ≡ tail_byte text.now size tail 1 ∷ tail_byte text.now size tail 2 ∷ tail_byte text.now size tail 3 ∷ [] }
+{
     [
         tail_byte(text, size, tail, 1),
         tail_byte(text, size, tail, 2),

@@ -65,9 +65,27 @@ const fn first(grammar: Grammar, kind: Kind, text: &[u8]) -> usize
     text.len()
 }
 
-// Returns what spans and errors of a text are made of, the right bytes of which are `front`.
+// Returns what spans and errors of a text are made of, the right bytes of which are `front`. Most fronts end neither in a
+// separator nor in a sign.
 #[inline(always)]
 pub(crate) fn marks(grammar: Grammar, front: &[u8]) -> Marks
+    ensures { result ≡ marks_of (notation_of grammar) front.now }
+{
+    let size = front.len();
+    match front {
+        [.., last] if is_kind(grammar, Kind::Body, *last) => Marks {
+            size,
+            exponent: size,
+            first: first(grammar, Kind::Digit, front),
+            run: size,
+        },
+        _ => marks_before(grammar, front),
+    }
+}
+
+// Returns the same for any front.
+#[cold]
+fn marks_before(grammar: Grammar, front: &[u8]) -> Marks
     ensures { result ≡ marks_of (notation_of grammar) front.now }
 {
     let run = behind(grammar, Kind::NotSeparator, front);

@@ -1,38 +1,20 @@
-//! The steps of reading: what has been read of a number, changed by the class of one byte.
+//! The steps of reading: what has been read of a number, changed by one byte.
 
-ghost use Rattle.std.specs.Prelude.{◌≡◌, ◌<◌, ◌&&◌, false, not, nat_lt};
+ghost use Rattle.std.specs.Prelude.{◌≡◌, ◌<◌, ◌==◌, ◌&&◌, Some, false, not, nat_lt};
 ghost use Rattle.lexical_util.specs.Digits.{byte_value, digit_of};
 ghost use Rattle.lexical_util.specs.Record.{raw};
 ghost use Rattle.lexical_util.specs.Roles.{signs};
 ghost use Rattle.lexical_literal.specs.Notation.{has, notation_of, radix_of, point_of, exponent_character_of};
 ghost use Rattle.lexical_literal.specs.Run.{is_place};
-ghost use Rattle.lexical_literal.specs.Additions.Plain.{HasRoles};
 ghost use Rattle.lexical_literal.specs.declared.syntax.Condition.TheVariants as conditions;
-ghost use Rattle.lexical_literal.specs.Additions.Summary.{byte_class, role_of, in_part, piece_number, piece_of, has_digit, may_follow};
+ghost use Rattle.lexical_literal.specs.Additions.Summary.{role_at, piece_number, piece_of, has_digit, may_follow};
 ghost use Rattle.lexical_literal.specs.Additions.Summary.{admits, finishes, forbids_plus, gap_fits, is_begun, is_negative, is_signed, lacks_prefix};
 ghost use Rattle.lexical_literal.specs.Additions.Summary.{leads_to_prefix, needs_exponent};
-ghost use Rattle.lexical_literal.specs.Additions.Summary.{continues, ends, is_complete, step, takes, after, IsMove};
+ghost use Rattle.lexical_literal.specs.Additions.Summary.{continues, ends, is_complete, move_by, step, takes, after};
 
 use crate::syntax::{Conditions, Grammar};
 use lexical_util::format::{Part, Role};
 use lexical_util::format_flags::digit_separator;
-
-// A class of bytes: bytes of one class mean the same in a number.
-#[derive(Clone, Copy)]
-pub(crate) enum Class {
-    Other, // A byte that plays no role.
-    Zero, // The digit 0.
-    Digit, // Another digit of the mantissa and of the exponent.
-    MantissaDigit,
-    ExponentDigit,
-    Separator,
-    Prefix,
-    Suffix,
-    Point,
-    ExponentCharacter,
-    Plus,
-    Minus,
-}
 
 // A part of a literal.
 #[derive(Clone, Copy)]
@@ -78,13 +60,6 @@ pub(crate) const START: Summary = Summary {
     gap: false,
     ended: false,
 };
-
-// What one byte makes of what has been read.
-#[derive(Clone, Copy)]
-pub(crate) struct Move {
-    pub(crate) summary: Summary,
-    pub(crate) piece: Piece,
-}
 
 // Returns whether `byte` is a digit of `part`.
 #[inline(always)]
@@ -167,56 +142,6 @@ pub(crate) const fn is_exponent_character(grammar: Grammar, byte: u8) -> bool
     match grammar.options {
         None => false,
         Some(options) => grammar.view().is_exponent_character(options.exponent, byte),
-    }
-}
-
-// Returns the class of `byte`.
-pub(crate) const fn byte_class(grammar: Grammar, byte: u8) -> Class
-    ensures { result ≡ byte_class (notation_of grammar) byte }
-{
-    let format = grammar.view();
-    let mantissa = is_digit(grammar, Part::Integer, byte);
-    let exponent = is_digit(grammar, Part::Exponent, byte);
-    match (mantissa, exponent) {
-        (true, true) if byte == b'0' => Class::Zero,
-        (true, true) => Class::Digit,
-        (true, false) => Class::MantissaDigit,
-        (false, true) => Class::ExponentDigit,
-        (false, false) if format.is_separator(byte) => Class::Separator,
-        (false, false) if is_point(grammar, byte) => Class::Point,
-        (false, false) if is_exponent_character(grammar, byte) => Class::ExponentCharacter,
-        (false, false) if format.is_base_suffix(byte) => Class::Suffix,
-        (false, false) if byte == b'+' => Class::Plus,
-        (false, false) if byte == b'-' => Class::Minus,
-        (false, false) if format.is_base_prefix(byte) => Class::Prefix,
-        (false, false) => Class::Other,
-    }
-}
-
-// Returns the role of the bytes of `class`.
-pub(crate) const fn role_of(class: Class) -> Option<Role>
-    ensures { result ≡ role_of class }
-{
-    Some(match class {
-        Class::Other => return None,
-        Class::Zero | Class::Digit | Class::MantissaDigit | Class::ExponentDigit => Role::Digit,
-        Class::Separator => Role::Separator,
-        Class::Prefix => Role::Prefix,
-        Class::Suffix => Role::Suffix,
-        Class::Point => Role::Point,
-        Class::ExponentCharacter => Role::Exponent,
-        Class::Plus | Class::Minus => Role::Sign,
-    })
-}
-
-// Returns the role of a byte of `class` after a front that ends in `part`, whose radix decides what is a digit.
-pub(crate) const fn in_part(part: Part, class: Class) -> Option<Role>
-    ensures { result ≡ in_part part class }
-{
-    match (class, part) {
-        (Class::MantissaDigit, Part::Exponent) => None,
-        (Class::ExponentDigit, Part::Integer | Part::Fraction) => None,
-        _ => role_of(class),
     }
 }
 
@@ -512,11 +437,10 @@ const fn is_sign(byte: u8) -> bool
     matches!(byte, b'+' | b'-')
 }
 
-// Returns the role of `byte` after a front that ends in `part`, if no byte plays two roles.
+// Returns the role of `byte` after a front that ends in `part`, where digits are those of the radix of `part`.
 #[inline(always)]
-const fn role_at(grammar: Grammar, part: Part, byte: u8) -> Option<Role>
-    requires { HasRoles (notation_of grammar) }
-    ensures { result ≡ in_part part (byte_class (notation_of grammar) byte) }
+pub(crate) const fn role_at(grammar: Grammar, part: Part, byte: u8) -> Option<Role>
+    ensures { result ≡ role_at (notation_of grammar) part byte }
 {
     if is_digit(grammar, part, byte) {
         Some(Role::Digit)
@@ -537,41 +461,30 @@ const fn role_at(grammar: Grammar, part: Part, byte: u8) -> Option<Role>
     }
 }
 
-// Returns what `byte` makes of what has been read, or `None` if no literal begins so, if no byte plays two roles.
+// Returns what `byte` makes of what has been read, or `None` if no literal begins so.
 #[inline(always)]
-pub(crate) const fn step_at(grammar: Grammar, read: Summary, byte: u8) -> Option<Summary>
-    requires { HasRoles (notation_of grammar) }
-    ensures { result ≡ step (notation_of grammar) read (byte_class (notation_of grammar) byte) }
+pub(crate) const fn step(grammar: Grammar, read: Summary, byte: u8) -> Option<Summary>
+    ensures { result ≡ step (notation_of grammar) read byte }
 {
-    let plus = byte == b'+';
-    let zero = byte == b'0';
     match role_at(grammar, read.part, byte) {
-        Some(role)
-            if !read.ended
-                && takes(grammar, read, plus, role)
-                && admits(grammar.conditions, read, plus, zero, role) => {
-            Some(after(read, zero, role))
-        }
-        _ => None,
+        None => None,
+        Some(role) => moved(grammar, read, byte, role),
     }
 }
 
-// Returns what a byte of `class` makes of what has been read, or `None` if no literal begins so.
-pub(crate) const fn step(grammar: Grammar, read: Summary, class: Class) -> Option<Move>
-    ensures { IsMove (notation_of grammar) read class result }
+// Returns what `byte` makes of what has been read if it has the role `role`, or `None` if no literal begins so.
+#[inline(always)]
+pub(crate) const fn moved(grammar: Grammar, read: Summary, byte: u8, role: Role) -> Option<Summary>
+    ensures { result ≡ move_by (has grammar.conditions) (notation_of grammar) read (byte == 43) (byte == 48) (Some role) }
 {
-    let plus = matches!(class, Class::Plus);
-    let zero = matches!(class, Class::Zero);
-    match in_part(read.part, class) {
-        Some(role)
-            if !read.ended
-                && takes(grammar, read, plus, role)
-                && admits(grammar.conditions, read, plus, zero, role) => {
-            Some(Move {
-                summary: after(read, zero, role),
-                piece: piece_of(read.part, role),
-            })
-        }
-        _ => None,
+    let plus = byte == b'+';
+    let zero = byte == b'0';
+    if !read.ended
+        && takes(grammar, read, plus, role)
+        && admits(grammar.conditions, read, plus, zero, role)
+    {
+        Some(after(read, zero, role))
+    } else {
+        None
     }
 }

@@ -6,12 +6,13 @@ ghost use Rattle.std.specs.Result.{OkIff};
 ghost use Rattle.lexical_util.specs.NormalForm.{normal_form_of};
 ghost use Rattle.lexical_util.specs.Options.{OptionsFit, IsOptionsError};
 ghost use Rattle.lexical_util.specs.declared.lawful.Rejected.TheVariants as rejected;
+ghost use Rattle.lexical_literal.specs.Additions.Plain.{IsReady};
 ghost use Rattle.lexical_literal.specs.declared.syntax.Options.{Options};
 ghost use Rattle.lexical_literal.specs.Notation.{has, no_conditions, notation_of, IsOnlyRole};
 ghost use Rattle.lexical_literal.specs.Syntax.{IsSyntax, contradiction, groups_error};
 
-use crate::steps::{byte_class, role_of};
-use lexical_util::format::{Format, FormatError, NumberFormat, Role};
+use crate::steps::role_at;
+use lexical_util::format::{Format, FormatError, NumberFormat, Part, Role};
 use lexical_util::format_flags::{base_prefix, base_suffix};
 use lexical_util::laws::flags::role_facts;
 use std::marker::Model;
@@ -233,15 +234,19 @@ impl Syntax {
     pub const fn role_of(&self, byte: u8) -> Option<Role>
         ensures { IsOnlyRole (notation_of self.now) byte result }
     {
-        role_facts();
-        role_of(byte_class(self.grammar(), byte))
+        let grammar = self.grammar();
+        match role_at(grammar, Part::Integer, byte) {
+            None => role_at(grammar, Part::Exponent, byte),
+            role => role,
+        }
     }
 
     // Returns the format, the options and the conditions.
     pub(crate) const fn grammar(&self) -> Grammar
         ensures value { result ≡ self.now }
-        ensures lawful { IsSyntax self.now }
+        ensures ready { IsReady (notation_of self.now) }
     {
+        role_facts();
         Grammar {
             word: self.format.word(),
             options: self.options,

@@ -4,7 +4,7 @@
 
 use crate::error::Error;
 use crate::literal::span::{error, span};
-use crate::literal::steps::{self, byte_class, has_digit, in_part, is_exponent_character, needs_exponent, Summary};
+use crate::literal::steps::{has_digit, is_complete, is_exponent_character, moved, needs_exponent, role_at, Summary};
 use crate::literal::syntax::{Condition, Conditions, Grammar};
 use crate::word as masks;
 use crate::word::{Part, Role};
@@ -269,8 +269,11 @@ impl Stop {
     const fn allows(self, word: u128, conditions: Conditions) -> bool {
         let other = Grammar { word, options: self.grammar.options, conditions };
         match self.byte {
-            None => steps::is_complete(other, self.read),
-            Some(byte) => matches!(steps::step(other, self.read, byte_class(self.grammar, byte)), Some(_)),
+            None => is_complete(other, self.read),
+            Some(byte) => match role_at(self.grammar, self.read.part, byte) {
+                None => false,
+                Some(role) => matches!(moved(other, self.read, byte, role), Some(_)),
+            },
         }
     }
 
@@ -359,7 +362,7 @@ impl Stop {
         match self.byte {
             None => self.read.gap,
             Some(byte) => {
-                let role = in_part(self.read.part, byte_class(self.grammar, byte));
+                let role = role_at(self.grammar, self.read.part, byte);
                 self.read.gap || matches!(role, Some(Role::Separator))
             }
         }
@@ -367,7 +370,7 @@ impl Stop {
 
     // Returns where a separator is not allowed, before or after `byte`.
     const fn place(self, byte: u8) -> Place {
-        let role = in_part(self.read.part, byte_class(self.grammar, byte));
+        let role = role_at(self.grammar, self.read.part, byte);
         let is_consecutive = self.read.gap && !self.grammar.view().separators(self.read.part).consecutive;
         if is_consecutive && matches!(role, Some(Role::Separator)) {
             Place::Consecutive

@@ -3,7 +3,7 @@
 //! Lists of syntaxes: the numbers of a language that has several forms, such as `10`, `0x1F` and `0b1`.
 
 use crate::literal::cause::ReadError;
-use crate::literal::plain::At;
+use crate::literal::plain::{At, BEGIN};
 use crate::literal::read::Found;
 use crate::literal::syntax::Syntax;
 
@@ -94,14 +94,17 @@ impl<'a> SyntaxList<'a> {
     const fn refuse(&self, text: &[u8], furthest: Option<(usize, At)>) -> FormError {
         let Some((first, stop)) = furthest else { unreachable!() };
         let syntaxes = self.syntaxes();
-        let error = syntaxes[first].refuse(text, stop);
+        let Err(error) = syntaxes[first].refuse::<()>(text, stop) else { unreachable!() };
+        if !error.is_byte() {
+            return FormError { form: first, error };
+        }
         let mut form = first + 1;
         while form < syntaxes.len() {
             let syntax = &syntaxes[form];
-            let reached = syntax.stop(text, syntax.begin(text, false).at);
+            let reached = syntax.walk(text, BEGIN);
             if reached.size == stop.size {
-                let other = syntax.refuse(text, reached);
-                if !other.is_byte() && error.is_byte() {
+                let Err(other) = syntax.refuse::<()>(text, reached) else { unreachable!() };
+                if !other.is_byte() {
                     return FormError { form, error: other };
                 }
             }

@@ -54,7 +54,7 @@ impl Syntax {
         let stop = self.stop(text, at);
         match self.lengths(text, stop) {
             Some(counts) => Ok(self.literal(text, counts)),
-            None => Err(self.refuse(text, stop)),
+            None => self.refuse(text, stop),
         }
     }
 
@@ -89,7 +89,7 @@ impl Syntax {
     /// Returns what [`read_prefix`][Self::read_prefix] returns, also in a constant.
     pub const fn read_prefix_bytes<'t>(&self, text: &'t [u8]) -> Result<(Literal<'t>, &'t [u8]), ReadError> {
         match self.front(text) {
-            (stop, None) => Err(self.refuse(text, stop)),
+            (stop, None) => self.refuse(text, stop),
             (_, Some(found)) => match self.grouped(text, found) {
                 Ok(()) => {
                     let Found { size, counts } = found;

@@ -6,7 +6,7 @@ use crate::literal::cause::{Marks, ReadError, Spot};
 use crate::literal::groups::{is_grouped, wrong_group};
 use crate::literal::plain::{plain, At, Counted, BEGIN};
 use crate::literal::span::marks;
-use crate::literal::steps::{byte_class, is_complete, piece_number, step, step_at, Summary};
+use crate::literal::steps::{is_complete, piece_number, piece_of, role_at, step, Summary};
 use crate::literal::syntax::Syntax;
 
 /// The parts of a literal, in the order of the text. An absent part has no bytes.
@@ -62,13 +62,7 @@ impl Syntax {
             let size = stop.size;
             return (stop, Some(Found { size, counts }));
         }
-        match self.seek(text) {
-            None => (stop, None),
-            Some(size) => {
-                let counts = self.count(front_of(text, size));
-                (stop, Some(Found { size, counts }))
-            }
-        }
+        (stop, self.longest(text))
     }
 
     // Returns why the integer of the front `found` of `text` is not in groups, or `Ok` if it is.
@@ -76,7 +70,7 @@ impl Syntax {
     pub(crate) const fn grouped(&self, text: &[u8], found: Found) -> Result<(), ReadError> {
         let front = front_of(text, found.size);
         match self.grammar().conditions.integer_group_size {
-            Some(size) if !self.has_groups(front, found.counts) => Err(self.ungrouped(front, size)),
+            Some(size) if !self.has_groups(front, found.counts) => self.ungrouped(front, size),
             _ => Ok(()),
         }
     }
@@ -127,7 +121,7 @@ impl Syntax {
         if size == text.len() {
             return None;
         }
-        match step_at(grammar, read, text[size]) {
+        match step(grammar, read, text[size]) {
             None => None,
             Some(read) => Some(At { size: size + 1, read }),
         }
@@ -135,7 +129,7 @@ impl Syntax {
 
     // Returns where reading stops, step by step.
     #[cold]
-    const fn walk(&self, text: &[u8], at: At) -> At {
+    pub(crate) const fn walk(&self, text: &[u8], at: At) -> At {
         let mut stop = at;
         while let Some(next) = self.step(text, stop) {
             stop = next;
@@ -146,37 +140,31 @@ impl Syntax {
     // Returns the lengths of the parts of the literal `text`.
     #[cold]
     const fn count(&self, text: &[u8]) -> [usize; 9] {
-        self.read_on(text, false).counts
+        match self.longest(text) {
+            None => [0; 9],
+            Some(found) => found.counts,
+        }
     }
 
-    // Returns the length of the longest front of `text` that is a literal, if there is one.
+    // Returns the longest front of `text` that is a literal, and the lengths of its parts, if there is one.
     #[cold]
-    const fn seek(&self, text: &[u8]) -> Option<usize> {
-        self.read_on(text, true).literal
-    }
-
-    // Reads `text` until no literal begins with what has been read, and counts the bytes of each part. Seeks the longest front
-    // that is a literal if `seeks` is true.
-    #[cold]
-    const fn read_on(&self, text: &[u8], seeks: bool) -> Scanned {
+    const fn longest(&self, text: &[u8]) -> Option<Found> {
         let grammar = self.grammar();
-        let At { mut size, mut read } = BEGIN;
+        let mut at = BEGIN;
         let mut counts = [0; 9];
-        let mut literal = None;
-        while size < text.len() {
-            let Some(next) = step(grammar, read, byte_class(grammar, text[size])) else {
-                let stop = At { size, read };
-                return Scanned { stop, literal, counts };
+        let mut found = None;
+        while let Some(next) = self.step(text, at) {
+            let Some(role) = role_at(grammar, at.read.part, text[at.size]) else {
+                return found;
             };
-            read = next.summary;
-            counts[piece_number(next.piece)] += 1;
-            size += 1;
-            if seeks && is_complete(grammar, read) {
-                literal = Some(size);
+            counts[piece_number(piece_of(at.read.part, role))] += 1;
+            at = next;
+            if is_complete(grammar, at.read) {
+                let size = at.size;
+                found = Some(Found { size, counts });
             }
         }
-        let stop = At { size, read };
-        Scanned { stop, literal, counts }
+        found
     }
 
     // Returns whether what has been read is a literal.
@@ -185,9 +173,10 @@ impl Syntax {
         is_complete(self.grammar(), read)
     }
 
-    // Returns why `text`, of which reading stopped at `stop`, is not a literal.
+    // Returns why `text`, of which reading stopped at `stop`, is not a literal, as the result of the caller, which takes less
+    // time than to copy an error.
     #[inline(always)]
-    pub(crate) const fn refuse(&self, text: &[u8], stop: At) -> ReadError {
+    pub(crate) const fn refuse<T>(&self, text: &[u8], stop: At) -> Result<T, ReadError> {
         match self.grammar().conditions.integer_group_size {
             Some(size) if stop.size == text.len() && self.is_complete(stop.read) => self.ungrouped(text, size),
             _ => self.refuse_byte(text, stop),
@@ -196,13 +185,13 @@ impl Syntax {
 
     // Returns that the integer of `text` is not in groups of `size`, and the first wrong group.
     #[cold]
-    const fn ungrouped(&self, text: &[u8], size: u8) -> ReadError {
+    const fn ungrouped<T>(&self, text: &[u8], size: u8) -> Result<T, ReadError> {
         let counts = self.count(text);
         let grammar = self.grammar();
         let parts = cut(text, counts);
         let before = parts.sign.len() + parts.prefix.len();
         let (start, end) = wrong_group(grammar, size, parts.integer);
-        ReadError {
+        Err(ReadError {
             spot: Spot {
                 grammar,
                 read: BEGIN.read,
@@ -211,16 +200,16 @@ impl Syntax {
                 marks: Marks { size: text.len(), exponent: 0, first: before + start, run: before + end },
                 is_ungrouped: true,
             },
-        }
+        })
     }
 
     // Returns why the byte that follows is not allowed, or what is missing.
     #[cold]
-    const fn refuse_byte(&self, text: &[u8], stop: At) -> ReadError {
+    const fn refuse_byte<T>(&self, text: &[u8], stop: At) -> Result<T, ReadError> {
         let grammar = self.grammar();
         let size = stop.size;
         let byte = byte_at(text, size);
-        ReadError {
+        Err(ReadError {
             spot: Spot {
                 grammar,
                 read: stop.read,
@@ -229,17 +218,8 @@ impl Syntax {
                 marks: marks(grammar, front_of(text, size)),
                 is_ungrouped: false,
             },
-        }
+        })
     }
-}
-
-// What a pass over a text finds: where it stops, the length of the longest front that is a literal, if it was sought, and
-// the lengths of the parts of what has been read.
-#[derive(Clone, Copy)]
-pub(crate) struct Scanned {
-    stop: At,
-    literal: Option<usize>,
-    counts: [usize; 9],
 }
 
 // Returns the byte behind the first `size`, if there is one.
@@ -262,8 +242,17 @@ const fn tail_size(byte: Option<u8>) -> usize {
 }
 
 // Returns the bytes that follow `byte`, the one behind the first `size`, in its character, and 0 for each that does not.
+#[inline(always)]
 const fn tail_at(text: &[u8], size: usize, byte: Option<u8>) -> [u8; 3] {
-    let tail = tail_size(byte);
+    match tail_size(byte) {
+        0 => [0; 3],
+        tail => tail_bytes(text, size, tail),
+    }
+}
+
+// Returns the `tail` bytes behind the first `size + 1`, of three, and 0 for each other and where there is none.
+#[cold]
+const fn tail_bytes(text: &[u8], size: usize, tail: usize) -> [u8; 3] {
     [tail_byte(text, size, tail, 1), tail_byte(text, size, tail, 2), tail_byte(text, size, tail, 3)]
 }
 

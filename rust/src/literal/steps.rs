@@ -1,27 +1,10 @@
 // Made by rust/tools/erase.py from crates/lexical_literal/src/steps.rt: change that file.
 
-//! The steps of reading: what has been read of a number, changed by the class of one byte.
+//! The steps of reading: what has been read of a number, changed by one byte.
 
 use crate::format_flags::digit_separator;
 use crate::literal::syntax::{Conditions, Grammar};
 use crate::word::{Part, Role};
-
-// A class of bytes: bytes of one class mean the same in a number.
-#[derive(Clone, Copy)]
-pub(crate) enum Class {
-    Other, // A byte that plays no role.
-    Zero,  // The digit 0.
-    Digit, // Another digit of the mantissa and of the exponent.
-    MantissaDigit,
-    ExponentDigit,
-    Separator,
-    Prefix,
-    Suffix,
-    Point,
-    ExponentCharacter,
-    Plus,
-    Minus,
-}
 
 // A part of a literal.
 #[derive(Clone, Copy)]
@@ -62,13 +45,6 @@ pub struct Summary {
 
 // The summary before any byte.
 pub(crate) const START: Summary = Summary { part: Part::Integer, stage: Stage::Start, gap: false, ended: false };
-
-// What one byte makes of what has been read.
-#[derive(Clone, Copy)]
-pub(crate) struct Move {
-    pub(crate) summary: Summary,
-    pub(crate) piece: Piece,
-}
 
 // Returns whether `byte` is a digit of `part`.
 #[inline(always)]
@@ -133,50 +109,6 @@ pub(crate) const fn is_exponent_character(grammar: Grammar, byte: u8) -> bool {
     match grammar.options {
         None => false,
         Some(options) => grammar.view().is_exponent_character(options.exponent, byte),
-    }
-}
-
-// Returns the class of `byte`.
-pub(crate) const fn byte_class(grammar: Grammar, byte: u8) -> Class {
-    let format = grammar.view();
-    let mantissa = is_digit(grammar, Part::Integer, byte);
-    let exponent = is_digit(grammar, Part::Exponent, byte);
-    match (mantissa, exponent) {
-        (true, true) if byte == b'0' => Class::Zero,
-        (true, true) => Class::Digit,
-        (true, false) => Class::MantissaDigit,
-        (false, true) => Class::ExponentDigit,
-        (false, false) if format.is_separator(byte) => Class::Separator,
-        (false, false) if is_point(grammar, byte) => Class::Point,
-        (false, false) if is_exponent_character(grammar, byte) => Class::ExponentCharacter,
-        (false, false) if format.is_base_suffix(byte) => Class::Suffix,
-        (false, false) if byte == b'+' => Class::Plus,
-        (false, false) if byte == b'-' => Class::Minus,
-        (false, false) if format.is_base_prefix(byte) => Class::Prefix,
-        (false, false) => Class::Other,
-    }
-}
-
-// Returns the role of the bytes of `class`.
-pub(crate) const fn role_of(class: Class) -> Option<Role> {
-    Some(match class {
-        Class::Other => return None,
-        Class::Zero | Class::Digit | Class::MantissaDigit | Class::ExponentDigit => Role::Digit,
-        Class::Separator => Role::Separator,
-        Class::Prefix => Role::Prefix,
-        Class::Suffix => Role::Suffix,
-        Class::Point => Role::Point,
-        Class::ExponentCharacter => Role::Exponent,
-        Class::Plus | Class::Minus => Role::Sign,
-    })
-}
-
-// Returns the role of a byte of `class` after a front that ends in `part`, whose radix decides what is a digit.
-pub(crate) const fn in_part(part: Part, class: Class) -> Option<Role> {
-    match (class, part) {
-        (Class::MantissaDigit, Part::Exponent) => None,
-        (Class::ExponentDigit, Part::Integer | Part::Fraction) => None,
-        _ => role_of(class),
     }
 }
 
@@ -402,9 +334,9 @@ const fn is_sign(byte: u8) -> bool {
     matches!(byte, b'+' | b'-')
 }
 
-// Returns the role of `byte` after a front that ends in `part`, if no byte plays two roles.
+// Returns the role of `byte` after a front that ends in `part`, where digits are those of the radix of `part`.
 #[inline(always)]
-const fn role_at(grammar: Grammar, part: Part, byte: u8) -> Option<Role> {
+pub(crate) const fn role_at(grammar: Grammar, part: Part, byte: u8) -> Option<Role> {
     if is_digit(grammar, part, byte) {
         Some(Role::Digit)
     } else if is_separator(grammar, byte) {
@@ -424,35 +356,23 @@ const fn role_at(grammar: Grammar, part: Part, byte: u8) -> Option<Role> {
     }
 }
 
-// Returns what `byte` makes of what has been read, or `None` if no literal begins so, if no byte plays two roles.
+// Returns what `byte` makes of what has been read, or `None` if no literal begins so.
 #[inline(always)]
-pub(crate) const fn step_at(grammar: Grammar, read: Summary, byte: u8) -> Option<Summary> {
-    let plus = byte == b'+';
-    let zero = byte == b'0';
+pub(crate) const fn step(grammar: Grammar, read: Summary, byte: u8) -> Option<Summary> {
     match role_at(grammar, read.part, byte) {
-        Some(role)
-            if !read.ended
-                && takes(grammar, read, plus, role)
-                && admits(grammar.conditions, read, plus, zero, role) =>
-        {
-            Some(after(read, zero, role))
-        }
-        _ => None,
+        None => None,
+        Some(role) => moved(grammar, read, byte, role),
     }
 }
 
-// Returns what a byte of `class` makes of what has been read, or `None` if no literal begins so.
-pub(crate) const fn step(grammar: Grammar, read: Summary, class: Class) -> Option<Move> {
-    let plus = matches!(class, Class::Plus);
-    let zero = matches!(class, Class::Zero);
-    match in_part(read.part, class) {
-        Some(role)
-            if !read.ended
-                && takes(grammar, read, plus, role)
-                && admits(grammar.conditions, read, plus, zero, role) =>
-        {
-            Some(Move { summary: after(read, zero, role), piece: piece_of(read.part, role) })
-        }
-        _ => None,
+// Returns what `byte` makes of what has been read if it has the role `role`, or `None` if no literal begins so.
+#[inline(always)]
+pub(crate) const fn moved(grammar: Grammar, read: Summary, byte: u8, role: Role) -> Option<Summary> {
+    let plus = byte == b'+';
+    let zero = byte == b'0';
+    if !read.ended && takes(grammar, read, plus, role) && admits(grammar.conditions, read, plus, zero, role) {
+        Some(after(read, zero, role))
+    } else {
+        None
     }
 }

@@ -3,8 +3,8 @@
 //! A lawful format with the bytes that a format does not define.
 
 use crate::format_flags::{base_prefix, base_suffix};
-use crate::literal::steps::{byte_class, role_of};
-use crate::word::{Format, FormatError, FormatView, Role};
+use crate::literal::steps::role_at;
+use crate::word::{Format, FormatError, FormatView, Part, Role};
 
 /// The bytes of numbers that a format does not define.
 #[derive(Debug, Clone, Copy, PartialEq, Eq, PartialOrd, Ord, Hash)]
@@ -169,7 +169,11 @@ impl Syntax {
     /// Returns the only role of `byte`, or `None` if it plays no role.
     #[must_use]
     pub const fn role_of(&self, byte: u8) -> Option<Role> {
-        role_of(byte_class(self.grammar(), byte))
+        let grammar = self.grammar();
+        match role_at(grammar, Part::Integer, byte) {
+            None => role_at(grammar, Part::Exponent, byte),
+            role => role,
+        }
     }
 
     // Returns the format, the options and the conditions.

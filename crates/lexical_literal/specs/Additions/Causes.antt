@@ -8,19 +8,18 @@ use Rattle.lexical_util.specs.declared.feature_format.roles.Role.TheVariants as 
 use Rattle.lexical_util.specs.declared.format_flags.Part.TheVariants as parts
 use Rattle.lexical_literal.specs.Cause.{Allows, is_one_of, last_part, requirement_flags, with_rules}
 use Rattle.lexical_literal.specs.Notation.{Notation}
-use Rattle.lexical_literal.specs.Additions.Summary.{byte_class, has_digit, in_part, is_complete, is_plus_class, step}
+use Rattle.lexical_literal.specs.Additions.Summary.{has_digit, is_complete, role_at, step}
 use Rattle.lexical_literal.specs.declared.span.Kind.{Kind}
 use Rattle.lexical_literal.specs.declared.span.Kind.TheVariants as kinds
 use Rattle.lexical_literal.specs.declared.cause.Place.{Place}
 use Rattle.lexical_literal.specs.declared.cause.Place.TheVariants as places
-use Rattle.lexical_literal.specs.declared.steps.Class.{Class}
 use Rattle.lexical_literal.specs.declared.syntax.Condition.{Condition}
 use Rattle.lexical_literal.specs.declared.steps.Summary.{Summary}
 
--- `allows m s next` is true if a byte of the class `next` may follow, or if a literal has been read, where `next` is `None`.
-abbrev pub allows : Notation → Summary → Option Class → Bool
-allows m s None = is_complete m s
-allows m s (Some class) = is_some (step m s class)
+-- `lets m s next` is true if the byte `next` may follow, or if a literal has been read, where `next` is `None`.
+abbrev pub lets : Notation → Summary → Option ℕ → Bool
+lets m s None = is_complete m s
+lets m s (Some byte) = is_some (step m s byte)
 
 -- `kind_set m kind` is the set of the bytes of `kind`.
 abbrev pub kind_set : Notation → Kind → ByteSet
@@ -36,7 +35,7 @@ is_separator _ = false
 -- `is_at_gap m s next` is true if the byte `next` is a separator, or follows one.
 abbrev pub is_at_gap : Notation → Summary → Option ℕ → Bool
 is_at_gap m s None = s.gap
-is_at_gap m s (Some byte) = s.gap || is_separator (in_part s.part (byte_class m byte))
+is_at_gap m s (Some byte) = s.gap || is_separator (role_at m s.part byte)
 
 -- `IsWeaker m A D` holds if the flags for which `A` is true require no more than those of `m`, and are no less otherwise, and
 -- if each condition for which `D` is true is one of `m`.
@@ -45,31 +44,12 @@ pub record IsWeaker (m : Notation) (A : Flag → Bool) (D : Condition → Bool) 
   pub no_less : (f : Flag) → IsTrue (m.flag f) → IsTrue (A f || is_one_of requirement_flags f)
   pub conditions : (c : Condition) → IsTrue (D c) → IsTrue (m.condition c)
 
--- `class_of_next m next` is the class of the byte `next`, if there is one.
-abbrev pub class_of_next : Notation → Option ℕ → Option Class
-class_of_next m None = None
-class_of_next m (Some byte) = Some (byte_class m byte)
-
--- `lets m s next` is true if the byte `next` may follow, or if a literal has been read, where `next` is `None`.
-abbrev pub lets : Notation → Summary → Option ℕ → Bool
-lets m s next = allows m s (class_of_next m next)
-
 -- `IsReadOf m s front` holds if what may follow `s` is what is allowed after `front`, with fewer requirements too, and if `s`
 -- is in the part that `front` ends in, unless a suffix has been read.
 pub record IsReadOf (m : Notation) (s : Summary) (front : List ℕ) : Type 0 where
   pub decides : (next : Option ℕ) (A : Flag → Bool) (D : Condition → Bool) → IsWeaker m A D
       → (lets (with_rules m A D) s next ≡ true) ↔ Allows (with_rules m A D) front next
   pub part : s.ended ≡ false → s.part ≡ last_part m front
-
--- `role_of_next s next` is the role of a byte of the class `next` after `s`, or that of a suffix, where `next` is `None`.
-abbrev pub role_of_next : Summary → Option Class → Option Role
-role_of_next s None = Some roles.Suffix
-role_of_next s (Some class) = in_part s.part class
-
--- `is_plus_next next` is true if `next` is the class of plus signs.
-abbrev pub is_plus_next : Option Class → Bool
-is_plus_next None = false
-is_plus_next (Some class) = is_plus_class class
 
 -- `place_of m s role` is where `m` does not allow a separator after `s`, before a byte with the role `role`.
 abbrev pub place_of : Notation → Summary → Option Role → Place

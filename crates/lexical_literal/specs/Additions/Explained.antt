@@ -5,7 +5,7 @@ use Rattle.lexical_util.specs.Layout.{Flag}
 use Rattle.lexical_util.specs.Record.{word_of}
 use Rattle.lexical_util.specs.Roles.{other_case}
 use Rattle.lexical_literal.specs.Additions.Causes.{is_at_gap, lets, place_of}
-use Rattle.lexical_literal.specs.Additions.Summary.{byte_class, in_part}
+use Rattle.lexical_literal.specs.Additions.Summary.{role_at}
 use Rattle.lexical_literal.specs.Cause.{Explained, adding, bare, binds, case_set, error_of, first_unmet, is_one_of}
 use Rattle.lexical_literal.specs.Cause.{leading_zero_flags, lowest, number_separator_flags, requiring, span_of}
 use Rattle.lexical_literal.specs.Notation.{Notation, no_conditions, notation_of}
@@ -67,7 +67,7 @@ otherwise m s (Some byte) =
     if mask_of (separators m s (Some byte)) == 0
     then record { kind = if mask_of (cases m s byte) == 0 then causes.Byte else causes.Case; mask = mask_of (cases m s byte) }
     else record {
-      kind = causes.Separator s.part (place_of m s (in_part s.part (byte_class m byte)));
+      kind = causes.Separator s.part (place_of m s (role_at m s.part byte));
       mask = mask_of (separators m s (Some byte));
     }
 

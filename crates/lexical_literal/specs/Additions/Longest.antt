@@ -10,16 +10,16 @@ use Rattle.lexical_literal.specs.Front.{IsValidUpTo, NoLiteral, ReadsFront}
 use Rattle.lexical_literal.specs.Additions.Causes.{lets}
 use Rattle.lexical_literal.specs.Additions.Summary.{HasLengths, cuts_of, is_complete, scan, start}
 use Rattle.lexical_literal.specs.declared.read.Found.{Found}
-use Rattle.lexical_literal.specs.declared.read.Scanned.{Scanned}
 use Rattle.lexical_literal.specs.Additions.Plain.{IsBegun}
 use Rattle.lexical_literal.specs.declared.plain.At.{At}
 use Rattle.lexical_literal.specs.declared.plain.Counted.{Counted}
 
--- `IsLongest m text bound longest` holds if `longest` is the length of the longest front of `text` that is a literal and has
--- at most `bound` bytes, or `None` if there is none.
-pub record IsLongest (m : Notation) (text : List ℕ) (bound : ℕ) (longest : Option ℕ) : Type 0 where
-  pub found : ForSome longest (λ size. (size ≤ bound) × (l : Literal) × Reads m l (take size text))
-  pub no_longer : (more : ℕ) → more ≤ bound → ForSome longest (λ size. size < more) → NoLiteral m (take more text)
+-- `IsLongest m text bound longest` holds if `longest` has the longest front of `text` that is a literal and has at most `bound`
+-- bytes, and the lengths of its parts, or if it is `None` and there is none.
+pub record IsLongest (m : Notation) (text : List ℕ) (bound : ℕ) (longest : Option Found) : Type 0 where
+  pub found : ForSome longest (λ found. (found.size ≤ bound) × (l : Literal) × Reads m l (take found.size text))
+  pub counted : ForSome longest (λ found. (l : Literal) → Reads m l (take found.size text) → HasLengths l (cuts_of found.counts))
+  pub no_longer : (more : ℕ) → more ≤ bound → ForSome longest (λ found. found.size < more) → NoLiteral m (take more text)
 
 -- `IsStopped m text stop` holds if `stop` has the length of the longest front of `text` that some literal begins with, and its
 -- summary, which tells whether it is a literal and does not allow a byte that follows.
@@ -36,13 +36,6 @@ pub record HasFound (m : Notation) (text : List ℕ) (counted : Counted) : Type 
   pub begun : IsBegun m text counted.at
   pub literal : IsTrue counted.complete → (l : Literal) × Reads m l (take counted.at.size text)
   pub lengths : IsTrue counted.complete → (l : Literal) → Reads m l (take counted.at.size text) → HasLengths l (cuts_of counted.counts)
-
--- `IsScanned m seeks text scanned` holds if `scanned` has where reading `text` stops, the lengths of the parts of what has
--- been read if it is a literal, and the length of the longest front that is a literal if `seeks` is true.
-pub record IsScanned (m : Notation) (seeks : Bool) (text : List ℕ) (scanned : Scanned) : Type 0 where
-  pub stop : IsStopped m text scanned.stop
-  pub longest : IsTrue seeks → IsLongest m text (length text) scanned.literal
-  pub counted : (l : Literal) → Reads m l (take scanned.stop.size text) → HasLengths l (cuts_of scanned.counts)
 
 -- `IsMeasured g text counts is` holds if `is` is true if and only if `text` is a literal of the syntax `g`, and if its parts
 -- have the lengths `counts` then.

@@ -4,6 +4,7 @@ use Rattle.std.specs.Prelude.{get_or, length, take}
 use Rattle.std.specs.Int.Digits.{number_from_digits_after}
 use Rattle.std.specs.List.{filter_map}
 use Rattle.lexical_util.specs.Digits.{digit_of}
+use Rattle.lexical_util.specs.Layout as layout
 use Rattle.lexical_util.specs.Layout.{separators_in}
 use Rattle.lexical_util.specs.declared.feature_format.roles.Role.{Role}
 use Rattle.lexical_util.specs.declared.feature_format.roles.Role.TheVariants as roles
@@ -30,10 +31,28 @@ pub record HasRoles (m : Notation) : Type 0 where
   pub one_mantissa : (byte : ℕ) → m.digit parts.Fraction byte ≡ m.digit parts.Integer byte
   pub integers : m.integers_only ≡ true → (byte : ℕ) → (m.point byte ≡ false) × (m.exponent_character byte ≡ false)
 
--- `IsAt m text at c` holds if `at` has the summary of the first bytes of `text`, and `c` has the lengths of their parts.
-pub record IsAt (m : Notation) (text : List ℕ) (at : At) (c : Cuts) : Type 0 where
+-- `IsReady m` holds if `m` is the notation of a syntax.
+pub record IsReady (m : Notation) : Type 0 where
+  pub roles : HasRoles m
+  pub exponent : ℕ
+  pub point : ℕ
+  pub has_exponent : m.integers_only ≡ false → m.exponent_character exponent ≡ true
+  pub has_point : m.integers_only ≡ false → m.point point ≡ true
+  pub prefix : ℕ
+  pub suffix : ℕ
+  pub has_prefix : m.condition conditions.BasePrefix ≡ true → m.prefix prefix ≡ true
+  pub has_suffix : m.condition conditions.BaseSuffix ≡ true → m.suffix suffix ≡ true
+  pub some_sign : (m.flag layout.no_positive_mantissa_sign && m.flag layout.required_mantissa_sign) ≡ false
+  pub agree : (m.flag layout.no_exponent_notation && m.flag layout.required_exponent_notation) ≡ false
+
+-- `IsBegun m text at` holds if `at` has the summary of the first bytes of `text`, with which some literal begins, and
+-- `IsAt m text at c` if `c` has the lengths of their parts, too.
+pub record IsBegun (m : Notation) (text : List ℕ) (at : At) : Type 0 where
   pub within : at.size ≤ length text
   pub read : scan m (Some start) (take at.size text) ≡ Some at.read
+
+pub record IsAt (m : Notation) (text : List ℕ) (at : At) (c : Cuts) : Type 0 where
+  pub begun : IsBegun m text at
   pub counted : tally m (Some start) no_cuts (take at.size text) ≡ c
 
 -- `IsReadOn m text at piece next` holds if some bytes of `piece`, or none, are read between `at` and `next`.
@@ -108,11 +127,6 @@ pub record IsOpened (m : Notation) (text : List ℕ) (opening : Opening) : Type 
   pub signed : is_signed m parts.Integer opening.stage ≡ true
   pub free : is_free m opening.stage ≡ true
   pub none : has_digit opening.stage ≡ false
-
--- `IsBegun m text at` holds if `at` has the summary of the first bytes of `text`, with which some literal begins.
-pub record IsBegun (m : Notation) (text : List ℕ) (at : At) : Type 0 where
-  pub within : at.size ≤ length text
-  pub read : scan m (Some start) (take at.size text) ≡ Some at.read
 
 -- `IsCounted m text counted` holds if `counted` has what has been read of `text` and, if it says that this is a literal, the
 -- lengths of its parts.

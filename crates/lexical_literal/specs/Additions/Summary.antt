@@ -11,9 +11,6 @@ use Rattle.lexical_util.specs.declared.format_flags.Part.TheVariants as parts
 use Rattle.lexical_literal.specs.Literal.{Literal}
 use Rattle.lexical_literal.specs.Notation.{Notation}
 use Rattle.lexical_literal.specs.Run.{is_place}
-use Rattle.lexical_literal.specs.declared.steps.Class.{Class}
-use Rattle.lexical_literal.specs.declared.steps.Class.TheVariants as classes
-use Rattle.lexical_literal.specs.declared.steps.Move.{Move}
 use Rattle.lexical_literal.specs.declared.steps.Piece.{Piece}
 use Rattle.lexical_literal.specs.declared.steps.Piece.TheVariants as pieces
 use Rattle.lexical_literal.specs.declared.steps.Stage.{Stage}
@@ -22,48 +19,16 @@ use Rattle.lexical_literal.specs.declared.steps.Summary.{Summary}
 use Rattle.lexical_literal.specs.declared.syntax.Condition.{Condition}
 use Rattle.lexical_literal.specs.declared.syntax.Condition.TheVariants as conditions
 
--- `byte_class m byte` is the class of `byte`.
-abbrev pub byte_class : Notation → ℕ → Class
-byte_class m byte =
-    if m.digit parts.Integer byte then
-    (if m.digit parts.Exponent byte then (if byte == 48 then classes.Zero else classes.Digit) else classes.MantissaDigit)
-    else (if m.digit parts.Exponent byte then classes.ExponentDigit
-    else (if m.separator byte then classes.Separator
-    else (if m.point byte then classes.Point
-    else (if m.exponent_character byte then classes.ExponentCharacter
-    else (if m.suffix byte then classes.Suffix
-    else (if signs byte then (if byte == 43 then classes.Plus else classes.Minus)
-    else (if m.prefix byte then classes.Prefix else classes.Other)))))))
-
--- `role_of class` is the role of the bytes of `class`. Four classes are of digits.
-abbrev pub role_of : Class → Option Role
-role_of classes.Other = None
-role_of classes.Separator = Some roles.Separator
-role_of classes.Prefix = Some roles.Prefix
-role_of classes.Suffix = Some roles.Suffix
-role_of classes.Point = Some roles.Point
-role_of classes.ExponentCharacter = Some roles.Exponent
-role_of classes.Plus = Some roles.Sign
-role_of classes.Minus = Some roles.Sign
-role_of _ = Some roles.Digit
-
--- `in_part part class` is the role of a byte of `class` after a front that ends in `part`, where digits are those of the radix of `part`.
-abbrev pub in_part : Part → Class → Option Role
-in_part part classes.Other = None
-in_part parts.Exponent classes.MantissaDigit = None
-in_part parts.Integer classes.ExponentDigit = None
-in_part parts.Fraction classes.ExponentDigit = None
-in_part part class = role_of class
-
--- `is_zero class` is true if the bytes of `class` are the digit 0.
-abbrev pub is_zero : Class → Bool
-is_zero classes.Zero = true
-is_zero _ = false
-
--- `is_plus_class class` is true if the bytes of `class` are plus signs.
-abbrev pub is_plus_class : Class → Bool
-is_plus_class classes.Plus = true
-is_plus_class _ = false
+-- `role_at m part byte` is the role of `byte` after a front that ends in `part`, where digits are those of the radix of `part`.
+abbrev pub role_at : Notation → Part → ℕ → Option Role
+role_at m part byte =
+    if m.digit part byte then Some roles.Digit
+    else (if m.separator byte then Some roles.Separator
+    else (if m.point byte then Some roles.Point
+    else (if m.exponent_character byte then Some roles.Exponent
+    else (if m.suffix byte then Some roles.Suffix
+    else (if signs byte then Some roles.Sign
+    else (if m.prefix byte then Some roles.Prefix else None))))))
 
 -- `has_digit stage` is true if the part has a digit.
 abbrev pub has_digit : Stage → Bool
@@ -265,13 +230,13 @@ move_by C m s plus zero None = None
 move_by C m s plus zero (Some role) =
     if not s.ended && (takes m s plus role && admits C s plus zero role) then Some (after s zero role) else None
 
--- `step_by C m s class` is the summary after one more byte of `class`, or `None` if no such literal begins so, and
--- `step m s class` if no literal of `m` does.
-abbrev pub step_by : (Condition → Bool) → Notation → Summary → Class → Option Summary
-step_by C m s class = move_by C m s (is_plus_class class) (is_zero class) (in_part s.part class)
+-- `step_by C m s byte` is the summary after one more byte, or `None` if no such literal begins so, and `step m s byte` if no
+-- literal of `m` does.
+abbrev pub step_by : (Condition → Bool) → Notation → Summary → ℕ → Option Summary
+step_by C m s byte = move_by C m s (byte == 43) (byte == 48) (role_at m s.part byte)
 
-abbrev pub step : Notation → Summary → Class → Option Summary
-step m s class = step_by m.condition m s class
+abbrev pub step : Notation → Summary → ℕ → Option Summary
+step m s byte = step_by m.condition m s byte
 
 -- `digits_piece part` is the piece of the digits of `part`.
 abbrev pub digits_piece : Part → Piece
@@ -323,17 +288,11 @@ abbrev pub count : Part → Option Role → Cuts → Cuts
 count part None c = c
 count part (Some role) c = add c (piece_of part role)
 
--- `IsMove m s class o` holds if `o` is what a byte of `class` makes of `s`, or `None` if no literal begins so.
-abbrev pub IsMove : Notation → Summary → Class → Option Move → Type 0
-IsMove m s class None = step m s class ≡ None
-IsMove m s class (Some next) =
-    (step m s class ≡ Some next.summary) × ((c : Cuts) → count s.part (in_part s.part class) c ≡ add c next.piece)
-
 -- `scan_by C m s text` is the summary after the bytes of `text`, with the conditions `C`, and `scan m s text` with those of `m`.
 abbrev pub scan_by : (Condition → Bool) → Notation → Option Summary → List ℕ → Option Summary
 scan_by C m s [] = s
 scan_by C m None (byte ∷ text) = None
-scan_by C m (Some s) (byte ∷ text) = scan_by C m (step_by C m s (byte_class m byte)) text
+scan_by C m (Some s) (byte ∷ text) = scan_by C m (step_by C m s byte) text
 
 abbrev pub scan : Notation → Option Summary → List ℕ → Option Summary
 scan m s text = scan_by m.condition m s text
@@ -357,7 +316,7 @@ abbrev pub tally_by : (Condition → Bool) → Notation → Option Summary → C
 tally_by C m s c [] = c
 tally_by C m None c (byte ∷ text) = c
 tally_by C m (Some s) c (byte ∷ text) =
-    tally_by C m (step_by C m s (byte_class m byte)) (count s.part (in_part s.part (byte_class m byte)) c) text
+    tally_by C m (step_by C m s byte) (count s.part (role_at m s.part byte) c) text
 
 abbrev pub tally : Notation → Option Summary → Cuts → List ℕ → Cuts
 tally m s c text = tally_by m.condition m s c text

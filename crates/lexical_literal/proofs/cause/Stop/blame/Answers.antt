@@ -3,7 +3,7 @@ use Rattle.std.proofs.Common.{ℕ, ◌≡◌, ◌≢◌, ◌==◌, Bool, true, f
 use Rattle.std.proofs.lemmas.Bool.Decides.{nat_tests}
 use Rattle.lexical_literal.specs.Additions.Causes.{lets, place_of}
 use Rattle.lexical_literal.specs.Additions.Explained.{blame, cases, mask_of, otherwise, requirements, separators}
-use Rattle.lexical_literal.specs.Additions.Summary.{byte_class, in_part}
+use Rattle.lexical_literal.specs.Additions.Summary.{role_at}
 use Rattle.lexical_literal.specs.Cause.{bare}
 use Rattle.lexical_literal.specs.Notation.{Notation, notation_of}
 use Rattle.lexical_literal.specs.declared.cause.Blame.{Blame}
@@ -19,7 +19,7 @@ module _ (m : Notation) (s : Summary) (byte : ℕ) where
   abbrev by_tests : Bool → Bool → Blame
   by_tests t u =
       if t then record { kind = if u then causes.Byte else causes.Case; mask = mask_of (cases m s byte) } else record {
-        kind = causes.Separator s.part (place_of m s (in_part s.part (byte_class m byte)));
+        kind = causes.Separator s.part (place_of m s (role_at m s.part byte));
         mask = mask_of (separators m s (Some byte));
       }
 

@@ -1,6 +1,15 @@
--- Reading a literal stops at its end.
-use Rattle.lexical_literal.proofs.LongestLemmas.{whole_front}
+-- A literal is its longest front.
+use Rattle.std.proofs.Common.{◌≡◌, sym, subst, ◌∙◌}
+use Rattle.lexical_literal.specs.Additions.Summary.{HasLengths, cuts_of}
+use Rattle.lexical_literal.specs.declared.read.Found.{Found}
+use Rattle.lexical_literal.proofs.LongestLemmas.{all_counted}
 use Rattle.lexical_literal.proofs.syntax.Syntax.count.Goals as goal
 
-pub returns : goal.returns
-returns c l reads = c.read_on.ensures.counted l (whole_front _ _ _ c.read_on.ensures.stop l reads)
+pub returns-in-None : goal.returns-in-None
+returns-in-None c l reads = let all = all_counted _ _ _ c.longest.ensures l reads in absurd (let clash = sym c.in-None.is ∙ all.1 in cc)
+
+pub returns-in-Some : goal.returns-in-Some
+returns-in-Some c l reads =
+    let all = all_counted _ _ _ c.longest.ensures l reads in
+    let same : all.0 ≡ c.in-Some.found = let is = sym all.1 ∙ c.in-Some.is in cc in
+    subst (λ (found : Found). HasLengths l (cuts_of found.counts)) same all.2

@@ -1,12 +1,25 @@
 -- The front has the parts that were counted.
-use Rattle.std.proofs.Common.{sym, ap, subst, ◌∙◌}
+use Rattle.std.proofs.Common.{ℕ, List, Result, Ok, Err, IsErrAnd, take, sym, ap, subst, ◌∙◌}
 use Rattle.std.proofs.lemmas.Bool.{false≢true}
+use Rattle.std.specs.Prelude.{⊤}
+use Rattle.lexical_literal.specs.Additions.Longest.{IsCountedFront, IsGrouped}
+use Rattle.lexical_literal.specs.Cause.{Explained}
 use Rattle.lexical_literal.specs.Literal.{Reads}
+use Rattle.lexical_literal.specs.Notation.{notation_of}
 use Rattle.lexical_literal.specs.Takes.{IsUngrouped}
+use Rattle.lexical_literal.specs.declared.read.Found.{Found}
 use Rattle.lexical_literal.specs.declared.syntax.Grammar.{Grammar}
 use Rattle.lexical_literal.proofs.GroupLemmas.{any_groups}
 use Rattle.lexical_literal.proofs.syntax.Syntax.grouped.Goals as goal
 use Rattle.lexical_literal.proofs.syntax.Syntax.grouped.Goals.{in_default-via-in-Some+else-not-has_groups, in_default-via-in_default}
+
+refused : (g : Grammar) (text : List ℕ) (found : Found) (r : Result ⊤ Explained) → IsCountedFront (notation_of g) text found
+    → IsErrAnd r (λ error. IsUngrouped g (take found.size text) error.refusal) → IsGrouped g text found r
+refused g text found (Ok _) is wrong = absurd wrong
+refused g text found (Err _) is wrong = record {
+  grouped = λ ok. absurd (false≢true ok);
+  error = record { literal = is.literal; front = is.reads; ungrouped = wrong };
+}
 
 pub has_groups-requires-clause-read : goal.has_groups-requires-clause-read
 has_groups-requires-clause-read c = (c.requires.literal, subst (Reads _ c.requires.literal) (sym c.front_of-front.ensures) c.requires.reads.reads)
@@ -18,14 +31,8 @@ pub ungrouped-requires-clause-read : goal.ungrouped-requires-clause-read
 ungrouped-requires-clause-read c = (c.requires.literal, subst (Reads _ c.requires.literal) (sym c.front_of-front.ensures) c.requires.reads.reads)
 
 pub returns-in-Some : goal.returns-in-Some
-returns-in-Some c = record {
-  grouped = λ ok. absurd (false≢true ok);
-  error = record {
-    literal = c.requires.literal;
-    front = c.requires.reads;
-    ungrouped = subst (λ front. IsUngrouped c.args.self.now front c.ungrouped.result.refusal) c.front_of-front.ensures c.ungrouped.ensures;
-  };
-}
+returns-in-Some c = refused c.args.self.now c.args.text.now c.args.found c.ungrouped.result c.requires
+    (subst (λ front. IsErrAnd c.ungrouped.result (λ error. IsUngrouped c.args.self.now front error.refusal)) c.front_of-front.ensures c.ungrouped.ensures)
 
 pub returns-in_default : goal.returns-in_default
 returns-in_default c = elim c.in_default.branch [

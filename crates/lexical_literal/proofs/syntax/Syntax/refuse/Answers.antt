@@ -9,10 +9,10 @@ use Rattle.lexical_literal.proofs.syntax.Syntax.refuse.Goals.{in_default-via-in-
 use Rattle.lexical_literal.proofs.syntax.Syntax.refuse.Goals.{in_default-via-in_default}
 
 pub ungrouped-requires-clause-read : goal.ungrouped-requires-clause-read
-ungrouped-requires-clause-read c = whole_literal _ _ _ c.requires.stopped c.if-stop-text.true (sym c.is_complete.ensures ∙ c.if-is_complete.true)
+ungrouped-requires-clause-read _ c = whole_literal _ _ _ c.requires.stopped c.if-stop-text.true (sym c.is_complete.ensures ∙ c.if-is_complete.true)
 
 pub refuse_byte-requires-clause-refused : goal.refuse_byte-requires-clause-refused
-refuse_byte-requires-clause-refused c = refused_there _ _ _ c.requires.stopped (λ all. elim c.in_default.branch [
+refuse_byte-requires-clause-refused _ c = refused_there _ _ _ c.requires.stopped (λ all. elim c.in_default.branch [
   | in_default-via-in-Some+then-stop-text+else-is_complete w ↦ sym w.is_complete.ensures ∙ w.if-is_complete.false
   | in_default-via-in-Some+else-stop-text w ↦ absurd (w.if-stop-text.false all)
   | in_default-via-in_default w ↦ false_from_ne_true _ (λ complete.

@@ -10,18 +10,17 @@ use Rattle.lexical_literal.specs.declared.syntax.Grammar.{Grammar}
 use Rattle.lexical_literal.proofs.BlameLemmas.{refusal_at}
 use Rattle.lexical_literal.proofs.PartOfLemmas.{ends_in}
 use Rattle.lexical_literal.proofs.RefusalLemmas.{decided}
-use Rattle.lexical_literal.proofs.RoleLemmas.{ready}
 use Rattle.lexical_literal.proofs.syntax.Syntax.refuse_byte.Goals as goal
 
 pub returns : goal.returns
-returns c =
+returns _ c =
     let g = c.args.self.now in
     let m = notation_of g in
     let size = c.args.stop.size in
     let front = take size c.args.text.now in
     let s = c.args.stop.read in
     let stopped = c.requires.stopped in
-    let is_ready = ready c.role_facts.ensures.disjoint c.role_facts.ensures.five c.role_facts.ensures.lawful g c.grammar-grammar.ensures.lawful in
+    let is_ready = c.grammar-grammar.ensures.ready in
     let is_read : IsReadOf m s front = record {
       decides = λ next A D weaker. decided m A D is_ready weaker front s stopped.read next;
       part = ends_in m is_ready.roles start front s stopped.read;

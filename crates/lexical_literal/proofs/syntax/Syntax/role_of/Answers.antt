@@ -1,11 +1,40 @@
-use Rattle.lexical_literal.specs.Notation.{notation_of}
-use Rattle.lexical_literal.proofs.ScanLemmas.{only_role}
-use Rattle.lexical_literal.proofs.RoleLemmas.{ready}
+-- A byte plays the role that it has in the integer, or else that in the exponent, and no other.
+use Rattle.std.proofs.Common.{ℕ, ◌≡◌, Option, Some, None, true, false, refl, sym, ap, ◌∙◌, arith}
+use Rattle.std.proofs.lemmas.Bool.{false≢true}
+use Rattle.lexical_util.specs.declared.feature_format.roles.Role.{Role}
+use Rattle.lexical_util.specs.declared.feature_format.roles.Role.TheVariants as roles
+use Rattle.lexical_util.specs.declared.format_flags.Part.TheVariants as parts
+use Rattle.lexical_literal.specs.Additions.Summary.{role_at}
+use Rattle.lexical_literal.specs.Notation.{IsOnlyRole, notation_of, set_of_role}
+use Rattle.lexical_literal.specs.declared.syntax.Grammar.{Grammar}
+use Rattle.lexical_literal.specs.Additions.Plain.{IsReady}
+use Rattle.lexical_literal.proofs.ScanLemmas.{as_role, no_role}
 use Rattle.lexical_literal.proofs.syntax.Syntax.role_of.Goals as goal
 
-pub returns : goal.returns
-returns c =
+module _ (g : Grammar) (is_ready : IsReady (notation_of g)) (b : ℕ) where
+  only : (o : Option Role) → ((r : Role) → o ≡ Some r → set_of_role (notation_of g) r b ≡ true)
+      → (o ≡ None → (r : Role) → set_of_role (notation_of g) r b ≡ false) → IsOnlyRole (notation_of g) b o
+  only None found none r = (λ is. absurd (false≢true (sym (none refl r) ∙ is)), found r)
+  only (Some role) found none r = (λ is. ap Some (is_ready.roles.one role r b (found role refl) is), found r)
+
+  none : role_at (notation_of g) parts.Integer b ≡ None → role_at (notation_of g) parts.Exponent b ≡ None → (r : Role)
+      → set_of_role (notation_of g) r b ≡ false
+  none first second roles.Digit = grind arith
+  none first second r = no_role (notation_of g) parts.Integer b r (λ same. cc) first
+
+pub returns-in-None : goal.returns-in-None
+returns-in-None c =
     let g = c.args.self.now in
-    let byte = c.args.byte in
-    let is_ready = ready c.role_facts.ensures.disjoint c.role_facts.ensures.five c.role_facts.ensures.lawful g c.grammar.ensures.lawful in
-    rw (c.role_of.ensures, c.byte_class.ensures, c.grammar.ensures.value) (only_role (notation_of g) is_ready.roles byte)
+    let is_ready = c.grammar-grammar.ensures.ready in
+    let first : role_at (notation_of g) parts.Integer c.args.byte ≡ None =
+    ap (λ (g : Grammar). role_at (notation_of g) parts.Integer c.args.byte) (sym c.grammar-grammar.ensures.value) ∙ sym c.role_at.ensures ∙ c.in-None.is in
+    rw (c.role_at-in-None.ensures, c.grammar-grammar.ensures.value) (only g is_ready c.args.byte _
+    (as_role (notation_of g) parts.Exponent c.args.byte) (none g is_ready c.args.byte first))
+
+pub returns-in_default : goal.returns-in_default
+returns-in_default c =
+    let g = c.args.self.now in
+    let is_ready = c.grammar-grammar.ensures.ready in
+    let same = c.role_at.ensures ∙ ap (λ (g : Grammar). role_at (notation_of g) parts.Integer c.args.byte) c.grammar-grammar.ensures.value in
+    only g is_ready c.args.byte _ (λ r is. as_role (notation_of g) parts.Integer c.args.byte r (sym same ∙ is))
+    (λ is. absurd (c.in_default.not-None is))

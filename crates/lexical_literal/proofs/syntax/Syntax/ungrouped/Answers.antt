@@ -12,10 +12,10 @@ within : (text : List ℕ) (l : Literal) (n : ℕ) → text ≡ text_of l → n 
 within text l n whole small = omega (arith, length-append {A = ℕ}, ap length whole, small)
 
 pub cut-parts-requires : goal.cut-parts-requires
-cut-parts-requires c = let l = c.requires.read in (l.0, l.1.whole, c.count-counts.ensures l.0 l.1)
+cut-parts-requires _ c = let l = c.requires.read in (l.0, l.1.whole, c.count-counts.ensures l.0 l.1)
 
 pub wrong_group-start-requires : goal.wrong_group-start-requires
-wrong_group-start-requires c =
+wrong_group-start-requires _ c =
     let l = c.requires.read in
     let parts = c.cut-parts.ensures l.0 l.1.whole (c.count-counts.ensures l.0 l.1) in
     let reads = subst (λ k. Reads (notation_of c.args.self.now) k c.args.text.now) (sym parts) l.1 in
@@ -25,7 +25,7 @@ wrong_group-start-requires c =
     c.requires.size)
 
 pub overflow_add-result : goal.overflow_add-result
-overflow_add-result c =
+overflow_add-result _ c =
     let l = c.requires.read in
     let parts = c.cut-parts.ensures l.0 l.1.whole (c.count-counts.ensures l.0 l.1) in
     let group = c.wrong_group-start.ensures in
@@ -34,7 +34,7 @@ overflow_add-result c =
     omega (arith, small, c.type_inv.text)
 
 pub overflow_add-result-2 : goal.overflow_add-result-2
-overflow_add-result-2 c =
+overflow_add-result-2 _ c =
     let l = c.requires.read in
     let parts = c.cut-parts.ensures l.0 l.1.whole (c.count-counts.ensures l.0 l.1) in
     let small = within c.args.text.now (literal_of c.cut-parts.result) c.wrong_group-start.result.1 (l.1.whole ∙ ap text_of (sym parts))
@@ -42,7 +42,7 @@ overflow_add-result-2 c =
     omega (arith, small, c.type_inv.text)
 
 pub returns : goal.returns
-returns c =
+returns _ c =
     let l = c.requires.read in
     let parts = c.cut-parts.ensures l.0 l.1.whole (c.count-counts.ensures l.0 l.1) in
     let reads = subst (λ k. Reads (notation_of c.args.self.now) k c.args.text.now) (sym parts) l.1 in

@@ -1,0 +1,11 @@
+-- A syntax has what reading needs.
+use Rattle.std.proofs.Common.{subst}
+use Rattle.lexical_literal.specs.Additions.Plain.{IsReady}
+use Rattle.lexical_literal.specs.Notation.{notation_of}
+use Rattle.lexical_literal.specs.declared.syntax.Grammar.{Grammar}
+use Rattle.lexical_literal.proofs.RoleLemmas.{ready}
+use Rattle.lexical_literal.proofs.syntax.Syntax.grammar.Goals as goal
+
+pub returns-clause-ready : goal.returns-clause-ready
+returns-clause-ready c = subst (λ (g : Grammar). IsReady (notation_of g)) c.self.view_is
+    (ready c.role_facts.ensures.disjoint c.role_facts.ensures.five c.role_facts.ensures.lawful _ c.self.invariant)
