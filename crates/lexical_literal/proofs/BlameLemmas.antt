@@ -17,7 +17,7 @@ use Rattle.lexical_literal.specs.Front.{IsValidUpTo}
 use Rattle.lexical_literal.specs.Additions.Causes.{IsReadOf, IsWeaker, is_at_gap, lets, place_of}
 use Rattle.lexical_literal.specs.Additions.Explained.{alone, blame, cases, conditions_of, mask_of, otherwise, refusal_of, requirements, separators}
 use Rattle.lexical_literal.specs.Additions.Explained.{some_unmet, unmet, zeros}
-use Rattle.lexical_literal.specs.Additions.Summary.{no_condition, role_at}
+use Rattle.lexical_literal.specs.Additions.Summary.{no_condition, role_at, part_of}
 use Rattle.lexical_literal.specs.declared.cause.Blame.{Blame}
 use Rattle.lexical_literal.specs.declared.cause.Marks.{Marks}
 use Rattle.lexical_literal.specs.declared.cause.ReadErrorKind.{ReadErrorKind}
@@ -205,7 +205,8 @@ module _ (m : Notation) (s : Summary) (front : List ℕ) (read : IsReadOf m s fr
     not_allowed = (refuses m s front read (Some byte) (bare m).flag no_condition (bare_weaker m)).0 (ap not none)
 
     at_place : (f : Flag) → is_one_of number_separator_flags f ≡ true → lets (adding f (bare m)) s (Some byte) ≡ true
-        → (is_at_gap m s (Some byte) ≡ true) × (is_at (place_of m s (role_at m s.part byte)) s.part f ≡ true)
+        → (is_at_gap m s (Some byte) ≡ true) × (is_at (place_of m (part_of s.stage) s.stage s.gap (role_at m (part_of s.stage) byte))
+        (part_of s.stage) f ≡ true)
     at_place f separates allowed = and_parts (is_at_gap m s (Some byte)) _
         (at_next m f s byte separates (sym (free_is m (bare m).flag s (Some byte)) ∙ none)
         (sym (free_is m (adding f (bare m)).flag s (Some byte)) ∙ allowed))
@@ -222,7 +223,8 @@ module _ (m : Notation) (s : Summary) (front : List ℕ) (read : IsReadOf m s fr
           and_from _ _ (at_place f is.0 allowed).0 (and_from _ _ is.0 allowed),
     )
 
-    at : (f : Flag) → separators m s (Some byte) f ≡ true → is_at (place_of m s (role_at m s.part byte)) s.part f ≡ true
+    at : (f : Flag) → separators m s (Some byte) f ≡ true
+        → is_at (place_of m (part_of s.stage) s.stage s.gap (role_at m (part_of s.stage) byte)) (part_of s.stage) f ≡ true
     at f is = let both = found f is in (at_place f both.0 both.1).1
 
     is_case : (f : Flag) → IsTrue (cases m s byte f) ↔ IsCaseFlag m front byte f
@@ -246,7 +248,8 @@ module _ (m : Notation) (s : Summary) (front : List ℕ) (read : IsReadOf m s fr
         })
         (λ some. as_flags (IsCause m front (Some byte) causes.Case) (cases m s byte)
         (record { refused = not_allowed; no_separator = no_flag _ permits zero; some = some_of _ some; each = is_case })))
-        (λ some. as_flags (IsCause m front (Some byte) (causes.Separator s.part (place_of m s (role_at m s.part byte))))
+        (λ some. as_flags (IsCause m front (Some byte) (causes.Separator (part_of s.stage) (place_of m (part_of s.stage) s.stage s.gap (role_at m
+        (part_of s.stage) byte))))
         (separators m s (Some byte)) (record { refused = not_allowed; some = some_of _ some; each = permits; at = at }))
 
   is_otherwise : (next : Option ℕ) → lets (bare m) s next ≡ false → IsCause m front next (otherwise m s next).kind (raw (otherwise m s next).mask).flag

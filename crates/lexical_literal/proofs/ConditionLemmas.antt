@@ -11,8 +11,10 @@ use Rattle.lexical_literal.specs.Additions.Plain.{HasRoles}
 use Rattle.lexical_literal.specs.Notation.{Notation}
 use Rattle.lexical_literal.specs.Literal.{Literal, IsLiteral, IsSpelled, Reads, condition, is_absent, is_none_or_one, is_none_or_prefix, is_plus, is_present}
 use Rattle.lexical_literal.specs.Literal.{text_of}
-use Rattle.lexical_literal.specs.Additions.Summary.{Cuts, HasLengths, add, admits, after, count, finishes, is_fresh, is_negative, role_at}
+use Rattle.lexical_literal.specs.Additions.Summary.{Cuts, HasLengths, add, admits, after, count, finishes, is_fresh, is_negative, role_at, part_of}
+use Rattle.lexical_literal.specs.Additions.Summary.{digits_piece}
 use Rattle.lexical_literal.specs.Additions.Summary.{lacks_prefix, no_condition, no_cuts, piece_number, piece_of, start, step_by, takes, tally_by}
+use Rattle.lexical_literal.specs.Additions.Summary.{awaits_integer}
 use Rattle.lexical_literal.specs.declared.steps.Piece.{Piece}
 use Rattle.lexical_literal.specs.declared.steps.Piece.TheVariants as pieces
 use Rattle.lexical_literal.specs.declared.steps.Stage.{Stage}
@@ -22,7 +24,7 @@ use Rattle.lexical_literal.specs.declared.syntax.Condition.{Condition}
 use Rattle.lexical_literal.specs.declared.syntax.Condition.TheVariants as conditions
 use Rattle.lexical_literal.proofs.LiteralLemmas.{all_cuts, is_tail, spelled_arrives, spelled_from}
 use Rattle.lexical_literal.proofs.ScanLemmas.{Accepts, Arrives, Took, add_all, arrives_byte, digit_role, is_role, moved, none_accepts, took}
-use Rattle.lexical_literal.proofs.StepLemmas.{begins, reading}
+use Rattle.lexical_literal.proofs.StepLemmas.{awaited_part, reading}
 
 -- LENGTHS
 
@@ -72,11 +74,11 @@ module _ (m : Notation) (h : HasRoles m) where
   stays : (o : Option Summary) (c : Cuts) (text : List ℕ) (q : Piece) → nat_lt 0 (c q) ≡ true → nat_lt 0 (tally_by O m o c text q) ≡ true
   stays o c [] q some = some
   stays None c (b ∷ text) q some = some
-  stays (Some s) c (b ∷ text) q some = go (role_at m s.part b) (λ c. stays (step_by O m s b) c text q) where
+  stays (Some s) c (b ∷ text) q some = go (role_at m (part_of s.stage) b) (λ c. stays (step_by O m s b) c text q) where
     go : (r : Option Role) → ((c : Cuts) → nat_lt 0 (c q) ≡ true → nat_lt 0 (tally_by O m (step_by O m s b) c text q) ≡ true)
-        → nat_lt 0 (tally_by O m (step_by O m s b) (count s.part r c) text q) ≡ true
+        → nat_lt 0 (tally_by O m (step_by O m s b) (count (part_of s.stage) r c) text q) ≡ true
     go None more = more c some
-    go (Some r) more = more (add c (piece_of s.part r)) (still c (piece_of s.part r) q some)
+    go (Some r) more = more (add c (piece_of (part_of s.stage) r)) (still c (piece_of (part_of s.stage) r) q some)
 
   -- WHAT IS ACCEPTED IS AS THE CONDITIONS REQUIRE
 
@@ -86,16 +88,16 @@ module _ (m : Notation) (h : HasRoles m) where
     suffix : nat_lt 0 (c pieces.Suffix) ≡ s.ended
 
   shows_after : (s : Summary) (c : Cuts) (plus zero : Bool) (r : Role) → s.ended ≡ false → admits C s plus zero r ≡ true → Shows s c
-      → Shows (after s zero r) (add c (piece_of s.part r))
+      → Shows (after s zero r) (add c (piece_of (part_of s.stage) r))
   shows_after s c plus zero r going admitted shows = record {
     prefix = λ set.
-        let some = still c (piece_of s.part r) pieces.Prefix in let before = shows.prefix set in grind (arith, nat_tests);
+        let some = still c (piece_of (part_of s.stage) r) pieces.Prefix in let before = shows.prefix set in grind (arith, nat_tests);
     suffix = let before = shows.suffix in grind (arith, nat_tests);
   }
 
   counted : {P : Option Summary → Type 0} (s : Summary) (b : ℕ) (c : Cuts) (text : List ℕ) (t : Took C m s b P)
-      → tally_by O m (Some s) c (b ∷ text) ≡ tally_by O m (Some (after s (b == 48) t.role)) (add c (piece_of s.part t.role)) text
-  counted s b c text t = λ j. tally_by O m (is j) (count s.part (t.plays j) c) text where
+      → tally_by O m (Some s) c (b ∷ text) ≡ tally_by O m (Some (after s (b == 48) t.role)) (add c (piece_of (part_of s.stage) t.role)) text
+  counted s b c text t = λ j. tally_by O m (is j) (count (part_of s.stage) (t.plays j) c) text where
     is : step_by O m s b ≡ Some (after s (b == 48) t.role)
     is = moved O m s b t.role t.plays t.going t.taken refl
 
@@ -112,7 +114,8 @@ module _ (m : Notation) (h : HasRoles m) where
   meets s c (b ∷ text) shows is =
       let t = took C m s b (λ o. Accepts C m o text) (none_accepts C m text) is in
       subst Meets (sym (counted s b c text t))
-      (meets (after s (b == 48) t.role) (add c (piece_of s.part t.role)) text (shows_after s c (b == 43) (b == 48) t.role t.going t.admitted shows) t.rest)
+      (meets (after s (b == 48) t.role) (add c (piece_of (part_of s.stage) t.role)) text (shows_after s c (b == 43)
+      (b == 48) t.role t.going t.admitted shows) t.rest)
 
   positive : (sign rest : List ℕ) → is_none_or_one signs sign ≡ true → C conditions.NegativeSign ≡ true → Accepts C m (Some start) (sign ++ rest)
       → (is_absent sign || is_plus sign) ≡ true
@@ -148,7 +151,7 @@ module _ (m : Notation) (h : HasRoles m) where
   -- `Calm s` holds if the conditions refuse no byte that may follow otherwise.
   record Calm (s : Summary) : Type 0 where
     prefix : (C conditions.BasePrefix && lacks_prefix s.stage) ≡ false
-    sign : (C conditions.NegativeSign && (is_fresh s.stage && is_negative s.part false roles.Sign)) ≡ false
+    sign : (C conditions.NegativeSign && (is_fresh s.stage && is_negative (part_of s.stage) false roles.Sign)) ≡ false
 
   calm_admits : (s : Summary) (plus zero : Bool) (r : Role) → Calm s → takes m s plus r ≡ true → admits C s plus zero r ≡ true
   calm_admits s plus zero roles.Sign calm taken = let a = calm.prefix in let b = calm.sign in grind arith
@@ -158,8 +161,9 @@ module _ (m : Notation) (h : HasRoles m) where
   calm_after s zero r calm = record { prefix = let a = calm.prefix in grind arith; sign = let b = calm.sign in grind arith }
 
   peel : (s : Summary) (b : ℕ) (c : Cuts) (text : List ℕ) (d : Cuts) → Arrives O m (Some s) c (b ∷ text) d
-      → Took O m s b (λ o. Arrives O m o (count s.part (role_at m s.part b) c) text d)
-  peel s b c text d is = took O m s b (λ o. Arrives O m o (count s.part (role_at m s.part b) c) text d) (λ none. none_accepts O m text none.0) is
+      → Took O m s b (λ o. Arrives O m o (count (part_of s.stage) (role_at m (part_of s.stage) b) c) text d)
+  peel s b c text d is =
+      took O m s b (λ o. Arrives O m o (count (part_of s.stage) (role_at m (part_of s.stage) b) c) text d) (λ none. none_accepts O m text none.0) is
 
   module _ (d : Cuts) (has_suffix : C conditions.BaseSuffix ≡ true → nat_lt 0 (d pieces.Suffix) ≡ true) where
     finished : (s : Summary) (c : Cuts) → (C conditions.BasePrefix && lacks_prefix s.stage) ≡ false → nat_lt 0 (c pieces.Suffix) ≡ s.ended
@@ -169,7 +173,7 @@ module _ (m : Notation) (h : HasRoles m) where
         (let done = is.0 in let need = has_suffix in grind arith, is.1)
 
     shown : (s : Summary) (c : Cuts) (zero : Bool) (r : Role) → s.ended ≡ false → nat_lt 0 (c pieces.Suffix) ≡ s.ended
-        → nat_lt 0 (add c (piece_of s.part r) pieces.Suffix) ≡ (after s zero r).ended
+        → nat_lt 0 (add c (piece_of (part_of s.stage) r) pieces.Suffix) ≡ (after s zero r).ended
     shown s c zero r going suffix = grind (arith, nat_tests)
 
     -- What arrives without conditions arrives with them, where they refuse nothing.
@@ -178,74 +182,80 @@ module _ (m : Notation) (h : HasRoles m) where
     lift s c [] calm suffix is = finished s c calm.prefix suffix is
     lift s c (b ∷ text) calm suffix is =
         let t = peel s b c text d is in
-        let more = subst (λ o. Arrives O m (Some (after s (b == 48) t.role)) (count s.part o c) text d) t.plays t.rest in
+        let more = subst (λ o. Arrives O m (Some (after s (b == 48) t.role)) (count (part_of s.stage) o c) text d) t.plays t.rest in
         arrives_byte C m s b t.role c text d t.going t.plays t.taken (calm_admits s (b == 43) (b == 48) t.role calm t.taken)
-        (lift (after s (b == 48) t.role) (add c (piece_of s.part t.role)) text (calm_after s (b == 48) t.role calm)
+        (lift (after s (b == 48) t.role) (add c (piece_of (part_of s.stage) t.role)) text (calm_after s (b == 48) t.role calm)
         (shown s c (b == 48) t.role t.going suffix) more)
 
     -- One byte whose role is known, and what follows it.
-    one_byte : (s : Summary) (b : ℕ) (r : Role) (c : Cuts) (text : List ℕ) → role_at m s.part b ≡ Some r → admits C s (b == 43) (b == 48) r ≡ true
-        → (Arrives O m (Some (after s (b == 48) r)) (add c (piece_of s.part r)) text d
-        → Arrives C m (Some (after s (b == 48) r)) (add c (piece_of s.part r)) text d)
+    one_byte : (s : Summary) (b : ℕ) (r : Role) (p : Piece) (c : Cuts) (text : List ℕ) → piece_of (part_of s.stage) r ≡ p
+        → role_at m (part_of s.stage) b ≡ Some r
+        → admits C s (b == 43) (b == 48) r ≡ true
+        → (Arrives O m (Some (after s (b == 48) r)) (add c p) text d → Arrives C m (Some (after s (b == 48) r)) (add c p) text d)
         → Arrives O m (Some s) c (b ∷ text) d → Arrives C m (Some s) c (b ∷ text) d
-    one_byte s b r c text role admitted more is =
+    one_byte s b r p c text is_piece role admitted more is =
         let t = peel s b c text d is in
         let same : t.role ≡ r = let a = t.plays in cc in
-        let rest = subst (λ r. Arrives O m (Some (after s (b == 48) r)) (add c (piece_of s.part r)) text d) same
-        (subst (λ o. Arrives O m (Some (after s (b == 48) t.role)) (count s.part o c) text d) t.plays t.rest) in
-        arrives_byte C m s b r c text d t.going role (subst (λ r. takes m s (b == 43) r ≡ true) same t.taken) admitted (more rest)
+        let rest = subst (λ r. Arrives O m (Some (after s (b == 48) r)) (add c (piece_of (part_of s.stage) r)) text d) same
+        (subst (λ o. Arrives O m (Some (after s (b == 48) t.role)) (count (part_of s.stage) o c) text d) t.plays t.rest) in
+        arrives_byte C m s b r c text d t.going role (subst (λ r. takes m s (b == 43) r ≡ true) same t.taken) admitted
+        (subst (λ p. Arrives C m (Some (after s (b == 48) r)) (add c p) text d) (sym is_piece)
+        (more (subst (λ p. Arrives O m (Some (after s (b == 48) r)) (add c p) text d) is_piece rest)))
 
     -- The first byte behind the sign, which is none, where no prefix is required.
-    first_byte : (stage : Stage) (c : Cuts) (text : List ℕ) → C conditions.BasePrefix ≡ false → begins stage ≡ true → nat_lt 0 (c pieces.Suffix) ≡ false
+    first_byte : (stage : Stage) (c : Cuts) (text : List ℕ) → C conditions.BasePrefix ≡ false → awaits_integer stage ≡ true → nat_lt 0 (c pieces.Suffix) ≡ false
         → (is_fresh stage ≡ true → nat_lt 0 (d pieces.Sign) ≡ false)
-        → Arrives O m (Some (reading parts.Integer stage false)) c text d → Arrives C m (Some (reading parts.Integer stage false)) c text d
-    first_byte stage c [] none begin suffix unsigned is = finished (reading parts.Integer stage false) c (grind arith) suffix is
+        → Arrives O m (Some (reading stage false)) c text d → Arrives C m (Some (reading stage false)) c text d
+    first_byte stage c [] none begin suffix unsigned is = finished (reading stage false) c (grind arith) suffix is
     first_byte stage c (b ∷ text) none begin suffix unsigned is =
-        let s = reading parts.Integer stage false in
+        let s = reading stage false in
         let t = peel s b c text d is in
-        let more = subst (λ o. Arrives O m (Some (after s (b == 48) t.role)) (count parts.Integer o c) text d) t.plays t.rest in
+        let more = subst (λ o. Arrives O m (Some (after s (b == 48) t.role)) (count (part_of stage) o c) text d) t.plays t.rest in
         let other : (t.role ≡ roles.Sign) → ⊥ = λ sign.
         let fresh : is_fresh stage ≡ true = let taken = subst (λ r. takes m s (b == 43) r ≡ true) sign t.taken in grind arith in
-        let counted = subst (λ r. Arrives O m (Some (after s (b == 48) r)) (add c (piece_of parts.Integer r)) text d) sign more in
+        let counted = subst (λ r. Arrives O m (Some (after s (b == 48) r)) (add c (piece_of (part_of stage) r)) text d) sign more in
         false≢true (sym (unsigned fresh) ∙ ap (λ (c : Cuts). nat_lt 0 (c pieces.Sign)) (sym counted.1)
-        ∙ stays (Some (after s (b == 48) roles.Sign)) (add c pieces.Sign) text pieces.Sign (grind (arith, nat_tests))) in
+        ∙ stays (Some (after s (b == 48) roles.Sign)) (add c (piece_of (part_of stage) roles.Sign)) text pieces.Sign
+        (subst (λ part. nat_lt 0 (add c (piece_of part roles.Sign) pieces.Sign) ≡ true) (sym (awaited_part stage begin)) (grind (arith, nat_tests)))) in
         arrives_byte C m s b t.role c text d t.going t.plays t.taken (admitted t.role other)
-        (lift (after s (b == 48) t.role) (add c (piece_of parts.Integer t.role)) text (calm t.role other t.taken)
+        (lift (after s (b == 48) t.role) (add c (piece_of (part_of stage) t.role)) text (calm t.role other t.taken)
         (shown s c (b == 48) t.role refl suffix) more) where
-          admitted : (r : Role) → (r ≡ roles.Sign → ⊥) → admits C (reading parts.Integer stage false) (b == 43) (b == 48) r ≡ true
+          admitted : (r : Role) → (r ≡ roles.Sign → ⊥) → admits C (reading stage false) (b == 43) (b == 48) r ≡ true
           admitted roles.Sign other = absurd (other refl)
           admitted _ other = grind arith
 
-          calm : (r : Role) → (r ≡ roles.Sign → ⊥) → takes m (reading parts.Integer stage false) (b == 43) r ≡ true
-              → Calm (after (reading parts.Integer stage false) (b == 48) r)
+          calm : (r : Role) → (r ≡ roles.Sign → ⊥) → takes m (reading stage false) (b == 43) r ≡ true
+              → Calm (after (reading stage false) (b == 48) r)
           calm roles.Sign other taken = absurd (other refl)
           calm _ other taken = record { prefix = grind arith; sign = grind arith }
 
     module _ (prefix rest : List ℕ) (is_prefix : is_none_or_prefix m.prefix prefix ≡ true)
         (has_prefix : C conditions.BasePrefix ≡ true → is_present prefix ≡ true) where
       -- The prefix, where it is required.
-      prefixed : (stage : Stage) (c : Cuts) (x : List ℕ) → C conditions.BasePrefix ≡ true → begins stage ≡ true → nat_lt 0 (c pieces.Suffix) ≡ false
+      prefixed : (stage : Stage) (c : Cuts) (x : List ℕ) → C conditions.BasePrefix ≡ true → awaits_integer stage ≡ true → nat_lt 0 (c pieces.Suffix) ≡ false
           → is_none_or_prefix m.prefix x ≡ true → is_present x ≡ true
-          → Arrives O m (Some (reading parts.Integer stage false)) c (x ++ rest) d → Arrives C m (Some (reading parts.Integer stage false)) c (x ++ rest) d
+          → Arrives O m (Some (reading stage false)) c (x ++ rest) d → Arrives C m (Some (reading stage false)) c (x ++ rest) d
       prefixed stage c (z ∷ b ∷ []) set begin suffix one some is =
           let both = and_parts (z == 48) _ one in
           let zero = eqb-true z 48 both.0 in
-          let s = reading parts.Integer stage false in
-          let bare : after s true roles.Digit ≡ reading parts.Integer stages.Bare false = grind arith in
+          let s = reading stage false in
+          let bare : after s true roles.Digit ≡ reading stages.Bare false = grind arith in
           subst (λ z. Arrives C m (Some s) c (z ∷ b ∷ rest) d) (sym zero)
-          (one_byte s 48 roles.Digit c (b ∷ rest) (digit_role m parts.Integer 48 (h.zero_is_digit parts.Integer)) (grind arith)
+          (one_byte s 48 roles.Digit pieces.Integer c (b ∷ rest) (ap digits_piece (awaited_part stage begin))
+          (digit_role m (part_of stage) 48 (h.zero_is_digit (part_of stage))) (grind arith)
           (λ more. subst (λ s. Arrives C m (Some s) (add c pieces.Integer) (b ∷ rest) d) (sym bare)
-          (one_byte (reading parts.Integer stages.Bare false) b roles.Prefix (add c pieces.Integer) rest
+          (one_byte (reading stages.Bare false) b roles.Prefix pieces.Prefix (add c pieces.Integer) rest refl
           (is_role m parts.Integer b h roles.Prefix (λ e. cc) both.1) (grind arith)
-          (λ more. lift (reading parts.Integer stages.Free false) (add (add c pieces.Integer) pieces.Prefix) rest
+          (λ more. lift (reading stages.Prefixed false) (add (add c pieces.Integer) pieces.Prefix) rest
           (record { prefix = grind arith; sign = grind arith }) (grind (arith, nat_tests)) more)
           (subst (λ s. Arrives O m (Some s) (add c pieces.Integer) (b ∷ rest) d) bare more)))
           (subst (λ z. Arrives O m (Some s) c (z ∷ b ∷ rest) d) zero is))
       prefixed stage c _ set begin suffix one some is = absurd (grind arith)
 
-      begun : (stage : Stage) (c : Cuts) → begins stage ≡ true → nat_lt 0 (c pieces.Suffix) ≡ false → (is_fresh stage ≡ true → nat_lt 0 (d pieces.Sign) ≡ false)
-          → Arrives O m (Some (reading parts.Integer stage false)) c (prefix ++ rest) d
-          → Arrives C m (Some (reading parts.Integer stage false)) c (prefix ++ rest) d
+      begun : (stage : Stage) (c : Cuts) → awaits_integer stage ≡ true → nat_lt 0 (c pieces.Suffix) ≡ false → (is_fresh stage ≡ true
+          → nat_lt 0 (d pieces.Sign) ≡ false)
+          → Arrives O m (Some (reading stage false)) c (prefix ++ rest) d
+          → Arrives C m (Some (reading stage false)) c (prefix ++ rest) d
       begun stage c begin suffix unsigned is = elim (cases_Bool (C conditions.BasePrefix)) [
         | inl set ↦ prefixed stage c prefix set begin suffix is_prefix (has_prefix set) is
         | inr none ↦ first_byte stage c (prefix ++ rest) none begin suffix unsigned is
@@ -256,7 +266,8 @@ module _ (m : Notation) (h : HasRoles m) where
           → Arrives O m (Some start) no_cuts (sign ++ (prefix ++ rest)) d → Arrives C m (Some start) no_cuts (sign ++ (prefix ++ rest)) d
       signed [] one plus count is = begun stages.Start no_cuts refl refl (λ fresh. count) is
       signed (b ∷ []) one plus count is =
-          one_byte start b roles.Sign no_cuts (prefix ++ rest) (is_role m parts.Integer b h roles.Sign (λ e. cc) one) (let need = plus in grind arith)
+          one_byte start b roles.Sign pieces.Sign no_cuts (prefix ++ rest) refl (is_role m parts.Integer b h roles.Sign (λ e. cc) one) (let need =
+              plus in grind arith)
           (begun stages.Empty (add no_cuts pieces.Sign) refl refl (λ fresh. absurd (false≢true fresh))) is
       signed (b ∷ x ∷ sign) one plus count is = absurd (false≢true one)
 

@@ -7,18 +7,20 @@ use Rattle.lexical_util.specs.declared.feature_format.roles.Role.{Role}
 use Rattle.lexical_util.specs.declared.feature_format.roles.Role.TheVariants as roles
 use Rattle.lexical_util.specs.declared.format_flags.Part.{Part}
 use Rattle.lexical_util.specs.declared.format_flags.Part.TheVariants as parts
-use Rattle.lexical_literal.specs.Additions.Plain.{HasRoles}
 use Rattle.lexical_literal.specs.Notation.{Notation}
 use Rattle.lexical_literal.specs.Literal.{Literal, is_none_or_one}
-use Rattle.lexical_literal.specs.Additions.Summary.{implies, has_digit, is_fresh, is_bare, after_digit, after_mark, after_point, is_open, may_follow}
+use Rattle.lexical_literal.specs.Additions.Summary.{implies, has_digit, is_fresh, is_bare, after_digit, after_mark, after_point, is_open, may_follow, part_of}
+use Rattle.lexical_literal.specs.Additions.Summary.{takes_in}
 use Rattle.lexical_literal.specs.Additions.Summary.{is_signed, forbids_plus, gap_fits, digits_suffice, ends, continues, may_float, takes, after, role_at}
+use Rattle.lexical_literal.specs.Additions.Summary.{awaits_integer}
 use Rattle.lexical_literal.specs.declared.steps.Stage.{Stage}
 use Rattle.lexical_literal.specs.declared.steps.Stage.TheVariants as stages
 use Rattle.lexical_literal.specs.declared.steps.Summary.{Summary}
 use Rattle.lexical_literal.specs.declared.syntax.Condition.{Condition}
 use Rattle.lexical_literal.proofs.RunLemmas.{is_rest}
 use Rattle.lexical_literal.proofs.ScanLemmas.{Accepts, took, none_accepts, as_digit, no_digit, as_role}
-use Rattle.lexical_literal.proofs.StepLemmas.{reading, begins, stage_after, after_byte, stage_at, gap_at, sign_fits, prefix_fits, ends_part, text_after}
+use Rattle.lexical_literal.proofs.StepLemmas.{reading, bare_part, digit_part, mark_part, point_part, stage_after, after_byte, stage_at, gap_at, sign_fits}
+use Rattle.lexical_literal.proofs.StepLemmas.{prefix_fits, ends_part, text_after}
 
 -- A sign, a prefix, digits, and the parts of `more` behind the digits of `part`.
 pub record Found (m : Notation) (part : Part) (stage : Stage) (gap : Bool) (sign prefix text : List ℕ) : Type 0 where
@@ -45,11 +47,12 @@ module _ (m : Notation) where
       → Found m part stage gap [] cut.prefix text
   unsigned part stage gap text over cut = subst (λ s. Found m part stage gap s cut.prefix text) (let signed = cut.found.signed in grind arith) cut.found
 
-  unprefixed : (part : Part) (stage : Stage) (gap : Bool) (sign prefix text : List ℕ) → is_bare stage ≡ false → (begins stage && not gap) ≡ false
+  unprefixed : (part : Part) (stage : Stage) (gap : Bool) (sign prefix text : List ℕ) → is_bare stage ≡ false → (awaits_integer stage && not gap) ≡ false
       → Found m part stage gap sign prefix text → Found m part stage gap sign [] text
   unprefixed part stage gap sign prefix text bare new found = grind arith
 
-  plain : (part : Part) (stage : Stage) (gap : Bool) (text : List ℕ) → is_fresh stage ≡ false → is_bare stage ≡ false → (begins stage && not gap) ≡ false
+  plain : (part : Part) (stage : Stage) (gap : Bool) (text : List ℕ) → is_fresh stage ≡ false → is_bare stage ≡ false
+      → (awaits_integer stage && not gap) ≡ false
       → Cut m part stage gap text → Found m part stage gap [] [] text
   plain part stage gap text over bare new cut = unprefixed part stage gap [] cut.prefix text bare new (unsigned part stage gap text over cut)
 
@@ -60,12 +63,12 @@ module _ (m : Notation) where
     cut_at sign prefix digits more whole signed prefixed run end = grind arith
 
     -- A part that ends.
-    ended_by : (more : Literal) → text ≡ text_after part more → ends m (reading part stage gap) ≡ true
+    ended_by : (more : Literal) → text ≡ text_after part more → ends m part stage gap ≡ true
         → (digits_suffice m part stage ≡ true → ends_part m part more stage ≡ true) → Cut m part stage gap text
     ended_by more whole is end = cut_at [] [] [] more whole (grind arith) refl (grind arith) (end (grind arith))
 
     -- Nothing but a suffix follows.
-    stopped : (ends m (reading part stage gap) && continues m part stage roles.Suffix) ≡ true → is_none_or_one m.suffix text ≡ true → Cut m part stage gap text
+    stopped : (ends m part stage gap && continues m part stage roles.Suffix) ≡ true → is_none_or_one m.suffix text ≡ true → Cut m part stage gap text
     stopped is one =
         let both = and_parts _ (continues m part stage roles.Suffix) is in
         ended_by (only text) (grind arith) both.0 (λ digits. let stop = both.1 in grind arith)
@@ -107,15 +110,15 @@ module _ (m : Notation) where
         (let prefixed = found.prefixed in grind arith) found.run found.end
 
     -- A prefix in front, whose zero has been read.
-    prefix_first : m.prefix b ≡ true → is_bare stage ≡ true → Cut m part stages.Free false text → Cut m part stage gap (b ∷ text)
+    prefix_first : m.prefix b ≡ true → is_bare stage ≡ true → Cut m part stages.Prefixed false text → Cut m part stage gap (b ∷ text)
     prefix_first prefix bare cut =
-        let found = plain part stages.Free false text refl refl refl cut in
+        let found = plain part stages.Prefixed false text refl refl refl cut in
         cut_at part stage gap (b ∷ text) [] (b ∷ []) found.digits found.more (ap (λ t. b ∷ t) found.whole)
         (grind arith) (and_from _ _ bare prefix) found.run found.end
 
   -- A decimal point in front.
   point_first : (part : Part) (stage : Stage) (gap : Bool) (b : ℕ) (text : List ℕ) → m.point b ≡ true
-      → (ends m (reading part stage gap) && continues m part stage roles.Point) ≡ true
+      → (ends m part stage gap && continues m part stage roles.Point) ≡ true
       → Cut m parts.Fraction (after_point (has_digit stage)) false text → Cut m part stage gap (b ∷ text)
   point_first parts.Integer stage gap b text point is cut =
       let both = and_parts _ (may_float m stage) is in
@@ -126,7 +129,7 @@ module _ (m : Notation) where
 
   -- An exponent character in front.
   exponent_first : (part : Part) (stage : Stage) (gap : Bool) (b : ℕ) (text : List ℕ) → m.exponent_character b ≡ true
-      → (ends m (reading part stage gap) && continues m part stage roles.Exponent) ≡ true
+      → (ends m part stage gap && continues m part stage roles.Exponent) ≡ true
       → Cut m parts.Exponent stages.Mark false text → Cut m part stage gap (b ∷ text)
   exponent_first parts.Exponent stage gap b text character is cut = absurd (grind arith)
   exponent_first part stage gap b text character is cut =
@@ -136,32 +139,50 @@ module _ (m : Notation) where
       ended_by part stage gap (b ∷ text) more (ap (λ t. b ∷ t) found.whole) both.0
       (λ digits. let scale = both.1 in let signed = found.signed in let run = found.run in let end = found.end in grind arith)
 
-  module _ (C : Condition → Bool) (h : HasRoles m) where
+  -- What is taken.
+  digit_taken : (part : Part) (stage : Stage) (gap plus : Bool) → takes_in m part stage gap plus roles.Digit ≡ true
+      → (is_signed m part stage ≡ true) × (gap_fits m part (has_digit stage) gap true ≡ true)
+  digit_taken part stage gap plus is = let both = and_parts (is_signed m part stage) _ is in
+      (both.0, (and_parts (gap_fits m part (has_digit stage) gap true) _ both.1).0)
+
+  separator_taken : (part : Part) (stage : Stage) (gap plus : Bool) → takes_in m part stage gap plus roles.Separator ≡ true → (is_signed m part stage ≡ true)
+      × (((not gap || m.flag (separators_in part).consecutive) && is_open m part (has_digit stage) (may_follow m stage)) ≡ true)
+  separator_taken part stage gap plus is = and_parts (is_signed m part stage) _ is
+
+  module _ (C : Condition → Bool) where
     -- Nothing follows the suffix.
     ended : (s : Summary) (text : List ℕ) → s.ended ≡ true → Accepts C m (Some s) text → text ≡ []
     ended s [] over is = refl
     ended s (b ∷ text) over is = absurd (false≢true (sym (took C m s b (λ o. Accepts C m o text) (none_accepts C m text) is).going ∙ over))
 
     -- What is accepted can be cut into parts.
-    pub cut_of : (part : Part) (stage : Stage) (gap : Bool) (text : List ℕ) → Accepts C m (Some (reading part stage gap)) text → Cut m part stage gap text
-    cut_of part stage gap [] is = stopped part stage gap [] (and_parts (ends m (reading part stage gap) && continues m part stage roles.Suffix) _ is).0 refl
-    cut_of part stage gap (b ∷ text) is =
-        let t = took C m (reading part stage gap) b (λ o. Accepts C m o text) (none_accepts C m text) is in
-        go t.role t.plays t.taken t.rest (λ part stage gap. cut_of part stage gap text) where
-          go : (r : Role) → role_at m part b ≡ Some r → takes m (reading part stage gap) (b == 43) r ≡ true
-              → Accepts C m (Some (after (reading part stage gap) (b == 48) r)) text
-              → ((part : Part) (stage : Stage) (gap : Bool) → Accepts C m (Some (reading part stage gap)) text → Cut m part stage gap text)
+    pub cut_of : (stage : Stage) (gap : Bool) (text : List ℕ) → Accepts C m (Some (reading stage gap)) text → Cut m (part_of stage) stage gap text
+    cut_of stage gap [] is =
+        stopped (part_of stage) stage gap [] (and_parts (ends m (part_of stage) stage gap && continues m (part_of stage) stage roles.Suffix) _ is).0 refl
+    cut_of stage gap (b ∷ text) is =
+        let t = took C m (reading stage gap) b (λ o. Accepts C m o text) (none_accepts C m text) is in
+        go t.role t.plays t.taken t.rest (λ stage gap. cut_of stage gap text) where
+          part : Part
+          part = part_of stage
+
+          go : (r : Role) → role_at m part b ≡ Some r → takes m (reading stage gap) (b == 43) r ≡ true
+              → Accepts C m (Some (after (reading stage gap) (b == 48) r)) text
+              → ((stage : Stage) (gap : Bool) → Accepts C m (Some (reading stage gap)) text → Cut m (part_of stage) stage gap text)
               → Cut m part stage gap (b ∷ text)
-          go roles.Digit role taken is cut =
-              digit_first part stage gap b text (as_digit m part b role) (grind arith) (grind arith) (cut part (after_digit stage gap (b == 48)) false is)
-          go roles.Separator role taken is cut =
-              separator_first part stage gap b text (no_digit m part b role) (as_role m part b _ role) (grind arith) (grind arith)
-              (cut part (after_mark stage) true is)
-          go roles.Sign role taken is cut = sign_first part stage gap b text (as_role m part b _ role) taken (cut part (after_mark stage) gap is)
-          go roles.Prefix role taken is cut = prefix_first part stage gap b text (as_role m part b _ role) taken (cut part stages.Free false is)
-          go roles.Point role taken is cut =
-              point_first part stage gap b text (as_role m part b _ role) taken (cut parts.Fraction (after_point (has_digit stage)) false is)
-          go roles.Exponent role taken is cut =
-              exponent_first part stage gap b text (as_role m part b _ role) taken (cut parts.Exponent stages.Mark false is)
+          go roles.Digit role taken is cut = let all = digit_taken part stage gap (b == 43) taken in
+              digit_first part stage gap b text (as_digit m part b role) all.0 all.1
+              (subst (λ part. Cut m part (after_digit stage gap (b == 48)) false text) (digit_part stage gap (b == 48)) (cut (after_digit stage gap
+              (b == 48)) false is))
+          go roles.Separator role taken is cut = let all = separator_taken part stage gap (b == 43) taken in
+              separator_first part stage gap b text (no_digit m part b role) (as_role m part b _ role) all.0 all.1
+              (subst (λ part. Cut m part (after_mark stage) true text) (mark_part stage) (cut (after_mark stage) true is))
+          go roles.Sign role taken is cut = sign_first part stage gap b text (as_role m part b _ role) taken
+              (subst (λ part. Cut m part (after_mark stage) gap text) (mark_part stage) (cut (after_mark stage) gap is))
+          go roles.Prefix role taken is cut = prefix_first part stage gap b text (as_role m part b _ role) taken
+              (subst (λ part. Cut m part stages.Prefixed false text) (sym (bare_part stage taken)) (cut stages.Prefixed false is))
+          go roles.Point role taken is cut = point_first part stage gap b text (as_role m part b _ role) taken
+              (subst (λ part. Cut m part (after_point (has_digit stage)) false text) (point_part (has_digit stage)) (cut (after_point
+              (has_digit stage)) false is))
+          go roles.Exponent role taken is cut = exponent_first part stage gap b text (as_role m part b _ role) taken (cut stages.Mark false is)
           go roles.Suffix role taken is cut = stopped part stage gap (b ∷ text) taken
               (subst (λ t. is_none_or_one m.suffix (b ∷ t) ≡ true) (sym (ended _ text refl is)) (as_role m part b _ role))

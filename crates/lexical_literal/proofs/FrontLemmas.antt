@@ -12,7 +12,7 @@ use Rattle.lexical_literal.specs.Notation.{Notation}
 use Rattle.lexical_literal.specs.Front.{IsFront}
 use Rattle.lexical_literal.specs.Additions.Summary.{admits, continues, implies, has_digit, is_fresh, is_led, after_digit, after_mark, after_point, may_lead}
 use Rattle.lexical_literal.specs.Additions.Summary.{is_negative, lacks_prefix, needs_exponent, may_follow, gap_fits, ends, is_open, is_signed, takes, after}
-use Rattle.lexical_literal.specs.Additions.Summary.{scan, is_accepted, start, no_cuts, role_at}
+use Rattle.lexical_literal.specs.Additions.Summary.{scan, is_accepted, start, no_cuts, role_at, part_of, awaits_integer, digits_suffice, takes_in, forbids_plus}
 use Rattle.lexical_literal.specs.declared.steps.Stage.{Stage}
 use Rattle.lexical_literal.specs.declared.steps.Stage.TheVariants as stages
 use Rattle.lexical_literal.specs.declared.steps.Summary.{Summary}
@@ -20,20 +20,14 @@ use Rattle.lexical_literal.specs.declared.syntax.Condition.{Condition}
 use Rattle.lexical_literal.specs.declared.syntax.Condition.TheVariants as conditions
 use Rattle.lexical_literal.proofs.ConditionLemmas.{literal_from, literal_arrives}
 use Rattle.lexical_literal.proofs.ScanLemmas.{Accepts, scan_none, scan_append, took, arrives_byte, digit_role, is_role}
-use Rattle.lexical_literal.proofs.StepLemmas.{begins, reading}
-
--- `is_integer part` is true if `part` is the integer.
-abbrev is_integer : Part → Bool
-is_integer parts.Integer = true
-is_integer _ = false
+use Rattle.lexical_literal.proofs.StepLemmas.{digit_part, digit_seen, mark_part, point_part, reading}
 
 -- `CanGoOn m s` holds if a gap, where there is one, can be closed, if there is a leading zero only where one may be, and if a
 -- prefix that is missing can follow.
 record CanGoOn (m : Notation) (s : Summary) : Type 0 where
-  closes : implies s.gap (is_open m s.part (has_digit s.stage) (may_follow m s.stage)) ≡ true
+  closes : implies s.gap (is_open m (part_of s.stage) (has_digit s.stage) (may_follow m s.stage)) ≡ true
   led : implies (is_led s.stage) (may_lead m) ≡ true
   prefixed : implies (m.condition conditions.BasePrefix && lacks_prefix s.stage) (not (s.gap || s.ended)) ≡ true
-  inside : implies (lacks_prefix s.stage) (is_integer s.part) ≡ true
 
 module _ (m : Notation) where
   abbrev C : Condition → Bool
@@ -45,8 +39,8 @@ module _ (m : Notation) where
 
   -- What can go on does so after each byte that is taken.
   goes_on : (s : Summary) (plus zero : Bool) (r : Role) → CanGoOn m s → takes m s plus r ≡ true → admits C s plus zero r ≡ true → CanGoOn m (after s zero r)
-  goes_on s plus zero roles.Digit can is admitted = record { closes = refl; led = grind arith; prefixed = grind arith; inside = grind arith }
-  goes_on s plus zero _ can is admitted = record { closes = grind arith; led = grind arith; prefixed = grind arith; inside = grind arith }
+  goes_on s plus zero roles.Digit can is admitted = record { closes = refl; led = grind arith; prefixed = grind arith }
+  goes_on s plus zero _ can is admitted = record { closes = grind arith; led = grind arith; prefixed = grind arith }
 
   all_go_on : HasRoles m → (s : Summary) (text : List ℕ) (last : Summary) → CanGoOn m s → scan m (Some s) text ≡ Some last → CanGoOn m last
   all_go_on h s [] last can is = let same : s ≡ last = cc in subst (CanGoOn m) same can
@@ -56,11 +50,26 @@ module _ (m : Notation) where
 
   -- WAYS TO GO ON
 
+  -- A digit is enough for a part, and another one may follow where it is no leading zero.
+  enough : (part : Part) (stage : Stage) → has_digit stage ≡ true → digits_suffice m part stage ≡ true
+  enough parts.Fraction stage digit = grind arith
+  enough _ stage digit = grind arith
+
+  may_more : (stage : Stage) → implies (has_digit stage) (may_follow m stage) ≡ true → may_follow m stage ≡ true
+  may_more stage may = grind arith
+
+  behind_digit : (stage : Stage) (gap : Bool) → is_signed m (part_of stage) (after_digit stage gap true) ≡ true
+  behind_digit stage gap = grind arith
+
+  led_on : (stage : Stage) (gap : Bool) → implies (has_digit stage) (may_follow m stage) ≡ true → implies (is_led stage) (may_lead m) ≡ true
+      → implies (is_led (after_digit stage gap true)) (may_lead m) ≡ true
+  led_on stage gap may led = grind arith
+
   abbrev Completed : Summary → Type 0
   Completed s = (more : List ℕ) × Accepts C m (Some s) more
 
   module _ (ready : IsReady m) where
-    then_byte : (s : Summary) (b : ℕ) (r : Role) → s.ended ≡ false → role_at m s.part b ≡ Some r → takes m s (b == 43) r ≡ true
+    then_byte : (s : Summary) (b : ℕ) (r : Role) → s.ended ≡ false → role_at m (part_of s.stage) b ≡ Some r → takes m s (b == 43) r ≡ true
         → admits C s (b == 43) (b == 48) r ≡ true → Completed (after s (b == 48) r) → Completed s
     then_byte s b r going role is admitted more =
         (b ∷ more.0, (arrives_byte C m s b r no_cuts more.0 _ going role is admitted (more.1, refl)).0)
@@ -69,130 +78,145 @@ module _ (m : Notation) where
     abbrev is_settled : Stage → Bool
     is_settled stage = not (C conditions.BasePrefix && lacks_prefix stage)
 
-    -- Where a literal may end, it does so, with the suffix if one is required.
-    stopped : (part : Part) (stage : Stage) (gap : Bool) → is_settled stage ≡ true
-        → (ends m (reading part stage gap) && continues m part stage roles.Suffix) ≡ true → Completed (reading part stage gap)
-    stopped part stage gap settled may = elim (cases_Bool (C conditions.BaseSuffix)) [
-      | inl needs ↦ then_byte (reading part stage gap) ready.suffix roles.Suffix refl
-          (is_role m part ready.suffix ready.roles roles.Suffix (λ e. cc) (ready.has_suffix needs)) may (grind arith) ([], grind arith)
-      | inr none ↦ ([], and_from _ _ may (grind arith))
-    ]
-
     -- `Finishes part` holds if a part with a digit that may end can be completed.
     abbrev Finishes : Part → Type 0
-    Finishes part = (stage : Stage) (gap : Bool) → is_settled stage ≡ true → has_digit stage ≡ true → ends m (reading part stage gap) ≡ true
-        → implies (is_led stage) (may_lead m) ≡ true → Completed (reading part stage gap)
+    Finishes part = (stage : Stage) (gap : Bool) → part_of stage ≡ part → is_settled stage ≡ true → has_digit stage ≡ true → ends m part stage gap ≡ true
+        → implies (is_led stage) (may_lead m) ≡ true → Completed (reading stage gap)
 
-    -- A digit, where one is needed.
-    digit_completed : (part : Part) (stage : Stage) (gap : Bool) → is_settled stage ≡ true → is_signed m part stage ≡ true → CanGoOn m (reading part stage gap)
-        → Finishes part → Completed (reading part stage gap)
-    digit_completed part stage gap settled signed can finishes = elim (closed part (has_digit stage) gap (may_follow m stage) can.closes) [
-      | inl here ↦ finishes stage gap settled here.0 (and_from _ _ signed (and_from _ _ here.1 (let digit = here.0 in grind arith))) can.led
-      | inr more ↦
-          then_byte (reading part stage gap) 48 roles.Digit refl (digit_role m part 48 (ready.roles.zero_is_digit part))
-          (and_from _ _ signed (and_from _ _ more.0 (let digit = more.1 in grind arith))) (grind arith)
-          (finishes (after_digit stage gap true) false (grind arith) (grind arith) (grind arith) (let led = can.led in grind arith))
-    ]
+    module _ (stage : Stage) (gap : Bool) where
+      -- Where a literal may end, it does so, with the suffix if one is required.
+      stopped : is_settled stage ≡ true → (part : Part) → part_of stage ≡ part → (ends m part stage gap && continues m part stage roles.Suffix) ≡ true
+          → Completed (reading stage gap)
+      stopped settled part at may = elim (cases_Bool (C conditions.BaseSuffix)) [
+        | inl needs ↦ then_byte (reading stage gap) ready.suffix roles.Suffix refl
+            (is_role m (part_of stage) ready.suffix ready.roles roles.Suffix (λ e. cc) (ready.has_suffix needs)) there (grind arith) ([], grind arith)
+        | inr none ↦ ([], and_from _ _ there (grind arith))
+      ] where
+        there : (ends m (part_of stage) stage gap && continues m (part_of stage) stage roles.Suffix) ≡ true
+        there = subst (λ part. (ends m part stage gap && continues m part stage roles.Suffix) ≡ true) (sym at) may
 
-    -- A sign first, or none where none is needed.
-    signed_completed : (part : Part) (stage : Stage) (gap : Bool) → is_fresh stage ≡ true → Completed (reading part (after_mark stage) gap)
-        → (is_signed m part stage ≡ true → Completed (reading part stage gap)) → Completed (reading part stage gap)
-    signed_completed part stage gap fresh behind unsigned =
-        elim (cases_Bool (C conditions.NegativeSign && is_negative part false roles.Sign)) [
-          | inl forbidden ↦ elim (cases_Bool (is_signed m part stage)) [
-            | inl signed ↦ unsigned signed
-            | inr needs ↦ then_byte (reading part stage gap) 43 roles.Sign refl (is_role m part 43 ready.roles roles.Sign (λ e. cc) refl)
-                (plus part forbidden needs) (grind arith) behind
-          ]
-          | inr may ↦ then_byte (reading part stage gap) 45 roles.Sign refl (is_role m part 45 ready.roles roles.Sign (λ e. cc) refl)
-              (grind arith) (grind arith) behind
-        ] where
-          plus : (part : Part) → (C conditions.NegativeSign && is_negative part false roles.Sign) ≡ true → is_signed m part stage ≡ false
-              → takes m (reading part stage gap) true roles.Sign ≡ true
-          plus parts.Exponent forbidden needs = absurd (grind arith)
-          plus _ forbidden needs = let some = ready.some_sign in grind arith
+      -- A digit, where one is needed.
+      digit_completed : is_settled stage ≡ true → is_signed m (part_of stage) stage ≡ true → CanGoOn m (reading stage gap) → Finishes (part_of stage)
+          → Completed (reading stage gap)
+      digit_completed settled signed can finishes = elim (closed (part_of stage) (has_digit stage) gap (may_follow m stage) can.closes) [
+        | inl here ↦ finishes stage gap refl settled here.0
+            (and_from _ _ signed (and_from _ _ here.1 (enough (part_of stage) stage here.0))) can.led
+        | inr more ↦
+            then_byte (reading stage gap) 48 roles.Digit refl (digit_role m (part_of stage) 48 (ready.roles.zero_is_digit (part_of stage)))
+            (and_from _ _ signed (and_from _ _ more.0 (may_more stage more.1))) (grind arith)
+            (finishes (after_digit stage gap true) false (digit_part stage gap true) (grind arith) (digit_seen stage gap true)
+            (and_from _ _ (behind_digit stage gap) (and_from _ _ refl (enough (part_of stage) (after_digit stage gap true) (digit_seen stage gap true))))
+            (led_on stage gap more.1 can.led))
+      ]
 
-    part_completed : (part : Part) (stage : Stage) (gap : Bool) → is_settled stage ≡ true → CanGoOn m (reading part stage gap) → Finishes part
-        → Completed (reading part stage gap)
-    part_completed part stage gap settled can finishes = elim (cases_Bool (is_fresh stage)) [
-      | inl fresh ↦ signed_completed part stage gap fresh
-          (digit_completed part (after_mark stage) gap (grind arith) (grind arith)
-          (record { closes = let closes = can.closes in grind arith; led = grind arith; prefixed = grind arith; inside = grind arith }) finishes)
-          (λ signed. digit_completed part stage gap settled signed can finishes)
-      | inr over ↦ digit_completed part stage gap settled (grind arith) can finishes
+      -- A sign first, or none where none is needed.
+      signed_completed : is_fresh stage ≡ true → Completed (reading (after_mark stage) gap)
+          → (is_signed m (part_of stage) stage ≡ true → Completed (reading stage gap)) → Completed (reading stage gap)
+      signed_completed fresh behind unsigned =
+          elim (cases_Bool (C conditions.NegativeSign && is_negative (part_of stage) false roles.Sign)) [
+            | inl forbidden ↦ elim (cases_Bool (is_signed m (part_of stage) stage)) [
+              | inl signed ↦ unsigned signed
+              | inr needs ↦ then_byte (reading stage gap) 43 roles.Sign refl (is_role m (part_of stage) 43 ready.roles roles.Sign (λ e. cc) refl)
+                  (plus (part_of stage) forbidden needs) (grind arith) behind
+            ]
+            | inr may ↦ then_byte (reading stage gap) 45 roles.Sign refl (is_role m (part_of stage) 45 ready.roles roles.Sign (λ e. cc) refl)
+                (and_from _ _ fresh (minus (part_of stage))) (grind arith) behind
+          ] where
+            plus : (part : Part) → (C conditions.NegativeSign && is_negative part false roles.Sign) ≡ true → is_signed m part stage ≡ false
+                → takes_in m part stage gap true roles.Sign ≡ true
+            plus parts.Exponent forbidden needs = absurd (grind arith)
+            plus _ forbidden needs = let some = ready.some_sign in grind arith
+
+            minus : (part : Part) → implies (forbids_plus m part) true ≡ true
+            minus part = grind arith
+
+    part_completed : (stage : Stage) (gap : Bool) → is_settled stage ≡ true → CanGoOn m (reading stage gap) → Finishes (part_of stage)
+        → Completed (reading stage gap)
+    part_completed stage gap settled can finishes = elim (cases_Bool (is_fresh stage)) [
+      | inl fresh ↦ signed_completed stage gap fresh
+          (digit_completed (after_mark stage) gap (grind arith) (grind arith)
+          (record {
+            closes = let closes = can.closes in subst (λ part. implies gap (is_open m part (has_digit (after_mark stage)) (may_follow m
+            (after_mark stage))) ≡ true)
+                (sym (mark_part stage)) (grind arith);
+            led = grind arith;
+            prefixed = grind arith;
+          })
+          (subst Finishes (sym (mark_part stage)) finishes))
+          (λ signed. digit_completed stage gap settled signed can finishes)
+      | inr over ↦ digit_completed stage gap settled (grind arith) can finishes
     ]
 
     exponent_finishes : Finishes parts.Exponent
-    exponent_finishes stage gap settled digit end led = stopped parts.Exponent stage gap settled (and_from _ true end refl)
+    exponent_finishes stage gap at settled digit end led = stopped stage gap settled parts.Exponent at (and_from _ true end refl)
 
     fraction_finishes : Finishes parts.Fraction
-    fraction_finishes stage gap settled digit end led = elim (cases_Bool (needs_exponent m)) [
+    fraction_finishes stage gap at settled digit end led = elim (cases_Bool (needs_exponent m)) [
       | inl needs ↦
           let agree = ready.agree in
-          then_byte (reading parts.Fraction stage gap) ready.exponent roles.Exponent refl
-          (is_role m parts.Fraction ready.exponent ready.roles roles.Exponent (λ e. cc) (ready.has_exponent (grind arith))) (and_from _ _ end (grind arith))
+          then_byte (reading stage gap) ready.exponent roles.Exponent refl
+          (is_role m (part_of stage) ready.exponent ready.roles roles.Exponent (λ e. cc) (ready.has_exponent (grind arith)))
+          (subst (λ part. (ends m part stage gap && continues m part stage roles.Exponent) ≡ true) (sym at) (and_from _ _ end (grind arith)))
           (grind arith)
-          (part_completed parts.Exponent stages.Mark false (grind arith)
-          (record { closes = refl; led = refl; prefixed = grind arith; inside = refl }) exponent_finishes)
-      | inr none ↦ stopped parts.Fraction stage gap settled (and_from _ _ end (ap not none))
+          (part_completed stages.Mark false (grind arith) (record { closes = refl; led = refl; prefixed = grind arith }) exponent_finishes)
+      | inr none ↦ stopped stage gap settled parts.Fraction at (and_from _ _ end (ap not none))
     ]
 
     integer_finishes : Finishes parts.Integer
-    integer_finishes stage gap settled digit end led = elim (cases_Bool (m.integers_only || (is_led stage && m.flag layout.no_float_leading_zeros))) [
-      | inl no_point ↦ stopped parts.Integer stage gap settled (and_from _ _ end (grind arith))
+    integer_finishes stage gap at settled digit end led = elim (cases_Bool (m.integers_only || (is_led stage && m.flag layout.no_float_leading_zeros))) [
+      | inl no_point ↦ stopped stage gap settled parts.Integer at (and_from _ _ end (grind arith))
       | inr point ↦
-          then_byte (reading parts.Integer stage gap) ready.point roles.Point refl
-          (is_role m parts.Integer ready.point ready.roles roles.Point (λ e. cc) (ready.has_point (grind arith))) (and_from _ _ end (grind arith))
+          then_byte (reading stage gap) ready.point roles.Point refl
+          (is_role m (part_of stage) ready.point ready.roles roles.Point (λ e. cc) (ready.has_point (grind arith)))
+          (subst (λ part. (ends m part stage gap && continues m part stage roles.Point) ≡ true) (sym at) (and_from _ _ end (grind arith)))
           (grind arith)
-          (part_completed parts.Fraction (after_point (has_digit stage)) false (grind arith)
-          (record { closes = refl; led = grind arith; prefixed = grind arith; inside = grind arith })
-          fraction_finishes)
+          (part_completed (after_point (has_digit stage)) false (grind arith) (record { closes = refl; led = grind arith; prefixed = grind arith })
+          (subst Finishes (sym (point_part (has_digit stage))) fraction_finishes))
     ]
 
     -- The prefix that is required, and a digit.
-    bare_completed : C conditions.BasePrefix ≡ true → Completed (reading parts.Integer stages.Bare false)
+    bare_completed : C conditions.BasePrefix ≡ true → Completed (reading stages.Bare false)
     bare_completed set =
-        then_byte (reading parts.Integer stages.Bare false) ready.prefix roles.Prefix refl
+        then_byte (reading stages.Bare false) ready.prefix roles.Prefix refl
         (is_role m parts.Integer ready.prefix ready.roles roles.Prefix (λ e. cc) (ready.has_prefix set)) refl (grind arith)
-        (digit_completed parts.Integer stages.Free false (grind arith) refl
-        (record { closes = refl; led = refl; prefixed = grind arith; inside = refl }) integer_finishes)
+        (digit_completed stages.Prefixed false (grind arith) refl (record { closes = refl; led = refl; prefixed = grind arith }) integer_finishes)
 
-    zero_completed : C conditions.BasePrefix ≡ true → (stage : Stage) → begins stage ≡ true → is_signed m parts.Integer stage ≡ true
-        → Completed (reading parts.Integer stage false)
+    zero_completed : C conditions.BasePrefix ≡ true → (stage : Stage) → awaits_integer stage ≡ true → is_signed m (part_of stage) stage ≡ true
+        → Completed (reading stage false)
     zero_completed set stage begin signed =
-        then_byte (reading parts.Integer stage false) 48 roles.Digit refl (digit_role m parts.Integer 48 (ready.roles.zero_is_digit parts.Integer))
-        (grind arith) (grind arith)
-        (subst Completed (let is : reading parts.Integer stages.Bare false ≡ after (reading parts.Integer stage false) true roles.Digit
+        then_byte (reading stage false) 48 roles.Digit refl (digit_role m (part_of stage) 48 (ready.roles.zero_is_digit (part_of stage)))
+        (and_from _ _ signed (and_from _ _ refl (grind arith))) (grind arith)
+        (subst Completed (let is : reading stages.Bare false ≡ after (reading stage false) true roles.Digit
         = grind arith in is) (bare_completed set))
 
-    prefix_completed : (stage : Stage) → C conditions.BasePrefix ≡ true → lacks_prefix stage ≡ true → Completed (reading parts.Integer stage false)
+    prefix_completed : (stage : Stage) → C conditions.BasePrefix ≡ true → lacks_prefix stage ≡ true → Completed (reading stage false)
     prefix_completed stages.Bare set lacks = bare_completed set
     prefix_completed stages.Empty set lacks = zero_completed set stages.Empty refl refl
     prefix_completed stages.Start set lacks =
-        signed_completed parts.Integer stages.Start false refl (zero_completed set stages.Empty refl refl) (zero_completed set stages.Start refl)
+        signed_completed stages.Start false refl (zero_completed set stages.Empty refl refl) (zero_completed set stages.Start refl)
     prefix_completed _ set lacks = absurd (false≢true lacks)
 
-    integer_completed : (stage : Stage) (gap : Bool) → CanGoOn m (reading parts.Integer stage gap) → Completed (reading parts.Integer stage gap)
-    integer_completed stage gap can = elim (cases_Bool (C conditions.BasePrefix && lacks_prefix stage)) [
+    finishes_in : (part : Part) → Finishes part
+    finishes_in parts.Integer = integer_finishes
+    finishes_in parts.Fraction = fraction_finishes
+    finishes_in parts.Exponent = exponent_finishes
+
+    completed : (stage : Stage) (gap ended : Bool) → CanGoOn m (record { stage = stage; gap = gap; ended = ended })
+        → Completed (record { stage = stage; gap = gap; ended = ended })
+    completed stage gap true can = ([], let is = can.prefixed in grind arith)
+    completed stage gap false can = elim (cases_Bool (C conditions.BasePrefix && lacks_prefix stage)) [
       | inl lacks ↦
           let both = and_parts (C conditions.BasePrefix) _ lacks in
           let none : gap ≡ false = let free = can.prefixed in grind arith in
-          subst (λ gap. Completed (reading parts.Integer stage gap)) (sym none) (prefix_completed stage both.0 both.1)
-      | inr settled ↦ part_completed parts.Integer stage gap (ap not settled) can integer_finishes
+          subst (λ gap. Completed (reading stage gap)) (sym none) (prefix_completed stage both.0 both.1)
+      | inr settled ↦ part_completed stage gap (ap not settled) can (finishes_in (part_of stage))
     ]
-
-    completed : (part : Part) (stage : Stage) (gap ended : Bool) → CanGoOn m (record { part = part; stage = stage; gap = gap; ended = ended })
-        → Completed (record { part = part; stage = stage; gap = gap; ended = ended })
-    completed part stage gap true can = ([], let is = can.prefixed in grind arith)
-    completed parts.Integer stage gap false can = integer_completed stage gap can
-    completed parts.Fraction stage gap false can = part_completed parts.Fraction stage gap (let is = can.inside in grind arith) can fraction_finishes
-    completed parts.Exponent stage gap false can = part_completed parts.Exponent stage gap (let is = can.inside in grind arith) can exponent_finishes
 
     -- What has been read is a front of a literal.
     pub front_from : (text : List ℕ) (s : Summary) → scan m (Some start) text ≡ Some s → IsFront m text
     front_from text s is =
-        let more = completed s.part s.stage s.gap s.ended
-        (all_go_on ready.roles start text s (record { closes = refl; led = refl; prefixed = grind arith; inside = refl }) is) in
+        let more = completed s.stage s.gap s.ended
+        (all_go_on ready.roles start text s (record { closes = refl; led = refl; prefixed = grind arith }) is) in
         let found = literal_from m ready.roles (text ++ more.0) (rw (scan_append C m (Some start) text more.0, is) more.1) in
         record { more = more.0; literal = found.0; reads = found.1 }
 

@@ -1,12 +1,15 @@
 -- What has been read where one part ends and the next one begins.
+use Rattle.lexical_literal.proofs.StepLemmas.{awaited_part}
 use Rattle.std.proofs.Common.{ℕ, ◌≡◌, ◌<◌, ◌+◌, ◌-◌, ◌==◌, Bool, true, false, List, [], ◌∷◌, if◌then◌else◌}
 use Rattle.std.proofs.Common.{get_or, length, refl, sym, ap, subst, ◌∙◌, arith, replicate}
 use Rattle.lexical_util.specs.declared.feature_format.roles.Role.TheVariants as roles
 use Rattle.lexical_util.specs.declared.format_flags.Part.{Part}
 use Rattle.lexical_util.specs.declared.format_flags.Part.TheVariants as parts
 use Rattle.lexical_literal.specs.Notation.{Notation}
-use Rattle.lexical_literal.specs.Additions.Plain.{HasRoles, IsAt, IsCounted, IsFirst, IsOpened, IsReadOn, IsSign, behind_sign, counts_of, fresh, is_free, place}
-use Rattle.lexical_literal.specs.Additions.Summary.{Cuts, add, add_more, after_mark, after_point, cuts_of, has_digit, is_begun, is_signed, no_cuts, takes}
+use Rattle.lexical_literal.specs.Additions.Plain.{HasRoles, IsAt, IsCounted, IsFirst, IsOpened, IsReadOn, IsSign, behind_sign, counts_of, fresh, is_free}
+use Rattle.lexical_literal.specs.Additions.Plain.{at_stage}
+use Rattle.lexical_literal.specs.Additions.Summary.{Cuts, add, add_more, after_mark, after_point, cuts_of, has_digit, awaits_integer, is_signed, no_cuts, takes}
+use Rattle.lexical_literal.specs.Additions.Summary.{part_of}
 use Rattle.lexical_literal.specs.declared.plain.At.{At}
 use Rattle.lexical_literal.specs.declared.plain.Counted.{Counted}
 use Rattle.lexical_literal.specs.declared.plain.Opening.{Opening}
@@ -17,27 +20,23 @@ use Rattle.lexical_literal.specs.declared.steps.Stage.{Stage}
 use Rattle.lexical_literal.specs.declared.steps.Stage.TheVariants as stages
 use Rattle.lexical_literal.specs.declared.syntax.Condition.TheVariants as conditions
 use Rattle.lexical_literal.proofs.CountLemmas.{count_more, count_one, no_counts}
-use Rattle.lexical_literal.proofs.PlainLemmas.{admits_free, none_begun, one_read, read_one, read_zero, stopped_at}
+use Rattle.lexical_literal.proofs.PlainLemmas.{none_begun, one_read, read_free, read_zero, stopped_at}
 use Rattle.lexical_literal.proofs.ScanLemmas.{is_role}
 
 -- Stages behind a sign.
-begun_behind : (sign : ℕ) → is_begun (behind_sign parts.Integer sign) ≡ true
+begun_behind : (sign : ℕ) → awaits_integer (behind_sign parts.Integer sign) ≡ true
 begun_behind sign = go (sign == 0) where
-  go : (b : Bool) → is_begun (if b then stages.Start else stages.Empty) ≡ true
+  go : (b : Bool) → awaits_integer (if b then stages.Start else stages.Empty) ≡ true
   go true = refl
   go false = refl
 
-pub exponent_behind : (sign : ℕ) → has_digit (behind_sign parts.Exponent sign) ≡ false
-exponent_behind sign = go (sign == 0) where
-  go : (b : Bool) → has_digit (if b then stages.Mark else stages.Free) ≡ false
-  go true = refl
-  go false = refl
-
-pub exponent_free : (m : Notation) (sign : ℕ) → is_free m (behind_sign parts.Exponent sign) ≡ true
-exponent_free m sign = go (sign == 0) where
-  go : (b : Bool) → is_free m (if b then stages.Mark else stages.Free) ≡ true
-  go true = grind arith
-  go false = grind arith
+pub exponent_behind : (m : Notation) (sign : ℕ) → let stage = behind_sign parts.Exponent sign in
+    (has_digit stage ≡ false) × (part_of stage ≡ parts.Exponent) × (is_free m stage ≡ true)
+exponent_behind m sign = go (sign == 0) where
+  go : (b : Bool) → let stage = if b then stages.Mark else stages.Signed in
+      (has_digit stage ≡ false) × (part_of stage ≡ parts.Exponent) × (is_free m stage ≡ true)
+  go true = (refl, refl, grind arith)
+  go false = (refl, refl, grind arith)
 
 pub signed_behind : (m : Notation) (part : Part) → is_signed m part (after_mark (fresh part)) ≡ true
 signed_behind m parts.Exponent = refl
@@ -50,17 +49,17 @@ module _ (m : Notation) (text : List ℕ) where
       → add_more c p (next.size - at.size) ≡ cuts_of counts → IsAt m text next (cuts_of counts)
   at_more at next p c counts on is same = subst (IsAt m text next) same (on.reads c is)
 
-  begun : IsAt m text (place parts.Integer 0 stages.Start) no_cuts
+  begun : IsAt m text (at_stage 0 stages.Start) no_cuts
   begun = record { begun = record { within = omega arith; read = refl }; counted = refl }
 
   -- The sign of the mantissa.
-  pub sign_at : (sign : ℕ) → IsSign m text parts.Integer 0 sign → IsAt m text (place parts.Integer sign (behind_sign parts.Integer sign))
+  pub sign_at : (sign : ℕ) → IsSign m text parts.Integer 0 sign → IsAt m text (at_stage sign (behind_sign parts.Integer sign))
       (cuts_of (sign ∷ 0 ∷ 0 ∷ 0 ∷ 0 ∷ 0 ∷ 0 ∷ 0 ∷ 0 ∷ []))
   sign_at sign is =
       let same : 0 + sign ≡ sign = omega arith in
       let none : 0 + sign - 0 ≡ sign = omega arith in
-      subst (λ n. IsAt m text (place parts.Integer n (behind_sign parts.Integer sign)) (cuts_of (sign ∷ 0 ∷ 0 ∷ 0 ∷ 0 ∷ 0 ∷ 0 ∷ 0 ∷ 0 ∷ []))) same
-      (at_more (place parts.Integer 0 stages.Start) (place parts.Integer (0 + sign) (behind_sign parts.Integer sign)) pieces.Sign no_cuts (sign ∷ 0 ∷ 0 ∷ 0
+      subst (λ n. IsAt m text (at_stage n (behind_sign parts.Integer sign)) (cuts_of (sign ∷ 0 ∷ 0 ∷ 0 ∷ 0 ∷ 0 ∷ 0 ∷ 0 ∷ 0 ∷ []))) same
+      (at_more (at_stage 0 stages.Start) (at_stage (0 + sign) (behind_sign parts.Integer sign)) pieces.Sign no_cuts (sign ∷ 0 ∷ 0 ∷ 0
       ∷ 0 ∷ 0 ∷ 0 ∷ 0 ∷ 0 ∷ []) is.on begun
       (ap (λ n. add_more no_cuts pieces.Sign n) none ∙ ap (λ c. add_more c pieces.Sign sign) no_counts
       ∙ count_more (replicate 9 0) refl pieces.Sign sign ∙ ap (λ n. cuts_of (n ∷ 0 ∷ 0 ∷ 0 ∷ 0 ∷ 0 ∷ 0 ∷ 0 ∷ 0 ∷ [])) same))
@@ -77,15 +76,16 @@ module _ (m : Notation) (text : List ℕ) where
     signed = is.signed;
     free = grind arith;
     none = none_begun (behind_sign parts.Integer sign) (begun_behind sign);
+    inside = awaited_part (behind_sign parts.Integer sign) (begun_behind sign);
   }
 
   -- Behind a base prefix.
   pub opened_prefix : HasRoles m → (sign : ℕ) → IsSign m text parts.Integer 0 sign
-      → ((stage : Stage) (c : Cuts) → IsFirst m stage → IsAt m text (place parts.Integer sign stage) c
-      → IsAt m text (place parts.Integer (sign + 2) stages.Free) (add (add c pieces.Integer) pieces.Prefix))
-      → IsOpened m text (record { sign = sign; prefix = 1; size = sign + 2; stage = stages.Free })
+      → ((stage : Stage) (c : Cuts) → IsFirst m stage → IsAt m text (at_stage sign stage) c
+      → IsAt m text (at_stage (sign + 2) stages.Prefixed) (add (add c pieces.Integer) pieces.Prefix))
+      → IsOpened m text (record { sign = sign; prefix = 1; size = sign + 2; stage = stages.Prefixed })
   opened_prefix h sign is prefix = record {
-    at = subst (IsAt m text (place parts.Integer (sign + 2) stages.Free))
+    at = subst (IsAt m text (at_stage (sign + 2) stages.Prefixed))
         (ap (λ c. add c pieces.Prefix) (count_one (sign ∷ 0 ∷ 0 ∷ 0 ∷ 0 ∷ 0 ∷ 0 ∷ 0 ∷ 0 ∷ []) refl pieces.Integer)
         ∙ count_one (sign ∷ 0 ∷ 1 ∷ 0 ∷ 0 ∷ 0 ∷ 0 ∷ 0 ∷ 0 ∷ []) refl pieces.Prefix)
         (prefix (behind_sign parts.Integer sign) (cuts_of (sign ∷ 0 ∷ 0 ∷ 0 ∷ 0 ∷ 0 ∷ 0 ∷ 0 ∷ 0 ∷ [])) (first_behind sign is) (sign_at sign is));
@@ -93,63 +93,64 @@ module _ (m : Notation) (text : List ℕ) where
     signed = refl;
     free = grind arith;
     none = refl;
+    inside = refl;
   }
 
   -- A required base prefix is missing, and its zero may be there.
   pub zero_only : HasRoles m → (sign : ℕ) → IsSign m text parts.Integer 0 sign → sign < length text → get_or text sign 0 ≡ 48
-      → (counted : Counted) → counted.at ≡ place parts.Integer (sign + 1) stages.Bare → counted.complete ≡ false → IsCounted m text counted
+      → (counted : Counted) → counted.at ≡ at_stage (sign + 1) stages.Bare → counted.complete ≡ false → IsCounted m text counted
   zero_only h sign is inside naught counted at incomplete =
-      let zero_at = place parts.Integer (sign + 1) stages.Bare in
+      let zero_at = at_stage (sign + 1) stages.Bare in
       let counts = cuts_of (sign ∷ 0 ∷ 0 ∷ 0 ∷ 0 ∷ 0 ∷ 0 ∷ 0 ∷ 0 ∷ []) in
       let all = add_more counts pieces.Integer (zero_at.size - sign) in
       stopped_at m text counted all (subst (λ at. IsAt m text at all) (sym at)
       ((read_zero m text h sign (behind_sign parts.Integer sign) inside naught (first_behind sign is)).reads counts (sign_at sign is))) incomplete
 
   pub sign_only : (sign : ℕ) → IsSign m text parts.Integer 0 sign
-      → (counted : Counted) → counted.at ≡ place parts.Integer sign (behind_sign parts.Integer sign) → counted.complete ≡ false → IsCounted m text counted
+      → (counted : Counted) → counted.at ≡ at_stage sign (behind_sign parts.Integer sign) → counted.complete ≡ false → IsCounted m text counted
   sign_only sign is counted at incomplete =
       let counts = cuts_of (sign ∷ 0 ∷ 0 ∷ 0 ∷ 0 ∷ 0 ∷ 0 ∷ 0 ∷ 0 ∷ []) in
       stopped_at m text counted counts (subst (λ at. IsAt m text at counts) (sym at) (sign_at sign is)) incomplete
 
-  pub nothing_at : (counted : Counted) → counted.at ≡ place parts.Integer 0 stages.Start → counted.complete ≡ false → IsCounted m text counted
+  pub nothing_at : (counted : Counted) → counted.at ≡ at_stage 0 stages.Start → counted.complete ≡ false → IsCounted m text counted
   nothing_at counted at incomplete = stopped_at m text counted no_cuts (subst (λ at. IsAt m text at no_cuts) (sym at) begun) incomplete
 
   -- The digits of the integer.
-  pub integer_at : (o : Opening) → IsOpened m text o → (size : ℕ) (stage : Stage) → IsReadOn m text (place parts.Integer o.size o.stage) pieces.Integer
-      (place parts.Integer size stage)
-      → IsAt m text (place parts.Integer size stage) (cuts_of (o.sign ∷ o.prefix ∷ (size - o.sign - o.prefix) ∷ 0 ∷ 0 ∷ 0 ∷ 0 ∷ 0 ∷ 0 ∷ []))
+  pub integer_at : (o : Opening) → IsOpened m text o → (size : ℕ) (stage : Stage) → IsReadOn m text (at_stage o.size o.stage) pieces.Integer
+      (at_stage size stage)
+      → IsAt m text (at_stage size stage) (cuts_of (o.sign ∷ o.prefix ∷ (size - o.sign - o.prefix) ∷ 0 ∷ 0 ∷ 0 ∷ 0 ∷ 0 ∷ 0 ∷ []))
   integer_at o is size stage on =
       let sum : o.prefix + (size - o.size) ≡ size - o.sign - o.prefix = omega (arith, is.size, on.more) in
-      at_more (place parts.Integer o.size o.stage) (place parts.Integer size stage) pieces.Integer
+      at_more (at_stage o.size o.stage) (at_stage size stage) pieces.Integer
       (cuts_of (o.sign ∷ o.prefix ∷ o.prefix ∷ 0 ∷ 0 ∷ 0 ∷ 0 ∷ 0 ∷ 0 ∷ [])) (o.sign ∷ o.prefix ∷ (size - o.sign - o.prefix) ∷ 0 ∷ 0 ∷ 0 ∷ 0 ∷ 0 ∷ 0 ∷ []) on
       is.at
       (count_more (o.sign ∷ o.prefix ∷ o.prefix ∷ 0 ∷ 0 ∷ 0 ∷ 0 ∷ 0 ∷ 0 ∷ []) refl pieces.Integer (size - o.size)
       ∙ ap (λ n. cuts_of (o.sign ∷ o.prefix ∷ n ∷ 0 ∷ 0 ∷ 0 ∷ 0 ∷ 0 ∷ 0 ∷ [])) sum)
 
   -- The digits of the fraction.
-  pub fraction_at : (s : Sizes) (from size : ℕ) (first stage : Stage) → s.fraction ≡ 0 → IsAt m text (place parts.Fraction from first) (cuts_of (counts_of s
+  pub fraction_at : (s : Sizes) (from size : ℕ) (first stage : Stage) → s.fraction ≡ 0 → IsAt m text (at_stage from first) (cuts_of (counts_of s
       0 0 0 0))
-      → IsReadOn m text (place parts.Fraction from first) pieces.Fraction (place parts.Fraction size stage)
-      → IsAt m text (place parts.Fraction size stage) (cuts_of (counts_of (record s { fraction = size - from }) 0 0 0 0))
+      → IsReadOn m text (at_stage from first) pieces.Fraction (at_stage size stage)
+      → IsAt m text (at_stage size stage) (cuts_of (counts_of (record s { fraction = size - from }) 0 0 0 0))
   fraction_at s from size first stage none is on =
       let sum : s.fraction + (size - from) ≡ size - from = omega (arith, none) in
-      at_more (place parts.Fraction from first) (place parts.Fraction size stage) pieces.Fraction
+      at_more (at_stage from first) (at_stage size stage) pieces.Fraction
       (cuts_of (counts_of s 0 0 0 0)) (counts_of (record s { fraction = size - from }) 0 0 0 0) on is
       (count_more (counts_of s 0 0 0 0) refl pieces.Fraction (size - from)
       ∙ ap (λ n. cuts_of (s.sign ∷ s.prefix ∷ s.integer ∷ s.point ∷ n ∷ 0 ∷ 0 ∷ 0 ∷ 0 ∷ [])) sum)
 
   -- The sign and the digits of the exponent.
-  pub exponent_at : (s : Sizes) (size sign end : ℕ) (stage : Stage) → IsAt m text (place parts.Exponent size stages.Mark) (cuts_of (counts_of s 1 0 0 0))
+  pub exponent_at : (s : Sizes) (size sign end : ℕ) (stage : Stage) → IsAt m text (at_stage size stages.Mark) (cuts_of (counts_of s 1 0 0 0))
       → IsSign m text parts.Exponent size sign
-      → IsReadOn m text (place parts.Exponent (size + sign) (behind_sign parts.Exponent sign)) pieces.Exponent (place parts.Exponent end stage)
-      → IsAt m text (place parts.Exponent end stage) (cuts_of (counts_of s 1 sign (end - (size + sign)) 0))
+      → IsReadOn m text (at_stage (size + sign) (behind_sign parts.Exponent sign)) pieces.Exponent (at_stage end stage)
+      → IsAt m text (at_stage end stage) (cuts_of (counts_of s 1 sign (end - (size + sign)) 0))
   exponent_at s size sign end stage is signed on =
       let one : size + sign - size ≡ sign = omega arith in
       let same : 0 + sign ≡ sign = omega arith in
       let sum : 0 + (end - (size + sign)) ≡ end - (size + sign) = omega arith in
-      at_more (place parts.Exponent (size + sign) (behind_sign parts.Exponent sign)) (place parts.Exponent end stage) pieces.Exponent
+      at_more (at_stage (size + sign) (behind_sign parts.Exponent sign)) (at_stage end stage) pieces.Exponent
       (cuts_of (counts_of s 1 sign 0 0)) (counts_of s 1 sign (end - (size + sign)) 0) on
-      (at_more (place parts.Exponent size stages.Mark) (place parts.Exponent (size + sign) (behind_sign parts.Exponent sign)) pieces.ExponentSign
+      (at_more (at_stage size stages.Mark) (at_stage (size + sign) (behind_sign parts.Exponent sign)) pieces.ExponentSign
       (cuts_of (counts_of s 1 0 0 0)) (counts_of s 1 sign 0 0) signed.on is
       (ap (λ n. add_more (cuts_of (counts_of s 1 0 0 0)) pieces.ExponentSign n) one ∙ count_more (counts_of s 1 0 0 0) refl pieces.ExponentSign sign
       ∙ ap (λ n. cuts_of (counts_of s 1 n 0 0)) same))
@@ -158,26 +159,26 @@ module _ (m : Notation) (text : List ℕ) where
   module _ (h : HasRoles m) where
     -- The decimal point.
     pub point_at : (s : Sizes) (size : ℕ) (stage : Stage) → s.point ≡ 0 → size < length text → m.point (get_or text size 0) ≡ true
-        → takes m (place parts.Integer size stage).read false roles.Point ≡ true → is_free m stage ≡ true
-        → IsAt m text (place parts.Integer size stage) (cuts_of (counts_of s 0 0 0 0))
-        → IsAt m text (place parts.Fraction (size + 1) (after_point (has_digit stage))) (cuts_of (counts_of (record s { point = 1 }) 0 0 0 0))
+        → takes m (at_stage size stage).read false roles.Point ≡ true → is_free m stage ≡ true
+        → IsAt m text (at_stage size stage) (cuts_of (counts_of s 0 0 0 0))
+        → IsAt m text (at_stage (size + 1) (after_point (has_digit stage))) (cuts_of (counts_of (record s { point = 1 }) 0 0 0 0))
     point_at s size stage none inside point taken free is = let b = get_or text size 0 in
-        subst (IsAt m text (place parts.Fraction (size + 1) (after_point (has_digit stage))))
+        subst (IsAt m text (at_stage (size + 1) (after_point (has_digit stage))))
         (count_one (counts_of s 0 0 0 0) refl pieces.Point ∙ ap (λ n. cuts_of (counts_of (record s { point = n + 1 }) 0 0 0 0)) none)
-        (one_read m text (place parts.Integer size stage) (place parts.Fraction (size + 1) (after_point (has_digit stage))) pieces.Point
-        (read_one m text h (place parts.Integer size stage) roles.Point inside (is_role m parts.Integer b h roles.Point (λ same. cc) point) refl taken
-        (admits_free m parts.Integer stage (place parts.Integer size stage).read (b == 43) (b == 48) roles.Point (λ same. cc) free)) refl _ is)
+        (one_read m text (at_stage size stage) (at_stage (size + 1) (after_point (has_digit stage))) pieces.Point
+        (read_free m text h (part_of stage) (at_stage size stage) roles.Point refl (λ same. cc) inside
+        (is_role m (part_of stage) b h roles.Point (λ same. cc) point) refl taken free) refl _ is)
 
     -- The exponent character.
-    pub mark_at : (s : Sizes) (part : Part) (size : ℕ) (stage : Stage) → size < length text → m.exponent_character (get_or text size 0) ≡ true
-        → takes m (place part size stage).read false roles.Exponent ≡ true → is_free m stage ≡ true
-        → IsAt m text (place part size stage) (cuts_of (counts_of s 0 0 0 0))
-        → IsAt m text (place parts.Exponent (size + 1) stages.Mark) (cuts_of (counts_of s 1 0 0 0))
-    mark_at s part size stage inside mark taken free is = let b = get_or text size 0 in
-        subst (IsAt m text (place parts.Exponent (size + 1) stages.Mark)) (count_one (counts_of s 0 0 0 0) refl pieces.ExponentCharacter)
-        (one_read m text (place part size stage) (place parts.Exponent (size + 1) stages.Mark) pieces.ExponentCharacter
-        (read_one m text h (place part size stage) roles.Exponent inside (is_role m part b h roles.Exponent (λ same. cc) mark) refl taken
-        (admits_free m part stage (place part size stage).read (b == 43) (b == 48) roles.Exponent (λ same. cc) free)) refl _ is)
+    pub mark_at : (s : Sizes) (size : ℕ) (stage : Stage) → size < length text → m.exponent_character (get_or text size 0) ≡ true
+        → takes m (at_stage size stage).read false roles.Exponent ≡ true → is_free m stage ≡ true
+        → IsAt m text (at_stage size stage) (cuts_of (counts_of s 0 0 0 0))
+        → IsAt m text (at_stage (size + 1) stages.Mark) (cuts_of (counts_of s 1 0 0 0))
+    mark_at s size stage inside mark taken free is = let b = get_or text size 0 in
+        subst (IsAt m text (at_stage (size + 1) stages.Mark)) (count_one (counts_of s 0 0 0 0) refl pieces.ExponentCharacter)
+        (one_read m text (at_stage size stage) (at_stage (size + 1) stages.Mark) pieces.ExponentCharacter
+        (read_free m text h (part_of stage) (at_stage size stage) roles.Exponent refl (λ same. cc) inside
+        (is_role m (part_of stage) b h roles.Exponent (λ same. cc) mark) refl taken free) refl _ is)
 
     -- The suffix.
     pub suffix_at : (s : Sizes) (a b c : ℕ) (at : At) → at.size < length text → m.suffix (get_or text at.size 0) ≡ true
@@ -187,14 +188,11 @@ module _ (m : Notation) (text : List ℕ) where
     suffix_at s a b c at inside suffix going taken free is = let byte = get_or text at.size 0 in
         subst (IsAt m text (record { size = at.size + 1; read = record at.read { ended = true } })) (count_one (counts_of s a b c 0) refl pieces.Suffix)
         (one_read m text at (record { size = at.size + 1; read = record at.read { ended = true } }) pieces.Suffix
-        (read_one m text h at roles.Suffix inside (is_role m at.read.part byte h roles.Suffix (λ same. cc) suffix) going taken
-        (admits_free m at.read.part at.read.stage at.read (byte == 43) (byte == 48) roles.Suffix (λ same. cc) free)) refl _ is)
+        (read_free m text h (part_of at.read.stage) at roles.Suffix refl (λ same. cc) inside
+        (is_role m (part_of at.read.stage) byte h roles.Suffix (λ same. cc) suffix) going taken free) refl _ is)
 
 -- Stages behind a decimal point.
-pub point_none : (digit : Bool) → (has_digit (after_point digit) ≡ false) × ((m : Notation) → is_signed m parts.Fraction (after_point digit) ≡ true)
-point_none true = (refl, λ m. refl)
-point_none false = (refl, λ m. refl)
-
-pub point_free : (m : Notation) (digit : Bool) → is_free m (after_point digit) ≡ true
-point_free m true = grind arith
-point_free m false = grind arith
+pub behind_point : (m : Notation) (digit : Bool) → let stage = after_point digit in
+    (has_digit stage ≡ false) × (is_signed m parts.Fraction stage ≡ true) × (part_of stage ≡ parts.Fraction) × (is_free m stage ≡ true)
+behind_point m true = (refl, refl, refl, grind arith)
+behind_point m false = (refl, refl, refl, grind arith)

@@ -13,20 +13,19 @@ use Rattle.lexical_literal.specs.Run.{is_place}
 use Rattle.lexical_literal.specs.Cause.{adding, bare, binds, is_at, is_one_of, is_same, number_separator_flags, with_rules}
 use Rattle.lexical_literal.specs.Additions.Causes.{is_separator, lets, place_of}
 use Rattle.lexical_literal.specs.Additions.Summary.{admits, after, complete_by, continues, ends, finishes, has_digit, implies, may_follow}
-use Rattle.lexical_literal.specs.Additions.Summary.{move_by, no_condition, role_at, takes}
+use Rattle.lexical_literal.specs.Additions.Summary.{move_by, no_condition, role_at, takes, part_of, takes_in}
 use Rattle.lexical_literal.specs.declared.steps.Stage.{Stage}
 use Rattle.lexical_literal.specs.declared.steps.Stage.TheVariants as stages
 use Rattle.lexical_literal.specs.declared.steps.Summary.{Summary}
 use Rattle.lexical_literal.specs.declared.syntax.Condition.{Condition}
 use Rattle.lexical_literal.specs.declared.syntax.Condition.TheVariants as conditions
-use Rattle.lexical_literal.proofs.StepLemmas.{reading}
 
 -- ROLES
 
--- `taken n s plus role` is true if a byte with the role `role` may follow, if it has one.
-abbrev pub taken : Notation → Summary → Bool → Option Role → Bool
-taken n s plus None = false
-taken n s plus (Some role) = takes n s plus role
+-- `taken n part stage gap plus role` is true if a byte with the role `role` may follow, if it has one.
+abbrev taken : Notation → Part → Stage → Bool → Bool → Option Role → Bool
+taken n part stage gap plus None = false
+taken n part stage gap plus (Some role) = takes_in n part stage gap plus role
 
 abbrev passes_role : (Condition → Bool) → Summary → Bool → Bool → Option Role → Bool
 passes_role C s plus zero None = true
@@ -41,7 +40,7 @@ split_role n s plus zero (Some role) = gate s.ended (takes n s plus role) (admit
   gate e t a x = grind arith
 
 moved : (n : Notation) (s : Summary) (ended plus zero : Bool) (o : Option Role)
-    → is_some (move_by no_condition n (record s { ended = ended }) plus zero o) ≡ (not ended && taken n (reading s.part s.stage s.gap) plus o)
+    → is_some (move_by no_condition n (record s { ended = ended }) plus zero o) ≡ (not ended && taken n (part_of s.stage) s.stage s.gap plus o)
 moved n s ended plus zero None = grind arith
 moved n s ended plus zero (Some role) = grind arith
 
@@ -49,7 +48,7 @@ module _ (m : Notation) where
   -- `role_of_next s next` is the role of the byte `next` after `s`, or that of a suffix, where `next` is `None`.
   abbrev role_of_next : Summary → Option ℕ → Option Role
   role_of_next s None = Some roles.Suffix
-  role_of_next s (Some byte) = role_at m s.part byte
+  role_of_next s (Some byte) = role_at m (part_of s.stage) byte
 
   abbrev is_plus_next : Option ℕ → Bool
   is_plus_next None = false
@@ -59,23 +58,25 @@ module _ (m : Notation) where
   -- The notation `n` has the roles of `m`.
   abbrev pub free_allows : Notation → Summary → Option ℕ → Bool
   free_allows n s None = complete_by no_condition n s
-  free_allows n s (Some byte) = is_some (move_by no_condition n s (byte == 43) (byte == 48) (role_at m s.part byte))
+  free_allows n s (Some byte) = is_some (move_by no_condition n s (byte == 43) (byte == 48) (role_at m (part_of s.stage) byte))
 
   abbrev pub passes : (Condition → Bool) → Summary → Option ℕ → Bool
   passes C s None = finishes C s
-  passes C s (Some byte) = passes_role C s (byte == 43) (byte == 48) (role_at m s.part byte)
+  passes C s (Some byte) = passes_role C s (byte == 43) (byte == 48) (role_at m (part_of s.stage) byte)
 
   -- What is allowed is what the flags and the conditions let.
   pub split : (A : Flag → Bool) (D : Condition → Bool) (s : Summary) (next : Option ℕ)
       → lets (with_rules m A D) s next ≡ (free_allows (with_rules m A D) s next && passes D s next)
-  split A D s None = both (s.ended || (ends (with_rules m A D) s && continues (with_rules m A D) s.part s.stage roles.Suffix)) (finishes D s) where
+  split A D s None =
+      both (s.ended || (ends (with_rules m A D) (part_of s.stage) s.stage s.gap && continues (with_rules m A D) (part_of s.stage) s.stage roles.Suffix))
+      (finishes D s) where
     both : (x f : Bool) → (x && f) ≡ ((x && true) && f)
     both x f = grind arith
-  split A D s (Some byte) = split_role (with_rules m A D) s (byte == 43) (byte == 48) (role_at m s.part byte)
+  split A D s (Some byte) = split_role (with_rules m A D) s (byte == 43) (byte == 48) (role_at m (part_of s.stage) byte)
 
   passes_free : (s : Summary) (next : Option ℕ) → passes no_condition s next ≡ true
   passes_free s None = refl
-  passes_free s (Some byte) = go (role_at m s.part byte) where
+  passes_free s (Some byte) = go (role_at m (part_of s.stage) byte) where
     go : (o : Option Role) → passes_role no_condition s (byte == 43) (byte == 48) o ≡ true
     go None = refl
     go (Some role) = refl
@@ -88,7 +89,7 @@ module _ (m : Notation) where
       → ((c : Condition) → C c ≡ true → passes (λ d. is_same c d || false) s next ≡ true) → passes C s next ≡ true
   each_passes C s None each =
       let prefix = each conditions.BasePrefix in let suffix = each conditions.BaseSuffix in grind arith
-  each_passes C s (Some byte) each = go (role_at m s.part byte) (λ c. each c) where
+  each_passes C s (Some byte) each = go (role_at m (part_of s.stage) byte) (λ c. each c) where
     go : (o : Option Role) → ((c : Condition) → C c ≡ true → passes_role (λ d. is_same c d || false) s (byte == 43) (byte == 48) o ≡ true)
         → passes_role C s (byte == 43) (byte == 48) o ≡ true
     go None each = refl
@@ -96,12 +97,12 @@ module _ (m : Notation) where
 
   -- What is allowed without conditions is a question of roles, before a suffix.
   allows_is : (n : Notation) (s : Summary) (next : Option ℕ) → s.ended ≡ false
-      → free_allows n s next ≡ taken n (reading s.part s.stage s.gap) (is_plus_next next) (role_of_next s next)
-  allows_is n s None going = unended s.ended (ends n s && continues n s.part s.stage roles.Suffix) going where
+      → free_allows n s next ≡ taken n (part_of s.stage) s.stage s.gap (is_plus_next next) (role_of_next s next)
+  allows_is n s None going = unended s.ended (ends n (part_of s.stage) s.stage s.gap && continues n (part_of s.stage) s.stage roles.Suffix) going where
     unended : (e x : Bool) → e ≡ false → ((e || x) && true) ≡ x
     unended e x going = grind arith
-  allows_is n s (Some byte) going = moved n s s.ended (byte == 43) (byte == 48) (role_at m s.part byte)
-      ∙ ap (λ e. not e && taken n (reading s.part s.stage s.gap) (byte == 43) (role_at m s.part byte)) going
+  allows_is n s (Some byte) going = moved n s s.ended (byte == 43) (byte == 48) (role_at m (part_of s.stage) byte)
+      ∙ ap (λ e. not e && taken n (part_of s.stage) s.stage s.gap (byte == 43) (role_at m (part_of s.stage) byte)) going
 
   -- FLAGS THAT REFUSE TOGETHER
 
@@ -119,11 +120,14 @@ module _ (m : Notation) where
   is_digits roles.Separator = true
   is_digits _ = false
 
-  whole_role : (part : Part) (stage : Stage) (gap plus : Bool) (role : Role) → Alone (λ n. takes n (reading part stage gap) plus role) → is_digits role ≡ false
-      → takes m (reading part stage gap) plus role ≡ true
+  whole_role : (part : Part) (stage : Stage) (gap plus : Bool) (role : Role) → Alone (λ n. takes_in n part stage gap plus role) → is_digits role ≡ false
+      → takes_in m part stage gap plus role ≡ true
   whole_role parts.Exponent stage gap plus roles.Sign a other = let forbidden = met a layout.no_positive_exponent_sign in grind arith
   whole_role _ stage gap plus roles.Sign a other = let forbidden = met a layout.no_positive_mantissa_sign in grind arith
-  whole_role parts.Integer stage gap plus roles.Suffix a other =
+  whole_role parts.Integer stages.Start gap plus roles.Suffix a other =
+      let sign = met a layout.required_mantissa_sign in let digits = met a layout.required_integer_digits in
+      let needs = met a layout.required_exponent_notation in grind arith
+  whole_role parts.Integer _ gap plus roles.Suffix a other =
       let sign = met a layout.required_mantissa_sign in let digits = met a layout.required_integer_digits in
       let leads = met a layout.no_integer_leading_zeros in let needs = met a layout.required_exponent_notation in grind arith
   whole_role parts.Integer stages.Start gap plus role a other =
@@ -134,24 +138,24 @@ module _ (m : Notation) where
       let sign = met a layout.required_mantissa_sign in let digits = met a layout.required_integer_digits in
       let floats = met a layout.no_float_leading_zeros in let mantissa = met a layout.required_mantissa_digits in
       let none = met a layout.no_exponent_notation in let fraction = met a layout.no_exponent_without_fraction in grind arith
-  whole_role parts.Fraction stage gap plus roles.Suffix a other =
+  whole_role parts.Fraction stages.Lone gap plus role a other =
+      let digits = met a layout.required_fraction_digits in let mantissa = met a layout.required_mantissa_digits in
+      let needs = met a layout.required_exponent_notation in let none = met a layout.no_exponent_notation in grind arith
+  whole_role parts.Fraction _ gap plus role a other =
       let sign = met a layout.required_mantissa_sign in let digits = met a layout.required_fraction_digits in
-      let mantissa = met a layout.required_mantissa_digits in let needs = met a layout.required_exponent_notation in grind arith
-  whole_role parts.Fraction stage gap plus role a other =
-      let sign = met a layout.required_mantissa_sign in let digits = met a layout.required_fraction_digits in
-      let mantissa = met a layout.required_mantissa_digits in let none = met a layout.no_exponent_notation in grind arith
+      let needs = met a layout.required_exponent_notation in let none = met a layout.no_exponent_notation in grind arith
   whole_role parts.Exponent stage gap plus role a other =
       let sign = met a layout.required_exponent_sign in let digits = met a layout.required_exponent_digits in grind arith
 
   -- Behind a leading zero that is refused, a separator would have to be trailing.
-  led : (part : Part) (stage : Stage) (gap plus : Bool) (role : Role) → is_digits role ≡ true → Alone (λ n. takes n (reading part stage gap) plus role)
-      → takes m (reading part stage gap) plus role ≡ false
+  led : (part : Part) (stage : Stage) (gap plus : Bool) (role : Role) → is_digits role ≡ true → Alone (λ n. takes_in n part stage gap plus role)
+      → takes_in m part stage gap plus role ≡ false
       → (may_follow m stage || (is_separator (Some role) && is_place m part (has_digit stage) false)) ≡ false
   led parts.Exponent stage gap plus role is a refused = let sign = met a layout.required_exponent_sign in grind arith
   led _ stage gap plus role is a refused = let sign = met a layout.required_mantissa_sign in grind arith
 
-  joint_role : (part : Part) (stage : Stage) (gap plus : Bool) (o : Option Role) → Alone (λ n. taken n (reading part stage gap) plus o)
-      → taken m (reading part stage gap) plus o ≡ false → m.flag layout.no_float_leading_zeros ≡ true
+  joint_role : (part : Part) (stage : Stage) (gap plus : Bool) (o : Option Role) → Alone (λ n. taken n part stage gap plus o)
+      → taken m part stage gap plus o ≡ false → m.flag layout.no_float_leading_zeros ≡ true
   joint_role part stage gap plus None a refused = absurd (false≢true a.free)
   joint_role parts.Exponent stage gap plus (Some roles.Digit) a refused =
       let sign = met a layout.required_exponent_sign in let leads = met a layout.no_integer_leading_zeros in grind arith
@@ -165,8 +169,8 @@ module _ (m : Notation) where
   -- SEPARATORS
 
   at_role : (f : Flag) (part : Part) (stage : Stage) (gap plus : Bool) (o : Option Role) → is_one_of number_separator_flags f ≡ true
-      → taken (bare m) (reading part stage gap) plus o ≡ false → taken (adding f (bare m)) (reading part stage gap) plus o ≡ true
-      → ((gap || is_separator o) && is_at (place_of m (reading part stage gap) o) part f) ≡ true
+      → taken (bare m) part stage gap plus o ≡ false → taken (adding f (bare m)) part stage gap plus o ≡ true
+      → ((gap || is_separator o) && is_at (place_of m part stage gap o) part f) ≡ true
   at_role f part stage gap plus None is refused allowed = absurd (false≢true allowed)
   at_role layout.required_integer_digits part stage gap plus (Some role) is refused allowed = grind arith
   at_role _ part stage gap plus (Some role) is refused allowed = grind arith
@@ -175,29 +179,32 @@ module _ (m : Notation) where
 
   -- What is allowed without requirements, and refused with them, follows no suffix.
   pub going : (s : Summary) (next : Option ℕ) → free_allows (bare m) s next ≡ true → free_allows m s next ≡ false → s.ended ≡ false
-  going s None free refused = unended s.ended (ends m s && continues m s.part s.stage roles.Suffix) refused where
+  going s None free refused = unended s.ended (ends m (part_of s.stage) s.stage s.gap && continues m (part_of s.stage) s.stage roles.Suffix) refused where
     unended : (e x : Bool) → ((e || x) && true) ≡ false → e ≡ false
     unended e x none = grind arith
-  going s (Some byte) free refused = let is = sym (moved (bare m) s s.ended (byte == 43) (byte == 48) (role_at m s.part byte)) ∙ free in grind arith
+  going s (Some byte) free refused = let is = sym (moved (bare m) s s.ended (byte == 43) (byte == 48) (role_at m (part_of s.stage) byte)) ∙ free in grind arith
 
   module _ (s : Summary) (next : Option ℕ) (unended : s.ended ≡ false) where
     abbrev o : Option Role
     o = role_of_next s next
 
-    same : ◌≡◌ {A = Notation → Bool} (λ n. taken n (reading s.part s.stage s.gap) (is_plus_next next) o) (λ n. free_allows n s next)
+    same : ◌≡◌ {A = Notation → Bool} (λ n. taken n (part_of s.stage) s.stage s.gap (is_plus_next next) o) (λ n. free_allows n s next)
     same = λ j n. sym (allows_is n s next unended) j
 
     -- What no flag refuses alone, a flag on leading zeros refuses with another.
     pub joint : Alone (λ n. free_allows n s next) → free_allows m s next ≡ false → m.flag layout.no_float_leading_zeros ≡ true
-    joint = subst (λ P. Alone P → P m ≡ false → m.flag layout.no_float_leading_zeros ≡ true) same (joint_role s.part s.stage s.gap (is_plus_next next) o)
+    joint = subst (λ P. Alone P → P m ≡ false → m.flag layout.no_float_leading_zeros ≡ true) same (joint_role (part_of s.stage) s.stage s.gap
+        (is_plus_next next) o)
 
   -- A flag that allows the byte is of the place and the part.
   pub at_next : (f : Flag) (s : Summary) (byte : ℕ) → is_one_of number_separator_flags f ≡ true → free_allows (bare m) s (Some byte) ≡ false
       → free_allows (adding f (bare m)) s (Some byte) ≡ true
-      → ((s.gap || is_separator (role_at m s.part byte)) && is_at (place_of m s (role_at m s.part byte)) s.part f) ≡ true
+      → ((s.gap || is_separator (role_at m (part_of s.stage) byte)) && is_at (place_of m (part_of s.stage) s.stage s.gap (role_at m (part_of s.stage) byte))
+      (part_of s.stage) f) ≡ true
   at_next f s byte is refused allowed =
       subst (λ (P : Notation → Bool). P (bare m) ≡ false → P (adding f (bare m)) ≡ true
-      → ((s.gap || is_separator (role_at m s.part byte)) && is_at (place_of m s (role_at m s.part byte)) s.part f) ≡ true)
-      (same s (Some byte) (let is = sym (moved (adding f (bare m)) s s.ended (byte == 43) (byte == 48) (role_at m s.part byte))
+      → ((s.gap || is_separator (role_at m (part_of s.stage) byte)) && is_at (place_of m (part_of s.stage) s.stage s.gap (role_at m (part_of s.stage) byte))
+      (part_of s.stage) f) ≡ true)
+      (same s (Some byte) (let is = sym (moved (adding f (bare m)) s s.ended (byte == 43) (byte == 48) (role_at m (part_of s.stage) byte))
       ∙ allowed in grind arith))
-      (at_role f s.part s.stage s.gap (byte == 43) (role_at m s.part byte) is) refused allowed
+      (at_role f (part_of s.stage) s.stage s.gap (byte == 43) (role_at m (part_of s.stage) byte) is) refused allowed

@@ -15,7 +15,7 @@ use Rattle.lexical_literal.specs.Notation.{Notation}
 use Rattle.lexical_literal.specs.Run.{is_run}
 use Rattle.lexical_literal.specs.Literal.{Literal, IsSpelled, text_of, is_present, is_absent, is_plus, is_none_or_one, is_none_or_prefix, is_zero_led}
 use Rattle.lexical_literal.specs.Additions.Summary.{Cuts, implies, has_digit, is_lone, is_led, after_digit, after_mark, after_point, may_follow}
-use Rattle.lexical_literal.specs.Additions.Summary.{may_lead, is_signed}
+use Rattle.lexical_literal.specs.Additions.Summary.{may_lead, is_signed, part_of}
 use Rattle.lexical_literal.specs.Additions.Summary.{forbids_plus, gap_fits, digits_suffice, ends, continues, add, digits_piece, no_condition}
 use Rattle.lexical_literal.specs.Additions.Summary.{piece_of, start, no_cuts}
 use Rattle.lexical_literal.specs.declared.steps.Piece.TheVariants as pieces
@@ -24,7 +24,8 @@ use Rattle.lexical_literal.specs.declared.steps.Stage.TheVariants as stages
 use Rattle.lexical_literal.specs.declared.syntax.Condition.{Condition}
 use Rattle.lexical_literal.proofs.RunLemmas.{is_rest, rest_of_none, digits_present, opens}
 use Rattle.lexical_literal.proofs.ScanLemmas.{Accepts, Arrives, add_all, free_byte, digit_role, is_role}
-use Rattle.lexical_literal.proofs.StepLemmas.{reading, led_after, stage_after, passed, stage_at, sign_fits, prefix_fits, digits_fit}
+use Rattle.lexical_literal.proofs.StepLemmas.{reading, digit_part, exponent_part, integer_part, mark_part, point_part, run_part, led_after, stage_after, passed}
+use Rattle.lexical_literal.proofs.StepLemmas.{stage_at, sign_fits, prefix_fits, digits_fit}
 use Rattle.lexical_literal.proofs.StepLemmas.{ends_exponent, ends_mantissa, fraction_fits, stops, scales, ends_part, text_after}
 use Rattle.lexical_literal.proofs.CutLemmas.{cut_of}
 
@@ -209,7 +210,7 @@ module _ (m : Notation) (h : HasRoles m) where
   -- What is accepted is spelled as a literal.
   pub spelled_from : (C : Condition → Bool) (text : List ℕ) → Accepts C m (Some start) text → (l : Literal) × (text ≡ text_of l) × IsSpelled m l
   spelled_from C text is =
-      let cut = cut_of m C h parts.Integer stages.Start false text is in
+      let cut = cut_of m C stages.Start false text is in
       let found = cut.found in
       let l : Literal = record found.more { sign = cut.sign; prefix = cut.prefix; integer = found.digits } in
       let first = stage_at stages.Start cut.sign cut.prefix in
@@ -223,7 +224,7 @@ module _ (m : Notation) (h : HasRoles m) where
   record Goes (part : Part) (last : Stage) (c : Cuts) (rest : List ℕ) (d : Cuts) : Type 0 where
     leads : is_led last ≡ true → may_lead m ≡ true
     arrives : (gap : Bool) → gap_fits m part (has_digit last) gap false ≡ true → is_signed m part last ≡ true
-        → Arrives no_condition m (Some (reading part last gap)) c rest d
+        → Arrives no_condition m (Some (reading last gap)) c rest d
 
   -- Where a digit follows, it may.
   follow : (D : ByteSet) (stage : Stage) (gap : Bool) (run : List ℕ) → (is_led (stage_after D stage gap run) ≡ true → may_lead m ≡ true) → list_any D run ≡ true
@@ -231,124 +232,130 @@ module _ (m : Notation) (h : HasRoles m) where
   follow D stage gap run may is = let led = (passed D stage gap run).led in grind arith
 
   -- The digits of a part.
-  run_arrives : (part : Part) (stage : Stage) (gap : Bool) (run rest : List ℕ) (c d : Cuts) → is_signed m part stage ≡ true
+  run_arrives : (part : Part) (stage : Stage) (gap : Bool) (run rest : List ℕ) (c d : Cuts) → part_of stage ≡ part → is_signed m part stage ≡ true
       → is_rest m part (has_digit stage) gap run ≡ true → Goes part (stage_after (m.digit part) stage gap run) (add_all c (digits_piece part) run) rest d
-      → Arrives no_condition m (Some (reading part stage gap)) c (run ++ rest) d
-  run_arrives part stage gap [] rest c d signed fit goes = goes.arrives gap fit signed
-  run_arrives part stage gap (b ∷ run) rest c d signed fit goes =
+      → Arrives no_condition m (Some (reading stage gap)) c (run ++ rest) d
+  run_arrives part stage gap [] rest c d at signed fit goes = goes.arrives gap fit signed
+  run_arrives part stage gap (b ∷ run) rest c d at signed fit goes =
       let more = add c (digits_piece part) in
       elim (cases_Bool (m.digit part b)) [
         | inl digit ↦
             let may = follow (m.digit part) stage gap (b ∷ run) goes.leads (or_left _ _ digit) in
-            free_byte m (reading part stage gap) b roles.Digit c (run ++ rest) d refl (digit_role m part b digit) (grind arith)
-            (run_arrives part (after_digit stage gap (b == 48)) false run rest more d (grind arith) (grind arith) (rw (digit) at goes))
+            free_byte m part stage gap b roles.Digit c (run ++ rest) d at (digit_role m part b digit) (grind arith)
+            (run_arrives part (after_digit stage gap (b == 48)) false run rest more d (digit_part stage gap (b == 48)
+            ∙ at) (grind arith) (grind arith) (rw (digit) at goes))
         | inr other ↦
             let may = λ (some : list_any (m.digit part) run ≡ true). follow (m.digit part) stage gap (b ∷ run) goes.leads (or_right (m.digit part b) _ some) in
             let closes = opens m part (has_digit stage) (may_follow m stage) run (grind arith) may in
-            free_byte m (reading part stage gap) b roles.Separator c (run ++ rest) d refl
+            free_byte m part stage gap b roles.Separator c (run ++ rest) d at
             (is_role m part b h roles.Separator (λ e. cc) (grind arith)) (grind arith)
-            (run_arrives part (after_mark stage) true run rest more d (grind arith) (grind arith) (rw (other) at goes))
+            (run_arrives part (after_mark stage) true run rest more d (mark_part stage ∙ at) (grind arith) (grind arith) (rw (other) at goes))
       ]
 
   -- Digits of a part without a leading zero.
-  unled_arrives : (part : Part) (stage : Stage) (run rest : List ℕ) (c d : Cuts) → is_signed m part stage ≡ true → has_digit stage ≡ false
+  unled_arrives : (part : Part) (stage : Stage) (run rest : List ℕ) (c d : Cuts) → part_of stage ≡ part → is_signed m part stage ≡ true
+      → has_digit stage ≡ false
       → led_after (m.digit part) stage run ≡ false → is_rest m part false false run ≡ true
       → let last = stage_after (m.digit part) stage false run in
       ((gap : Bool) → gap_fits m part (has_digit last) gap false ≡ true → is_signed m part last ≡ true
-      → Arrives no_condition m (Some (reading part last gap)) (add_all c (digits_piece part) run) rest d)
-      → Arrives no_condition m (Some (reading part stage false)) c (run ++ rest) d
-  unled_arrives part stage run rest c d signed none unled fit goes =
-      run_arrives part stage false run rest c d signed (subst (λ t. is_rest m part t false run ≡ true) (sym none) fit)
+      → Arrives no_condition m (Some (reading last gap)) (add_all c (digits_piece part) run) rest d)
+      → Arrives no_condition m (Some (reading stage false)) c (run ++ rest) d
+  unled_arrives part stage run rest c d at signed none unled fit goes =
+      run_arrives part stage false run rest c d at signed (subst (λ t. is_rest m part t false run ≡ true) (sym none) fit)
       (record { leads = λ led. let last = (passed (m.digit part) stage false run).led in cc; arrives = goes })
 
   -- A sign, or none.
-  sign_arrives : (part : Part) (stage : Stage) (gap : Bool) (sign rest : List ℕ) (c d : Cuts) → sign_fits m part stage sign ≡ true
+  sign_arrives : (part : Part) (stage : Stage) (gap : Bool) (sign rest : List ℕ) (c d : Cuts) → part_of stage ≡ part → sign_fits m part stage sign ≡ true
       → (is_signed m part (stage_at stage sign []) ≡ true
-      → Arrives no_condition m (Some (reading part (stage_at stage sign []) gap)) (add_all c (piece_of part roles.Sign) sign) rest d)
-      → Arrives no_condition m (Some (reading part stage gap)) c (sign ++ rest) d
-  sign_arrives part stage gap [] rest c d fits more = more (and_parts (implies (forbids_plus m part) true) (is_signed m part stage) fits).1
-  sign_arrives part stage gap (b ∷ []) rest c d fits more =
-      free_byte m (reading part stage gap) b roles.Sign c rest d refl (is_role m part b h roles.Sign (λ e. cc) (grind arith))
+      → Arrives no_condition m (Some (reading (stage_at stage sign []) gap)) (add_all c (piece_of part roles.Sign) sign) rest d)
+      → Arrives no_condition m (Some (reading stage gap)) c (sign ++ rest) d
+  sign_arrives part stage gap [] rest c d at fits more = more (and_parts (implies (forbids_plus m part) true) (is_signed m part stage) fits).1
+  sign_arrives part stage gap (b ∷ []) rest c d at fits more =
+      free_byte m part stage gap b roles.Sign c rest d at (is_role m part b h roles.Sign (λ e. cc) (grind arith))
       (grind arith) (more (grind arith))
-  sign_arrives part stage gap (b ∷ x ∷ sign) rest c d fits more = absurd (false≢true fits)
+  sign_arrives part stage gap (b ∷ x ∷ sign) rest c d at fits more = absurd (false≢true fits)
 
   -- The suffix, or nothing.
-  stop_arrives : (part : Part) (stage : Stage) (gap : Bool) (c : Cuts) (suffix : List ℕ)
-      → (ends m (reading part stage gap) && continues m part stage roles.Suffix) ≡ true → is_none_or_one m.suffix suffix ≡ true
-      → Arrives no_condition m (Some (reading part stage gap)) c suffix (add_all c pieces.Suffix suffix)
-  stop_arrives part stage gap c [] is one = (and_from _ true is refl, refl)
-  stop_arrives part stage gap c (b ∷ []) is one =
-      free_byte m (reading part stage gap) b roles.Suffix c [] _ refl (is_role m part b h roles.Suffix (λ e. cc) one) is (refl, refl)
-  stop_arrives part stage gap c (b ∷ x ∷ suffix) is one = absurd (false≢true one)
+  stop_arrives : (part : Part) (stage : Stage) (gap : Bool) (c : Cuts) (suffix : List ℕ) → part_of stage ≡ part
+      → (ends m part stage gap && continues m part stage roles.Suffix) ≡ true → is_none_or_one m.suffix suffix ≡ true
+      → Arrives no_condition m (Some (reading stage gap)) c suffix (add_all c pieces.Suffix suffix)
+  stop_arrives part stage gap c [] at is one =
+      (and_from _ true (subst (λ part. (ends m part stage gap && continues m part stage roles.Suffix) ≡ true) (sym at) is) refl, refl)
+  stop_arrives part stage gap c (b ∷ []) at is one =
+      free_byte m part stage gap b roles.Suffix c [] _ at (is_role m part b h roles.Suffix (λ e. cc) one) is (refl, refl)
+  stop_arrives part stage gap c (b ∷ x ∷ suffix) at is one = absurd (false≢true one)
 
   -- What follows an exponent character.
   power_arrives : (l : Literal) (c : Cuts) → sign_fits m parts.Exponent stages.Mark l.exponent_sign ≡ true
       → digits_fit m parts.Exponent (stage_at stages.Mark l.exponent_sign []) l.exponent (ends_exponent m l) ≡ true
-      → Arrives no_condition m (Some (reading parts.Exponent stages.Mark false)) c (l.exponent_sign ++ (l.exponent ++ l.suffix))
+      → Arrives no_condition m (Some (reading stages.Mark false)) c (l.exponent_sign ++ (l.exponent ++ l.suffix))
       (add_all (add_all (add_all c pieces.ExponentSign l.exponent_sign) pieces.Exponent l.exponent) pieces.Suffix l.suffix)
   power_arrives l c sign fits =
-      sign_arrives parts.Exponent stages.Mark false l.exponent_sign (l.exponent ++ l.suffix) c _ sign
-      (λ signed. unled_arrives parts.Exponent (stage_at stages.Mark l.exponent_sign []) l.exponent l.suffix _ _ signed
+      sign_arrives parts.Exponent stages.Mark false l.exponent_sign (l.exponent ++ l.suffix) c _ refl sign
+      (λ signed. unled_arrives parts.Exponent (stage_at stages.Mark l.exponent_sign []) l.exponent l.suffix _ _ (exponent_part l.exponent_sign) signed
       (grind arith) (grind arith) (grind arith)
-      (λ gap closed signed. stop_arrives parts.Exponent (exponent_last m l) gap _ l.suffix (grind arith) (grind arith)))
+      (λ gap closed signed. stop_arrives parts.Exponent (exponent_last m l) gap _ l.suffix
+      (run_part (m.digit parts.Exponent) (stage_at stages.Mark l.exponent_sign []) false l.exponent
+      ∙ exponent_part l.exponent_sign) (grind arith) (grind arith)))
 
   -- What follows the mantissa.
-  tail_arrives : (l : Literal) (part : Part) (stage : Stage) (gap : Bool) (c : Cuts) → ends m (reading part stage gap) ≡ true
+  tail_arrives : (l : Literal) (part : Part) (stage : Stage) (gap : Bool) (c : Cuts) → part_of stage ≡ part → ends m part stage gap ≡ true
       → ends_mantissa m l (continues m part stage roles.Suffix) (continues m part stage roles.Exponent) ≡ true
-      → Arrives no_condition m (Some (reading part stage gap)) c (text_after parts.Fraction l) (tail_cuts l c)
-  tail_arrives l part stage gap c end fits = go l.exponent_character l.exponent_sign l.exponent fits where
+      → Arrives no_condition m (Some (reading stage gap)) c (text_after parts.Fraction l) (tail_cuts l c)
+  tail_arrives l part stage gap c at end fits = go l.exponent_character l.exponent_sign l.exponent fits where
     go : (character sign exponent : List ℕ) → let l = record l { exponent_character = character; exponent_sign = sign; exponent = exponent } in
         ends_mantissa m l (continues m part stage roles.Suffix) (continues m part stage roles.Exponent) ≡ true
-        → Arrives no_condition m (Some (reading part stage gap)) c (text_after parts.Fraction l) (tail_cuts l c)
+        → Arrives no_condition m (Some (reading stage gap)) c (text_after parts.Fraction l) (tail_cuts l c)
     go [] [] [] fits =
         let both = and_parts (continues m part stage roles.Suffix) _ fits in
-        stop_arrives part stage gap c l.suffix (and_from _ _ end both.0) both.1
+        stop_arrives part stage gap c l.suffix at (and_from _ _ end both.0) both.1
     go (b ∷ []) sign exponent fits =
         let scale = and_parts (continues m part stage roles.Exponent) _ (and_parts (m.exponent_character b) _ fits).1 in
-        free_byte m (reading part stage gap) b roles.Exponent c (sign ++ (exponent ++ l.suffix)) _ refl
+        free_byte m part stage gap b roles.Exponent c (sign ++ (exponent ++ l.suffix)) _ at
         (is_role m part b h roles.Exponent (λ e. cc) (and_parts (m.exponent_character b) _ fits).0) (and_from _ _ end scale.0)
         (power_arrives (record l { exponent_character = b ∷ []; exponent_sign = sign; exponent = exponent })
         (add c pieces.ExponentCharacter) (let fit = scale.1 in grind arith) (let fit = scale.1 in grind arith))
     go _ sign exponent fits = absurd (grind arith)
 
   -- What follows the integer digits.
-  end_arrives : (l : Literal) (stage : Stage) (gap : Bool) (c : Cuts) → ends m (reading parts.Integer stage gap) ≡ true
-      → ends_part m parts.Integer l stage ≡ true → Arrives no_condition m (Some (reading parts.Integer stage gap)) c (text_after parts.Integer l) (end_cuts l c)
-  end_arrives l stage gap c end fits = go l.point l.fraction (and_parts (digits_suffice m parts.Integer stage) _ fits).1 where
+  end_arrives : (l : Literal) (stage : Stage) (gap : Bool) (c : Cuts) → part_of stage ≡ parts.Integer → ends m parts.Integer stage gap ≡ true
+      → ends_part m parts.Integer l stage ≡ true → Arrives no_condition m (Some (reading stage gap)) c (text_after parts.Integer l) (end_cuts l c)
+  end_arrives l stage gap c at end fits = go l.point l.fraction (and_parts (digits_suffice m parts.Integer stage) _ fits).1 where
     go : (point fraction : List ℕ) → let l = record l { point = point; fraction = fraction } in
         (is_none_or_one m.point point && (fraction_fits m l stage && ends_mantissa m l (stops m l stage) (scales m l stage))) ≡ true
-        → Arrives no_condition m (Some (reading parts.Integer stage gap)) c (text_after parts.Integer l) (end_cuts l c)
-    go [] [] fits = tail_arrives l parts.Integer stage gap c end fits
+        → Arrives no_condition m (Some (reading stage gap)) c (text_after parts.Integer l) (end_cuts l c)
+    go [] [] fits = tail_arrives l parts.Integer stage gap c at end fits
     go (b ∷ []) fraction fits =
         let l : Literal = record l { point = b ∷ []; fraction = fraction } in
         let more = add c pieces.Point in
         let point = and_parts (m.point b) _ fits in
         let both = and_parts (fraction_fits m l stage) _ point.1 in
         let float = both.0 in
-        free_byte m (reading parts.Integer stage gap) b roles.Point c (fraction ++ text_after parts.Fraction l) (end_cuts l c) refl
+        free_byte m parts.Integer stage gap b roles.Point c (fraction ++ text_after parts.Fraction l) (end_cuts l c) at
         (is_role m parts.Integer b h roles.Point (λ e. cc) point.0) (grind arith)
         (unled_arrives parts.Fraction (after_point (has_digit stage)) fraction (text_after parts.Fraction l) more (end_cuts l c)
-        (grind arith) (grind arith) (grind arith) (grind arith)
+        (point_part (has_digit stage)) (grind arith) (grind arith) (grind arith) (grind arith)
         (λ gap closed signed. tail_arrives l parts.Fraction (fraction_last m l (has_digit stage)) gap (add_all more pieces.Fraction fraction)
-        (grind arith) both.1))
+        (run_part (m.digit parts.Fraction) (after_point (has_digit stage)) false fraction ∙ point_part (has_digit stage)) (grind arith) both.1))
     go _ fraction fits = absurd (false≢true fits)
 
   -- A prefix, or none.
-  prefix_arrives : (stage : Stage) (prefix rest : List ℕ) (c d : Cuts) → may_follow m stage ≡ true → after_digit stage false true ≡ stages.Bare
+  prefix_arrives : (stage : Stage) (prefix rest : List ℕ) (c d : Cuts) → part_of stage ≡ parts.Integer → may_follow m stage ≡ true
+      → after_digit stage false true ≡ stages.Bare
       → is_signed m parts.Integer stage ≡ true → is_none_or_prefix m.prefix prefix ≡ true
-      → (is_signed m parts.Integer (stage_at stage [] prefix) ≡ true → Arrives no_condition m (Some (reading parts.Integer (stage_at stage [] prefix) false))
+      → (is_signed m parts.Integer (stage_at stage [] prefix) ≡ true → Arrives no_condition m (Some (reading (stage_at stage [] prefix) false))
       (prefix_cuts prefix c) rest d)
-      → Arrives no_condition m (Some (reading parts.Integer stage false)) c (prefix ++ rest) d
-  prefix_arrives stage [] rest c d follows bare signed one more = more signed
-  prefix_arrives stage (z ∷ b ∷ []) rest c d follows bare signed one more =
+      → Arrives no_condition m (Some (reading stage false)) c (prefix ++ rest) d
+  prefix_arrives stage [] rest c d at follows bare signed one more = more signed
+  prefix_arrives stage (z ∷ b ∷ []) rest c d at follows bare signed one more =
       let both = and_parts (z == 48) _ one in
       let zero = add c pieces.Integer in
-      subst (λ z. Arrives no_condition m (Some (reading parts.Integer stage false)) c (z ∷ b ∷ rest) d) (sym (eqb-true z 48 both.0))
-      (free_byte m (reading parts.Integer stage false) 48 roles.Digit c (b ∷ rest) d refl (digit_role m parts.Integer 48 (h.zero_is_digit parts.Integer))
-      (and_from _ _ signed follows) (subst (λ s. Arrives no_condition m (Some (reading parts.Integer s false)) zero (b ∷ rest) d) (sym bare)
-      (free_byte m (reading parts.Integer stages.Bare false) b roles.Prefix zero rest d refl
+      subst (λ z. Arrives no_condition m (Some (reading stage false)) c (z ∷ b ∷ rest) d) (sym (eqb-true z 48 both.0))
+      (free_byte m parts.Integer stage false 48 roles.Digit c (b ∷ rest) d at (digit_role m parts.Integer 48 (h.zero_is_digit parts.Integer))
+      (and_from _ _ signed follows) (subst (λ s. Arrives no_condition m (Some (reading s false)) zero (b ∷ rest) d) (sym bare)
+      (free_byte m parts.Integer stages.Bare false b roles.Prefix zero rest d refl
       (is_role m parts.Integer b h roles.Prefix (λ e. cc) both.1) refl (more refl))))
-  prefix_arrives stage _ rest c d follows bare signed one more = absurd (false≢true one)
+  prefix_arrives stage _ rest c d at follows bare signed one more = absurd (false≢true one)
 
   module _ (l : Literal) (is : IsSpelled m l) where
     run : (part : Part) (digits : List ℕ) → is_run m part digits ≡ true → is_rest m part false false digits ≡ true
@@ -377,11 +384,14 @@ module _ (m : Notation) (h : HasRoles m) where
     spelled_arrives =
         let signs = add_all no_cuts pieces.Sign l.sign in
         let dressed = prefix_cuts l.prefix signs in
-        sign_arrives parts.Integer stages.Start false l.sign _ no_cuts (all_cuts l) (grind arith)
-        (λ signed. prefix_arrives (stage_at stages.Start l.sign []) l.prefix _ signs (all_cuts l) (grind arith) (grind arith) signed is.prefix
-        (λ signed. run_arrives parts.Integer (stage_at stages.Start l.sign l.prefix) false l.integer _ dressed (all_cuts l) signed
+        sign_arrives parts.Integer stages.Start false l.sign _ no_cuts (all_cuts l) refl (grind arith)
+        (λ signed. prefix_arrives (stage_at stages.Start l.sign []) l.prefix _ signs (all_cuts l) (integer_part l.sign []) (grind arith)
+        (grind arith) signed is.prefix
+        (λ signed. run_arrives parts.Integer (stage_at stages.Start l.sign l.prefix) false l.integer _ dressed (all_cuts l)
+        (integer_part l.sign l.prefix) signed
         (subst (λ t. is_rest m parts.Integer t false l.integer ≡ true) (grind arith) (run parts.Integer l.integer is.integer)) (record {
           leads = λ led. leads _ _ _ _ _ _ _ _ _ end (grind arith) led;
           arrives = λ gap closed signed. end_arrives l (integer_last m l) gap (add_all dressed pieces.Integer l.integer)
+              (run_part (m.digit parts.Integer) (stage_at stages.Start l.sign l.prefix) false l.integer ∙ integer_part l.sign l.prefix)
               (and_from _ _ signed (and_from _ _ closed end.integer_digits)) ends_well;
         })))

@@ -1,13 +1,14 @@
 -- Fronts of a text, and where the loop is left.
 use Rattle.std.proofs.Common.{ℕ, Bool, IsNone, Option, if◌then◌else◌, ◌≡◌, ◌<◌, ◌≤◌, ◌+◌, inl, inr, true, false, List, [], ◌∷◌, ◌++◌}
-use Rattle.std.proofs.Common.{length, length-set, get_or, replicate, set, take, drop, Some, None, refl, sym, ap, subst, append_assoc, append-nil, take-append-drop, ◌∙◌, arith}
+use Rattle.std.proofs.Common.{length, length-set, get_or, replicate, set, take, drop, Some, None, refl, sym, ap, subst, append_assoc, append-nil}
+use Rattle.std.proofs.Common.{take-append-drop, ◌∙◌, arith}
 use Rattle.std.specs.Prelude.{is_some, slice_get}
 use Rattle.std.proofs.lemmas.Bool.{false≢true, cases_lt}
 use Rattle.std.proofs.lemmas.Option.{slice_get-get_or, slice_get_past}
 use Rattle.std.proofs.lemmas.List.{take-take, take_more, take_all}
 use Rattle.lexical_literal.specs.Notation.{Notation, notation_of}
 use Rattle.lexical_literal.specs.Literal.{Literal, IsLiteral, Reads}
-use Rattle.lexical_literal.specs.Additions.Summary.{cuts_of, role_at, scan, step, is_accepted, is_complete}
+use Rattle.lexical_literal.specs.Additions.Summary.{cuts_of, role_at, scan, step, is_accepted, is_complete, part_of}
 use Rattle.lexical_literal.specs.Additions.Summary.{tally, start, no_cuts, HasLengths, move_by, piece_number, piece_of}
 use Rattle.lexical_literal.specs.Front.{IsFront, IsValidUpTo, NoLiteral, ReadsFront}
 use Rattle.lexical_literal.specs.Takes.{NoFront}
@@ -155,7 +156,8 @@ module _ (m : Notation) (ready : IsReady m) (text : List ℕ) where
     step_of = step m at.read (get_or text at.size 0)
 
     next_scan : at.size < length text → scan m (Some start) (take (at.size + 1) text) ≡ step_of
-    next_scan inside = rw (take_more text at.size 0 inside, scan_append m.condition m (Some start) (take at.size text) (get_or text at.size 0 ∷ []), is.read) refl
+    next_scan inside =
+        rw (take_more text at.size 0 inside, scan_append m.condition m (Some start) (take at.size text) (get_or text at.size 0 ∷ []), is.read) refl
 
     -- One more byte.
     pub begun_more : (t : Summary) → at.size < length text → step_of ≡ Some t → IsBegun m text (record { size = at.size + 1; read = t })
@@ -168,7 +170,8 @@ module _ (m : Notation) (ready : IsReady m) (text : List ℕ) where
         within = is.within;
         front = front_from m ready (take at.size text) at.read is.read;
         no_longer = λ more over within front. let inside : at.size < length text = omega (arith, over, within) in
-            front_is_read m ready (take (at.size + 1) text) (front_shorter m text (at.size + 1) more (omega (arith, over)) front) (next_scan inside ∙ none inside);
+            front_is_read m ready (take (at.size + 1) text) (front_shorter m text (at.size + 1) more (omega (arith, over)) front) (next_scan inside
+            ∙ none inside);
       };
       read = is.read;
       refused = λ inside. rw (slice_get-get_or text at.size 0 inside) (ap is_some (none inside));
@@ -204,7 +207,7 @@ module _ (m : Notation) (ready : IsReady m) (text : List ℕ) where
     inside = omega (arith, begun.within, size)
 
     -- A byte that is read has a role.
-    pub has_role : role_at m at.read.part (get_or text at.size 0) ≡ None → ⊥
+    pub has_role : role_at m (part_of at.read.stage) (get_or text at.size 0) ≡ None → ⊥
     has_role none = let is : None ≡ Some next.read = sym (next_scan at has.read.begun inside ∙ ap (move_by m.condition m at.read _ _) none)
         ∙ ap (λ n. scan m (Some start) (take n text)) (sym size) ∙ begun.read in cc
 
@@ -230,7 +233,8 @@ module _ (m : Notation) (ready : IsReady m) (text : List ℕ) where
     }
 
     -- One more byte is counted.
-    pub more_counted : (r : Role) (k : ℕ) → role_at m at.read.part (get_or text at.size 0) ≡ Some r → k ≡ piece_number (piece_of at.read.part r) → k < 9
+    pub more_counted : (r : Role) (k : ℕ) → role_at m (part_of at.read.stage) (get_or text at.size 0) ≡ Some r
+        → k ≡ piece_number (piece_of (part_of at.read.stage) r) → k < 9
         → (complete : Bool) → complete ≡ is_complete m next.read → let more = set counts k (get_or counts k 0 + 1) in
         HasCounted m text next more (if complete then Some (record { size = next.size; counts = more }) else found)
     more_counted r k plays same small complete is =
@@ -243,7 +247,7 @@ module _ (m : Notation) (ready : IsReady m) (text : List ℕ) where
           has.read.counted,
           plays,
         )
-        (count_one counts has.nine (piece_of at.read.part r) ∙ ap (λ k. cuts_of (set counts k (get_or counts k 0 + 1))) (sym same)) in record {
+        (count_one counts has.nine (piece_of (part_of at.read.stage) r) ∙ ap (λ k. cuts_of (set counts k (get_or counts k 0 + 1))) (sym same)) in record {
           nine = length-set counts k (get_or counts k 0 + 1) ∙ has.nine;
           small = λ j. let one = small_more counts at.size k (omega (arith, small, has.nine)) has.small j in omega (arith, one, size);
           read = record { begun = begun; counted = counted };

@@ -8,7 +8,7 @@ use Rattle.lexical_util.specs.declared.format_flags.Part.{Part}
 use Rattle.lexical_util.specs.declared.format_flags.Part.TheVariants as parts
 use Rattle.lexical_literal.specs.Additions.Plain.{HasRoles}
 use Rattle.lexical_literal.specs.Notation.{Notation}
-use Rattle.lexical_literal.specs.Additions.Summary.{after, scan, takes, role_at}
+use Rattle.lexical_literal.specs.Additions.Summary.{after, scan, takes, role_at, part_of}
 use Rattle.lexical_literal.specs.declared.steps.Summary.{Summary}
 use Rattle.lexical_literal.proofs.ScanLemmas.{scan_none, as_role, took}
 
@@ -27,15 +27,17 @@ module _ (m : Notation) (h : HasRoles m) where
   over t (b ∷ text) last ended is =
       absurd (false≢true (sym (took m.condition m t b (λ o. scan m o text ≡ Some last) (none_after m text last) is).going ∙ ended))
 
-  moves : (t : Summary) (b : ℕ) (text : List ℕ) (last : Summary) (r : Role) → role_at m t.part b ≡ Some r → takes m t (b == 43) r ≡ true
-      → last.ended ≡ false → scan m (Some (after t (b == 48) r)) text ≡ Some last → part_after (after t (b == 48) r).part text ≡ part_after t.part (b ∷ text)
+  moves : (t : Summary) (b : ℕ) (text : List ℕ) (last : Summary) (r : Role) → role_at m (part_of t.stage) b ≡ Some r → takes m t (b == 43) r ≡ true
+      → last.ended ≡ false → scan m (Some (after t (b == 48) r)) text ≡ Some last
+      → part_after (part_of (after t (b == 48) r).stage) text ≡ part_after (part_of t.stage) (b ∷ text)
   moves t b text last roles.Suffix plays taken going rest = absurd (false≢true (sym going ∙ over (after t (b == 48) roles.Suffix) text last refl rest))
   moves t b text last r plays taken going rest =
-      let is = as_role m t.part b r plays in let scale = h.one r roles.Exponent b is in let dot = h.one r roles.Point b is in grind arith
+      let is = as_role m (part_of t.stage) b r plays in let scale = h.one r roles.Exponent b is in let dot = h.one r roles.Point b is in grind arith
 
   -- What has been read is in the last part.
-  pub ends_in : (t : Summary) (text : List ℕ) (last : Summary) → scan m (Some t) text ≡ Some last → last.ended ≡ false → last.part ≡ part_after t.part text
-  ends_in t [] last is going = let same : t.part ≡ last.part = cc in grind arith
+  pub ends_in : (t : Summary) (text : List ℕ) (last : Summary) → scan m (Some t) text ≡ Some last → last.ended ≡ false
+      → (part_of last.stage) ≡ part_after (part_of t.stage) text
+  ends_in t [] last is going = let same : (part_of t.stage) ≡ (part_of last.stage) = cc in grind arith
   ends_in t (b ∷ text) last is going =
       let k = took m.condition m t b (λ o. scan m o text ≡ Some last) (none_after m text last) is in
       ends_in (after t (b == 48) k.role) text last k.rest going ∙ moves t b text last k.role k.plays k.taken going k.rest

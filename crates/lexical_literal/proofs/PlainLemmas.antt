@@ -1,7 +1,9 @@
 -- What is read of a text part after part.
+use Rattle.lexical_literal.proofs.StepLemmas.{awaited_part}
+use Rattle.lexical_literal.specs.Run.{is_place}
 use Rattle.std.proofs.Common.{ℕ, ◌≡◌, ◌<◌, ◌≤◌, ◌+◌, ◌-◌, ◌==◌, ◌&&◌, ◌||◌, Bool, true, false, not, IsTrue, if◌then◌else◌, List, [], ◌∷◌, Some}
 use Rattle.std.proofs.Common.{get_or, length, take, refl, sym, ap, subst, ◌∙◌, arith}
-use Rattle.std.proofs.lemmas.Bool.{false≢true}
+use Rattle.std.proofs.lemmas.Bool.{false≢true, and_from}
 use Rattle.std.proofs.lemmas.List.{take_more}
 use Rattle.lexical_util.specs.Layout.{separators_in}
 use Rattle.lexical_util.specs.declared.feature_format.roles.Role.{Role}
@@ -9,10 +11,11 @@ use Rattle.lexical_util.specs.declared.feature_format.roles.Role.TheVariants as 
 use Rattle.lexical_util.specs.declared.format_flags.Part.{Part}
 use Rattle.lexical_util.specs.declared.format_flags.Part.TheVariants as parts
 use Rattle.lexical_literal.specs.Notation.{Notation}
-use Rattle.lexical_literal.specs.Additions.Plain.{HasRoles, IsAt, IsCounted, IsFirst, IsReadOn, fresh, is_free, place}
+use Rattle.lexical_literal.specs.Additions.Plain.{HasRoles, IsAt, IsCounted, IsFirst, IsReadOn, fresh, is_free, at_stage}
 use Rattle.lexical_literal.specs.Additions.Summary.{Cuts, add, add_more, admits, after, after_digit, after_mark, cuts_of, digits_piece, forbids_plus}
-use Rattle.lexical_literal.specs.Additions.Summary.{has_digit, is_begun, is_complete, is_negative, is_run, is_signed, may_follow}
-use Rattle.lexical_literal.specs.Additions.Summary.{no_cuts, piece_of, start, takes, role_at}
+use Rattle.lexical_literal.specs.Additions.Summary.{leads_to_prefix}
+use Rattle.lexical_literal.specs.Additions.Summary.{has_digit, awaits_integer, is_complete, is_negative, is_run, is_signed, may_follow, gap_fits, is_open}
+use Rattle.lexical_literal.specs.Additions.Summary.{no_cuts, piece_of, start, takes, role_at, part_of, takes_in, digits_of, is_fresh, needs_sign, implies}
 use Rattle.lexical_literal.specs.declared.plain.At.{At}
 use Rattle.lexical_literal.specs.declared.plain.Counted.{Counted}
 use Rattle.lexical_literal.specs.declared.steps.Piece.{Piece}
@@ -34,86 +37,66 @@ sum_more : (c : Cuts) (p other : Piece) (k n l : ℕ) → k ≤ n → n ≤ l �
 sum_more c p other k n l low high = let same : n - k + (l - n) ≡ l - k = omega arith in grind arith
 
 -- A stage before the first digit of the integer has none.
-pub none_begun : (stage : Stage) → is_begun stage ≡ true → has_digit stage ≡ false
+pub none_begun : (stage : Stage) → awaits_integer stage ≡ true → has_digit stage ≡ false
 none_begun stages.Start is = refl
 none_begun stages.Empty is = refl
 none_begun _ is = absurd (false≢true is)
 
--- What a digit makes of a stage without digits, where no base prefix is missing.
-module _ (m : Notation) (part : Part) (stage : Stage) where
-  -- Bytes that are no signs are admitted where no base prefix is missing.
-  pub admits_free : (s : Summary) (plus z : Bool) (r : Role) → (roles.Sign ≡ r → ⊥) → is_free m s.stage ≡ true → admits m.condition s plus z r ≡ true
-  admits_free s plus z roles.Sign other free = absurd (other refl)
-  admits_free s plus z r other free = go s.part r other where
-    go : (part : Part) (r : Role) → (roles.Sign ≡ r → ⊥) → admits m.condition (record s { part = part }) plus z r ≡ true
-    go parts.Exponent r other = grind arith
-    go _ roles.Sign other = absurd (other refl)
-    go _ _ other = grind arith
+-- What a digit makes of a stage without digits.
+first_follows : (m : Notation) (stage : Stage) → has_digit stage ≡ false → may_follow m stage ≡ true
+first_follows m stages.Bare none = absurd (false≢true (sym none))
+first_follows m stages.Zero none = absurd (false≢true (sym none))
+first_follows m _ none = refl
 
-  module _ (none : has_digit stage ≡ false) where
-    pub takes_first : (plus : Bool) → is_signed m part stage ≡ true → takes m (place part 0 stage).read plus roles.Digit ≡ true
-    takes_first plus signed = go stage none signed where
-      go : (stage : Stage) → has_digit stage ≡ false → is_signed m part stage ≡ true → takes m (place part 0 stage).read plus roles.Digit ≡ true
-      go stages.Bare lacks _ = absurd (false≢true (sym lacks))
-      go stages.Zero lacks _ = absurd (false≢true (sym lacks))
-      go _ lacks signed = ap (λ b. b && true) signed
+after_first : (stage : Stage) (zero : Bool) → has_digit stage ≡ false
+    → after_digit stage false zero ≡ (if zero && awaits_integer stage then stages.Bare else digits_of (part_of stage))
+after_first stage zero none = grind arith
 
-    -- The stage after the first digit.
-    pub after_first : (z : Bool) → after_digit stage false z ≡ (if z && is_begun stage then stages.Bare else stages.Digits)
-    after_first z = go stage z none where
-      go : (stage : Stage) (z : Bool) → has_digit stage ≡ false → after_digit stage false z ≡ (if z && is_begun stage then stages.Bare else stages.Digits)
-      go stages.Bare z lacks = absurd (false≢true (sym lacks))
-      go stages.Zero z lacks = absurd (false≢true (sym lacks))
-      go stages.Led z lacks = absurd (false≢true (sym lacks))
-      go stages.Digits z lacks = absurd (false≢true (sym lacks))
-      go stages.Start true lacks = refl
-      go stages.Start false lacks = refl
-      go stages.Empty true lacks = refl
-      go stages.Empty false lacks = refl
-      go _ true lacks = refl
-      go _ false lacks = refl
+-- Bytes that are no signs are admitted where no base prefix is missing.
+no_sign : (part : Part) (plus : Bool) (r : Role) → (roles.Sign ≡ r → ⊥) → is_negative part plus r ≡ false
+no_sign parts.Exponent plus r other = refl
+no_sign _ plus roles.Sign other = absurd (other refl)
+no_sign _ plus _ other = refl
+
+admits_free : (m : Notation) (s : Summary) (plus zero : Bool) (r : Role) → (roles.Sign ≡ r → ⊥) → is_free m s.stage ≡ true
+    → admits m.condition s plus zero r ≡ true
+admits_free m s plus zero r other free = both _ (leads_to_prefix s.stage zero r) (m.condition conditions.NegativeSign) _ free
+    (no_sign (part_of s.stage) plus r other) where
+      both : (lacks leads none negative : Bool) → not lacks ≡ true → negative ≡ false → (implies lacks leads && not (none && negative)) ≡ true
+      both lacks leads none negative free positive = grind arith
 
 -- A stage that another digit does not change.
-module _ (m : Notation) (part : Part) (stage : Stage) (run : is_run stage ≡ true) where
-  pub run_is_free : is_free m stage ≡ true
-  run_is_free = go stage run where
-    go : (stage : Stage) → is_run stage ≡ true → is_free m stage ≡ true
-    go stages.Led is = grind arith
-    go stages.Digits is = grind arith
-    go _ is = absurd (false≢true is)
+module _ (m : Notation) (stage : Stage) (run : is_run stage ≡ true) where
+  run_is_free : is_free m stage ≡ true
+  run_is_free = grind arith
 
-  pub same_digit : (gap z : Bool) → after_digit stage gap z ≡ stage
-  same_digit gap z = go stage run where
-    go : (stage : Stage) → is_run stage ≡ true → after_digit stage gap z ≡ stage
-    go stages.Led is = refl
-    go stages.Digits is = refl
-    go _ is = absurd (false≢true is)
+  same_digit : (gap zero : Bool) → after_digit stage gap zero ≡ stage
+  same_digit gap zero = grind arith
 
-  pub same_mark : after_mark stage ≡ stage
-  same_mark = go stage run where
-    go : (stage : Stage) → is_run stage ≡ true → after_mark stage ≡ stage
-    go stages.Led is = refl
-    go stages.Digits is = refl
-    go _ is = absurd (false≢true is)
+  same_mark : after_mark stage ≡ stage
+  same_mark = grind arith
 
-  pub takes_more : (plus gap : Bool) → (gap ≡ true → m.flag (separators_in part).internal ≡ true)
-      → takes m (record { part = part; stage = stage; gap = gap; ended = false }) plus roles.Digit ≡ true
-  takes_more plus gap allowed = go stage gap run allowed where
-    go : (stage : Stage) (gap : Bool) → is_run stage ≡ true → (gap ≡ true → m.flag (separators_in part).internal ≡ true)
-        → takes m (record { part = part; stage = stage; gap = gap; ended = false }) plus roles.Digit ≡ true
-    go stages.Led false is allowed = refl
-    go stages.Digits false is allowed = refl
-    go stages.Led true is allowed = ap (λ b. b && true) (allowed refl)
-    go stages.Digits true is allowed = ap (λ b. b && true) (allowed refl)
-    go _ gap is allowed = absurd (false≢true is)
+  run_facts : (is_fresh stage ≡ false) × (has_digit stage ≡ true) × (may_follow m stage ≡ true)
+  run_facts = (grind arith, grind arith, grind arith)
 
-  pub takes_separator : (plus : Bool) → m.flag (separators_in part).internal ≡ true
-      → takes m (record { part = part; stage = stage; gap = false; ended = false }) plus roles.Separator ≡ true
-  takes_separator plus allowed = go stage run where
-    go : (stage : Stage) → is_run stage ≡ true → takes m (record { part = part; stage = stage; gap = false; ended = false }) plus roles.Separator ≡ true
-    go stages.Led is = grind arith
-    go stages.Digits is = grind arith
-    go _ is = absurd (false≢true is)
+  takes_more : (part : Part) (plus gap : Bool) → (gap ≡ true → m.flag (separators_in part).internal ≡ true)
+      → takes_in m part stage gap plus roles.Digit ≡ true
+  takes_more part plus gap allowed =
+      and_from _ _ (signed (is_fresh stage) run_facts.0) (and_from _ _ (fits gap (has_digit stage) run_facts.1 allowed) run_facts.2) where
+    signed : (fresh : Bool) → fresh ≡ false → (not fresh || not (needs_sign m part)) ≡ true
+    signed fresh is = grind arith
+
+    fits : (gap digit : Bool) → digit ≡ true → (gap ≡ true → m.flag (separators_in part).internal ≡ true) → gap_fits m part digit gap true ≡ true
+    fits false digit is allowed = refl
+    fits true true is allowed = allowed refl
+    fits true false is allowed = absurd (false≢true is)
+
+  takes_separator : (part : Part) (plus : Bool) → m.flag (separators_in part).internal ≡ true → takes_in m part stage false plus roles.Separator ≡ true
+  takes_separator part plus allowed = go (is_fresh stage) (has_digit stage) (may_follow m stage) run_facts.0 run_facts.1 run_facts.2 where
+    go : (fresh digit follow : Bool) → fresh ≡ false → digit ≡ true → follow ≡ true
+        → ((not fresh || not (needs_sign m part)) && ((true || m.flag (separators_in part).consecutive) && is_open m part digit follow)) ≡ true
+    go false true true _ _ _ = ap (λ b. (b && true) || is_place m part true false) allowed
+    go _ _ _ one two three = grind arith
 
 module _ (m : Notation) (text : List ℕ) where
   -- Nothing is read.
@@ -135,10 +118,10 @@ module _ (m : Notation) (text : List ℕ) where
 
   module _ (h : HasRoles m) where
     -- One byte is read.
-    pub read_one : (at : At) (r : Role) → at.size < length text → role_at m at.read.part (get_or text at.size 0) ≡ Some r → at.read.ended ≡ false
+    pub read_one : (at : At) (r : Role) → at.size < length text → role_at m (part_of at.read.stage) (get_or text at.size 0) ≡ Some r → at.read.ended ≡ false
         → takes m at.read (get_or text at.size 0 == 43) r ≡ true
         → admits m.condition at.read (get_or text at.size 0 == 43) (get_or text at.size 0 == 48) r ≡ true
-        → IsReadOn m text at (piece_of at.read.part r) (record { size = at.size + 1; read = after at.read (get_or text at.size 0 == 48) r })
+        → IsReadOn m text at (piece_of (part_of at.read.stage) r) (record { size = at.size + 1; read = after at.read (get_or text at.size 0 == 48) r })
     read_one at r inside plays going taken admitted = let b = get_or text at.size 0 in record {
       more = omega arith;
       reads = λ c is. record {
@@ -147,101 +130,117 @@ module _ (m : Notation) (text : List ℕ) where
           read = rw (take_more text at.size 0 inside, scan_append m.condition m (Some start) (take at.size text) (b ∷ []), is.begun.read)
               (moved m.condition m at.read b r plays going taken admitted);
         };
-        counted = rw (take_more text at.size 0 inside, tally_append m.condition m (Some start) no_cuts (take at.size text) (b ∷ []), is.begun.read, is.counted, plays)
-            (sym (λ j other. one_more c (piece_of at.read.part r) other at.size j));
+        counted = rw (take_more text at.size 0 inside, tally_append m.condition m (Some start) no_cuts (take at.size text)
+        (b ∷ []), is.begun.read, is.counted, plays)
+            (sym (λ j other. one_more c (piece_of (part_of at.read.stage) r) other at.size j));
       };
     }
 
+    -- One byte that is no sign is read, where no base prefix is missing.
+    pub read_free : (part : Part) (at : At) (r : Role) → part_of at.read.stage ≡ part → (roles.Sign ≡ r → ⊥) → at.size < length text
+        → role_at m part (get_or text at.size 0) ≡ Some r → at.read.ended ≡ false
+        → takes_in m part at.read.stage at.read.gap (get_or text at.size 0 == 43) r ≡ true → is_free m at.read.stage ≡ true
+        → IsReadOn m text at (piece_of part r) (record { size = at.size + 1; read = after at.read (get_or text at.size 0 == 48) r })
+    read_free part at r in_part other inside plays going taken free = let b = get_or text at.size 0 in
+        subst (λ part. IsReadOn m text at (piece_of part r) (record { size = at.size + 1; read = after at.read (b == 48) r })) in_part
+        (read_one at r inside (subst (λ part. role_at m part b ≡ Some r) (sym in_part) plays) going
+        (subst (λ part. takes_in m part at.read.stage at.read.gap (b == 43) r ≡ true) (sym in_part) taken)
+        (admits_free m at.read (b == 43) (b == 48) r other free))
+
     -- The first digit of a part.
-    pub read_first : (part : Part) (size : ℕ) (stage : Stage) → size < length text → m.digit part (get_or text size 0) ≡ true → has_digit stage ≡ false
-        → is_signed m part stage ≡ true → is_free m stage ≡ true → IsReadOn m text (place part size stage) (digits_piece part)
-        (place part (size + 1) (if (get_or text size 0 == 48) && is_begun stage then stages.Bare else stages.Digits))
-    read_first part size stage inside digit none signed free = let b = get_or text size 0 in
-        subst (λ after. IsReadOn m text (place part size stage) (digits_piece part) (place part (size + 1) after)) (after_first m part stage none (b == 48))
-        (read_one (place part size stage) roles.Digit inside (digit_role m part b digit) refl (takes_first m part stage none (b == 43) signed)
-        (admits_free m part stage (place part size stage).read (b == 43) (b == 48) roles.Digit (λ same. cc) free))
+    pub read_first : (part : Part) (size : ℕ) (stage : Stage) → part_of stage ≡ part → size < length text → m.digit part (get_or text size 0) ≡ true
+        → has_digit stage ≡ false → is_signed m part stage ≡ true → is_free m stage ≡ true → IsReadOn m text (at_stage size stage) (digits_piece part)
+        (at_stage (size + 1) (if (get_or text size 0 == 48) && awaits_integer stage then stages.Bare else digits_of part))
+    read_first part size stage in_part inside digit none signed free = let b = get_or text size 0 in
+        subst (λ after. IsReadOn m text (at_stage size stage) (digits_piece part) (at_stage (size + 1) after))
+        (after_first stage (b == 48) none ∙ ap (λ part. if (b == 48) && awaits_integer stage then stages.Bare else digits_of part) in_part)
+        (read_free part (at_stage size stage) roles.Digit in_part (λ same. cc) inside (digit_role m part b digit) refl
+        (and_from _ _ signed (and_from _ _ refl (first_follows m stage none))) free)
 
     -- A digit that changes no stage.
-    pub read_digit : (part : Part) (size : ℕ) (stage : Stage) → is_run stage ≡ true → size < length text → m.digit part (get_or text size 0) ≡ true
-        → IsReadOn m text (place part size stage) (digits_piece part) (place part (size + 1) stage)
-    read_digit part size stage run inside digit = let b = get_or text size 0 in
-        subst (λ after. IsReadOn m text (place part size stage) (digits_piece part) (place part (size + 1) after)) (same_digit m part stage run false (b == 48))
-        (read_one (place part size stage) roles.Digit inside (digit_role m part b digit) refl (takes_more m part stage run (b == 43) false (λ gap. absurd
-        (false≢true gap)))
-        (admits_free m part stage (place part size stage).read (b == 43) (b == 48) roles.Digit (λ same. cc) (run_is_free m part stage run)))
+    pub read_digit : (part : Part) (size : ℕ) (stage : Stage) → part_of stage ≡ part → is_run stage ≡ true → size < length text
+        → m.digit part (get_or text size 0) ≡ true → IsReadOn m text (at_stage size stage) (digits_piece part) (at_stage (size + 1) stage)
+    read_digit part size stage in_part run inside digit = let b = get_or text size 0 in
+        subst (λ after. IsReadOn m text (at_stage size stage) (digits_piece part) (at_stage (size + 1) after)) (same_digit m stage run false (b == 48))
+        (read_free part (at_stage size stage) roles.Digit in_part (λ same. cc) inside (digit_role m part b digit) refl
+        (takes_more m stage run part (b == 43) false (λ gap. absurd (false≢true gap))) (run_is_free m stage run))
 
     -- A separator and a digit behind it, which change no stage.
-    pub read_separated : (part : Part) (size : ℕ) (stage : Stage) → is_run stage ≡ true → size + 1 < length text → m.separator (get_or text size 0) ≡ true
-        → m.digit part (get_or text (size + 1) 0) ≡ true → m.flag (separators_in part).internal ≡ true
-        → IsReadOn m text (place part size stage) (digits_piece part) (place part (size + 2) stage)
-    read_separated part size stage run inside separator digit allowed =
+    pub read_separated : (part : Part) (size : ℕ) (stage : Stage) → part_of stage ≡ part → is_run stage ≡ true → size + 1 < length text
+        → m.separator (get_or text size 0) ≡ true → m.digit part (get_or text (size + 1) 0) ≡ true → m.flag (separators_in part).internal ≡ true
+        → IsReadOn m text (at_stage size stage) (digits_piece part) (at_stage (size + 2) stage)
+    read_separated part size stage in_part run inside separator digit allowed =
         let b = get_or text size 0 in
         let d = get_or text (size + 1) 0 in
-        let gap : At = record { size = size + 1; read = record { part = part; stage = stage; gap = true; ended = false } } in
+        let gap : At = record { size = size + 1; read = record { stage = stage; gap = true; ended = false } } in
         let two : size + 1 + 1 ≡ size + 2 = omega arith in
-        let first : IsReadOn m text (place part size stage) (digits_piece part) gap =
-        subst (λ after. IsReadOn m text (place part size stage) (digits_piece part)
-        (record { size = size + 1; read = record { part = part; stage = after; gap = true; ended = false } })) (same_mark m part stage run)
-        (read_one (place part size stage) roles.Separator (omega (arith, inside)) (is_role m part b h roles.Separator (λ same. cc) separator) refl
-        (takes_separator m part stage run (b == 43) allowed)
-        (admits_free m part stage (place part size stage).read (b == 43) (b == 48) roles.Separator (λ same. cc) (run_is_free m part stage run))) in
-        let second : IsReadOn m text gap (digits_piece part) (place part (size + 1 + 1) stage) =
-        subst (λ after. IsReadOn m text gap (digits_piece part) (place part (size + 1 + 1) after)) (same_digit m part stage run true (d == 48))
-        (read_one gap roles.Digit inside (digit_role m part d digit) refl (takes_more m part stage run (d == 43) true (λ _. allowed))
-        (admits_free m part stage gap.read (d == 43) (d == 48) roles.Digit (λ same. cc) (run_is_free m part stage run))) in
-        go_on (place part size stage) gap (place part (size + 2) stage) (digits_piece part) first
-        (subst (λ n. IsReadOn m text gap (digits_piece part) (place part n stage)) two second)
+        let first : IsReadOn m text (at_stage size stage) (digits_piece part) gap =
+        subst (λ after. IsReadOn m text (at_stage size stage) (digits_piece part)
+        (record { size = size + 1; read = record { stage = after; gap = true; ended = false } })) (same_mark m stage run)
+        (read_free part (at_stage size stage) roles.Separator in_part (λ same. cc) (omega (arith, inside))
+        (is_role m part b h roles.Separator (λ same. cc) separator) refl (takes_separator m stage run part (b == 43) allowed) (run_is_free m stage run)) in
+        let second : IsReadOn m text gap (digits_piece part) (at_stage (size + 1 + 1) stage) =
+        subst (λ after. IsReadOn m text gap (digits_piece part) (at_stage (size + 1 + 1) after)) (same_digit m stage run true (d == 48))
+        (read_free part gap roles.Digit in_part (λ same. cc) inside (digit_role m part d digit) refl
+        (takes_more m stage run part (d == 43) true (λ _. allowed)) (run_is_free m stage run)) in
+        go_on (at_stage size stage) gap (at_stage (size + 2) stage) (digits_piece part) first
+        (subst (λ n. IsReadOn m text gap (digits_piece part) (at_stage n stage)) two second)
 
     -- The sign of the mantissa, or of the exponent.
     pub read_sign : (part : Part) (size : ℕ) → size < length text → IsTrue (((get_or text size 0 == 43) && not (forbids_plus m part))
         || ((get_or text size 0 == 45) && not (m.condition conditions.NegativeSign && is_negative part false roles.Sign)))
-        → IsReadOn m text (place part size (fresh part)) (piece_of part roles.Sign) (place part (size + 1) (after_mark (fresh part)))
+        → IsReadOn m text (at_stage size (fresh part)) (piece_of part roles.Sign) (at_stage (size + 1) (after_mark (fresh part)))
     read_sign part size inside allowed = let b = get_or text size 0 in
-        read_one (place part size (fresh part)) roles.Sign inside (is_role m part b h roles.Sign (λ same. cc) (some_sign part b allowed)) refl
-        (sign_taken part b allowed) (sign_admitted part b (b == 48) allowed) where
+        subst (λ piece. IsReadOn m text (at_stage size (fresh part)) piece (at_stage (size + 1) (after_mark (fresh part)))) (sign_piece part)
+        (read_one (at_stage size (fresh part)) roles.Sign inside (is_role m _ b h roles.Sign (λ same. cc) (some_sign part b allowed)) refl
+        (sign_taken part b allowed) (sign_admitted part b (b == 48) allowed)) where
           allows : Part → ℕ → Bool
           allows part b = ((b == 43) && not (forbids_plus m part)) || ((b == 45) && not (m.condition conditions.NegativeSign && is_negative part false
               roles.Sign))
 
+          sign_piece : (part : Part) → piece_of (part_of (fresh part)) roles.Sign ≡ piece_of part roles.Sign
+          sign_piece parts.Exponent = refl
+          sign_piece _ = refl
+
           some_sign : (part : Part) (b : ℕ) → allows part b ≡ true → ((b == 43) || (b == 45)) ≡ true
           some_sign part b is = grind arith
 
-          sign_taken : (part : Part) (b : ℕ) → allows part b ≡ true → takes m (place part 0 (fresh part)).read (b == 43) roles.Sign ≡ true
+          sign_taken : (part : Part) (b : ℕ) → allows part b ≡ true → takes m (at_stage 0 (fresh part)).read (b == 43) roles.Sign ≡ true
           sign_taken parts.Exponent b is = grind arith
-          sign_taken parts.Integer b is = grind arith
-          sign_taken parts.Fraction b is = grind arith
+          sign_taken _ b is = grind arith
 
-          sign_admitted : (part : Part) (b : ℕ) (z : Bool) → allows part b ≡ true → admits m.condition (place part 0 (fresh part)).read (b == 43) z
+          sign_admitted : (part : Part) (b : ℕ) (z : Bool) → allows part b ≡ true → admits m.condition (at_stage 0 (fresh part)).read (b == 43) z
               roles.Sign ≡ true
           sign_admitted parts.Exponent b z is = grind arith
-          sign_admitted parts.Integer b z is = grind arith
-          sign_admitted parts.Fraction b z is = grind arith
+          sign_admitted _ b z is = grind arith
 
     -- The digit behind a zero that begins the integer.
-    pub read_led : (part : Part) (size : ℕ) → size < length text → m.digit part (get_or text size 0) ≡ true → may_follow m stages.Bare ≡ true
-        → is_free m stages.Bare ≡ true
-        → IsReadOn m text (place part size stages.Bare) (digits_piece part) (place part (size + 1) stages.Led)
-    read_led part size inside digit may free = let b = get_or text size 0 in
-        read_one (place part size stages.Bare) roles.Digit inside (digit_role m part b digit) refl may
-        (admits_free m part stages.Bare (place part size stages.Bare).read (b == 43) (b == 48) roles.Digit (λ same. cc) free)
+    pub read_led : (size : ℕ) → size < length text → m.digit parts.Integer (get_or text size 0) ≡ true → may_follow m stages.Bare ≡ true
+        → is_free m stages.Bare ≡ true → IsReadOn m text (at_stage size stages.Bare) pieces.Integer (at_stage (size + 1) stages.Led)
+    read_led size inside digit may free = let b = get_or text size 0 in
+        read_free parts.Integer (at_stage size stages.Bare) roles.Digit refl (λ same. cc) inside (digit_role m parts.Integer b digit) refl may free
 
     -- The zero that begins the integer.
     pub read_zero : (size : ℕ) (stage : Stage) → size < length text → get_or text size 0 ≡ 48 → IsFirst m stage
-        → IsReadOn m text (place parts.Integer size stage) pieces.Integer (place parts.Integer (size + 1) stages.Bare)
-    read_zero size stage inside naught is = let b = get_or text size 0 in
-        let digit : m.digit parts.Integer b ≡ true = ap (m.digit parts.Integer) naught ∙ h.zero_is_digit parts.Integer in
+        → IsReadOn m text (at_stage size stage) pieces.Integer (at_stage (size + 1) stages.Bare)
+    read_zero size stage inside naught is =
+        let b = get_or text size 0 in
         let is_zero : (b == 48) ≡ true = grind arith in
-        subst (λ after. IsReadOn m text (place parts.Integer size stage) pieces.Integer (place parts.Integer (size + 1) after))
+        let in_part = awaited_part stage is.begun in
+        subst (λ piece. IsReadOn m text (at_stage size stage) piece (at_stage (size + 1) stages.Bare)) (ap digits_piece in_part)
+        (subst (λ after. IsReadOn m text (at_stage size stage) (digits_piece (part_of stage)) (at_stage (size + 1) after))
         (ap (after_digit stage false) is_zero ∙ bare stage is.begun)
-        (read_one (place parts.Integer size stage) roles.Digit inside (digit_role m parts.Integer b digit) refl
-        (takes_first m parts.Integer stage (none_begun stage is.begun) (b == 43) is.signed)
-        (ap (λ z. admits m.condition (place parts.Integer size stage).read (b == 43) z roles.Digit) is_zero ∙ admitted stage (b == 43) is.begun)) where
-          bare : (stage : Stage) → is_begun stage ≡ true → after_digit stage false true ≡ stages.Bare
+        (read_one (at_stage size stage) roles.Digit inside
+        (digit_role m (part_of stage) b (ap (m.digit (part_of stage)) naught ∙ h.zero_is_digit (part_of stage))) refl
+        (subst (λ part. takes_in m part stage false (b == 43) roles.Digit ≡ true) (sym in_part)
+        (and_from _ _ is.signed (and_from _ _ refl (first_follows m stage (none_begun stage is.begun)))))
+        (ap (λ z. admits m.condition (at_stage size stage).read (b == 43) z roles.Digit) is_zero ∙ admitted stage (b == 43) is.begun))) where
+          bare : (stage : Stage) → awaits_integer stage ≡ true → after_digit stage false true ≡ stages.Bare
           bare stages.Start is = refl
           bare stages.Empty is = refl
           bare _ is = absurd (false≢true is)
 
-          admitted : (stage : Stage) (plus : Bool) → is_begun stage ≡ true → admits m.condition (place parts.Integer 0 stage).read plus true roles.Digit ≡ true
+          admitted : (stage : Stage) (plus : Bool) → awaits_integer stage ≡ true → admits m.condition (at_stage 0 stage).read plus true roles.Digit ≡ true
           admitted stages.Start plus is = grind arith
           admitted stages.Empty plus is = grind arith
           admitted _ plus is = absurd (false≢true is)
@@ -249,19 +248,19 @@ module _ (m : Notation) (text : List ℕ) where
     -- The base prefix, with its zero.
     pub read_prefix : (size : ℕ) (stage : Stage) → size + 1 < length text → get_or text size 0 ≡ 48 → m.prefix (get_or text (size + 1) 0) ≡ true
         → IsFirst m stage
-        → (c : Cuts) → IsAt m text (place parts.Integer size stage) c → IsAt m text (place parts.Integer (size + 2) stages.Free) (add (add c pieces.Integer)
+        → (c : Cuts) → IsAt m text (at_stage size stage) c → IsAt m text (at_stage (size + 2) stages.Prefixed) (add (add c pieces.Integer)
         pieces.Prefix)
     read_prefix size stage inside naught prefix is c begun =
         let b = get_or text (size + 1) 0 in
-        let zero_at : At = place parts.Integer (size + 1) stages.Bare in
+        let zero_at : At = at_stage (size + 1) stages.Bare in
         let two : size + 1 + 1 ≡ size + 2 = omega arith in
         let first = read_zero size stage (omega (arith, inside)) naught is in
-        let second : IsReadOn m text zero_at pieces.Prefix (place parts.Integer (size + 1 + 1) stages.Free) =
+        let second : IsReadOn m text zero_at pieces.Prefix (at_stage (size + 1 + 1) stages.Prefixed) =
         read_one zero_at roles.Prefix inside (is_role m parts.Integer b h roles.Prefix (λ same. cc) prefix) refl refl (prefix_admitted (b == 43) (b == 48)) in
-        subst (λ n. IsAt m text (place parts.Integer n stages.Free) (add (add c pieces.Integer) pieces.Prefix)) two
-        (one_read zero_at (place parts.Integer (size + 1 + 1) stages.Free) pieces.Prefix second refl (add c pieces.Integer)
-        (one_read (place parts.Integer size stage) zero_at pieces.Integer first refl c begun)) where
-          prefix_admitted : (plus z : Bool) → admits m.condition (place parts.Integer 0 stages.Bare).read plus z roles.Prefix ≡ true
+        subst (λ n. IsAt m text (at_stage n stages.Prefixed) (add (add c pieces.Integer) pieces.Prefix)) two
+        (one_read zero_at (at_stage (size + 1 + 1) stages.Prefixed) pieces.Prefix second refl (add c pieces.Integer)
+        (one_read (at_stage size stage) zero_at pieces.Integer first refl c begun)) where
+          prefix_admitted : (plus z : Bool) → admits m.condition (at_stage 0 stages.Bare).read plus z roles.Prefix ≡ true
           prefix_admitted plus z = grind arith
 
 -- Where reading stops before a literal has been found.

@@ -7,9 +7,10 @@ use Rattle.lexical_util.specs.declared.feature_format.roles.Role.TheVariants as 
 use Rattle.lexical_util.specs.declared.format_flags.Part.{Part}
 use Rattle.lexical_literal.specs.Notation.{Notation, set_of_role}
 use Rattle.lexical_literal.specs.Additions.Plain.{HasRoles}
-use Rattle.lexical_literal.specs.Additions.Summary.{Cuts, add, admits, role_at, takes, after}
+use Rattle.lexical_literal.specs.Additions.Summary.{Cuts, add, admits, role_at, takes, after, part_of, takes_in}
 use Rattle.lexical_literal.specs.Additions.Summary.{move_by, scan_by, step_by, accepted_by, count, no_condition, tally_by}
 use Rattle.lexical_literal.specs.declared.steps.Piece.{Piece}
+use Rattle.lexical_literal.specs.declared.steps.Stage.{Stage}
 use Rattle.lexical_literal.specs.declared.steps.Summary.{Summary}
 use Rattle.lexical_literal.specs.declared.syntax.Condition.{Condition}
 
@@ -40,7 +41,7 @@ module _ (C : Condition → Bool) (m : Notation) where
   tally_append o c [] y = refl
   tally_append None c (b ∷ x) [] = refl
   tally_append None c (b ∷ x) (a ∷ y) = refl
-  tally_append (Some s) c (b ∷ x) y = tally_append (step_by C m s b) (count s.part (role_at m s.part b) c) x y
+  tally_append (Some s) c (b ∷ x) y = tally_append (step_by C m s b) (count (part_of s.stage) (role_at m (part_of s.stage) b) c) x y
 
   pub none_accepts : (text : List ℕ) → Accepts C m None text → ⊥
   none_accepts text is = false≢true (sym (ap (accepted_by C m) (scan_none text)) ∙ is)
@@ -48,7 +49,7 @@ module _ (C : Condition → Bool) (m : Notation) where
 -- `Took C m s b P` holds if `b` is taken after `s` with the conditions `C`, and `P` holds of what it makes of `s`.
 pub record Took (C : Condition → Bool) (m : Notation) (s : Summary) (b : ℕ) (P : Option Summary → Type 0) : Type 0 where
   pub role : Role
-  pub plays : role_at m s.part b ≡ Some role
+  pub plays : role_at m (part_of s.stage) b ≡ Some role
   pub going : s.ended ≡ false
   pub taken : takes m s (b == 43) role ≡ true
   pub admitted : admits C s (b == 43) (b == 48) role ≡ true
@@ -84,8 +85,8 @@ module _ (m : Notation) (part : Part) (b : ℕ) where
 
 module _ (C : Condition → Bool) (m : Notation) where
   pub took : (s : Summary) (b : ℕ) (P : Option Summary → Type 0) → (P None → ⊥) → P (step_by C m s b) → Took C m s b P
-  took s b P none is = go (role_at m s.part b) refl is where
-    go : (o : Option Role) → role_at m s.part b ≡ o → P (move_by C m s (b == 43) (b == 48) o) → Took C m s b P
+  took s b P none is = go (role_at m (part_of s.stage) b) refl is where
+    go : (o : Option Role) → role_at m (part_of s.stage) b ≡ o → P (move_by C m s (b == 43) (b == 48) o) → Took C m s b P
     go None plays is = absurd (none is)
     go (Some r) plays is = take s.ended (takes m s (b == 43) r) (admits C s (b == 43) (b == 48) r) refl refl refl is where
       take : (e t a : Bool) → s.ended ≡ e → takes m s (b == 43) r ≡ t → admits C s (b == 43) (b == 48) r ≡ a
@@ -95,19 +96,23 @@ module _ (C : Condition → Bool) (m : Notation) where
       take _ _ _ going taken admitted is = absurd (none is)
 
   -- What a byte makes of a summary.
-  pub moved : (s : Summary) (b : ℕ) (r : Role) → role_at m s.part b ≡ Some r → s.ended ≡ false → takes m s (b == 43) r ≡ true
+  pub moved : (s : Summary) (b : ℕ) (r : Role) → role_at m (part_of s.stage) b ≡ Some r → s.ended ≡ false → takes m s (b == 43) r ≡ true
       → admits C s (b == 43) (b == 48) r ≡ true → step_by C m s b ≡ Some (after s (b == 48) r)
   moved s b r plays going taken admitted = ap (move_by C m s (b == 43) (b == 48)) plays
       ∙ (λ j. if not (going j) && (taken j && admitted j) then Some (after s (b == 48) r) else None)
 
-  pub arrives_byte : (s : Summary) (b : ℕ) (r : Role) (c : Cuts) (text : List ℕ) (d : Cuts) → s.ended ≡ false → role_at m s.part b ≡ Some r
+  pub arrives_byte : (s : Summary) (b : ℕ) (r : Role) (c : Cuts) (text : List ℕ) (d : Cuts) → s.ended ≡ false → role_at m (part_of s.stage) b ≡ Some r
       → takes m s (b == 43) r ≡ true → admits C s (b == 43) (b == 48) r ≡ true
-      → Arrives C m (Some (after s (b == 48) r)) (count s.part (Some r) c) text d → Arrives C m (Some s) c (b ∷ text) d
-  arrives_byte s b r c text d going plays taken admitted more = subst (λ o. Arrives C m (step_by C m s b) (count s.part o c) text d) (sym plays)
-      (subst (λ o. Arrives C m o (count s.part (Some r) c) text d) (sym (moved s b r plays going taken admitted)) more)
+      → Arrives C m (Some (after s (b == 48) r)) (count (part_of s.stage) (Some r) c) text d → Arrives C m (Some s) c (b ∷ text) d
+  arrives_byte s b r c text d going plays taken admitted more = subst (λ o. Arrives C m (step_by C m s b) (count (part_of s.stage) o c) text d) (sym plays)
+      (subst (λ o. Arrives C m o (count (part_of s.stage) (Some r) c) text d) (sym (moved s b r plays going taken admitted)) more)
 
 -- Without conditions, what is taken arrives.
-pub free_byte : (m : Notation) (s : Summary) (b : ℕ) (r : Role) (c : Cuts) (text : List ℕ) (d : Cuts) → s.ended ≡ false
-    → role_at m s.part b ≡ Some r → takes m s (b == 43) r ≡ true
-    → Arrives no_condition m (Some (after s (b == 48) r)) (count s.part (Some r) c) text d → Arrives no_condition m (Some s) c (b ∷ text) d
-free_byte m s b r c text d going role taken more = arrives_byte no_condition m s b r c text d going role taken refl more
+pub free_byte : (m : Notation) (part : Part) (stage : Stage) (gap : Bool) (b : ℕ) (r : Role) (c : Cuts) (text : List ℕ) (d : Cuts) → part_of stage ≡ part
+    → role_at m part b ≡ Some r → takes_in m part stage gap (b == 43) r ≡ true → let s : Summary = record { stage = stage; gap = gap; ended = false } in
+    Arrives no_condition m (Some (after s (b == 48) r)) (count part (Some r) c) text d → Arrives no_condition m (Some s) c (b ∷ text) d
+free_byte m part stage gap b r c text d at = subst (λ part. role_at m part b ≡ Some r → takes_in m part stage gap (b == 43) r ≡ true
+    → Arrives no_condition m (Some (after s (b == 48) r)) (count part (Some r) c) text d → Arrives no_condition m (Some s) c (b ∷ text) d) at
+    (λ plays taken more. arrives_byte no_condition m s b r c text d refl plays taken refl more) where
+      s : Summary
+      s = record { stage = stage; gap = gap; ended = false }

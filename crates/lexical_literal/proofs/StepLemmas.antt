@@ -1,5 +1,5 @@
 -- Stages, and what may follow a part that ends at one.
-use Rattle.std.proofs.Common.{ℕ, ◌≡◌, Bool, true, false, not, ◌==◌, ◌&&◌, ◌||◌, if◌then◌else◌, List, [], ◌∷◌, ◌++◌, refl, arith}
+use Rattle.std.proofs.Common.{ℕ, ◌≡◌, Bool, true, false, not, ◌==◌, ◌&&◌, ◌||◌, if◌then◌else◌, List, [], ◌∷◌, ◌++◌, refl, sym, ap, ◌∙◌, arith}
 use Rattle.std.specs.List.{list_any}
 use Rattle.lexical_util.specs.Ascii.{ByteSet}
 use Rattle.lexical_util.specs.Roles.{signs}
@@ -9,20 +9,31 @@ use Rattle.lexical_util.specs.declared.format_flags.Part.TheVariants as parts
 use Rattle.lexical_literal.specs.Notation.{Notation}
 use Rattle.lexical_literal.specs.Literal.{Literal, is_absent, is_plus, is_none_or_one, is_none_or_prefix, has_leading_zero}
 use Rattle.lexical_literal.specs.Additions.Summary.{implies, has_digit, is_fresh, is_lone, is_led, is_bare, after_digit, after_mark}
-use Rattle.lexical_literal.specs.Additions.Summary.{after_point, is_signed, forbids_plus, digits_suffice, continues, may_float}
+use Rattle.lexical_literal.specs.Additions.Summary.{after_point, awaits_integer, part_of, is_signed, forbids_plus, digits_suffice, continues, may_float}
 use Rattle.lexical_literal.specs.declared.steps.Stage.{Stage}
 use Rattle.lexical_literal.specs.declared.steps.Stage.TheVariants as stages
 use Rattle.lexical_literal.specs.declared.steps.Summary.{Summary}
 use Rattle.lexical_literal.proofs.RunLemmas.{is_rest}
 
-abbrev pub reading : Part → Stage → Bool → Summary
-reading part stage gap = record { part = part; stage = stage; gap = gap; ended = false }
+abbrev pub reading : Stage → Bool → Summary
+reading stage gap = record { stage = stage; gap = gap; ended = false }
 
--- `begins stage` is true if the first digit of the integer follows.
-abbrev pub begins : Stage → Bool
-begins stages.Start = true
-begins stages.Empty = true
-begins _ = false
+-- A digit, a separator and a sign do not leave their part.
+pub digit_part : (stage : Stage) (gap zero : Bool) → part_of (after_digit stage gap zero) ≡ part_of stage
+digit_part stage gap zero = grind arith
+
+pub mark_part : (stage : Stage) → part_of (after_mark stage) ≡ part_of stage
+mark_part stage = grind arith
+
+pub point_part : (digit : Bool) → part_of (after_point digit) ≡ parts.Fraction
+point_part digit = grind arith
+
+-- The prefix is part of the integer, and so is what is before it.
+pub bare_part : (stage : Stage) → is_bare stage ≡ true → part_of stage ≡ parts.Integer
+bare_part stage is = grind arith
+
+pub awaited_part : (stage : Stage) → awaits_integer stage ≡ true → part_of stage ≡ parts.Integer
+awaited_part stage is = grind arith
 
 -- `led_after D stage run` is true if there is a leading zero after `run`.
 abbrev pub led_after : ByteSet → Stage → List ℕ → Bool
@@ -50,19 +61,38 @@ pub record Passed (D : ByteSet) (stage : Stage) (run : List ℕ) (last : Stage) 
   pub counts : not (is_lone last) ≡ (list_any D run || not (is_lone stage))
   pub led : is_led last ≡ led_after D stage run
 
+-- What a digit and a mark make of a stage.
+pub digit_seen : (stage : Stage) (gap zero : Bool) → has_digit (after_digit stage gap zero) ≡ true
+digit_seen stage gap zero = grind arith
+
 pub passed : (D : ByteSet) (stage : Stage) (gap : Bool) (run : List ℕ) → Passed D stage run (stage_after D stage gap run)
 passed D stage gap [] = record { seen = refl; counts = refl; led = grind arith }
+passed D stages.Start gap (b ∷ run) =
+    let digit = passed D (after_digit stages.Start gap (b == 48)) false run in
+    let mark = passed D stages.Empty true run in record { seen = grind arith; counts = grind arith; led = grind arith }
 passed D stage gap (b ∷ run) =
     let digit = passed D (after_digit stage gap (b == 48)) false run in
-    let mark = passed D (after_mark stage) true run in
-    record { seen = grind arith; counts = grind arith; led = grind arith }
+    let mark = passed D (after_mark stage) true run in record { seen = grind arith; counts = grind arith; led = grind arith }
 
 -- `stage_at stage sign prefix` is the stage after a sign and a prefix, and `gap_at gap prefix` tells whether a gap is before it.
 abbrev pub stage_at : Stage → List ℕ → List ℕ → Stage
-stage_at stage sign prefix = if is_absent prefix then (if is_absent sign then stage else after_mark stage) else stages.Free
+stage_at stage sign prefix = if is_absent prefix then (if is_absent sign then stage else after_mark stage) else stages.Prefixed
 
 abbrev pub gap_at : Bool → List ℕ → Bool
 gap_at gap prefix = is_absent prefix && gap
+
+-- The digits of a part do not leave it.
+pub run_part : (D : ByteSet) (stage : Stage) (gap : Bool) (run : List ℕ) → part_of (stage_after D stage gap run) ≡ part_of stage
+run_part D stage gap [] = refl
+run_part D stage gap (b ∷ run) =
+    let digit = run_part D (after_digit stage gap (b == 48)) false run ∙ digit_part stage gap (b == 48) in
+    let mark = run_part D (after_mark stage) true run ∙ mark_part stage in grind arith
+
+pub integer_part : (sign prefix : List ℕ) → part_of (stage_at stages.Start sign prefix) ≡ parts.Integer
+integer_part sign prefix = grind arith
+
+pub exponent_part : (sign : List ℕ) → part_of (stage_at stages.Mark sign []) ≡ parts.Exponent
+exponent_part sign = grind arith
 
 module _ (m : Notation) where
   -- `sign_fits m part stage sign` is true if `sign` may follow in `part` at `stage`.
@@ -74,7 +104,7 @@ module _ (m : Notation) where
   abbrev pub prefix_fits : Stage → Bool → List ℕ → Bool
   prefix_fits stage gap [] = true
   prefix_fits stage gap (b ∷ []) = is_bare stage && m.prefix b
-  prefix_fits stage gap (z ∷ b ∷ more) = (begins stage && not gap) && is_none_or_prefix m.prefix (z ∷ b ∷ more)
+  prefix_fits stage gap (z ∷ b ∷ more) = (awaits_integer stage && not gap) && is_none_or_prefix m.prefix (z ∷ b ∷ more)
 
   -- `digits_fit m part stage digits end` is true if `digits` may be the digits of `part`, and `end` is true of the stage after
   -- them, begun with `stage`.

@@ -14,8 +14,8 @@ use Rattle.lexical_util.specs.Digits.{byte_value, digit_of}
 use Rattle.lexical_util.specs.Record.{raw}
 use Rattle.lexical_util.specs.declared.format_flags.Part.{Part}
 use Rattle.lexical_literal.specs.Notation.{Notation, notation_of, radix_of}
-use Rattle.lexical_literal.specs.Additions.Plain.{HasRoles, IsDigitAt, IsReadOn, IsRunOn, IsSeparated, between, digits_in, place}
-use Rattle.lexical_literal.specs.Additions.Summary.{digits_piece, is_run}
+use Rattle.lexical_literal.specs.Additions.Plain.{HasRoles, IsDigitAt, IsReadOn, IsRunOn, IsSeparated, between, digits_in, at_stage}
+use Rattle.lexical_literal.specs.Additions.Summary.{digits_piece, is_run, part_of}
 use Rattle.lexical_literal.specs.declared.plain.Run.{Run}
 use Rattle.lexical_literal.specs.declared.steps.Stage.{Stage}
 use Rattle.lexical_literal.specs.declared.syntax.Grammar.{Grammar}
@@ -71,7 +71,7 @@ module _ (radix : ℕ) (text : List ℕ) where
 module _ (m : Notation) (radix : ℕ) (text : List ℕ) (part : Part) where
   pub same_run : (run : Run) → IsRunOn m radix text part run run
   same_run run = record {
-    on = stay m text (place part run.size run.stage) (digits_piece part);
+    on = stay m text (at_stage run.size run.stage) (digits_piece part);
     within = λ is. is;
     digits = sym (ap (λ ds. run.digits + length ds) (none_between radix text run.size) ∙ omega arith);
     sum = sym (ap (λ ds. number_from_digits_after radix run.sum ds % 2 ^ 64) (none_between radix text run.size));
@@ -84,7 +84,7 @@ module _ (m : Notation) (radix : ℕ) (text : List ℕ) (part : Part) where
       let high = second.on.more in
       let all = both_between radix text a.size b.size c.size low high in
       record {
-        on = go_on m text (place part a.size a.stage) (place part b.size b.stage) (place part c.size c.stage) (digits_piece part) first.on second.on;
+        on = go_on m text (at_stage a.size a.stage) (at_stage b.size b.stage) (at_stage c.size c.stage) (digits_piece part) first.on second.on;
         within = λ is. second.within (first.within is);
         digits = omega (
           arith,
@@ -113,7 +113,7 @@ pushed_sum radix s v = mod-mod (s * radix % 2 ^ 64 + v) (2 ^ 64) ∙ mod-add-mod
 
 -- One digit, wherever it leads.
 pub one_digit : (m : Notation) (radix : ℕ) (text : List ℕ) (part : Part) (run : Run) (stage : Stage) (v : ℕ) → IsDigitAt radix text run.size v
-    → IsReadOn m text (place part run.size run.stage) (digits_piece part) (place part (run.size + 1) stage)
+    → IsReadOn m text (at_stage run.size run.stage) (digits_piece part) (at_stage (run.size + 1) stage)
     → IsRunOn m radix text part run (record (pushed radix run v 1) { stage = stage })
 one_digit m radix text part run stage v digit on = let one = byte_between radix text run.size (Some v) digit.0 digit.1 in record {
   on = on;
@@ -122,7 +122,8 @@ one_digit m radix text part run stage v digit on = let one = byte_between radix 
   sum = pushed_sum radix run.sum v ∙ sym (ap (λ ds. number_from_digits_after radix run.sum ds % 2 ^ 64) one);
 }
 
-module _ (g : Grammar) (text : List ℕ) (part : Part) (run : Run) (v : ℕ) (h : HasRoles (notation_of g)) (is : is_run run.stage ≡ true) where
+module _ (g : Grammar) (text : List ℕ) (part : Part) (run : Run) (v : ℕ) (h : HasRoles (notation_of g)) (is : is_run run.stage ≡ true)
+    (in_part : part_of run.stage ≡ part) where
   abbrev m : Notation
   m = notation_of g
 
@@ -131,7 +132,7 @@ module _ (g : Grammar) (text : List ℕ) (part : Part) (run : Run) (v : ℕ) (h 
 
   pub more_digit : IsDigitAt radix text run.size v → IsRunOn m radix text part run (pushed radix run v 1)
   more_digit digit = one_digit m radix text part run run.stage v digit
-      (read_digit m text h part run.size run.stage is digit.0 (is_digit radix (get_or text run.size 0) v digit.1))
+      (read_digit m text h part run.size run.stage in_part is digit.0 (is_digit radix (get_or text run.size 0) v digit.1))
 
   pub more_separated : IsSeparated m radix text part run.size v → IsRunOn m radix text part run (pushed radix run v 2)
   more_separated separated =
@@ -146,7 +147,7 @@ module _ (g : Grammar) (text : List ℕ) (part : Part) (run : Run) (v : ℕ) (h 
       ∙ ap (λ ds. ds ++ digits_in radix (between text (run.size + 1) (run.size + 2))) first
       ∙ ap (λ n. digits_in radix (between text (run.size + 1) n)) (sym two) ∙ second in
       record {
-        on = read_separated m text h part run.size run.stage is separated.digit.0 separated.separator
+        on = read_separated m text h part run.size run.stage in_part is separated.digit.0 separated.separator
             (is_digit radix (get_or text (run.size + 1) 0) v separated.digit.1) separated.allowed;
         within = λ is. omega (arith, separated.digit.0);
         digits = sym (ap (λ ds. run.digits + length ds) one);

@@ -8,7 +8,7 @@ use Rattle.lexical_literal.specs.Additions.Plain.{HasRoles}
 use Rattle.lexical_literal.specs.Notation.{Notation}
 use Rattle.lexical_literal.specs.Literal.{Literal, Reads}
 use Rattle.lexical_literal.specs.Readings.{AllIn}
-use Rattle.lexical_literal.specs.Additions.Summary.{needs_exponent, move_by, step, scan, is_accepted, start}
+use Rattle.lexical_literal.specs.Additions.Summary.{needs_exponent, move_by, step, scan, is_accepted, start, part_of, role_at}
 use Rattle.lexical_literal.specs.declared.steps.Stage.{Stage}
 use Rattle.lexical_literal.specs.declared.steps.Stage.TheVariants as stages
 use Rattle.lexical_literal.proofs.ScanLemmas.{scan_none, digit_role, is_role}
@@ -27,27 +27,28 @@ module _ (m : Notation) (h : HasRoles m) where
 
   -- Digits that follow a digit that is not 0.
   more_digits : (digits : List ℕ) → AllIn (m.digit parts.Integer) digits
-      → is_accepted m (scan m (Some (reading parts.Integer stages.Digits false)) digits) ≡ not (m.condition conditions.BaseSuffix || needs_exponent m)
+      → is_accepted m (scan m (Some (reading stages.Integer false)) digits) ≡ not (m.condition conditions.BaseSuffix || needs_exponent m)
   more_digits [] all = grind arith
   more_digits (b ∷ digits) all =
-      let is : move_by m.condition m (reading parts.Integer stages.Digits false) (b == 43) (b == 48) (Some roles.Digit)
-      ≡ Some (reading parts.Integer stages.Digits false) = grind arith in
-      ap (λ o. is_accepted m (scan m o digits)) (ap (move_by m.condition m (reading parts.Integer stages.Digits false) (b == 43) (b == 48))
+      let is : move_by m.condition m (reading stages.Integer false) (b == 43) (b == 48) (Some roles.Digit)
+      ≡ Some (reading stages.Integer false) = grind arith in
+      ap (λ o. is_accepted m (scan m o digits)) (ap (move_by m.condition m (reading stages.Integer false) (b == 43) (b == 48))
       (digit_role m parts.Integer b all.0) ∙ is) ∙ more_digits digits all.1
 
   module _ (first : ℕ) (digits : List ℕ) (not_zero : first ≢ 48) (all : AllIn (m.digit parts.Integer) (first ∷ digits)) where
     -- The first digit, which is not 0.
-    first_digit : (stage : Stage) → let s = reading parts.Integer stage false in step m s first ≡ move_by m.condition m s (first == 43) false
-        (Some roles.Digit)
-    first_digit stage =
+    first_digit : (stage : Stage) → part_of stage ≡ parts.Integer → let s = reading stage false in
+        step m s first ≡ move_by m.condition m s (first == 43) false (Some roles.Digit)
+    first_digit stage at =
         let other : (first == 48) ≡ false = grind (arith, nat_tests) in
-        ap (move_by m.condition m (reading parts.Integer stage false) (first == 43) (first == 48)) (digit_role m parts.Integer first all.0)
-        ∙ ap (λ zero. move_by m.condition m (reading parts.Integer stage false) (first == 43) zero (Some roles.Digit)) other
+        ap (move_by m.condition m (reading stage false) (first == 43) (first == 48))
+        (ap (λ part. role_at m part first) at ∙ digit_role m parts.Integer first all.0)
+        ∙ ap (λ zero. move_by m.condition m (reading stage false) (first == 43) zero (Some roles.Digit)) other
 
     pub digits_read : ((l : Literal) × Reads m l (first ∷ digits))
         ↔ IsFalse ((m.condition conditions.BasePrefix || m.condition conditions.BaseSuffix)
         || (m.flag layout.required_mantissa_sign || (m.flag layout.required_exponent_notation && not m.integers_only)))
-    digits_read = literal_exactly (first ∷ digits) _ (ap (λ o. is_accepted m (scan m o digits)) (first_digit stages.Start)
+    digits_read = literal_exactly (first ∷ digits) _ (ap (λ o. is_accepted m (scan m o digits)) (first_digit stages.Start refl)
         ∙ (let none = scan_none m.condition m digits in let more = more_digits digits all.1 in grind arith))
 
     pub negative_read : ((l : Literal) × Reads m l (45 ∷ first ∷ digits)) ↔ IsFalse ((m.condition conditions.BasePrefix || m.condition conditions.BaseSuffix)
@@ -63,6 +64,6 @@ module _ (m : Notation) (h : HasRoles m) where
               let sign : move_by m.condition m start false false (Some roles.Sign) ≡ None = grind arith in
               ap (λ o. is_accepted m (scan m o (first ∷ digits))) sign ∙ grind arith
           go false is =
-              let sign : move_by m.condition m start false false (Some roles.Sign) ≡ Some (reading parts.Integer stages.Empty false) = grind arith in
-              ap (λ o. is_accepted m (scan m o (first ∷ digits))) sign ∙ ap (λ o. is_accepted m (scan m o digits)) (first_digit stages.Empty)
+              let sign : move_by m.condition m start false false (Some roles.Sign) ≡ Some (reading stages.Empty false) = grind arith in
+              ap (λ o. is_accepted m (scan m o (first ∷ digits))) sign ∙ ap (λ o. is_accepted m (scan m o digits)) (first_digit stages.Empty refl)
               ∙ (let none = scan_none m.condition m digits in let more = more_digits digits all.1 in grind arith)

@@ -7,14 +7,14 @@ ghost use Rattle.lexical_util.specs.Roles.{other_case};
 ghost use Rattle.lexical_literal.specs.Additions.Causes.{is_at_gap, lets, place_of};
 ghost use Rattle.lexical_literal.specs.Additions.Explained.{alone, blame, cases, conditions_of, mask_of, refusal_of, requirements, separators};
 ghost use Rattle.lexical_literal.specs.Additions.Explained.{ungrouped_of, unmet, zeros};
-ghost use Rattle.lexical_literal.specs.Additions.Summary.{role_at};
+ghost use Rattle.lexical_literal.specs.Additions.Summary.{part_of, role_at};
 ghost use Rattle.lexical_literal.specs.Cause.{adding, bare, binds, case_set, first_unmet, is_same, with_rules};
 ghost use Rattle.lexical_literal.specs.Forms.{is_byte};
 ghost use Rattle.lexical_literal.specs.Notation.{has, notation_of};
 
 use crate::span::{error, span};
 use crate::steps::{
-    Summary, has_digit, is_complete, is_exponent_character, moved, needs_exponent, role_at,
+    Summary, has_digit, is_complete, is_exponent_character, moved, needs_exponent, part_of, role_at,
 };
 use crate::syntax::{Condition, Conditions, Grammar};
 use lexical_util::error::Error;
@@ -349,7 +349,7 @@ impl Stop {
         };
         match self.byte {
             None => is_complete(other, self.read),
-            Some(byte) => match role_at(self.grammar, self.read.part, byte) {
+            Some(byte) => match role_at(self.grammar, part_of(self.read.stage), byte) {
                 None => false,
                 Some(role) => matches!(moved(other, self.read, byte, role), Some(_)),
             },
@@ -469,7 +469,7 @@ impl Stop {
         match self.byte {
             None => self.read.gap,
             Some(byte) => {
-                let role = role_at(self.grammar, self.read.part, byte);
+                let role = role_at(self.grammar, part_of(self.read.stage), byte);
                 self.read.gap || matches!(role, Some(Role::Separator))
             }
         }
@@ -477,11 +477,16 @@ impl Stop {
 
     // Returns where a separator is not allowed, before or after `byte`.
     const fn place(self, byte: u8) -> Place
-        ensures { result ≡ place_of (notation_of self.grammar) self.read (role_at (notation_of self.grammar) self.read.part byte) }
+        ensures { result ≡ place_of (notation_of self.grammar) (part_of self.read.stage) self.read.stage self.read.gap
+            (role_at (notation_of self.grammar) (part_of self.read.stage) byte) }
     {
-        let role = role_at(self.grammar, self.read.part, byte);
+        let role = role_at(self.grammar, part_of(self.read.stage), byte);
         let is_consecutive = self.read.gap
-            && !self.grammar.view().separators(self.read.part).consecutive;
+            && !self
+                .grammar
+                .view()
+                .separators(part_of(self.read.stage))
+                .consecutive;
         if is_consecutive && matches!(role, Some(Role::Separator)) {
             Place::Consecutive
         } else if has_digit(self.read.stage) {
@@ -520,14 +525,14 @@ impl Stop {
         }
         let Some(byte) = self.byte else {
             return Blame {
-                kind: ReadErrorKind::Missing(self.read.part),
+                kind: ReadErrorKind::Missing(part_of(self.read.stage)),
                 mask: 0,
             };
         };
         let separators = self.separators();
         if separators != 0 {
             return Blame {
-                kind: ReadErrorKind::Separator(self.read.part, self.place(byte)),
+                kind: ReadErrorKind::Separator(part_of(self.read.stage), self.place(byte)),
                 mask: separators,
             };
         }

@@ -6,14 +6,14 @@ ghost use Rattle.std.specs.Prelude.{◌≡◌, ◌<◌, ◌≤◌, ◌+◌, ◌-
 ghost use Rattle.lexical_util.specs.Record.{raw};
 ghost use Rattle.lexical_literal.specs.Notation.{Notation, notation_of, radix_of};
 ghost use Rattle.lexical_literal.specs.Additions.Plain.{HasRoles, IsAt, IsCounted, IsDigitAt, IsFirst, IsOpened, IsReadOn, IsRunOn, IsSeparated, IsSign};
-ghost use Rattle.lexical_literal.specs.Additions.Plain.{behind_sign, counts_of, fresh, is_free, place};
-ghost use Rattle.lexical_literal.specs.Additions.Summary.{Cuts, add, after_mark, after_point, cuts_of, has_digit, is_run, is_signed, piece_of};
+ghost use Rattle.lexical_literal.specs.Additions.Plain.{behind_sign, counts_of, fresh, is_free, at_stage};
+ghost use Rattle.lexical_literal.specs.Additions.Summary.{Cuts, add, after_mark, after_point, cuts_of, has_digit, is_run, is_signed, part_of, piece_of};
 ghost use Rattle.lexical_literal.specs.declared.steps.Piece.TheVariants as pieces;
 
 use crate::steps::{
-    START, Stage, Summary, allows_minus, allows_plus, digit_value, has_digit, is_begun,
-    is_complete, is_exponent_character, is_point, is_separator, is_signed, may_follow, radix_of,
-    takes,
+    START, Stage, Summary, after_point, allows_minus, allows_plus, awaits_integer, digit_value,
+    digits_of, has_digit, is_complete, is_exponent_character, is_point, is_separator, is_signed,
+    may_follow, radix_of, takes,
 };
 use crate::syntax::Grammar;
 use lexical_util::format::{Part, Role};
@@ -71,13 +71,12 @@ pub(crate) const BEGIN: At = At {
 
 // Returns where `size` bytes have been read, of which the last is no separator and no suffix.
 #[inline(always)]
-const fn place(part: Part, size: usize, stage: Stage) -> At
-    ensures { result ≡ place part size stage }
+const fn at_stage(size: usize, stage: Stage) -> At
+    ensures { result ≡ at_stage size stage }
 {
     At {
         size,
         read: Summary {
-            part,
             stage,
             gap: false,
             ended: false,
@@ -103,8 +102,8 @@ const fn stopped(at: At) -> Counted
 const fn reads_sign(grammar: Grammar, text: &[u8], part: Part, size: usize) -> bool
     requires roles { HasRoles (notation_of grammar) }
     ensures inside { IsTrue result → size < length text.now }
-    ensures on { IsTrue result → IsReadOn (notation_of grammar) text.now (place part size (fresh part)) (piece_of part Role.Sign)
-        (place part (size + 1) (after_mark (fresh part))) }
+    ensures on { IsTrue result → IsReadOn (notation_of grammar) text.now (at_stage size (fresh part)) (piece_of part Role.Sign)
+        (at_stage (size + 1) (after_mark (fresh part))) }
 {
     if size >= text.len() {
         return false;
@@ -137,7 +136,7 @@ const fn behind_sign(part: Part, sign: usize) -> Stage
 {
     match part {
         Part::Exponent if sign == 0 => Stage::Mark,
-        Part::Exponent => Stage::Free,
+        Part::Exponent => Stage::Signed,
         _ if sign == 0 => Stage::Start,
         _ => Stage::Empty,
     }
@@ -150,8 +149,8 @@ const fn reads_prefix(grammar: Grammar, text: &[u8], size: usize) -> bool
     requires within { size ≤ length text.now }
     ensures inside { IsTrue result → size + 1 < length text.now }
     ensures on { IsTrue result → (stage : Stage) (c : Cuts) → IsFirst (notation_of grammar) stage
-        → IsAt (notation_of grammar) text.now (place Part.Integer size stage) c
-        → IsAt (notation_of grammar) text.now (place Part.Integer (size + 2) Stage.Free) (add (add c pieces.Integer) pieces.Prefix) }
+        → IsAt (notation_of grammar) text.now (at_stage size stage) c
+        → IsAt (notation_of grammar) text.now (at_stage (size + 2) Stage.Prefixed) (add (add c pieces.Integer) pieces.Prefix) }
 {
     if size + 1 >= text.len() {
         return false;
@@ -217,6 +216,7 @@ const fn more_digits(grammar: Grammar, text: &[u8], part: Part, begun: Run) -> R
     requires within { begun.size ≤ length text.now }
     requires digits { begun.digits ≤ begun.size }
     requires run { is_run begun.stage ≡ true }
+    requires part { part_of begun.stage ≡ part }
     ensures within { result.size ≤ length text.now }
     ensures digits { result.digits ≤ result.size }
     ensures stage { result.stage ≡ begun.stage }
@@ -236,6 +236,7 @@ const fn groups(grammar: Grammar, text: &[u8], part: Part, begun: Run) -> Run
     requires within { begun.size ≤ length text.now }
     requires digits { begun.digits ≤ begun.size }
     requires run { is_run begun.stage ≡ true }
+    requires part { part_of begun.stage ≡ part }
     ensures stage { result.stage ≡ begun.stage }
     ensures run { IsRunOn (notation_of grammar) (radix_of (raw grammar.word) part) text.now part begun result }
 {
@@ -263,6 +264,7 @@ const fn digits(
     requires within { from ≤ length text.now }
     requires none { has_digit stage ≡ false }
     requires signed { is_signed (notation_of grammar) part stage ≡ true }
+    requires part { part_of stage ≡ part }
     requires free { is_free (notation_of grammar) stage ≡ true }
     ensures free { is_free (notation_of grammar) result.stage ≡ true }
     ensures run { IsRunOn (notation_of grammar) (radix_of (raw grammar.word) part) text.now part
@@ -278,10 +280,10 @@ const fn digits(
         return none;
     };
     let one = push(grammar, part, none, value, 1);
-    if text[from] == b'0' && is_begun(stage) {
-        behind_zero(grammar, text, part, staged(one, Stage::Bare))
+    if text[from] == b'0' && awaits_integer(stage) {
+        behind_zero(grammar, text, staged(one, Stage::Bare))
     } else {
-        groups(grammar, text, part, staged(one, Stage::Digits))
+        groups(grammar, text, part, staged(one, digits_of(part)))
     }
 }
 
@@ -300,22 +302,22 @@ const fn staged(run: Run, stage: Stage) -> Run
 
 // Reads the digits behind the zero that begins the integer.
 #[inline(always)]
-const fn behind_zero(grammar: Grammar, text: &[u8], part: Part, zero: Run) -> Run
+const fn behind_zero(grammar: Grammar, text: &[u8], zero: Run) -> Run
     requires roles { HasRoles (notation_of grammar) }
     requires within { zero.size ≤ length text.now }
     requires digits { zero.digits ≤ zero.size }
     requires bare { zero.stage ≡ Stage.Bare }
     requires free { is_free (notation_of grammar) Stage.Bare ≡ true }
     ensures free { is_free (notation_of grammar) result.stage ≡ true }
-    ensures run { IsRunOn (notation_of grammar) (radix_of (raw grammar.word) part) text.now part zero result }
+    ensures run { IsRunOn (notation_of grammar) (radix_of (raw grammar.word) Part.Integer) text.now Part.Integer zero result }
 {
-    match value_at(grammar, text, part, zero.size) {
+    match value_at(grammar, text, Part::Integer, zero.size) {
         Some(value) if may_follow(grammar, Stage::Bare) => {
             groups(
                 grammar,
                 text,
-                part,
-                staged(push(grammar, part, zero, value, 1), Stage::Led),
+                Part::Integer,
+                staged(push(grammar, Part::Integer, zero, value, 1), Stage::Led),
             )
         }
         _ => zero,
@@ -350,7 +352,7 @@ const fn open(grammar: Grammar, text: &[u8], sign: usize) -> Option<Opening>
             sign,
             prefix: 1,
             size: sign + 2,
-            stage: Stage::Free,
+            stage: Stage::Prefixed,
         })
     } else if grammar.conditions.required_base_prefix {
         None
@@ -372,9 +374,9 @@ const fn without_prefix(_grammar: Grammar, text: &[u8], sign: usize) -> Counted
     ensures { IsCounted (notation_of _grammar) text.now result }
 {
     if sign < text.len() && text[sign] == b'0' {
-        stopped(place(Part::Integer, sign + 1, Stage::Bare))
+        stopped(at_stage(sign + 1, Stage::Bare))
     } else {
-        stopped(place(Part::Integer, sign, behind_sign(Part::Integer, sign)))
+        stopped(at_stage(sign, behind_sign(Part::Integer, sign)))
     }
 }
 
@@ -393,7 +395,7 @@ const fn integer(grammar: Grammar, text: &[u8], fronts: bool, opening: Opening) 
     } = opening;
     let run = digits(grammar, text, Part::Integer, size, stage, 0);
     if run.size == size {
-        return stopped(place(Part::Integer, size, stage));
+        return stopped(at_stage(size, stage));
     }
     let integer = run.size - sign - prefix;
     let sizes = Sizes {
@@ -403,7 +405,7 @@ const fn integer(grammar: Grammar, text: &[u8], fronts: bool, opening: Opening) 
         point: 0,
         fraction: 0,
     };
-    let at = place(Part::Integer, run.size, run.stage);
+    let at = at_stage(run.size, run.stage);
     if run.size < text.len()
         && is_point(grammar, text[run.size])
         && takes(grammar, at.read, false, Role::Point)
@@ -430,16 +432,16 @@ const fn fraction(
 ) -> Counted
     requires roles { HasRoles (notation_of grammar) }
     requires inside { integer.size < length text.now }
-    requires at { IsAt (notation_of grammar) text.now (place Part.Fraction (integer.size + 1) (after_point (has_digit integer.stage)))
+    requires at { IsAt (notation_of grammar) text.now (at_stage (integer.size + 1) (after_point (has_digit integer.stage)))
         (cuts_of (counts_of (record sizes { point = 1 }) 0 0 0 0)) }
     requires none { sizes.fraction ≡ 0 }
     ensures { IsCounted (notation_of grammar) text.now result }
 {
     let from = integer.size + 1;
-    let stage = behind_point(integer.stage);
+    let stage = after_point(integer.stage);
     let run = digits(grammar, text, Part::Fraction, from, stage, integer.sum);
     if run.size == from {
-        return stopped(place(Part::Fraction, from, stage));
+        return stopped(at_stage(from, stage));
     }
     let Sizes {
         sign,
@@ -454,7 +456,7 @@ const fn fraction(
         point: 1,
         fraction: run.size - from,
     };
-    let at = place(Part::Fraction, run.size, run.stage);
+    let at = at_stage(run.size, run.stage);
     if run.size < text.len()
         && is_exponent_character(grammar, text[run.size])
         && takes(grammar, at.read, false, Role::Exponent)
@@ -464,28 +466,16 @@ const fn fraction(
     end(grammar, text, fronts, at, sizes, [0; 3])
 }
 
-// Returns the stage behind a decimal point.
-#[inline(always)]
-const fn behind_point(integer: Stage) -> Stage
-    ensures { result ≡ after_point (has_digit integer) }
-{
-    if has_digit(integer) {
-        Stage::Free
-    } else {
-        Stage::Lone
-    }
-}
-
 // Reads the exponent behind its character, and what follows it.
 #[inline(always)]
 const fn exponent(grammar: Grammar, text: &[u8], fronts: bool, sizes: Sizes, size: usize) -> Counted
     requires roles { HasRoles (notation_of grammar) }
     requires within { size ≤ length text.now }
-    requires at { IsAt (notation_of grammar) text.now (place Part.Exponent size Stage.Mark) (cuts_of (counts_of sizes 1 0 0 0)) }
+    requires at { IsAt (notation_of grammar) text.now (at_stage size Stage.Mark) (cuts_of (counts_of sizes 1 0 0 0)) }
     ensures { IsCounted (notation_of grammar) text.now result }
 {
     let Some(sign) = sign(grammar, text, Part::Exponent, size) else {
-        return stopped(place(Part::Exponent, size, Stage::Mark));
+        return stopped(at_stage(size, Stage::Mark));
     };
     let from = size + sign;
     let run = digits(
@@ -496,7 +486,7 @@ const fn exponent(grammar: Grammar, text: &[u8], fronts: bool, sizes: Sizes, siz
         behind_sign(Part::Exponent, sign),
         0,
     );
-    let at = place(Part::Exponent, run.size, run.stage);
+    let at = at_stage(run.size, run.stage);
     end(grammar, text, fronts, at, sizes, [1, sign, run.size - from])
 }
 
@@ -528,14 +518,8 @@ const fn end(
         && grammar.view().is_base_suffix(text[size])
         && takes(grammar, read, false, Role::Suffix)
     {
-        let Summary {
-            part,
-            stage,
-            gap,
-            ..
-        } = read;
+        let Summary { stage, gap, .. } = read;
         let read = Summary {
-            part,
             stage,
             gap,
             ended: true,

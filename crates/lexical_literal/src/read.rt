@@ -16,7 +16,7 @@ use crate::cause::{Marks, ReadError, Spot};
 use crate::groups::{is_grouped, wrong_group};
 use crate::plain::{At, BEGIN, Counted, plain};
 use crate::span::marks;
-use crate::steps::{Summary, is_complete, piece_number, piece_of, role_at, step};
+use crate::steps::{Summary, is_complete, part_of, piece_number, piece_of, role_at, step};
 use crate::syntax::Syntax;
 
 /// The parts of a literal, in the order of the text. An absent part has no bytes.
@@ -203,10 +203,11 @@ impl Syntax {
         let mut counts = [0; 9];
         let mut found = None;
         while let Some(next) = self.step(text, at) {
-            let Some(role) = role_at(grammar, at.read.part, text[at.size]) else {
+            let part = part_of(at.read.stage);
+            let Some(role) = role_at(grammar, part, text[at.size]) else {
                 return found;
             };
-            counts[piece_number(piece_of(at.read.part, role))] += 1;
+            counts[piece_number(piece_of(part, role))] += 1;
             at = next;
             if is_complete(grammar, at.read) {
                 let size = at.size;

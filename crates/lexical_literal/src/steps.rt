@@ -7,8 +7,8 @@ ghost use Rattle.lexical_util.specs.Roles.{signs};
 ghost use Rattle.lexical_literal.specs.Notation.{has, notation_of, radix_of, point_of, exponent_character_of};
 ghost use Rattle.lexical_literal.specs.Run.{is_place};
 ghost use Rattle.lexical_literal.specs.declared.syntax.Condition.TheVariants as conditions;
-ghost use Rattle.lexical_literal.specs.Additions.Summary.{role_at, piece_number, piece_of, has_digit, may_follow};
-ghost use Rattle.lexical_literal.specs.Additions.Summary.{admits, finishes, forbids_plus, gap_fits, is_begun, is_negative, is_signed, lacks_prefix};
+ghost use Rattle.lexical_literal.specs.Additions.Summary.{after_point, digits_of, part_of, role_at, piece_number, piece_of, has_digit, may_follow};
+ghost use Rattle.lexical_literal.specs.Additions.Summary.{admits, finishes, forbids_plus, gap_fits, awaits_integer, is_negative, is_signed, lacks_prefix};
 ghost use Rattle.lexical_literal.specs.Additions.Summary.{leads_to_prefix, needs_exponent};
 ghost use Rattle.lexical_literal.specs.Additions.Summary.{continues, ends, is_complete, move_by, step, takes, after};
 
@@ -30,24 +30,27 @@ pub(crate) enum Piece {
     Suffix,
 }
 
-// The digits of a part that have been read.
+// What has been read of the part that a digit belongs to.
 #[derive(Debug, Clone, Copy, PartialEq, Eq, Hash)]
 pub enum Stage {
     Start, // Nothing of the number.
-    Empty, // No digits of the integer.
+    Empty, // A sign or separators, and no digits of the integer.
     Bare, // The digit 0, and no separators.
     Zero, // The digit 0, and separators.
     Led, // A leading zero, and more digits.
-    Mark, // Nothing since the exponent character.
+    Integer, // Digits of the integer without a leading zero.
+    Prefixed, // The base prefix, and no digits of the integer.
     Lone, // No digits of the fraction, after no digits of the integer.
-    Free, // No digits, where a zero is not a leading one.
-    Digits, // Digits without a leading zero.
+    Point, // No digits of the fraction, after digits of the integer.
+    Fraction, // Digits of the fraction.
+    Mark, // Nothing since the exponent character.
+    Signed, // A sign or separators, and no digits of the exponent.
+    Exponent, // Digits of the exponent.
 }
 
 // What has been read of a number.
 #[derive(Debug, Clone, Copy, PartialEq, Eq, Hash)]
 pub struct Summary {
-    pub(crate) part: Part, // The part that a digit belongs to.
     pub(crate) stage: Stage,
     pub(crate) gap: bool, // Whether the last byte is a separator.
     pub(crate) ended: bool, // Whether the suffix has been read.
@@ -55,11 +58,34 @@ pub struct Summary {
 
 // The summary before any byte.
 pub(crate) const START: Summary = Summary {
-    part: Part::Integer,
     stage: Stage::Start,
     gap: false,
     ended: false,
 };
+
+// Returns the part that a digit belongs to.
+#[inline(always)]
+pub(crate) const fn part_of(stage: Stage) -> Part
+    ensures { result ≡ part_of stage }
+{
+    match stage {
+        Stage::Lone | Stage::Point | Stage::Fraction => Part::Fraction,
+        Stage::Mark | Stage::Signed | Stage::Exponent => Part::Exponent,
+        _ => Part::Integer,
+    }
+}
+
+// Returns the stage of digits of `part` without a leading zero.
+#[inline(always)]
+pub(crate) const fn digits_of(part: Part) -> Stage
+    ensures { result ≡ digits_of part }
+{
+    match part {
+        Part::Integer => Stage::Integer,
+        Part::Fraction => Stage::Fraction,
+        Part::Exponent => Stage::Exponent,
+    }
+}
 
 // Returns whether `byte` is a digit of `part`.
 #[inline(always)]
@@ -174,8 +200,8 @@ pub(crate) const fn piece_number(piece: Piece) -> usize
 
 // Returns whether the integer has no digits, and a zero is a leading one.
 #[inline(always)]
-pub(crate) const fn is_begun(stage: Stage) -> bool
-    ensures { result ≡ is_begun stage }
+pub(crate) const fn awaits_integer(stage: Stage) -> bool
+    ensures { result ≡ awaits_integer stage }
 {
     matches!(stage, Stage::Start | Stage::Empty)
 }
@@ -187,7 +213,7 @@ pub(crate) const fn has_digit(stage: Stage) -> bool
 {
     matches!(
         stage,
-        Stage::Bare | Stage::Zero | Stage::Led | Stage::Digits
+        Stage::Bare | Stage::Zero | Stage::Led | Stage::Integer | Stage::Fraction | Stage::Exponent
     )
 }
 
@@ -226,9 +252,9 @@ pub(crate) const fn may_follow(grammar: Grammar, stage: Stage) -> bool
 // Returns whether there is no gap, or one that fits where a digit follows, or not.
 #[inline(always)]
 const fn gap_fits(grammar: Grammar, read: Summary, next: bool) -> bool
-    ensures { result ≡ gap_fits (notation_of grammar) read.part (has_digit read.stage) read.gap next }
+    ensures { result ≡ gap_fits (notation_of grammar) (part_of read.stage) (has_digit read.stage) read.gap next }
 {
-    !read.gap || is_place(grammar, read.part, has_digit(read.stage), next)
+    !read.gap || is_place(grammar, part_of(read.stage), has_digit(read.stage), next)
 }
 
 // Returns whether `part` has a sign, or needs none.
@@ -246,17 +272,18 @@ pub(crate) const fn is_signed(grammar: Grammar, part: Part, stage: Stage) -> boo
 // Returns whether the part that is read may end.
 #[inline(always)]
 const fn ends(grammar: Grammar, read: Summary) -> bool
-    ensures { result ≡ ends (notation_of grammar) read }
+    ensures { result ≡ ends (notation_of grammar) (part_of read.stage) read.stage read.gap }
 {
     let format = grammar.view();
     let has_mantissa = !matches!(read.stage, Stage::Lone);
-    let needs_digit = match read.part {
+    let part = part_of(read.stage);
+    let needs_digit = match part {
         Part::Integer => format.required_integer_digits(),
         Part::Fraction if format.required_mantissa_digits() && !has_mantissa => return false,
         Part::Fraction => format.required_fraction_digits(),
         Part::Exponent => format.required_exponent_digits(),
     };
-    is_signed(grammar, read.part, read.stage)
+    is_signed(grammar, part, read.stage)
         && (gap_fits(grammar, read, false) && (!needs_digit || has_digit(read.stage)))
 }
 
@@ -292,7 +319,8 @@ const fn continues(grammar: Grammar, part: Part, stage: Stage, role: Role) -> bo
 pub(crate) const fn is_complete(grammar: Grammar, read: Summary) -> bool
     ensures { result ≡ is_complete (notation_of grammar) read }
 {
-    (read.ended || (ends(grammar, read) && continues(grammar, read.part, read.stage, Role::Suffix)))
+    let part = part_of(read.stage);
+    (read.ended || (ends(grammar, read) && continues(grammar, part, read.stage, Role::Suffix)))
         && finishes(grammar.conditions, read)
 }
 
@@ -356,7 +384,7 @@ const fn some_admit(
 {
     let needs_prefix = conditions.required_base_prefix && lacks_prefix(read.stage);
     (!needs_prefix || leads_to_prefix(read.stage, zero, role))
-        && !(conditions.no_negative_mantissa_sign && is_negative(read.part, plus, role))
+        && !(conditions.no_negative_mantissa_sign && is_negative(part_of(read.stage), plus, role))
 }
 
 // Returns whether the conditions let a literal end.
@@ -374,7 +402,8 @@ pub(crate) const fn takes(grammar: Grammar, read: Summary, plus: bool, role: Rol
     ensures { result ≡ takes (notation_of grammar) read plus role }
 {
     let format = grammar.view();
-    let Summary { part, stage, .. } = read;
+    let Summary { stage, .. } = read;
+    let part = part_of(stage);
     let digit = has_digit(stage);
     match role {
         Role::Digit => {
@@ -396,25 +425,35 @@ pub(crate) const fn takes(grammar: Grammar, read: Summary, plus: bool, role: Rol
     }
 }
 
+// Returns the stage behind a decimal point.
+#[inline(always)]
+pub(crate) const fn after_point(integer: Stage) -> Stage
+    ensures { result ≡ after_point (has_digit integer) }
+{
+    if has_digit(integer) {
+        Stage::Point
+    } else {
+        Stage::Lone
+    }
+}
+
 // Returns the summary after a byte that has the role `role`, and is the digit 0 if `zero` is true.
 #[inline(always)]
 pub(crate) const fn after(read: Summary, zero: bool, role: Role) -> Summary
     ensures { result ≡ after read zero role }
 {
-    let part = read.part;
-    let (part, stage) = match (role, read.stage) {
-        (Role::Digit, Stage::Start | Stage::Empty) if zero && read.gap => (part, Stage::Zero),
-        (Role::Digit, Stage::Start | Stage::Empty) if zero => (part, Stage::Bare),
-        (Role::Digit, Stage::Bare | Stage::Zero | Stage::Led) => (part, Stage::Led),
-        (Role::Digit, _) => (part, Stage::Digits),
-        (Role::Separator | Role::Sign, Stage::Start) => (part, Stage::Empty),
-        (Role::Separator | Role::Sign, Stage::Mark) => (part, Stage::Free),
-        (Role::Separator | Role::Sign, Stage::Bare) => (part, Stage::Zero),
-        (Role::Separator | Role::Sign | Role::Suffix, stage) => (part, stage),
-        (Role::Prefix, _) => (part, Stage::Free),
-        (Role::Point, stage) if has_digit(stage) => (Part::Fraction, Stage::Free),
-        (Role::Point, _) => (Part::Fraction, Stage::Lone),
-        (Role::Exponent, _) => (Part::Exponent, Stage::Mark),
+    let stage = match (role, read.stage) {
+        (Role::Digit, Stage::Start | Stage::Empty) if zero && read.gap => Stage::Zero,
+        (Role::Digit, Stage::Start | Stage::Empty) if zero => Stage::Bare,
+        (Role::Digit, Stage::Bare | Stage::Zero | Stage::Led) => Stage::Led,
+        (Role::Digit, stage) => digits_of(part_of(stage)),
+        (Role::Separator | Role::Sign, Stage::Start) => Stage::Empty,
+        (Role::Separator | Role::Sign, Stage::Mark) => Stage::Signed,
+        (Role::Separator | Role::Sign, Stage::Bare) => Stage::Zero,
+        (Role::Separator | Role::Sign | Role::Suffix, stage) => stage,
+        (Role::Prefix, _) => Stage::Prefixed,
+        (Role::Point, stage) => after_point(stage),
+        (Role::Exponent, _) => Stage::Mark,
     };
     let gap = match role {
         Role::Separator => true,
@@ -422,7 +461,6 @@ pub(crate) const fn after(read: Summary, zero: bool, role: Role) -> Summary
         _ => false,
     };
     Summary {
-        part,
         stage,
         gap,
         ended: read.ended || matches!(role, Role::Suffix),
@@ -466,7 +504,7 @@ pub(crate) const fn role_at(grammar: Grammar, part: Part, byte: u8) -> Option<Ro
 pub(crate) const fn step(grammar: Grammar, read: Summary, byte: u8) -> Option<Summary>
     ensures { result ≡ step (notation_of grammar) read byte }
 {
-    match role_at(grammar, read.part, byte) {
+    match role_at(grammar, part_of(read.stage), byte) {
         None => None,
         Some(role) => moved(grammar, read, byte, role),
     }

@@ -4,7 +4,9 @@
 
 use crate::error::Error;
 use crate::literal::span::{error, span};
-use crate::literal::steps::{has_digit, is_complete, is_exponent_character, moved, needs_exponent, role_at, Summary};
+use crate::literal::steps::{
+    has_digit, is_complete, is_exponent_character, moved, needs_exponent, part_of, role_at, Summary,
+};
 use crate::literal::syntax::{Condition, Conditions, Grammar};
 use crate::word as masks;
 use crate::word::{Part, Role};
@@ -270,7 +272,7 @@ impl Stop {
         let other = Grammar { word, options: self.grammar.options, conditions };
         match self.byte {
             None => is_complete(other, self.read),
-            Some(byte) => match role_at(self.grammar, self.read.part, byte) {
+            Some(byte) => match role_at(self.grammar, part_of(self.read.stage), byte) {
                 None => false,
                 Some(role) => matches!(moved(other, self.read, byte, role), Some(_)),
             },
@@ -362,7 +364,7 @@ impl Stop {
         match self.byte {
             None => self.read.gap,
             Some(byte) => {
-                let role = role_at(self.grammar, self.read.part, byte);
+                let role = role_at(self.grammar, part_of(self.read.stage), byte);
                 self.read.gap || matches!(role, Some(Role::Separator))
             }
         }
@@ -370,8 +372,8 @@ impl Stop {
 
     // Returns where a separator is not allowed, before or after `byte`.
     const fn place(self, byte: u8) -> Place {
-        let role = role_at(self.grammar, self.read.part, byte);
-        let is_consecutive = self.read.gap && !self.grammar.view().separators(self.read.part).consecutive;
+        let role = role_at(self.grammar, part_of(self.read.stage), byte);
+        let is_consecutive = self.read.gap && !self.grammar.view().separators(part_of(self.read.stage)).consecutive;
         if is_consecutive && matches!(role, Some(Role::Separator)) {
             Place::Consecutive
         } else if has_digit(self.read.stage) {
@@ -398,11 +400,14 @@ impl Stop {
             return Blame { kind: ReadErrorKind::Requirement, mask: self.requirements() };
         }
         let Some(byte) = self.byte else {
-            return Blame { kind: ReadErrorKind::Missing(self.read.part), mask: 0 };
+            return Blame { kind: ReadErrorKind::Missing(part_of(self.read.stage)), mask: 0 };
         };
         let separators = self.separators();
         if separators != 0 {
-            return Blame { kind: ReadErrorKind::Separator(self.read.part, self.place(byte)), mask: separators };
+            return Blame {
+                kind: ReadErrorKind::Separator(part_of(self.read.stage), self.place(byte)),
+                mask: separators,
+            };
         }
         let mask = self.case_flags(byte);
         let kind = if mask == 0 { ReadErrorKind::Byte } else { ReadErrorKind::Case };

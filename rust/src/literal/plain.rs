@@ -5,8 +5,8 @@
 //! Reading may stop anywhere here: where it stops, one step decides whether it goes on.
 
 use crate::literal::steps::{
-    allows_minus, allows_plus, digit_value, has_digit, is_begun, is_complete, is_exponent_character, is_point,
-    is_separator, is_signed, may_follow, radix_of, takes, Stage, Summary, START,
+    after_point, allows_minus, allows_plus, awaits_integer, digit_value, digits_of, has_digit, is_complete,
+    is_exponent_character, is_point, is_separator, is_signed, may_follow, radix_of, takes, Stage, Summary, START,
 };
 use crate::literal::syntax::Grammar;
 use crate::word::{Part, Role};
@@ -61,8 +61,8 @@ pub(crate) const BEGIN: At = At { size: 0, read: START };
 
 // Returns where `size` bytes have been read, of which the last is no separator and no suffix.
 #[inline(always)]
-const fn place(part: Part, size: usize, stage: Stage) -> At {
-    At { size, read: Summary { part, stage, gap: false, ended: false } }
+const fn at_stage(size: usize, stage: Stage) -> At {
+    At { size, read: Summary { stage, gap: false, ended: false } }
 }
 
 // Returns that reading stops at `at`, where no literal has been found.
@@ -99,7 +99,7 @@ const fn sign(grammar: Grammar, text: &[u8], part: Part, size: usize) -> Option<
 const fn behind_sign(part: Part, sign: usize) -> Stage {
     match part {
         Part::Exponent if sign == 0 => Stage::Mark,
-        Part::Exponent => Stage::Free,
+        Part::Exponent => Stage::Signed,
         _ if sign == 0 => Stage::Start,
         _ => Stage::Empty,
     }
@@ -176,10 +176,10 @@ const fn digits(grammar: Grammar, text: &[u8], part: Part, from: usize, stage: S
         return none;
     };
     let one = push(grammar, part, none, value, 1);
-    if text[from] == b'0' && is_begun(stage) {
-        behind_zero(grammar, text, part, staged(one, Stage::Bare))
+    if text[from] == b'0' && awaits_integer(stage) {
+        behind_zero(grammar, text, staged(one, Stage::Bare))
     } else {
-        groups(grammar, text, part, staged(one, Stage::Digits))
+        groups(grammar, text, part, staged(one, digits_of(part)))
     }
 }
 
@@ -191,10 +191,10 @@ const fn staged(run: Run, stage: Stage) -> Run {
 
 // Reads the digits behind the zero that begins the integer.
 #[inline(always)]
-const fn behind_zero(grammar: Grammar, text: &[u8], part: Part, zero: Run) -> Run {
-    match value_at(grammar, text, part, zero.size) {
+const fn behind_zero(grammar: Grammar, text: &[u8], zero: Run) -> Run {
+    match value_at(grammar, text, Part::Integer, zero.size) {
         Some(value) if may_follow(grammar, Stage::Bare) => {
-            groups(grammar, text, part, staged(push(grammar, part, zero, value, 1), Stage::Led))
+            groups(grammar, text, Part::Integer, staged(push(grammar, Part::Integer, zero, value, 1), Stage::Led))
         }
         _ => zero,
     }
@@ -217,7 +217,7 @@ pub(crate) const fn plain(grammar: Grammar, text: &[u8], fronts: bool) -> Counte
 #[inline(always)]
 const fn open(grammar: Grammar, text: &[u8], sign: usize) -> Option<Opening> {
     if reads_prefix(grammar, text, sign) {
-        Some(Opening { sign, prefix: 1, size: sign + 2, stage: Stage::Free })
+        Some(Opening { sign, prefix: 1, size: sign + 2, stage: Stage::Prefixed })
     } else if grammar.conditions.required_base_prefix {
         None
     } else {
@@ -229,9 +229,9 @@ const fn open(grammar: Grammar, text: &[u8], sign: usize) -> Option<Opening> {
 #[inline(always)]
 const fn without_prefix(_grammar: Grammar, text: &[u8], sign: usize) -> Counted {
     if sign < text.len() && text[sign] == b'0' {
-        stopped(place(Part::Integer, sign + 1, Stage::Bare))
+        stopped(at_stage(sign + 1, Stage::Bare))
     } else {
-        stopped(place(Part::Integer, sign, behind_sign(Part::Integer, sign)))
+        stopped(at_stage(sign, behind_sign(Part::Integer, sign)))
     }
 }
 
@@ -241,11 +241,11 @@ const fn integer(grammar: Grammar, text: &[u8], fronts: bool, opening: Opening) 
     let Opening { sign, prefix, size, stage } = opening;
     let run = digits(grammar, text, Part::Integer, size, stage, 0);
     if run.size == size {
-        return stopped(place(Part::Integer, size, stage));
+        return stopped(at_stage(size, stage));
     }
     let integer = run.size - sign - prefix;
     let sizes = Sizes { sign, prefix, integer, point: 0, fraction: 0 };
-    let at = place(Part::Integer, run.size, run.stage);
+    let at = at_stage(run.size, run.stage);
     if run.size < text.len() && is_point(grammar, text[run.size]) && takes(grammar, at.read, false, Role::Point) {
         return fraction(grammar, text, fronts, sizes, run);
     }
@@ -262,14 +262,14 @@ const fn integer(grammar: Grammar, text: &[u8], fronts: bool, opening: Opening) 
 #[inline(always)]
 const fn fraction(grammar: Grammar, text: &[u8], fronts: bool, sizes: Sizes, integer: Run) -> Counted {
     let from = integer.size + 1;
-    let stage = behind_point(integer.stage);
+    let stage = after_point(integer.stage);
     let run = digits(grammar, text, Part::Fraction, from, stage, integer.sum);
     if run.size == from {
-        return stopped(place(Part::Fraction, from, stage));
+        return stopped(at_stage(from, stage));
     }
     let Sizes { sign, prefix, integer, .. } = sizes;
     let sizes = Sizes { sign, prefix, integer, point: 1, fraction: run.size - from };
-    let at = place(Part::Fraction, run.size, run.stage);
+    let at = at_stage(run.size, run.stage);
     if run.size < text.len()
         && is_exponent_character(grammar, text[run.size])
         && takes(grammar, at.read, false, Role::Exponent)
@@ -279,25 +279,15 @@ const fn fraction(grammar: Grammar, text: &[u8], fronts: bool, sizes: Sizes, int
     end(grammar, text, fronts, at, sizes, [0; 3])
 }
 
-// Returns the stage behind a decimal point.
-#[inline(always)]
-const fn behind_point(integer: Stage) -> Stage {
-    if has_digit(integer) {
-        Stage::Free
-    } else {
-        Stage::Lone
-    }
-}
-
 // Reads the exponent behind its character, and what follows it.
 #[inline(always)]
 const fn exponent(grammar: Grammar, text: &[u8], fronts: bool, sizes: Sizes, size: usize) -> Counted {
     let Some(sign) = sign(grammar, text, Part::Exponent, size) else {
-        return stopped(place(Part::Exponent, size, Stage::Mark));
+        return stopped(at_stage(size, Stage::Mark));
     };
     let from = size + sign;
     let run = digits(grammar, text, Part::Exponent, from, behind_sign(Part::Exponent, sign), 0);
-    let at = place(Part::Exponent, run.size, run.stage);
+    let at = at_stage(run.size, run.stage);
     end(grammar, text, fronts, at, sizes, [1, sign, run.size - from])
 }
 
@@ -307,8 +297,8 @@ const fn end(grammar: Grammar, text: &[u8], fronts: bool, at: At, sizes: Sizes, 
     let Sizes { sign, prefix, integer, point, fraction } = sizes;
     let At { size, read } = at;
     if size < text.len() && grammar.view().is_base_suffix(text[size]) && takes(grammar, read, false, Role::Suffix) {
-        let Summary { part, stage, gap, .. } = read;
-        let read = Summary { part, stage, gap, ended: true };
+        let Summary { stage, gap, .. } = read;
+        let read = Summary { stage, gap, ended: true };
         return Counted {
             at: At { size: size + 1, read },
             counts: [sign, prefix, integer, point, fraction, scale[0], scale[1], scale[2], 1],

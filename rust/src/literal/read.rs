@@ -6,7 +6,7 @@ use crate::literal::cause::{Marks, ReadError, Spot};
 use crate::literal::groups::{is_grouped, wrong_group};
 use crate::literal::plain::{plain, At, Counted, BEGIN};
 use crate::literal::span::marks;
-use crate::literal::steps::{is_complete, piece_number, piece_of, role_at, step, Summary};
+use crate::literal::steps::{is_complete, part_of, piece_number, piece_of, role_at, step, Summary};
 use crate::literal::syntax::Syntax;
 
 /// The parts of a literal, in the order of the text. An absent part has no bytes.
@@ -154,10 +154,11 @@ impl Syntax {
         let mut counts = [0; 9];
         let mut found = None;
         while let Some(next) = self.step(text, at) {
-            let Some(role) = role_at(grammar, at.read.part, text[at.size]) else {
+            let part = part_of(at.read.stage);
+            let Some(role) = role_at(grammar, part, text[at.size]) else {
                 return found;
             };
-            counts[piece_number(piece_of(at.read.part, role))] += 1;
+            counts[piece_number(piece_of(part, role))] += 1;
             at = next;
             if is_complete(grammar, at.read) {
                 let size = at.size;

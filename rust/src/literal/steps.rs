@@ -20,31 +20,54 @@ pub(crate) enum Piece {
     Suffix,
 }
 
-// The digits of a part that have been read.
+// What has been read of the part that a digit belongs to.
 #[derive(Debug, Clone, Copy, PartialEq, Eq, Hash)]
 pub enum Stage {
-    Start,  // Nothing of the number.
-    Empty,  // No digits of the integer.
-    Bare,   // The digit 0, and no separators.
-    Zero,   // The digit 0, and separators.
-    Led,    // A leading zero, and more digits.
-    Mark,   // Nothing since the exponent character.
-    Lone,   // No digits of the fraction, after no digits of the integer.
-    Free,   // No digits, where a zero is not a leading one.
-    Digits, // Digits without a leading zero.
+    Start,    // Nothing of the number.
+    Empty,    // A sign or separators, and no digits of the integer.
+    Bare,     // The digit 0, and no separators.
+    Zero,     // The digit 0, and separators.
+    Led,      // A leading zero, and more digits.
+    Integer,  // Digits of the integer without a leading zero.
+    Prefixed, // The base prefix, and no digits of the integer.
+    Lone,     // No digits of the fraction, after no digits of the integer.
+    Point,    // No digits of the fraction, after digits of the integer.
+    Fraction, // Digits of the fraction.
+    Mark,     // Nothing since the exponent character.
+    Signed,   // A sign or separators, and no digits of the exponent.
+    Exponent, // Digits of the exponent.
 }
 
 // What has been read of a number.
 #[derive(Debug, Clone, Copy, PartialEq, Eq, Hash)]
 pub struct Summary {
-    pub(crate) part: Part, // The part that a digit belongs to.
     pub(crate) stage: Stage,
     pub(crate) gap: bool,   // Whether the last byte is a separator.
     pub(crate) ended: bool, // Whether the suffix has been read.
 }
 
 // The summary before any byte.
-pub(crate) const START: Summary = Summary { part: Part::Integer, stage: Stage::Start, gap: false, ended: false };
+pub(crate) const START: Summary = Summary { stage: Stage::Start, gap: false, ended: false };
+
+// Returns the part that a digit belongs to.
+#[inline(always)]
+pub(crate) const fn part_of(stage: Stage) -> Part {
+    match stage {
+        Stage::Lone | Stage::Point | Stage::Fraction => Part::Fraction,
+        Stage::Mark | Stage::Signed | Stage::Exponent => Part::Exponent,
+        _ => Part::Integer,
+    }
+}
+
+// Returns the stage of digits of `part` without a leading zero.
+#[inline(always)]
+pub(crate) const fn digits_of(part: Part) -> Stage {
+    match part {
+        Part::Integer => Stage::Integer,
+        Part::Fraction => Stage::Fraction,
+        Part::Exponent => Stage::Exponent,
+    }
+}
 
 // Returns whether `byte` is a digit of `part`.
 #[inline(always)]
@@ -136,14 +159,14 @@ pub(crate) const fn piece_number(piece: Piece) -> usize {
 
 // Returns whether the integer has no digits, and a zero is a leading one.
 #[inline(always)]
-pub(crate) const fn is_begun(stage: Stage) -> bool {
+pub(crate) const fn awaits_integer(stage: Stage) -> bool {
     matches!(stage, Stage::Start | Stage::Empty)
 }
 
 // Returns whether the part has a digit.
 #[inline(always)]
 pub(crate) const fn has_digit(stage: Stage) -> bool {
-    matches!(stage, Stage::Bare | Stage::Zero | Stage::Led | Stage::Digits)
+    matches!(stage, Stage::Bare | Stage::Zero | Stage::Led | Stage::Integer | Stage::Fraction | Stage::Exponent)
 }
 
 // Returns whether a separator may be at a place in `part` with digits before it, or not, and after it, or not.
@@ -175,7 +198,7 @@ pub(crate) const fn may_follow(grammar: Grammar, stage: Stage) -> bool {
 // Returns whether there is no gap, or one that fits where a digit follows, or not.
 #[inline(always)]
 const fn gap_fits(grammar: Grammar, read: Summary, next: bool) -> bool {
-    !read.gap || is_place(grammar, read.part, has_digit(read.stage), next)
+    !read.gap || is_place(grammar, part_of(read.stage), has_digit(read.stage), next)
 }
 
 // Returns whether `part` has a sign, or needs none.
@@ -193,14 +216,14 @@ pub(crate) const fn is_signed(grammar: Grammar, part: Part, stage: Stage) -> boo
 const fn ends(grammar: Grammar, read: Summary) -> bool {
     let format = grammar.view();
     let has_mantissa = !matches!(read.stage, Stage::Lone);
-    let needs_digit = match read.part {
+    let part = part_of(read.stage);
+    let needs_digit = match part {
         Part::Integer => format.required_integer_digits(),
         Part::Fraction if format.required_mantissa_digits() && !has_mantissa => return false,
         Part::Fraction => format.required_fraction_digits(),
         Part::Exponent => format.required_exponent_digits(),
     };
-    is_signed(grammar, read.part, read.stage)
-        && (gap_fits(grammar, read, false) && (!needs_digit || has_digit(read.stage)))
+    is_signed(grammar, part, read.stage) && (gap_fits(grammar, read, false) && (!needs_digit || has_digit(read.stage)))
 }
 
 // Returns whether a byte with the role `role` may follow a part that may end.
@@ -231,7 +254,8 @@ const fn continues(grammar: Grammar, part: Part, stage: Stage, role: Role) -> bo
 // Returns whether what has been read is a literal.
 #[inline(always)]
 pub(crate) const fn is_complete(grammar: Grammar, read: Summary) -> bool {
-    (read.ended || (ends(grammar, read) && continues(grammar, read.part, read.stage, Role::Suffix)))
+    let part = part_of(read.stage);
+    (read.ended || (ends(grammar, read) && continues(grammar, part, read.stage, Role::Suffix)))
         && finishes(grammar.conditions, read)
 }
 
@@ -273,7 +297,7 @@ pub(crate) const fn admits(conditions: Conditions, read: Summary, plus: bool, ze
 const fn some_admit(conditions: Conditions, read: Summary, plus: bool, zero: bool, role: Role) -> bool {
     let needs_prefix = conditions.required_base_prefix && lacks_prefix(read.stage);
     (!needs_prefix || leads_to_prefix(read.stage, zero, role))
-        && !(conditions.no_negative_mantissa_sign && is_negative(read.part, plus, role))
+        && !(conditions.no_negative_mantissa_sign && is_negative(part_of(read.stage), plus, role))
 }
 
 // Returns whether the conditions let a literal end.
@@ -286,7 +310,8 @@ const fn finishes(conditions: Conditions, read: Summary) -> bool {
 #[inline(always)]
 pub(crate) const fn takes(grammar: Grammar, read: Summary, plus: bool, role: Role) -> bool {
     let format = grammar.view();
-    let Summary { part, stage, .. } = read;
+    let Summary { stage, .. } = read;
+    let part = part_of(stage);
     let digit = has_digit(stage);
     match role {
         Role::Digit => is_signed(grammar, part, stage) && gap_fits(grammar, read, true) && may_follow(grammar, stage),
@@ -302,30 +327,38 @@ pub(crate) const fn takes(grammar: Grammar, read: Summary, plus: bool, role: Rol
     }
 }
 
+// Returns the stage behind a decimal point.
+#[inline(always)]
+pub(crate) const fn after_point(integer: Stage) -> Stage {
+    if has_digit(integer) {
+        Stage::Point
+    } else {
+        Stage::Lone
+    }
+}
+
 // Returns the summary after a byte that has the role `role`, and is the digit 0 if `zero` is true.
 #[inline(always)]
 pub(crate) const fn after(read: Summary, zero: bool, role: Role) -> Summary {
-    let part = read.part;
-    let (part, stage) = match (role, read.stage) {
-        (Role::Digit, Stage::Start | Stage::Empty) if zero && read.gap => (part, Stage::Zero),
-        (Role::Digit, Stage::Start | Stage::Empty) if zero => (part, Stage::Bare),
-        (Role::Digit, Stage::Bare | Stage::Zero | Stage::Led) => (part, Stage::Led),
-        (Role::Digit, _) => (part, Stage::Digits),
-        (Role::Separator | Role::Sign, Stage::Start) => (part, Stage::Empty),
-        (Role::Separator | Role::Sign, Stage::Mark) => (part, Stage::Free),
-        (Role::Separator | Role::Sign, Stage::Bare) => (part, Stage::Zero),
-        (Role::Separator | Role::Sign | Role::Suffix, stage) => (part, stage),
-        (Role::Prefix, _) => (part, Stage::Free),
-        (Role::Point, stage) if has_digit(stage) => (Part::Fraction, Stage::Free),
-        (Role::Point, _) => (Part::Fraction, Stage::Lone),
-        (Role::Exponent, _) => (Part::Exponent, Stage::Mark),
+    let stage = match (role, read.stage) {
+        (Role::Digit, Stage::Start | Stage::Empty) if zero && read.gap => Stage::Zero,
+        (Role::Digit, Stage::Start | Stage::Empty) if zero => Stage::Bare,
+        (Role::Digit, Stage::Bare | Stage::Zero | Stage::Led) => Stage::Led,
+        (Role::Digit, stage) => digits_of(part_of(stage)),
+        (Role::Separator | Role::Sign, Stage::Start) => Stage::Empty,
+        (Role::Separator | Role::Sign, Stage::Mark) => Stage::Signed,
+        (Role::Separator | Role::Sign, Stage::Bare) => Stage::Zero,
+        (Role::Separator | Role::Sign | Role::Suffix, stage) => stage,
+        (Role::Prefix, _) => Stage::Prefixed,
+        (Role::Point, stage) => after_point(stage),
+        (Role::Exponent, _) => Stage::Mark,
     };
     let gap = match role {
         Role::Separator => true,
         Role::Sign | Role::Suffix => read.gap,
         _ => false,
     };
-    Summary { part, stage, gap, ended: read.ended || matches!(role, Role::Suffix) }
+    Summary { stage, gap, ended: read.ended || matches!(role, Role::Suffix) }
 }
 
 // Returns whether `byte` is a sign.
@@ -359,7 +392,7 @@ pub(crate) const fn role_at(grammar: Grammar, part: Part, byte: u8) -> Option<Ro
 // Returns what `byte` makes of what has been read, or `None` if no literal begins so.
 #[inline(always)]
 pub(crate) const fn step(grammar: Grammar, read: Summary, byte: u8) -> Option<Summary> {
-    match role_at(grammar, read.part, byte) {
+    match role_at(grammar, part_of(read.stage), byte) {
         None => None,
         Some(role) => moved(grammar, read, byte, role),
     }

@@ -5,15 +5,17 @@ use Rattle.lexical_util.specs.Layout.{Flag, separators_in}
 use Rattle.lexical_util.specs.Roles.{signs}
 use Rattle.lexical_util.specs.declared.feature_format.roles.Role.{Role}
 use Rattle.lexical_util.specs.declared.feature_format.roles.Role.TheVariants as roles
+use Rattle.lexical_util.specs.declared.format_flags.Part.{Part}
 use Rattle.lexical_util.specs.declared.format_flags.Part.TheVariants as parts
 use Rattle.lexical_literal.specs.Cause.{Allows, is_one_of, last_part, requirement_flags, with_rules}
 use Rattle.lexical_literal.specs.Notation.{Notation}
-use Rattle.lexical_literal.specs.Additions.Summary.{has_digit, is_complete, role_at, step}
+use Rattle.lexical_literal.specs.Additions.Summary.{has_digit, is_complete, part_of, role_at, step}
 use Rattle.lexical_literal.specs.declared.span.Kind.{Kind}
 use Rattle.lexical_literal.specs.declared.span.Kind.TheVariants as kinds
 use Rattle.lexical_literal.specs.declared.cause.Place.{Place}
 use Rattle.lexical_literal.specs.declared.cause.Place.TheVariants as places
 use Rattle.lexical_literal.specs.declared.syntax.Condition.{Condition}
+use Rattle.lexical_literal.specs.declared.steps.Stage.{Stage}
 use Rattle.lexical_literal.specs.declared.steps.Summary.{Summary}
 
 -- `lets m s next` is true if the byte `next` may follow, or if a literal has been read, where `next` is `None`.
@@ -35,7 +37,7 @@ is_separator _ = false
 -- `is_at_gap m s next` is true if the byte `next` is a separator, or follows one.
 abbrev pub is_at_gap : Notation → Summary → Option ℕ → Bool
 is_at_gap m s None = s.gap
-is_at_gap m s (Some byte) = s.gap || is_separator (role_at m s.part byte)
+is_at_gap m s (Some byte) = s.gap || is_separator (role_at m (part_of s.stage) byte)
 
 -- `IsWeaker m A D` holds if the flags for which `A` is true require no more than those of `m`, and are no less otherwise, and
 -- if each condition for which `D` is true is one of `m`.
@@ -49,10 +51,10 @@ pub record IsWeaker (m : Notation) (A : Flag → Bool) (D : Condition → Bool) 
 pub record IsReadOf (m : Notation) (s : Summary) (front : List ℕ) : Type 0 where
   pub decides : (next : Option ℕ) (A : Flag → Bool) (D : Condition → Bool) → IsWeaker m A D
       → (lets (with_rules m A D) s next ≡ true) ↔ Allows (with_rules m A D) front next
-  pub part : s.ended ≡ false → s.part ≡ last_part m front
+  pub part : s.ended ≡ false → part_of s.stage ≡ last_part m front
 
--- `place_of m s role` is where `m` does not allow a separator after `s`, before a byte with the role `role`.
-abbrev pub place_of : Notation → Summary → Option Role → Place
-place_of m s role =
-    if (s.gap && not (m.flag (separators_in s.part).consecutive)) && is_separator role then places.Consecutive
-    else (if has_digit s.stage then places.AfterDigit else places.BeforeDigits)
+-- `place_of m part stage gap role` is where `m` does not allow a separator at `stage` of `part`, before a byte with the role `role`.
+abbrev pub place_of : Notation → Part → Stage → Bool → Option Role → Place
+place_of m part stage gap role =
+    if (gap && not (m.flag (separators_in part).consecutive)) && is_separator role then places.Consecutive
+    else (if has_digit stage then places.AfterDigit else places.BeforeDigits)

@@ -5,7 +5,7 @@ use Rattle.lexical_util.specs.Layout.{Flag}
 use Rattle.lexical_util.specs.Record.{word_of}
 use Rattle.lexical_util.specs.Roles.{other_case}
 use Rattle.lexical_literal.specs.Additions.Causes.{is_at_gap, lets, place_of}
-use Rattle.lexical_literal.specs.Additions.Summary.{role_at}
+use Rattle.lexical_literal.specs.Additions.Summary.{part_of, role_at}
 use Rattle.lexical_literal.specs.Cause.{Explained, adding, bare, binds, case_set, error_of, first_unmet, is_one_of}
 use Rattle.lexical_literal.specs.Cause.{leading_zero_flags, lowest, number_separator_flags, requiring, span_of}
 use Rattle.lexical_literal.specs.Notation.{Notation, no_conditions, notation_of}
@@ -62,12 +62,12 @@ cases m s byte f = lets (bare m) s (Some (other_case byte)) && case_set f m (oth
 
 -- `otherwise m s next` is the cause, and the mask of the flags that are to blame, if no requirement is the cause.
 abbrev pub otherwise : Notation → Summary → Option ℕ → Blame
-otherwise m s None = record { kind = causes.Missing s.part; mask = 0 }
+otherwise m s None = record { kind = causes.Missing (part_of s.stage); mask = 0 }
 otherwise m s (Some byte) =
     if mask_of (separators m s (Some byte)) == 0
     then record { kind = if mask_of (cases m s byte) == 0 then causes.Byte else causes.Case; mask = mask_of (cases m s byte) }
     else record {
-      kind = causes.Separator s.part (place_of m s (role_at m s.part byte));
+      kind = causes.Separator (part_of s.stage) (place_of m (part_of s.stage) s.stage s.gap (role_at m (part_of s.stage) byte));
       mask = mask_of (separators m s (Some byte));
     }
 

@@ -11,8 +11,8 @@ use Rattle.lexical_util.specs.declared.feature_format.roles.Role.TheVariants as 
 use Rattle.lexical_util.specs.declared.format_flags.Part.{Part}
 use Rattle.lexical_util.specs.declared.format_flags.Part.TheVariants as parts
 use Rattle.lexical_literal.specs.Notation.{Notation, set_of_role}
-use Rattle.lexical_literal.specs.Additions.Summary.{Cuts, add_more, after_mark, cuts_of, digits_piece, has_digit, is_begun, is_complete, is_signed}
-use Rattle.lexical_literal.specs.Additions.Summary.{lacks_prefix, no_cuts, piece_of, scan, start, tally}
+use Rattle.lexical_literal.specs.Additions.Summary.{Cuts, add_more, after_mark, cuts_of, digits_piece, awaits_integer, has_digit, is_complete, is_signed}
+use Rattle.lexical_literal.specs.Additions.Summary.{lacks_prefix, no_cuts, part_of, piece_of, scan, start, tally}
 use Rattle.lexical_literal.specs.declared.plain.At.{At}
 use Rattle.lexical_literal.specs.declared.plain.Counted.{Counted}
 use Rattle.lexical_literal.specs.declared.plain.Opening.{Opening}
@@ -60,9 +60,9 @@ pub record IsReadOn (m : Notation) (text : List ℕ) (at : At) (piece : Piece) (
   pub more : at.size ≤ next.size
   pub reads : (c : Cuts) → IsAt m text at c → IsAt m text next (add_more c piece (next.size - at.size))
 
--- `place part size stage` is where `size` bytes have been read, of which the last is no separator and no suffix.
-abbrev pub place : Part → ℕ → Stage → At
-place part size stage = record { size = size; read = record { part = part; stage = stage; gap = false; ended = false } }
+-- `at_stage size stage` is where `size` bytes have been read, of which the last is no separator and no suffix.
+abbrev pub at_stage : ℕ → Stage → At
+at_stage size stage = record { size = size; read = record { stage = stage; gap = false; ended = false } }
 
 -- `fresh part` is the stage before any byte of `part`, which begins with a sign or a digit.
 abbrev pub fresh : Part → Stage
@@ -77,7 +77,7 @@ behind_sign part sign = if sign == 0 then fresh part else after_mark (fresh part
 -- digits of `part` may follow.
 pub record IsSign (m : Notation) (text : List ℕ) (part : Part) (size sign : ℕ) : Type 0 where
   pub within : size + sign ≤ length text
-  pub on : IsReadOn m text (place part size (fresh part)) (piece_of part roles.Sign) (place part (size + sign) (behind_sign part sign))
+  pub on : IsReadOn m text (at_stage size (fresh part)) (piece_of part roles.Sign) (at_stage (size + sign) (behind_sign part sign))
   pub signed : is_signed m part (behind_sign part sign) ≡ true
 
 -- `is_free m stage` is true if no base prefix is required that has not been read.
@@ -86,7 +86,7 @@ is_free m stage = not (m.condition conditions.BasePrefix && lacks_prefix stage)
 
 -- `IsFirst m stage` holds if the first digit of the integer may follow, and if a zero is then a leading one, or that of a prefix.
 pub record IsFirst (m : Notation) (stage : Stage) : Type 0 where
-  pub begun : is_begun stage ≡ true
+  pub begun : awaits_integer stage ≡ true
   pub signed : is_signed m parts.Integer stage ≡ true
 
 -- `between text from end` has the bytes of `text` from the index `from` to `end`.
@@ -110,7 +110,7 @@ pub record IsSeparated (m : Notation) (radix : ℕ) (text : List ℕ) (part : Pa
 -- `IsRunOn m radix text part begun run` holds if bytes of the run of `part` that `begun` has, or none, are read between `begun`
 -- and `run`, which has so many digits more, and the number that they represent behind those of `begun`, modulo `2 ^ 64`.
 pub record IsRunOn (m : Notation) (radix : ℕ) (text : List ℕ) (part : Part) (begun run : Run) : Type 0 where
-  pub on : IsReadOn m text (place part begun.size begun.stage) (digits_piece part) (place part run.size run.stage)
+  pub on : IsReadOn m text (at_stage begun.size begun.stage) (digits_piece part) (at_stage run.size run.stage)
   pub within : begun.size ≤ length text → run.size ≤ length text
   pub digits : run.digits ≡ begun.digits + length (digits_in radix (between text begun.size run.size))
   pub sum : run.sum % 2 ^ 64 ≡ number_from_digits_after radix begun.sum (digits_in radix (between text begun.size run.size)) % 2 ^ 64
@@ -121,12 +121,13 @@ counts_of s mark sign exponent suffix = s.sign ∷ s.prefix ∷ s.integer ∷ s.
 
 -- `IsOpened m text opening` holds if `opening` has the sign and the base prefix that `text` begins with, and if a digit may follow.
 pub record IsOpened (m : Notation) (text : List ℕ) (opening : Opening) : Type 0 where
-  pub at : IsAt m text (place parts.Integer opening.size opening.stage)
+  pub at : IsAt m text (at_stage opening.size opening.stage)
       (cuts_of (opening.sign ∷ opening.prefix ∷ opening.prefix ∷ 0 ∷ 0 ∷ 0 ∷ 0 ∷ 0 ∷ 0 ∷ []))
   pub size : opening.size ≡ opening.sign + opening.prefix + opening.prefix
   pub signed : is_signed m parts.Integer opening.stage ≡ true
   pub free : is_free m opening.stage ≡ true
   pub none : has_digit opening.stage ≡ false
+  pub inside : part_of opening.stage ≡ parts.Integer
 
 -- `IsCounted m text counted` holds if `counted` has what has been read of `text` and, if it says that this is a literal, the
 -- lengths of its parts.

@@ -30,13 +30,35 @@ role_at m part byte =
     else (if signs byte then Some roles.Sign
     else (if m.prefix byte then Some roles.Prefix else None))))))
 
+-- `part_of stage` is the part that a digit belongs to at `stage`.
+abbrev pub part_of : Stage → Part
+part_of stages.Lone = parts.Fraction
+part_of stages.Point = parts.Fraction
+part_of stages.Fraction = parts.Fraction
+part_of stages.Mark = parts.Exponent
+part_of stages.Signed = parts.Exponent
+part_of stages.Exponent = parts.Exponent
+part_of _ = parts.Integer
+
+-- `digits_of part` is the stage where `part` has digits without a leading zero.
+abbrev pub digits_of : Part → Stage
+digits_of parts.Integer = stages.Integer
+digits_of parts.Fraction = stages.Fraction
+digits_of parts.Exponent = stages.Exponent
+
+-- `is_run stage` is true if another digit changes no stage, and may follow.
+abbrev pub is_run : Stage → Bool
+is_run stages.Led = true
+is_run stages.Integer = true
+is_run stages.Fraction = true
+is_run stages.Exponent = true
+is_run _ = false
+
 -- `has_digit stage` is true if the part has a digit.
 abbrev pub has_digit : Stage → Bool
 has_digit stages.Bare = true
 has_digit stages.Zero = true
-has_digit stages.Led = true
-has_digit stages.Digits = true
-has_digit _ = false
+has_digit stage = is_run stage
 
 -- `is_fresh stage` is true if a sign may follow.
 abbrev pub is_fresh : Stage → Bool
@@ -54,17 +76,11 @@ abbrev pub is_led : Stage → Bool
 is_led stages.Led = true
 is_led _ = false
 
--- `is_run stage` is true if another digit changes no stage, and may follow.
-abbrev pub is_run : Stage → Bool
-is_run stages.Led = true
-is_run stages.Digits = true
-is_run _ = false
-
--- `is_begun stage` is true if the integer has no digits, and a zero is a leading one.
-abbrev pub is_begun : Stage → Bool
-is_begun stages.Start = true
-is_begun stages.Empty = true
-is_begun _ = false
+-- `awaits_integer stage` is true if the integer has no digits, and a zero is a leading one.
+abbrev pub awaits_integer : Stage → Bool
+awaits_integer stages.Start = true
+awaits_integer stages.Empty = true
+awaits_integer _ = false
 
 -- `is_bare stage` is true if the integer is the digit 0, which may be the zero of a prefix.
 abbrev pub is_bare : Stage → Bool
@@ -91,17 +107,17 @@ may_follow m _ = true
 
 -- `after_digit stage gap zero` is the stage after a digit, which is 0 if `zero` is true, and after a gap if `gap` is true.
 abbrev pub after_digit : Stage → Bool → Bool → Stage
-after_digit stages.Start gap zero = if zero then (if gap then stages.Zero else stages.Bare) else stages.Digits
-after_digit stages.Empty gap zero = if zero then (if gap then stages.Zero else stages.Bare) else stages.Digits
+after_digit stages.Start gap zero = if zero then (if gap then stages.Zero else stages.Bare) else stages.Integer
+after_digit stages.Empty gap zero = if zero then (if gap then stages.Zero else stages.Bare) else stages.Integer
 after_digit stages.Bare gap zero = stages.Led
 after_digit stages.Zero gap zero = stages.Led
 after_digit stages.Led gap zero = stages.Led
-after_digit _ gap zero = stages.Digits
+after_digit stage gap zero = digits_of (part_of stage)
 
 -- `after_mark stage` is the stage after a separator or a sign.
 abbrev pub after_mark : Stage → Stage
 after_mark stages.Start = stages.Empty
-after_mark stages.Mark = stages.Free
+after_mark stages.Mark = stages.Signed
 after_mark stages.Bare = stages.Zero
 after_mark stage = stage
 
@@ -152,9 +168,9 @@ continues m parts.Fraction stage roles.Suffix = not (needs_exponent m)
 continues m parts.Exponent stage roles.Suffix = true
 continues m part stage role = false
 
--- `ends m s` is true if the part of `s` may end.
-abbrev pub ends : Notation → Summary → Bool
-ends m s = is_signed m s.part s.stage && (gap_fits m s.part (has_digit s.stage) s.gap false && digits_suffice m s.part s.stage)
+-- `ends m part stage gap` is true if `part` may end at `stage`, behind a gap if `gap` is true.
+abbrev pub ends : Notation → Part → Stage → Bool → Bool
+ends m part stage gap = is_signed m part stage && (gap_fits m part (has_digit stage) gap false && digits_suffice m part stage)
 
 -- `lacks_prefix stage` is true if the base prefix may still follow, or what is left of it.
 abbrev pub lacks_prefix : Stage → Bool
@@ -186,7 +202,7 @@ no_condition c = false
 abbrev pub admits : (Condition → Bool) → Summary → Bool → Bool → Role → Bool
 admits C s plus zero role =
     implies (C conditions.BasePrefix && lacks_prefix s.stage) (leads_to_prefix s.stage zero role)
-    && not (C conditions.NegativeSign && is_negative s.part plus role)
+    && not (C conditions.NegativeSign && is_negative (part_of s.stage) plus role)
 
 -- `finishes C s` is true if the conditions `C` let a literal end.
 abbrev pub finishes : (Condition → Bool) → Summary → Bool
@@ -195,32 +211,36 @@ finishes C s = not (C conditions.BasePrefix && lacks_prefix s.stage) && implies 
 -- `complete_by C m s` is true if what has been read is a literal of the format of `m` and the conditions `C`, and
 -- `is_complete m s` if it is one of `m`.
 abbrev pub complete_by : (Condition → Bool) → Notation → Summary → Bool
-complete_by C m s = (s.ended || (ends m s && continues m s.part s.stage roles.Suffix)) && finishes C s
+complete_by C m s = (s.ended || (ends m (part_of s.stage) s.stage s.gap && continues m (part_of s.stage) s.stage roles.Suffix)) && finishes C s
 
 abbrev pub is_complete : Notation → Summary → Bool
 is_complete m s = complete_by m.condition m s
 
--- `takes m s plus role` is true if some literal goes on with a byte that has the role `role`, and is a plus sign if `plus` is true.
+-- `takes_in m part stage gap plus role` is true if some literal goes on with a byte that has the role `role`, and is a plus sign
+-- if `plus` is true, at `stage` of `part`, and `takes m s plus role` if one does after `s`.
+abbrev pub takes_in : Notation → Part → Stage → Bool → Bool → Role → Bool
+takes_in m part stage gap plus roles.Digit = is_signed m part stage && (gap_fits m part (has_digit stage) gap true && may_follow m stage)
+takes_in m part stage gap plus roles.Separator = is_signed m part stage && ((not gap || m.flag (separators_in part).consecutive)
+    && is_open m part (has_digit stage) (may_follow m stage))
+takes_in m part stage gap plus roles.Sign = is_fresh stage && implies (forbids_plus m part) (not plus)
+takes_in m part stage gap plus roles.Prefix = is_bare stage
+takes_in m part stage gap plus role = ends m part stage gap && continues m part stage role
+
 abbrev pub takes : Notation → Summary → Bool → Role → Bool
-takes m s plus roles.Digit = is_signed m s.part s.stage && (gap_fits m s.part (has_digit s.stage) s.gap true && may_follow m s.stage)
-takes m s plus roles.Separator = is_signed m s.part s.stage && ((not s.gap || m.flag (separators_in s.part).consecutive)
-    && is_open m s.part (has_digit s.stage) (may_follow m s.stage))
-takes m s plus roles.Sign = is_fresh s.stage && implies (forbids_plus m s.part) (not plus)
-takes m s plus roles.Prefix = is_bare s.stage
-takes m s plus role = ends m s && continues m s.part s.stage role
+takes m s plus role = takes_in m (part_of s.stage) s.stage s.gap plus role
 
 -- `after_point digit` is the stage after a decimal point that follows an integer with a digit if `digit` is true.
 abbrev pub after_point : Bool → Stage
-after_point digit = if digit then stages.Free else stages.Lone
+after_point digit = if digit then stages.Point else stages.Lone
 
 -- `after s zero role` is the summary after a byte that has the role `role`, and is the digit 0 if `zero` is true.
 abbrev pub after : Summary → Bool → Role → Summary
 after s zero roles.Digit = record s { stage = after_digit s.stage s.gap zero; gap = false }
 after s zero roles.Separator = record s { stage = after_mark s.stage; gap = true }
 after s zero roles.Sign = record s { stage = after_mark s.stage }
-after s zero roles.Prefix = record s { stage = stages.Free; gap = false }
-after s zero roles.Point = record s { part = parts.Fraction; stage = after_point (has_digit s.stage); gap = false }
-after s zero roles.Exponent = record s { part = parts.Exponent; stage = stages.Mark; gap = false }
+after s zero roles.Prefix = record s { stage = stages.Prefixed; gap = false }
+after s zero roles.Point = record s { stage = after_point (has_digit s.stage); gap = false }
+after s zero roles.Exponent = record s { stage = stages.Mark; gap = false }
 after s zero roles.Suffix = record s { ended = true }
 
 -- `move_by C m s plus zero role` is the summary after a byte with this role, or `None` if no literal of the format of `m` and
@@ -233,7 +253,7 @@ move_by C m s plus zero (Some role) =
 -- `step_by C m s byte` is the summary after one more byte, or `None` if no such literal begins so, and `step m s byte` if no
 -- literal of `m` does.
 abbrev pub step_by : (Condition → Bool) → Notation → Summary → ℕ → Option Summary
-step_by C m s byte = move_by C m s (byte == 43) (byte == 48) (role_at m s.part byte)
+step_by C m s byte = move_by C m s (byte == 43) (byte == 48) (role_at m (part_of s.stage) byte)
 
 abbrev pub step : Notation → Summary → ℕ → Option Summary
 step m s byte = step_by m.condition m s byte
@@ -308,7 +328,7 @@ is_accepted m s = accepted_by m.condition m s
 
 -- `start` is the summary before any byte.
 abbrev pub start : Summary
-start = record { part = parts.Integer; stage = stages.Start; gap = false; ended = false }
+start = record { stage = stages.Start; gap = false; ended = false }
 
 -- `tally_by C m s c text` has the lengths of the parts after the bytes of `text`, with the conditions `C`, and `tally m s c text`
 -- with those of `m`.
@@ -316,7 +336,7 @@ abbrev pub tally_by : (Condition → Bool) → Notation → Option Summary → C
 tally_by C m s c [] = c
 tally_by C m None c (byte ∷ text) = c
 tally_by C m (Some s) c (byte ∷ text) =
-    tally_by C m (step_by C m s byte) (count s.part (role_at m s.part byte) c) text
+    tally_by C m (step_by C m s byte) (count (part_of s.stage) (role_at m (part_of s.stage) byte) c) text
 
 abbrev pub tally : Notation → Option Summary → Cuts → List ℕ → Cuts
 tally m s c text = tally_by m.condition m s c text

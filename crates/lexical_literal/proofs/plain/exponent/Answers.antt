@@ -1,16 +1,16 @@
 -- The exponent, and its sign.
 use Rattle.std.proofs.Common.{◌≡◌, ◌+◌, ◌-◌, sym, subst, true, false}
 use Rattle.lexical_literal.specs.Notation.{notation_of}
-use Rattle.lexical_literal.specs.Additions.Plain.{IsAt, IsReadOn, counts_of, is_free, place}
-use Rattle.lexical_literal.specs.Additions.Summary.{cuts_of, has_digit, is_signed}
+use Rattle.lexical_literal.specs.Additions.Plain.{IsAt, IsReadOn, counts_of, is_free, at_stage}
+use Rattle.lexical_literal.specs.Additions.Summary.{cuts_of, has_digit, is_signed, part_of}
 use Rattle.lexical_literal.specs.declared.plain.At.{At}
 use Rattle.lexical_literal.specs.declared.steps.Piece.TheVariants as pieces
 use Rattle.lexical_util.specs.declared.format_flags.Part.TheVariants as parts
-use Rattle.lexical_literal.proofs.JoinLemmas.{exponent_at, exponent_behind, exponent_free}
+use Rattle.lexical_literal.proofs.JoinLemmas.{exponent_at, exponent_behind}
 use Rattle.lexical_literal.proofs.plain.exponent.Goals as goal
 
 pub digits-run-requires-clause-none : goal.digits-run-requires-clause-none
-digits-run-requires-clause-none c = subst (λ stage. has_digit stage ≡ false) (sym c.behind_sign.ensures) (exponent_behind c.in-Some.sign)
+digits-run-requires-clause-none c = subst (λ stage. has_digit stage ≡ false) (sym c.behind_sign.ensures) (exponent_behind (notation_of c.args.grammar) c.in-Some.sign).0
 
 pub digits-run-requires-clause-signed : goal.digits-run-requires-clause-signed
 digits-run-requires-clause-signed c = subst (λ stage. is_signed (notation_of c.args.grammar) parts.Exponent stage ≡ true) (sym c.behind_sign.ensures)
@@ -18,7 +18,11 @@ digits-run-requires-clause-signed c = subst (λ stage. is_signed (notation_of c.
 
 pub digits-run-requires-clause-free : goal.digits-run-requires-clause-free
 digits-run-requires-clause-free c = subst (λ stage. is_free (notation_of c.args.grammar) stage ≡ true) (sym c.behind_sign.ensures)
-    (exponent_free (notation_of c.args.grammar) c.in-Some.sign)
+    (exponent_behind (notation_of c.args.grammar) c.in-Some.sign).2
+
+pub digits-run-requires-clause-part : goal.digits-run-requires-clause-part
+digits-run-requires-clause-part c = subst (λ stage. part_of stage ≡ parts.Exponent) (sym c.behind_sign.ensures) 
+    (exponent_behind (notation_of c.args.grammar) c.in-Some.sign).1
 
 pub end-requires-clause-at : goal.end-requires-clause-at
 end-requires-clause-at c =
@@ -27,7 +31,7 @@ end-requires-clause-at c =
     let run = c.digits-run.result in
     let sign = c.in-Some.sign in
     let from = c.args.size + sign in
-    subst (λ (at : At). IsAt m text at (cuts_of (counts_of c.args.sizes 1 sign (run.size - from) 0))) (sym c.place-at.ensures)
+    subst (λ (at : At). IsAt m text at (cuts_of (counts_of c.args.sizes 1 sign (run.size - from) 0))) (sym c.at_stage-at.ensures)
     (exponent_at m text c.args.sizes c.args.size sign run.size run.stage c.requires.at c.in-Some.ensures
-    (subst (λ stage. IsReadOn m text (place parts.Exponent from stage) pieces.Exponent (place parts.Exponent run.size run.stage)) c.behind_sign.ensures
+    (subst (λ stage. IsReadOn m text (at_stage from stage) pieces.Exponent (at_stage run.size run.stage)) c.behind_sign.ensures
     c.digits-run.ensures.run.on))

@@ -3,7 +3,7 @@ use Rattle.std.proofs.Common.{◌≡◌, ◌≤◌, length, sym, ap, subst, ◌�
 use Rattle.lexical_util.specs.Record.{raw}
 use Rattle.lexical_literal.specs.Notation.{notation_of, radix_of}
 use Rattle.lexical_literal.specs.Additions.Plain.{IsRunOn}
-use Rattle.lexical_literal.specs.Additions.Summary.{is_run}
+use Rattle.lexical_literal.specs.Additions.Summary.{is_run, part_of}
 use Rattle.lexical_literal.specs.declared.plain.Run.{Run}
 use Rattle.lexical_literal.proofs.SumLemmas.{both_runs, more_separated, pushed}
 use Rattle.lexical_literal.proofs.plain.groups.Goals as goal
@@ -34,5 +34,6 @@ loop-value-preserved c =
       on = subst (IsRunOn m radix text c.args.part c.args.begun) (sym same)
           (both_runs m radix text c.args.part c.args.begun more next
           (both_runs m radix text c.args.part c.args.begun run more now.on is.run)
-          (more_separated g text c.args.part more v c.requires.roles (ap is_run stage ∙ c.requires.run) c.in-Some.ensures));
+          (more_separated g text c.args.part more v c.requires.roles (ap is_run stage ∙ c.requires.run) (ap part_of stage
+          ∙ c.requires.part) c.in-Some.ensures));
     }

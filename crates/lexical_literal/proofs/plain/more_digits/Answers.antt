@@ -3,7 +3,7 @@ use Rattle.std.proofs.Common.{◌≡◌, ◌≤◌, length, sym, ap, subst, ◌�
 use Rattle.lexical_util.specs.Record.{raw}
 use Rattle.lexical_literal.specs.Notation.{notation_of, radix_of}
 use Rattle.lexical_literal.specs.Additions.Plain.{IsRunOn}
-use Rattle.lexical_literal.specs.Additions.Summary.{is_run}
+use Rattle.lexical_literal.specs.Additions.Summary.{is_run, part_of}
 use Rattle.lexical_literal.specs.declared.plain.Run.{Run}
 use Rattle.lexical_literal.proofs.SumLemmas.{both_runs, more_digit, pushed}
 use Rattle.lexical_literal.proofs.plain.more_digits.Goals as goal
@@ -26,5 +26,5 @@ loop-value-preserved c =
       stage = ap (λ (r : Run). r.stage) same ∙ now.stage;
       on = subst (IsRunOn (notation_of g) radix text c.args.part c.args.begun) (sym same)
           (both_runs (notation_of g) radix text c.args.part c.args.begun run next now.on
-          (more_digit g text c.args.part run v c.requires.roles is_run_now c.in-Some.ensures));
+          (more_digit g text c.args.part run v c.requires.roles is_run_now (ap part_of now.stage ∙ c.requires.part) c.in-Some.ensures));
     }

@@ -1,7 +1,7 @@
 -- A sign, or none.
 use Rattle.std.proofs.Common.{◌≡◌, ◌+◌, sym, subst, ◌∙◌, ap, arith}
 use Rattle.lexical_literal.specs.Notation.{notation_of}
-use Rattle.lexical_literal.specs.Additions.Plain.{IsReadOn, fresh, place}
+use Rattle.lexical_literal.specs.Additions.Plain.{IsReadOn, fresh, at_stage}
 use Rattle.lexical_literal.specs.Additions.Summary.{is_signed, piece_of}
 use Rattle.lexical_util.specs.declared.feature_format.roles.Role.TheVariants as roles
 use Rattle.lexical_literal.proofs.JoinLemmas.{signed_behind}
@@ -21,8 +21,8 @@ returns-then-is_signed c =
     let same : c.args.size + 0 ≡ c.args.size = omega arith in
     record {
       within = let within = c.requires.within in omega (arith, within);
-      on = subst (λ n. IsReadOn m c.args.text.now (place c.args.part c.args.size (fresh c.args.part)) (piece_of c.args.part roles.Sign)
-          (place c.args.part n (fresh c.args.part))) (sym same) (stay m c.args.text.now (place c.args.part c.args.size (fresh c.args.part)) (piece_of
+      on = subst (λ n. IsReadOn m c.args.text.now (at_stage c.args.size (fresh c.args.part)) (piece_of c.args.part roles.Sign)
+          (at_stage n (fresh c.args.part))) (sym same) (stay m c.args.text.now (at_stage c.args.size (fresh c.args.part)) (piece_of
           c.args.part roles.Sign));
       signed = ap (is_signed m c.args.part) (sym c.behind_sign.ensures) ∙ sym c.is_signed.ensures ∙ c.if-is_signed.true;
     }

@@ -3,7 +3,7 @@ use Rattle.std.proofs.Common.{ℕ, ◌≡◌, ◌≢◌, ◌==◌, Bool, true, f
 use Rattle.std.proofs.lemmas.Bool.Decides.{nat_tests}
 use Rattle.lexical_literal.specs.Additions.Causes.{lets, place_of}
 use Rattle.lexical_literal.specs.Additions.Explained.{blame, cases, mask_of, otherwise, requirements, separators}
-use Rattle.lexical_literal.specs.Additions.Summary.{role_at}
+use Rattle.lexical_literal.specs.Additions.Summary.{role_at, part_of}
 use Rattle.lexical_literal.specs.Cause.{bare}
 use Rattle.lexical_literal.specs.Notation.{Notation, notation_of}
 use Rattle.lexical_literal.specs.declared.cause.Blame.{Blame}
@@ -19,7 +19,7 @@ module _ (m : Notation) (s : Summary) (byte : ℕ) where
   abbrev by_tests : Bool → Bool → Blame
   by_tests t u =
       if t then record { kind = if u then causes.Byte else causes.Case; mask = mask_of (cases m s byte) } else record {
-        kind = causes.Separator s.part (place_of m s (role_at m s.part byte));
+        kind = causes.Separator (part_of s.stage) (place_of m (part_of s.stage) s.stage s.gap (role_at m (part_of s.stage) byte));
         mask = mask_of (separators m s (Some byte));
       }
 
@@ -33,7 +33,7 @@ returns-then-separators-ne0 c =
     let s = c.args.self.read in
     let m = notation_of c.args.self.grammar in
     let mask = c.separators-separators.ensures ∙ ap (λ next. mask_of (separators m s next)) c.in-Some.is in
-    (λ j. record { kind = causes.Separator s.part (c.place.ensures j); mask = mask j })
+    (λ j. record { kind = causes.Separator (c.part_of-then-separators-ne0.ensures j) (c.place.ensures j); mask = mask j })
     ∙ is_blame m s c.in-Some.byte c.args.self.byte false _ (sym c.is_free.ensures ∙ c.if-is_free.false) c.in-Some.is
     (nonzero _ (λ zero. c.if-separators-ne0.true (mask ∙ zero))) refl
 

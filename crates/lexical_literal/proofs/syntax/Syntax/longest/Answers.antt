@@ -1,7 +1,7 @@
 -- The loop reads the text, byte by byte.
 use Rattle.std.proofs.Common.{true, false, get_or, refl, sym, ap, ◌∙◌}
 use Rattle.lexical_literal.specs.Notation.{notation_of}
-use Rattle.lexical_literal.specs.Additions.Summary.{is_complete, piece_number, role_at}
+use Rattle.lexical_literal.specs.Additions.Summary.{is_complete, piece_number, role_at, piece_of}
 use Rattle.lexical_literal.specs.declared.syntax.Grammar.{Grammar}
 use Rattle.lexical_literal.proofs.LongestLemmas.{first_counted, has_role, longest_all, more_counted}
 use Rattle.lexical_literal.proofs.syntax.Syntax.longest.Goals as goal
@@ -10,17 +10,19 @@ pub loop-next-init : goal.loop-next-init
 loop-next-init c = first_counted _ c.grammar-grammar.ensures.ready c.args.text.now
 
 pub returns-in_default-role_at : goal.returns-in_default-role_at
-returns-in_default-role_at c = absurd (has_role _ c.grammar-grammar.ensures.ready _ _ _ _ _ c.loop-next.invariant c.in-Some.ensures.next.0 c.in-Some.ensures.next.1
-    (ap (λ (g : Grammar). role_at (notation_of g) c.loop-next.at.read.part (get_or c.args.text.now c.loop-next.at.size 0))
-    (sym c.grammar-grammar.ensures.value) ∙ sym c.role_at.ensures ∙ c.in_default-role_at.is))
+returns-in_default-role_at c =
+    absurd (has_role _ c.grammar-grammar.ensures.ready _ _ _ _ _ c.loop-next.invariant c.in-Some.ensures.next.0 c.in-Some.ensures.next.1
+    ((λ j. role_at (notation_of (sym c.grammar-grammar.ensures.value j)) (sym c.part_of-part.ensures j) (get_or c.args.text.now c.loop-next.at.size 0))
+    ∙ sym c.role_at.ensures ∙ c.in_default-role_at.is))
 
 pub loop-next-preserved-then-is_complete : goal.loop-next-preserved-then-is_complete
 loop-next-preserved-then-is_complete c =
     more_counted _ c.grammar-grammar.ensures.ready _ _ _ _ _ c.loop-next.invariant c.in-Some.ensures.next.0 c.in-Some.ensures.next.1
     c.in-Some-role_at.role c.piece_number.result
-    (ap (λ (g : Grammar). role_at (notation_of g) c.loop-next.at.read.part (get_or c.args.text.now c.loop-next.at.size 0))
-    (sym c.grammar-grammar.ensures.value) ∙ sym c.role_at.ensures ∙ c.in-Some-role_at.is)
-    (c.piece_number.ensures.value ∙ ap piece_number c.piece_of.ensures) c.piece_number.ensures.small true
+    ((λ j. role_at (notation_of (sym c.grammar-grammar.ensures.value j)) (sym c.part_of-part.ensures j) (get_or c.args.text.now c.loop-next.at.size 0))
+    ∙ sym c.role_at.ensures ∙ c.in-Some-role_at.is)
+    (c.piece_number.ensures.value ∙ ap piece_number (c.piece_of.ensures
+    ∙ ap (λ part. piece_of part c.in-Some-role_at.role) c.part_of-part.ensures)) c.piece_number.ensures.small true
     (sym c.if-is_complete.true ∙ c.is_complete.ensures
     ∙ ap (λ (g : Grammar). is_complete (notation_of g) c.in-Some.next.read) c.grammar-grammar.ensures.value)
 
@@ -28,9 +30,10 @@ pub loop-next-preserved : goal.loop-next-preserved
 loop-next-preserved c =
     more_counted _ c.grammar-grammar.ensures.ready _ _ _ _ _ c.loop-next.invariant c.in-Some.ensures.next.0 c.in-Some.ensures.next.1
     c.in-Some-role_at.role c.piece_number.result
-    (ap (λ (g : Grammar). role_at (notation_of g) c.loop-next.at.read.part (get_or c.args.text.now c.loop-next.at.size 0))
-    (sym c.grammar-grammar.ensures.value) ∙ sym c.role_at.ensures ∙ c.in-Some-role_at.is)
-    (c.piece_number.ensures.value ∙ ap piece_number c.piece_of.ensures) c.piece_number.ensures.small false
+    ((λ j. role_at (notation_of (sym c.grammar-grammar.ensures.value j)) (sym c.part_of-part.ensures j) (get_or c.args.text.now c.loop-next.at.size 0))
+    ∙ sym c.role_at.ensures ∙ c.in-Some-role_at.is)
+    (c.piece_number.ensures.value ∙ ap piece_number (c.piece_of.ensures
+    ∙ ap (λ part. piece_of part c.in-Some-role_at.role) c.part_of-part.ensures)) c.piece_number.ensures.small false
     (sym c.if-is_complete.false ∙ c.is_complete.ensures
     ∙ ap (λ (g : Grammar). is_complete (notation_of g) c.in-Some.next.read) c.grammar-grammar.ensures.value)
 
