@@ -94,7 +94,7 @@ impl Reader {
         ensures { IsMeasured self.now text.now counts result }
     {
         let grammar = self.syntax.grammar();
-        match grammar.conditions.integer_group_size {
+        match grammar.conditions.integer_group_size() {
             None => true,
             Some(size) => {
                 let parts = cut(text, counts);
@@ -309,7 +309,7 @@ impl Reader {
     {
         let counts = self.count(text);
         let grammar = self.syntax.grammar();
-        let Some(size) = grammar.conditions.integer_group_size else {
+        let Some(size) = grammar.conditions.integer_group_size() else {
             unreachable!()
         };
         let parts = cut(text, counts);

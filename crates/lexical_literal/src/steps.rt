@@ -13,7 +13,7 @@ ghost use Rattle.lexical_literal.specs.Additions.Summary.{admits, finishes, forb
 ghost use Rattle.lexical_literal.specs.Additions.Summary.{leads_to_prefix, needs_exponent};
 ghost use Rattle.lexical_literal.specs.Additions.Summary.{continues, ends, is_complete, step, takes, after, IsMove};
 
-use crate::syntax::{Conditions, Grammar};
+use crate::syntax::{Condition, Conditions, Grammar};
 use lexical_util::format::{Part, Role};
 use lexical_util::format_flags::digit_separator;
 
@@ -144,7 +144,7 @@ pub(crate) const fn allows_plus(grammar: Grammar, part: Part) -> bool
 pub(crate) const fn allows_minus(grammar: Grammar, part: Part) -> bool
     ensures { result ≡ not (has grammar.conditions conditions.NegativeSign && is_negative part false Role.Sign) }
 {
-    matches!(part, Part::Exponent) || !grammar.conditions.no_negative_mantissa_sign
+    matches!(part, Part::Exponent) || !grammar.conditions.has(Condition::NegativeSign)
 }
 
 // Returns whether `byte` is the decimal point.
@@ -412,7 +412,7 @@ pub(crate) const fn admits(
 ) -> bool
     ensures { result ≡ admits (has conditions) read plus zero role }
 {
-    if conditions.are_free() {
+    if conditions.is_none() {
         return true;
     }
     some_admit(conditions, read, plus, zero, role)
@@ -429,9 +429,9 @@ const fn some_admit(
 ) -> bool
     ensures { result ≡ admits (has conditions) read plus zero role }
 {
-    let needs_prefix = conditions.required_base_prefix && lacks_prefix(read.stage);
+    let needs_prefix = conditions.has(Condition::BasePrefix) && lacks_prefix(read.stage);
     (!needs_prefix || leads_to_prefix(read.stage, zero, role))
-        && !(conditions.no_negative_mantissa_sign && is_negative(read.part, plus, role))
+        && !(conditions.has(Condition::NegativeSign) && is_negative(read.part, plus, role))
 }
 
 // Returns whether the conditions let a literal end.
@@ -439,8 +439,8 @@ const fn some_admit(
 const fn finishes(conditions: Conditions, read: Summary) -> bool
     ensures { result ≡ finishes (has conditions) read }
 {
-    !(conditions.required_base_prefix && lacks_prefix(read.stage))
-        && (!conditions.required_base_suffix || read.ended)
+    !(conditions.has(Condition::BasePrefix) && lacks_prefix(read.stage))
+        && (!conditions.has(Condition::BaseSuffix) || read.ended)
 }
 
 // Returns whether some literal goes on with a byte that has the role `role`, and is a plus sign if `plus` is true.

@@ -17,10 +17,10 @@ use Rattle.lexical_util.specs.declared.format_flags.Part.TheVariants as parts
 use Rattle.lexical_base.proofs.ValueLemmas.{byte_value-digit_character}
 use Rattle.lexical_literal.specs.Literal.{IsSpelled, Literal, condition, has_leading_zero, is_absent, is_none_or_one, is_plus}
 use Rattle.lexical_literal.specs.Literal.{is_present, requirement, text_of}
-use Rattle.lexical_literal.specs.Notation.{Notation, lacks_options, notation_of, point_of, exponent_character_of, radix_of}
+use Rattle.lexical_literal.specs.Notation.{Notation, has, integer_group_size, lacks_options, notation_of, point_of, exponent_character_of, radix_of}
 use Rattle.lexical_literal.specs.Groups.{has_groups}
 use Rattle.lexical_literal.specs.Run.{is_run}
-use Rattle.lexical_literal.specs.Syntax.{IsSyntax, FitIfAny, contradiction, is_group_size}
+use Rattle.lexical_literal.specs.Syntax.{IsSyntax, FitIfAny, contradiction}
 use Rattle.lexical_literal.specs.Takes.{Takes}
 use Rattle.lexical_literal.specs.declared.syntax.Condition.{Condition}
 use Rattle.lexical_literal.specs.declared.syntax.Condition.TheVariants as conditions
@@ -49,12 +49,13 @@ unfolding Lawful Holds
 agree word lawful = let flags = lawful.flags in assumption flags
 
 -- The conditions of a syntax agree with its format.
-no_contradiction : (r : Record) (c : Conditions) → contradiction r c ≡ None → ((c.required_base_prefix && (r.byte layout.base_prefix == 0)) ≡ false)
-    × ((c.required_base_suffix && (r.byte layout.base_suffix == 0)) ≡ false) × (is_group_size c.integer_group_size ≡ true)
-no_contradiction r c none = (grind arith, grind arith, grind arith)
+no_contradiction : (r : Record) (c : Conditions) → contradiction r c ≡ None → ((has c conditions.BasePrefix && (r.byte layout.base_prefix == 0)) ≡ false)
+    × ((has c conditions.BaseSuffix && (r.byte layout.base_suffix == 0)) ≡ false)
+    × ((s : ℕ) → integer_group_size c ≡ Some s → 2 ≤ s)
+no_contradiction r c none = (grind (arith, nat_tests), grind (arith, nat_tests), λ s has. grind (arith, nat_tests))
 
 -- Groups have the size that a condition requires.
-same_size : (r : Record) (c : Conditions) (style : Style) (s : ℕ) → c.integer_group_size ≡ Some s → 0 < group_of r c style → group_of r c style ≡ s
+same_size : (r : Record) (c : Conditions) (style : Style) (s : ℕ) → integer_group_size c ≡ Some s → 0 < group_of r c style → group_of r c style ≡ s
 same_size r c style s has some = grind arith
 
 -- Punctuation is not 0.
@@ -211,21 +212,18 @@ module _ (g : Grammar) (style : Style) (amount : Amount) (is : IsSyntax g)
   }
 
   -- The integer is in groups.
-  groups : (size : Option ℕ) → g.conditions.integer_group_size ≡ size → has_groups m.separator size l.integer ≡ true
+  groups : (size : Option ℕ) → integer_group_size g.conditions ≡ size → has_groups m.separator size l.integer ≡ true
   groups None has = refl
   groups (Some s) has =
       right_groups m.separator radix separator s (λ d below.
       let small : radix ≤ 36 = (radixes g.word is.lawful parts.Integer).1 in
       false_from_ne_true _ (λ in_use. apart (character d) (omega (arith, byte_value-digit_character d (omega arith))) in_use))
-      group _ (size_allowed s has) (λ some. (same_size r g.conditions style s has some, (between some).0))
+      group _ ((no_contradiction r g.conditions is.conditions).2 s has) (λ some. (same_size r g.conditions style s has some, (between some).0))
       (zero_below radix (has_zero r amount) _ (radixes g.word is.lawful parts.Integer).0
       (all_below_base_digits_of radix (size_of radix amount.integer) (radixes g.word is.lawful parts.Integer).0))
-    where
-      size_allowed : (s : ℕ) → g.conditions.integer_group_size ≡ Some s → 2 ≤ s
-      size_allowed s has = let fits = (no_contradiction r g.conditions is.conditions).2 in grind (arith, nat_tests)
 
   -- No exponent is written where none is allowed.
-  allowed : ((amount.negative && g.conditions.no_negative_mantissa_sign) ≡ false) × ((lacks_options g.options && is_some amount.fraction) ≡ false)
+  allowed : ((amount.negative && has g.conditions conditions.NegativeSign) ≡ false) × ((lacks_options g.options && is_some amount.fraction) ≡ false)
       × (((lacks_options g.options || r.flag layout.no_exponent_notation) && is_some amount.exponent) ≡ false)
   allowed = no_refusal _ (lacks_options g.options && is_some amount.fraction) _ can
 
@@ -277,6 +275,7 @@ module _ (g : Grammar) (style : Style) (amount : Amount) (is : IsSyntax g)
   conditions_met conditions.BasePrefix set = let there = no_contradiction r g.conditions is.conditions in grind arith
   conditions_met conditions.BaseSuffix set = let there = no_contradiction r g.conditions is.conditions in grind arith
   conditions_met conditions.NegativeSign set = grind (arith, allowed)
+  conditions_met conditions.IntegerGroupSize set = refl
 
   one_sign : (negative required : Bool) → is_none_or_one sets.signs (option_to_list (sign_of negative required)) ≡ true
   one_sign negative required = grind arith
@@ -313,7 +312,7 @@ module _ (g : Grammar) (style : Style) (amount : Amount) (is : IsSyntax g)
   takes : Takes g l (text_of l)
   takes = record {
     reads = record { whole = refl; literal = record { spelled = spelled; conditions = conditions_met } };
-    groups = groups g.conditions.integer_group_size refl;
+    groups = groups (integer_group_size g.conditions) refl;
   }
 
 -- What is laid out is a literal with the digits of the amount.

@@ -2,8 +2,9 @@
 use Rattle.std.proofs.Common.{ℕ, ◌≡◌, ◌≤◌, ◌+◌, List, false, length, length-append, refl, sym, ap, subst, ◌∙◌, arith}
 use Rattle.lexical_literal.specs.Groups.{IsFirstWrongGroup, is_grouped}
 use Rattle.lexical_literal.specs.Literal.{Literal, Reads, text_of}
-use Rattle.lexical_literal.specs.Notation.{no_conditions, notation_of}
+use Rattle.lexical_literal.specs.Notation.{integer_group_size, is_same, kept, notation_of, number_of}
 use Rattle.lexical_literal.specs.Parts.{literal_of}
+use Rattle.lexical_literal.specs.declared.syntax.Condition.TheVariants as conditions
 use Rattle.lexical_literal.specs.declared.syntax.Grammar.{Grammar}
 use Rattle.lexical_literal.proofs.GroupLemmas.{not_grouped}
 use Rattle.lexical_literal.proofs.read.Reader.ungrouped.Goals as goal
@@ -22,7 +23,7 @@ wrong_group-start-requires c =
     let same = c.grammar-grammar.ensures.value ∙ c.self.view_is in
     subst (λ (g : Grammar). is_grouped (notation_of g).separator c.in-Some.size c.cut-parts.result.integer.now ≡ false) (sym same)
     (not_grouped c.args.self.now c.args.text.now _ reads c.requires.refuses c.in-Some.size
-    (sym (ap (λ (g : Grammar). g.conditions.integer_group_size) same) ∙ c.in-Some.is))
+    (sym (ap (λ (g : Grammar). integer_group_size g.conditions) same) ∙ sym c.integer_group_size.ensures ∙ c.in-Some.is))
 
 pub overflow_add-result : goal.overflow_add-result
 overflow_add-result c =
@@ -48,7 +49,7 @@ returns c =
     let reads = subst (λ k. Reads (notation_of c.args.self.now) k c.args.text.now) (sym parts) l.1 in
     let same = c.grammar-grammar.ensures.value ∙ c.self.view_is in
     let size = c.in-Some.size in
-    let required = sym (ap (λ (g : Grammar). g.conditions.integer_group_size) same) ∙ c.in-Some.is in
+    let required = sym (ap (λ (g : Grammar). integer_group_size g.conditions) same) ∙ sym c.integer_group_size.ensures ∙ c.in-Some.is in
     let group = c.wrong_group-start.result in
     record {
       literal = literal_of c.cut-parts.result;
@@ -65,7 +66,7 @@ returns c =
       tail = refl;
       kind = refl;
       mask = refl;
-      conditions = ap (λ size. record no_conditions { integer_group_size = size }) c.in-Some.is;
+      conditions = ap (λ (g : Grammar). kept (is_same conditions.IntegerGroupSize) (number_of g.conditions)) same;
       error_start = refl;
       error_end = refl;
       code = refl;
