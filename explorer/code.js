@@ -42,7 +42,7 @@ class Code {
         const hasBytes = shown.isBuilt && calls.some((call) => call.includes("NonZeroU8"));
         const syntax = isFloat ? `Syntax::new_or_panic(FORMAT, ${options})` : "Syntax::integers(FORMAT)";
         const [nan, inf, infinity] = state.specials.map((it) => (it === '""' ? "None" : `Some(b${it})`));
-        const names = `${conditions.length ? "Conditions, " : ""}FormError, Number, Reader, Readers, ${nan ? "Specials, " : ""}Syntax`;
+        const names = `${conditions.length ? "Conditions, " : ""}FormError, Number, Readers, ${nan ? "Specials, " : ""}Syntax`;
         return [
             ...(hasBytes ? ["use core::num::NonZeroU8;"] : []),
             `use peltzivar::literal::{${names}};`,
@@ -52,12 +52,12 @@ class Code {
             `pub const FORMAT: Format = ${shown.isBuilt ? build : `Format::of::<${wordText(word)}>()`};`,
             `pub const SYNTAX: Syntax = ${syntax}${conditions.length ? "" : ";"}`,
             ...(conditions.length ? [`    .with_or_panic(Conditions::NONE${conditions.join("")});`] : []),
-            `pub static READERS: Readers<'static> = Readers::new_or_panic(&[Reader::new(SYNTAX)])${nan ? "" : ";"}`,
+            `pub static READERS: Readers<'static> = Readers::new_or_panic(&[SYNTAX])${nan ? "" : ";"}`,
             ...(nan ? [`    .with_specials(Specials { nan: ${nan}, inf: ${inf}, infinity: ${infinity} });`] : []),
             "",
             `/// Returns a number, whose value is ${isFloat ? "`f64::try_from(number)` or, of an integer, " : ""}\`i128::try_from(number)\`.`,
             "pub fn read(text: &str) -> Result<Number<'_>, FormError> {",
-            "    READERS.read(text.as_bytes())",
+            "    READERS.read(text)",
             "}",
             "",
         ].join("\n");

@@ -102,7 +102,7 @@ pub fn refused(forms: &Forms, others: &Forms) -> impl Iterator<Item = Refused> {
         let (Ok(number), Err(refusal)) = (forms.readers().read(text.as_bytes()), others.readers().read(text.as_bytes())) else {
             continue;
         };
-        let (error, syntax) = (refusal.error, forms.readers().as_slice()[number.form().unwrap_or(0)].syntax());
+        let (error, syntax) = (refusal.error, forms.readers().as_slice()[number.form().unwrap_or(0)]);
         let shown = (error.kind(), error.mask(), error.byte().and_then(|byte| syntax.role_of(byte)));
         let place = found.iter_mut().find(|it| it.is_none_or(|it| it.0 == shown));
         if let Some(place) = place.filter(|it| it.is_none_or(|it| text.size < it.1 .0.size)) {

@@ -2,17 +2,17 @@
 
 use core::str::FromStr;
 
-use peltzivar::literal::{Number, Reader, Readers, Specials, ValueError};
+use peltzivar::literal::{Number, Readers, Specials, Syntax, ValueError};
 
 use crate::suggest::State;
 
 /// How many forms a language has.
 const MOST: usize = 24;
 
-/// The states of forms, their readers, and the spellings of special values.
+/// The states of forms, their syntaxes, and the spellings of special values.
 pub struct Forms {
     states: [State; MOST],
-    readers: [Reader; MOST],
+    syntaxes: [Syntax; MOST],
     size: usize,
     specials: Specials<'static>,
 }
@@ -24,11 +24,10 @@ impl Forms {
         let [nan, inf, infinity] = [(); 3].map(|()| spellings.next());
         let mut all = states_of(line);
         let first = all.next()?;
-        let reader = first.syntax().map(Reader::new)?;
-        let (readers, specials) = (core::array::from_fn(|_| reader.clone()), Specials { nan, inf, infinity });
-        let mut forms = Self { states: [first; MOST], readers, size: 1, specials };
+        let syntaxes = [first.syntax()?; MOST];
+        let mut forms = Self { states: [first; MOST], syntaxes, size: 1, specials: Specials { nan, inf, infinity } };
         for state in all.take(MOST - 1) {
-            forms.readers[forms.size] = Reader::new(state.syntax()?);
+            forms.syntaxes[forms.size] = state.syntax()?;
             forms.states[forms.size] = state;
             forms.size += 1;
         }
@@ -40,7 +39,7 @@ impl Forms {
     }
 
     pub fn readers(&self) -> Readers<'_> {
-        Readers::new_or_panic(&self.readers[..self.size]).with_specials(self.specials)
+        Readers::new_or_panic(&self.syntaxes[..self.size]).with_specials(self.specials)
     }
 }
 

@@ -7,7 +7,7 @@ use core::fmt::{self, Display, Write};
 use core::ops::Range;
 
 use peltzivar::edits::{apply, is_built, normal_form};
-use peltzivar::literal::{FormError, Number, Reader, Readers};
+use peltzivar::literal::{FormError, Number, Readers};
 use peltzivar::{Edit, Error, FormatView, NumberFormatBuilder, Reason, Rule};
 use examples::{Refused, other_values, refused};
 use forms::{Forms, Value, states_of, value_of};
@@ -130,8 +130,8 @@ fn put_line(out: &mut Answer, forms: &Forms, lines: &[u8], line: Line<'_>) -> fm
     list(out, found.best(), |out, (state, expected)| {
         put_state(out, state)?;
         write!(out, r#","expected":{expected},"#)?;
-        let reader = state.syntax().map(Reader::new);
-        Readers::new(reader.as_slice()).map_or(Ok(()), |it| put_reading(out, it.with_specials(SPECIALS), line.text))?;
+        let syntax = state.syntax();
+        Readers::new(syntax.as_slice()).map_or(Ok(()), |it| put_reading(out, it.with_specials(SPECIALS), line.text))?;
         out.write_str("}")
     })?;
     out.write_str("}")

@@ -6,7 +6,7 @@ use peltzivar::format::{
     BASE_PREFIX, BASE_SUFFIX, CONSECUTIVE_DIGIT_SEPARATOR, DIGIT_SEPARATOR, DIGIT_SEPARATOR_FLAG_MASK, EXPONENT_BASE,
     EXPONENT_RADIX, FLAG_MASK, MANTISSA_RADIX, SPECIAL_DIGIT_SEPARATOR,
 };
-use peltzivar::literal::{Conditions, ConditionsError, ReadError, ReadErrorKind, Reader, Specials, Syntax};
+use peltzivar::literal::{Conditions, ConditionsError, ReadError, ReadErrorKind, Specials, Syntax};
 use peltzivar::reasons::Byte;
 use peltzivar::{Cause, Format, FormatView, Reason, Rule};
 
@@ -107,8 +107,8 @@ impl State {
 
     /// Returns how many of the lines are as expected.
     pub fn as_expected(self, lines: &[u8]) -> usize {
-        let reader = self.syntax().map(Reader::new);
-        let is_accepted = |text| reader.as_ref().is_some_and(|it| read(it, text).is_ok());
+        let syntax = self.syntax();
+        let is_accepted = |text| syntax.is_some_and(|it| read(it, text).is_ok());
         lines_of(lines).filter(|line| is_accepted(line.text) != line.is_refused).count()
     }
 }
@@ -129,9 +129,9 @@ pub fn lines_of(text: &[u8]) -> impl Iterator<Item = Line<'_>> {
 }
 
 /// Returns why a text is neither a number nor a special value.
-pub fn read(reader: &Reader, text: &[u8]) -> Result<(), ReadError> {
-    match reader.read(text) {
-        Err(error) if SPECIALS.read(&reader.syntax(), text).is_none() => Err(error),
+pub fn read(syntax: Syntax, text: &[u8]) -> Result<(), ReadError> {
+    match syntax.read(text) {
+        Err(error) if SPECIALS.read(&syntax, text).is_none() => Err(error),
         _ => Ok(()),
     }
 }
@@ -231,7 +231,7 @@ fn refusing(state: State, text: &[u8], found: &mut Found<'_>) {
     });
     let conditions = [1, 2, 4, 3 << 4].map(|bits| State { conditions: state.conditions | bits, ..state });
     let count = |it: State| problems(it).count() + it.misfits().count();
-    let is_refused = |it: &State| it.syntax().is_some_and(|it| read(&Reader::new(it), text).is_err());
+    let is_refused = |it: &State| it.syntax().is_some_and(|it| read(it, text).is_err());
     let all = flags.chain(conditions).filter(|it| is_refused(it) && count(*it) <= count(state));
     all.for_each(|it| found.push(it));
 }
@@ -256,7 +256,7 @@ fn settled(mut state: State, text: &[u8]) -> Result<State, usize> {
         state.word |= SEPARATORS;
     }
     let read_in = |state: State| match state.fit() {
-        Some(syntax) => read(&Reader::new(syntax), text).map_err(Some),
+        Some(syntax) => read(syntax, text).map_err(Some),
         None => Err(None),
     };
     while let Err(error) = read_in(state) {

@@ -9,7 +9,7 @@ fn main() -> io::Result<()> {
     let language = Language::ALL.iter().find(|it| it.name() == name).expect("the name of a language");
     let mut out = io::BufWriter::new(io::stdout().lock());
     for text in io::stdin().lock().lines() {
-        match language.read(text?.as_bytes()) {
+        match language.read(&text?) {
             Ok(Number::Literal { literal, form }) => match i128::try_from(literal) {
                 Ok(value) => writeln!(out, "+ {form} {value}")?,
                 Err(_) => writeln!(out, "+ {form} {:e}", f64::try_from(literal).expect("a float"))?,

@@ -14,7 +14,7 @@ fn convert(number: Number<'_>, target: Language) -> Result<String, WriteError> {
     let mut result = Err(WriteError::Radix);
     for (index, form) in target.forms().iter().enumerate() {
         match form.syntax.format_literal(&literal, Style::PLAIN).map(|text| text.to_string()) {
-            Ok(text) if target.read(text.as_bytes()).is_ok_and(|it| it.form() == Some(index)) => return Ok(text),
+            Ok(text) if target.read(&text).is_ok_and(|it| it.form() == Some(index)) => return Ok(text),
             Ok(_) => (),
             Err(error) => result = Err(error),
         }
@@ -31,7 +31,7 @@ fn spell(special: Special, target: Language) -> Result<String, WriteError> {
     };
     let sign = if special.sign == Some(Sign::Minus) { "-" } else { "" };
     let text = format!("{sign}{}", String::from_utf8_lossy(word.ok_or(WriteError::Special)?));
-    target.read(text.as_bytes()).map_err(|_| WriteError::Special)?;
+    target.read(&text).map_err(|_| WriteError::Special)?;
     Ok(text)
 }
 
@@ -45,7 +45,7 @@ fn main() -> io::Result<()> {
     let mut output = io::stdout().lock();
     for line in io::stdin().lock().lines() {
         let line = line?;
-        match source.read(line.as_bytes()) {
+        match source.read(&line) {
             Ok(number) => match convert(number, *target) {
                 Ok(text) => writeln!(output, "{text}")?,
                 Err(error) => writeln!(output, "{line}: not in {target}: {error}")?,

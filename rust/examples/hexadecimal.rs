@@ -1,16 +1,16 @@
 //! Reads hexadecimal integers, such as `1_FF`. A format that is not lawful does not compile.
 
 use core::num::NonZeroU8;
-use peltzivar::literal::{ParseError, Reader, Syntax};
+use peltzivar::literal::{ParseError, Syntax};
 use peltzivar::NumberFormatBuilder;
 
-static INTEGERS: Reader = Reader::new(Syntax::integers(
+const INTEGERS: Syntax = Syntax::integers(
     NumberFormatBuilder::new()
         .mantissa_radix(16)
         .digit_separator(NonZeroU8::new(b'_'))
         .internal_digit_separator(true)
         .build_format_or_panic(),
-));
+);
 
 fn main() {
     for text in ["1_FF", "1__FF", "1_0000"] {

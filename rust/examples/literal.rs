@@ -5,7 +5,7 @@
 //! WORD is a format word. E and P are the exponent character and the decimal point as in settings, such as 101 and 46, or
 //! both are `none` if literals are integers. The status is 1 if TEXT is not a literal, and 2 if the others make no syntax.
 
-use peltzivar::literal::{Reader, Syntax};
+use peltzivar::literal::Syntax;
 use std::ffi::{OsStr, OsString};
 use std::io::{self, Write};
 use std::process::ExitCode;
@@ -20,8 +20,8 @@ fn main() -> io::Result<ExitCode> {
             return Ok(ExitCode::from(2));
         }
     };
-    let (reader, mut out) = (Reader::new(syntax), io::stdout().lock());
-    match reader.read(text.as_encoded_bytes()) {
+    let mut out = io::stdout().lock();
+    match syntax.read(text.as_encoded_bytes()) {
         Ok(literal) => {
             for (name, bytes) in literal.parts() {
                 out.write_all(&[name.as_bytes(), b" ", bytes, b"\n"].concat())?;

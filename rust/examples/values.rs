@@ -5,7 +5,7 @@
 use peltzivar::literal::{Language, ParseError};
 
 fn value(text: &str) -> Result<String, ParseError> {
-    let number = Language::TOML.read(text.as_bytes())?;
+    let number = Language::TOML.read(text)?;
     Ok(match number.literal() {
         Some(literal) if !literal.is_float() => format!("the integer {}", i64::try_from(literal)?),
         _ => format!("the float {}", f64::try_from(number)?),

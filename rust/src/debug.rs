@@ -1,4 +1,4 @@
-//! `Debug` for builders, views, formats, syntaxes and readers. It prints the format word, each field that differs from a
+//! `Debug` for builders, views, formats and syntaxes. It prints the format word, each field that differs from a
 //! new builder's, any reserved bits, and any broken rules.
 
 use core::fmt;
@@ -8,7 +8,7 @@ use crate::feature_format::NumberFormat;
 use crate::format_builder::NumberFormatBuilder;
 use crate::format_flags::{Rule, DIGIT_SEPARATOR_SHIFT};
 use crate::lawful::Format;
-use crate::literal::{Reader, Syntax};
+use crate::literal::Syntax;
 use crate::view::FormatView;
 
 /// Writes a struct with `word` and those fields of the format word `fields` that differ from a new builder's. A
@@ -88,12 +88,5 @@ impl fmt::Debug for Syntax {
             .field("point", &self.point().map(char::from))
             .field("conditions", &self.conditions())
             .finish()
-    }
-}
-
-/// Writes the syntax.
-impl fmt::Debug for Reader {
-    fn fmt(&self, f: &mut fmt::Formatter<'_>) -> fmt::Result {
-        f.debug_tuple("Reader").field(&self.syntax()).finish()
     }
 }

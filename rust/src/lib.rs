@@ -18,8 +18,8 @@
 //! | write a format as a constant | [`NumberFormatBuilder`] and its [`build_format_or_panic`][NumberFormatBuilder::build_format_or_panic], or [`build_or_panic`][NumberFormatBuilder::build_or_panic] for the word |
 //! | take a checked format as an argument | [`Format`] |
 //! | read numbers of a language | [`Language`][literal::Language] |
-//! | read numbers of a format | a [`Reader`][literal::Reader] of its [`Syntax`][literal::Syntax]; [`Specials`][literal::Specials] for NaN and infinity |
-//! | compute values | [`Reader::parse`][literal::Reader::parse], and `try_from` of an integer type, `f64` or `f32` |
+//! | read numbers of a format | its [`Syntax`][literal::Syntax]; [`Specials`][literal::Specials] for NaN and infinity |
+//! | compute values | [`Syntax::parse`][literal::Syntax::parse], and `try_from` of an integer type, `f64` or `f32` |
 //! | report why a text is not a number | [`ReadError`][literal::ReadError] |
 //! | write numbers | [`Syntax::format_integer`][literal::Syntax::format_integer], [`Syntax::format_literal`][literal::Syntax::format_literal] |
 //! | write a reader of your own | [`FormatView::is_separator`], [`separators`][FormatView::separators], [`role_of`][FormatView::role_of] |

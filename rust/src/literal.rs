@@ -1,30 +1,29 @@
 //! Literals: the texts that are numbers of a format, their parts, the calls that read them, and why a text is not one.
 //!
 //! A [`Syntax`] is a lawful format with an exponent character and a decimal point or, for integers alone, without both,
-//! and [`Conditions`].
-//! A [`Reader`] reads the literals of a syntax. A [`Literal`] has the parts of a text and, if it is an
-//! integer, its value in any integer type of Rust. A [`ReadError`] finds the cause of a refusal, and the flags to blame.
+//! and [`Conditions`]. It reads its literals. A [`Literal`] has the parts of a text and, if it is an integer, its value
+//! in any integer type of Rust. A [`ReadError`] finds the cause of a refusal, and the flags to blame.
 //! NaN and infinity are not literals: [`Specials`] reads them. [`Readers`] read numbers that have several forms, such as
 //! `10` and `0x1F`, and a [`Language`] has those of a language.
 //!
 //! ```
 //! use peltzivar::format::{Format, STANDARD};
-//! use peltzivar::literal::{Reader, Syntax};
+//! use peltzivar::literal::Syntax;
 //!
 //! /// The numbers of the standard format.
-//! static READER: Reader = Reader::new(Syntax::new_or_panic(Format::of::<STANDARD>(), b'e', b'.'));
-//! let literal = READER.read(b"-1.25e3").unwrap();
+//! const SYNTAX: Syntax = Syntax::new_or_panic(Format::of::<STANDARD>(), b'e', b'.');
+//! let literal = SYNTAX.read("-1.25e3").unwrap();
 //! assert!(literal.is_negative() && literal.is_float());
 //! assert_eq!((literal.integer(), literal.fraction(), literal.exponent()), (&b"1"[..], &b"25"[..], &b"3"[..]));
 //!
 //! // A second decimal point is refused. What is before it is a literal.
-//! let error = READER.read(b"1.25.3").unwrap_err();
+//! let error = SYNTAX.read("1.25.3").unwrap_err();
 //! assert_eq!((error.valid_up_to(), error.to_string()), (4, "unexpected character '.'".into()));
-//! let (literal, rest) = READER.read_prefix(b"1.25.3").unwrap();
+//! let (literal, rest) = SYNTAX.read_prefix("1.25.3").unwrap();
 //! assert_eq!((literal.as_bytes(), rest), (&b"1.25"[..], &b".3"[..]));
 //! ```
 //!
-//! [`Reader::parse`] returns the value of a text. [`Reader::read_prefix`] has an example that splits a text into numbers.
+//! [`Syntax::parse`] returns the value of a text. [`Syntax::read_prefix`] has an example that splits a text into numbers.
 //!
 //! # Writing numbers
 //!
@@ -35,7 +34,7 @@
 //! ```
 //! use peltzivar::literal::{Language, Style, WriteError};
 //!
-//! let number = Language::C.read(b"1'000.5e3").unwrap();
+//! let number = Language::C.read("1'000.5e3").unwrap();
 //! let python = Language::PYTHON.forms()[0].syntax;
 //! let text = python.format_literal(&number.literal().unwrap(), Style::PLAIN.group(3))?;
 //! assert_eq!(text.to_string(), "1_000.5e3");
@@ -45,7 +44,7 @@
 //!
 //! // A float is written from its shortest digits, which std prints.
 //! let digits = format!("{:?}", 0.1_f64 + 0.2);
-//! let number = Language::RUST.read(digits.as_bytes()).unwrap();
+//! let number = Language::RUST.read(&digits).unwrap();
 //! let comma = Language::CSV_DE.forms()[0].syntax;
 //! assert_eq!(comma.format_literal(&number.literal().unwrap(), Style::PLAIN)?.to_string(), "0,30000000000000004");
 //! # Ok::<(), WriteError>(())
@@ -90,7 +89,6 @@ pub use cause::{Place, ReadError, ReadErrorKind};
 pub use language::{Form, Language};
 pub use list::FormError;
 pub use number::{Digits, Literal};
-pub use read::Reader;
 pub use readers::{Number, Readers};
 pub use specials::{Sign, Special, Specials, Spelling};
 pub use syntax::{Condition, Conditions, ConditionsError, ConditionsErrorKind, Syntax};

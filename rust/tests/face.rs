@@ -3,7 +3,7 @@
 
 use peltzivar::edits::edits_of;
 use peltzivar::format::{NumberFormatBuilder, BASE_PREFIX_SHIFT, BASE_SUFFIX_SHIFT, STANDARD};
-use peltzivar::literal::{ConditionsError, Language, Syntax, WriteError};
+use peltzivar::literal::{ConditionsError, FormError, Language, Literal, ReadError, Syntax, WriteError};
 use peltzivar::{Edit, Error, FlagSetter, Format, FormatView, Settings};
 use std::{iter, num::NonZeroU8, panic};
 
@@ -111,6 +111,13 @@ fn an_error_states_its_cause() {
     assert_ne!(error, Format::new(0).unwrap_err());
 }
 
+#[test]
+#[cfg(target_pointer_width = "64")]
+fn values_are_small() {
+    let sizes = [size_of::<Syntax>(), size_of::<Literal>(), size_of::<ReadError>(), size_of::<FormError>()];
+    assert!(sizes.into_iter().zip([32, 160, 96, 96]).all(|(size, most)| size <= most), "{sizes:?}");
+}
+
 /// Returns the name of a type, and an error that has it.
 fn named<T: std::error::Error + 'static>(error: T) -> (&'static str, Box<dyn std::error::Error>) {
     (std::any::type_name::<T>().rsplit("::").next().unwrap(), Box::new(error))
@@ -120,14 +127,14 @@ fn named<T: std::error::Error + 'static>(error: T) -> (&'static str, Box<dyn std
 #[test]
 fn a_chain_of_errors_has_each_sentence_once() {
     let settings = Settings::read(["radix=37"]).unwrap();
-    let read = Language::JSON.read(b"").unwrap_err();
+    let read = Language::JSON.read("").unwrap_err();
     let [missing, large] = ["", "256"].map(|text| Language::JSON.parse::<u8>(text).unwrap_err());
     #[rustfmt::skip]
     let errors = [
         named(Error::Empty(1)), named(Format::new(0).unwrap_err()), named(FormatView::new(0).reasons().next().unwrap()),
         named("".parse::<Edit>().unwrap_err()), named(Settings::new().add("x").unwrap_err()), named(WriteError::Radix),
         named(settings.reasons().next().unwrap()), named(ConditionsError::GroupSize), named(read), named(read.error),
-        named(missing), named(large), named(i8::try_from(Language::JSON.read(b"1.5").unwrap()).unwrap_err()),
+        named(missing), named(large), named(i8::try_from(Language::JSON.read("1.5").unwrap()).unwrap_err()),
     ];
     let listed = include_str!("surface.rs").lines().filter_map(|line| line.strip_suffix(": std::error::Error {} };"));
     let mut listed = listed.filter_map(|line| line.split(' ').next_back());

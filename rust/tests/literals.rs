@@ -1,7 +1,7 @@
-//! The reader of literals, over the tables of docs/FORMAT.md and docs/EXPLANATIONS.md, and the grammars of languages.
+//! Literals that are read, over the tables of docs/FORMAT.md and docs/EXPLANATIONS.md, and the grammars of languages.
 
 use peltzivar::format::{CASE_SENSITIVE_SPECIAL, DIGIT_SEPARATOR_FLAG_MASK, NO_SPECIAL};
-use peltzivar::literal::{Language, Literal, ReadError, ReadErrorKind, Reader, Specials, Syntax};
+use peltzivar::literal::{Form, Language, Literal, ReadError, ReadErrorKind, Specials, Syntax};
 use peltzivar::{Edit, FlagSetter, Format, NumberFormatBuilder, Part, Settings};
 use std::collections::HashSet;
 
@@ -26,9 +26,9 @@ fn both(accepted: &'static str, rejected: &'static str) -> impl Iterator<Item = 
     texts(accepted).map(|text| (text, true)).chain(texts(rejected).map(|text| (text, false)))
 }
 
-/// Returns the reader of a syntax with the options of the page, but for those in `settings`.
-fn reader(settings: &str) -> Reader {
-    Reader::new(Settings::read(settings.split_whitespace()).unwrap().build_syntax().expect(settings))
+/// Returns a syntax with the options of the page, but for those in `settings`.
+fn syntax_of(settings: &str) -> Syntax {
+    Settings::read(settings.split_whitespace()).unwrap().build_syntax().expect(settings)
 }
 
 /// Returns the parts that are present, one after another.
@@ -53,12 +53,13 @@ fn has_parts(literal: Literal<'_>, format: Format) {
 }
 
 /// Reads a text. Both calls agree.
-fn read<'a>(reader: &Reader, text: &'a [u8]) -> Result<Literal<'a>, ReadError> {
-    let (result, prefix) = (reader.read(text), reader.read_prefix(text));
+fn read<'a>(syntax: Syntax, text: &'a (impl AsRef<[u8]> + ?Sized)) -> Result<Literal<'a>, ReadError> {
+    let text = text.as_ref();
+    let (result, prefix) = (syntax.read(text), syntax.read_prefix(text));
     let longest = prefix.map_or(0, |(literal, _)| literal.as_bytes().len());
     if let Ok((literal, rest)) = prefix {
         assert_eq!((literal.as_bytes(), rest), text.split_at(longest), "{text:?}");
-        has_parts(literal, reader.syntax().format());
+        has_parts(literal, syntax.format());
     }
     match result {
         Ok(literal) => assert_eq!(prefix, Ok((literal, &[][..]))),
@@ -66,8 +67,8 @@ fn read<'a>(reader: &Reader, text: &'a [u8]) -> Result<Literal<'a>, ReadError> {
             assert!(longest <= error.valid_up_to() && error.valid_up_to() <= text.len(), "{text:?}");
             assert_eq!(error.is_incomplete(), error.valid_up_to() == text.len(), "{text:?}");
             assert!(text.get(error.span()).is_some(), "{text:?}: {error:?}");
-            std::str::from_utf8(text).iter().for_each(|text| characters_are_whole(error, reader, text));
-            settings_end_the_cause(error, reader.syntax(), text);
+            std::str::from_utf8(text).iter().for_each(|text| characters_are_whole(error, syntax, text));
+            settings_end_the_cause(error, syntax, text);
         }
     }
     result
@@ -75,12 +76,12 @@ fn read<'a>(reader: &Reader, text: &'a [u8]) -> Result<Literal<'a>, ReadError> {
 
 /// A character of several bytes behind the wrong byte changes nothing. Where the text is right, it is what cannot follow.
 /// All spans have whole characters.
-fn characters_are_whole(error: ReadError, reader: &Reader, text: &str) {
+fn characters_are_whole(error: ReadError, syntax: Syntax, text: &str) {
     let answers = |it: ReadError| (it.valid_up_to(), it.kind(), it.span());
     for at in (0..=text.len()).filter(|at| text.is_char_boundary(*at)) {
         for character in ["\u{e9}", "\u{20ac}", "\u{1f600}"] {
             let longer = [&text[..at], character, &text[at..]].concat();
-            let found = reader.read(longer.as_bytes()).unwrap_err();
+            let found = syntax.read(&longer).unwrap_err();
             assert!(longer.get(found.span()).is_some(), "{longer}: {found:?}");
             let wrong = (at, ReadErrorKind::Byte, at..at + character.len());
             assert_eq!(answers(found), if at > error.valid_up_to() { answers(error) } else { wrong }, "{longer}");
@@ -99,8 +100,7 @@ fn settings_end_the_cause(error: ReadError, syntax: Syntax, text: &[u8]) {
         builder.extend(edits);
         // The options and the conditions stay.
         let edited = syntax.to_string().replace(&syntax.format().to_string(), &builder.view().to_string());
-        let reader = Reader::new(edited.parse().unwrap());
-        let result = reader.read(text);
+        let result = edited.parse::<Syntax>().unwrap().read(text);
         let blames_both = |it: ReadError| it.valid_up_to() == error.valid_up_to() && it.mask() & error.mask() != 0;
         assert!(!result.is_err_and(blames_both), "{text:?}: {edits:?}: {result:?}");
     }
@@ -121,8 +121,8 @@ fn flags_accept_and_reject_the_texts_of_the_page() {
         let allows = mask >> 32 != 0;
         for (text, is_accepted) in both(accepted, rejected) {
             for (value, wanted) in [(true, is_accepted), (false, !allows)] {
-                let reader = reader(&format!("{with} {name}={value}"));
-                let (syntax, result) = (reader.syntax(), read(&reader, text.as_bytes()));
+                let syntax = syntax_of(&format!("{with} {name}={value}"));
+                let result = read(syntax, text);
                 let special = specials.read(&syntax, text.as_bytes());
                 assert_eq!(result.is_ok() || special.is_some(), wanted, "{name}={value}: {text}: {result:?}");
                 let can_be_blamed = match allows {
@@ -144,9 +144,9 @@ fn flags_accept_and_reject_the_texts_of_the_page() {
 fn conditions_accept_and_reject_the_texts_of_the_page() {
     for row in table(FORMAT, "Conditions") {
         let [setting, _, with, accepted, rejected, _] = row[..] else { panic!("{row:?}") };
-        let readers = [reader(with), reader(&format!("{with} {setting}"))];
+        let syntaxes = [syntax_of(with), syntax_of(&format!("{with} {setting}"))];
         for (text, is_accepted) in both(accepted, rejected) {
-            let results = readers.each_ref().map(|reader| read(reader, text.as_bytes()).is_ok());
+            let results = syntaxes.map(|syntax| read(syntax, text).is_ok());
             assert_eq!(results, [true, is_accepted], "{setting}: {text}");
         }
     }
@@ -156,12 +156,12 @@ fn conditions_accept_and_reject_the_texts_of_the_page() {
 fn questions_have_the_answers_of_the_page() {
     for row in table(FORMAT, "Questions and answers") {
         let [.., settings, accepted, rejected] = row[..] else { panic!("{row:?}") };
-        let reader = reader(&settings.replace("`, no options", " exponent=none point=none"));
+        let syntax = syntax_of(&settings.replace("`, no options", " exponent=none point=none"));
         for text in texts(accepted) {
-            assert!(read(&reader, text.as_bytes()).is_ok(), "{settings}: {text}");
+            assert!(read(syntax, text).is_ok(), "{settings}: {text}");
         }
         for (text, code) in texts(rejected).step_by(2).zip(texts(rejected).skip(1).step_by(2)) {
-            let found = read(&reader, text.as_bytes()).map_err(|error| format!("{:?}", error.code()));
+            let found = read(syntax, text).map_err(|error| format!("{:?}", error.code()));
             assert_eq!(found, Err(code.into()), "{settings}: {text}");
         }
     }
@@ -171,7 +171,7 @@ fn questions_have_the_answers_of_the_page() {
 fn causes_are_those_of_the_page() {
     for row in table(EXPLANATIONS, "Texts and their causes") {
         let [text, settings, cause, valid_up_to, span] = row[..] else { panic!("{row:?}") };
-        let error = read(&reader(settings), text.as_bytes()).expect_err(text);
+        let error = read(syntax_of(settings), text).expect_err(text);
         let mut found = match error.kind() {
             ReadErrorKind::Separator(..) => "separator".into(),
             ReadErrorKind::Missing(part) => format!("missing {part:?}").to_lowercase(),
@@ -209,7 +209,7 @@ fn sentences_name_what_is_seen() {
         ("base_prefix='x' required_base_prefix=true required_mantissa_sign=true", "1", "expected a sign, which required_mantissa_sign requires", ""),
     ];
     for (settings, text, sentence, shown) in rows {
-        let error = read(&reader(settings), text.as_bytes()).unwrap_err();
+        let error = read(syntax_of(settings), text).unwrap_err();
         assert_eq!((error.to_string().as_str(), &text[error.span()]), (sentence, shown), "{text}");
         assert_eq!(Some(&*format!("{error:#}")), sentence.split(", which").next(), "{text}");
     }
@@ -228,9 +228,9 @@ fn parts_are_known() {
         ("base_suffix='h' required_base_suffix=true", "1h2", "1 h"),
     ];
     for (settings, text, wanted) in rows {
-        let reader = reader(settings);
-        let result = read(&reader, text.as_bytes());
-        let (literal, _) = reader.read_prefix(text.as_bytes()).unwrap();
+        let syntax = syntax_of(settings);
+        let result = read(syntax, text);
+        let (literal, _) = syntax.read_prefix(text).unwrap();
         assert!(present(literal).into_iter().eq(wanted.split(' ').map(str::as_bytes)), "{text}: {literal:?}");
         assert_eq!(result.is_ok(), text == wanted.replace(' ', ""), "{text}");
     }
@@ -240,10 +240,10 @@ fn parts_are_known() {
 /// or is refused.
 #[test]
 fn each_byte_between_two_digits_is_read_or_refused() {
-    let reader = reader("digit_separator='_' internal_digit_separator=true");
+    let syntax = syntax_of("digit_separator='_' internal_digit_separator=true");
     for byte in 0..=u8::MAX {
         let text = [b'1', byte, b'2'];
-        let found = read(&reader, &text).err().map(|it| (it.valid_up_to(), it.byte()));
+        let found = read(syntax, &text).err().map(|it| (it.valid_up_to(), it.byte()));
         assert_eq!(found, (!b"0123456789_.eE".contains(&byte)).then_some((1, Some(byte))), "{byte}");
     }
 }
@@ -263,12 +263,12 @@ fn languages_answer_as_their_grammars_and_tools_do() {
             _ => panic!("{row}"),
         };
         let language = Language::ALL.iter().find(|it| it.name() == cells[0]).expect(row);
-        let text = cells[2].as_bytes();
+        let text = cells[2];
         let result = language.read(text);
         assert_eq!(result.is_ok(), is_accepted, "{row}: {result:?}");
-        for (form, reader) in language.readers().as_slice().iter().enumerate() {
+        for (form, Form { syntax, .. }) in language.forms().iter().enumerate() {
             let is_furthest = |size: usize| size > 1 && result.is_err_and(|it| it.error.valid_up_to() == size);
-            let is_refused = reader.read(text).is_err_and(|it| is_furthest(it.valid_up_to()));
+            let is_refused = syntax.read(text).is_err_and(|it| is_furthest(it.valid_up_to()));
             let is_given = result.is_ok_and(|it| it.form() == Some(form));
             seen.extend((is_refused || is_given).then_some((language, form, is_given)));
         }

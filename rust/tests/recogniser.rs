@@ -1,12 +1,12 @@
 //! A recogniser of literals, written from docs/FORMAT.md and docs/EXPLANATIONS.md alone, and the comparison of the
-//! reader with it. The recogniser tries all splits of a text into parts, all fronts of a text, and all flags.
+//! library with it. The recogniser tries all splits of a text into parts, all fronts of a text, and all flags.
 //!
 //! `cargo test` compares a sample. To compare all texts, which takes a quarter of an hour:
 //!
 //!     cargo test --release --test recogniser -- --ignored
 
 use core::{array, iter, mem, ops::Range};
-use peltzivar::literal::{self, Conditions, Language, Literal, Place, ReadError, ReadErrorKind, Reader};
+use peltzivar::literal::{self, Conditions, Language, Literal, Place, ReadError, ReadErrorKind};
 use peltzivar::{format::FLAG_MASK, Error, Format, Part, Role};
 use std::collections::BTreeSet;
 use {Error::*, Piece::*};
@@ -326,7 +326,7 @@ fn compare(word: u128, options: Option<(u8, u8)>, required: u128, bytes: &[u8], 
     let library = library.with(conditions(required)).unwrap();
     let differs = |&byte: &u8| library.role_of(byte) != syntax.roles[usize::from(byte)];
     assert_eq!((0..=255).find(differs), None, "the first byte with another role in {name}");
-    let (reader, mut random) = (Reader::new(library), 1);
+    let mut random = 1;
     // With each text are the parts of its longest front that is a literal, and why a front begins no literal.
     let mut texts = vec![(Vec::new(), None, None)];
     while let Some((text, front, wrong)) = texts.pop() {
@@ -335,7 +335,7 @@ fn compare(word: u128, options: Option<(u8, u8)>, required: u128, bytes: &[u8], 
         let is_wrong = || syntax.begun(syntax.word, &text, &syntax.more).is_none();
         let wrong = wrong.or_else(|| is_wrong().then(|| syntax.failure(&text, false)));
         let failure = || wrong.clone().unwrap_or_else(|| syntax.failure(&text, true));
-        let (read, prefix) = (reader.read(&text), reader.read_prefix(&text));
+        let (read, prefix) = (library.read(&text), library.read_prefix(&text));
         for (read, pieces) in [(read, literal), (prefix.map(|(literal, _)| literal), front.clone())] {
             let wanted = pieces.ok_or_else(failure).and_then(|pieces| match syntax.wrong_group(&text, &pieces) {
                 None => Ok(pieces.map(|piece| &text[piece])),

@@ -4,7 +4,7 @@
 mod suggest;
 
 use peltzivar::format::{DIGIT_SEPARATOR, DIGIT_SEPARATOR_FLAG_MASK, REQUIRED_MANTISSA_SIGN, STANDARD};
-use peltzivar::literal::{Language, Reader};
+use peltzivar::literal::Language;
 use peltzivar::{Edit, NumberFormatBuilder};
 use suggest::{lines_of, offers, problems, read, repairs, State};
 
@@ -73,7 +73,7 @@ fn numbers_of_many_forms_lead_to_their_formats() {
 fn walk(lines: &str) -> Option<State> {
     let mut state = State { word: STANDARD, exponent: b'e', point: b'.', conditions: 0 };
     for line in lines_of(lines.as_bytes()) {
-        if state.syntax().is_none_or(|it| read(&Reader::new(it), line.text).is_err()) {
+        if state.syntax().is_none_or(|it| read(it, line.text).is_err()) {
             state = offers(state, lines.as_bytes(), line).best().next()?.0;
         }
     }

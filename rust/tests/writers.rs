@@ -1,23 +1,17 @@
 //! Writers: what is written, and that it is read back with the same value.
 
-use peltzivar::literal::{Conditions, FromLiteral, Language, Literal, Reader, Style, Syntax, WriteError, WriteInteger};
+use peltzivar::literal::{Conditions, Form, FromLiteral, Language, Literal, Style, Syntax, WriteError, WriteInteger};
 use peltzivar::{Format, NumberFormatBuilder, Part};
 use std::{collections::BTreeMap, fmt::Debug, num::NonZeroU8};
 
 const LITERALS: &str = include_str!("literals.txt");
 
-/// Returns a reader of each syntax of the languages.
-fn readers() -> impl Iterator<Item = Reader> {
-    Language::ALL.iter().flat_map(Language::forms).map(|form| Reader::new(form.syntax))
-}
-
-/// Writes a value in each syntax, and reads it back.
+/// Writes a value in each syntax of the languages, and reads it back.
 fn is_read_back<T: WriteInteger + FromLiteral + PartialEq + Copy + Debug>(value: T) {
-    for reader in readers() {
-        let syntax = reader.syntax();
+    for Form { syntax, .. } in Language::ALL.iter().flat_map(Language::forms) {
         for style in [Style::PLAIN, Style::PLAIN.group(3), Style::PLAIN.without_base()] {
             match syntax.format_integer(value, style) {
-                Ok(text) => assert_eq!(reader.parse::<T>(text.to_string()), Ok(value), "{text}"),
+                Ok(text) => assert_eq!(syntax.parse::<T>(text.to_string()), Ok(value), "{text}"),
                 Err(WriteError::Float) => assert!(syntax.format().required_exponent_notation()),
                 Err(WriteError::Negative) => assert!(syntax.conditions().no_negative_mantissa_sign),
                 Err(error) => panic!("{value:?} in {syntax}: {error}"),
@@ -41,7 +35,7 @@ fn rows() -> impl Iterator<Item = (Language, &'static str)> {
         let mut words = row.split_whitespace();
         let (name, text) = (words.next()?, words.nth(1)?);
         let language = *Language::ALL.iter().find(|it| it.name() == name)?;
-        language.read(text.as_bytes()).ok()?.literal().map(|_| (language, text))
+        language.read(text).ok()?.literal().map(|_| (language, text))
     })
 }
 
@@ -80,16 +74,16 @@ fn is_reason(error: WriteError, literal: &Literal, source: &Syntax, target: &Syn
 fn literals_are_written_in_other_languages() {
     let mut counts = BTreeMap::new();
     for (language, text) in rows() {
-        let number = language.read(text.as_bytes()).unwrap();
+        let number = language.read(text).unwrap();
         let (literal, form) = (number.literal().unwrap(), number.form().unwrap());
         let source = language.forms()[form].syntax;
         for target in Language::ALL {
-            for (form, reader) in target.forms().iter().zip(target.readers().as_slice()) {
+            for form in target.forms() {
                 let style = Style::PLAIN.group(text.len() % 5);
                 let key = match form.syntax.format_literal(&literal, style) {
                     Ok(written) => {
                         let back = written.to_string();
-                        let read = reader.read(back.as_bytes()).unwrap_or_else(|error| {
+                        let read = form.syntax.read(&back).unwrap_or_else(|error| {
                             panic!("{language} {text:?} in {target} {}: {back:?}: {error}", form.name)
                         });
                         assert_eq!(value(&read), value(&literal), "{language} {text:?} in {target}: {back:?}");
@@ -112,8 +106,7 @@ fn literals_are_written_in_other_languages() {
 
 /// Converts a text of the standard format to one with `.` and `e`.
 fn convert(text: &str, target: NumberFormatBuilder) -> Result<String, WriteError> {
-    let reader = Reader::new(Syntax::new_or_panic(Format::default(), b'e', b'.'));
-    let literal = reader.read(text.as_bytes()).unwrap();
+    let literal = Syntax::new_or_panic(Format::default(), b'e', b'.').read(text).unwrap();
     let target = Syntax::new_or_panic(target.build_format_or_panic(), b'e', b'.');
     target.format_literal(&literal, Style::PLAIN).map(|text| text.to_string())
 }
@@ -167,8 +160,7 @@ fn texts_of_each_length_are_printed_and_written() {
         let groups = digits.as_bytes().rchunks(group).rev().map(|it| std::str::from_utf8(it).unwrap());
         let suffix = format.base_suffix().map(|byte| char::from(byte.get()));
         let wanted = &*(Vec::from_iter(groups).join("_") + &String::from_iter(suffix));
-        let (length, reader) = (wanted.len(), Reader::new(syntax));
-        let literal = reader.read(wanted.as_bytes()).unwrap();
+        let (length, literal) = (wanted.len(), syntax.read(wanted).unwrap());
         for text in [syntax.format_integer(value, style), syntax.format_literal(&literal, style)].map(Result::unwrap) {
             assert_eq!((text.as_str(), &*text.to_string()), ((length <= 64).then_some(wanted), wanted));
             assert_eq!(format!("{text:?} {text:>200}"), format!("{wanted:?} {wanted:>200}"));

@@ -79,7 +79,7 @@ TEST_FORMS = [
 REPLACED = [
     # Conditions parse numbers, too.
     ("edits/settings.rt", "fn byte_from_number(", "pub(crate) fn byte_from_number("),
-    ("lexical_util/src/edits.rt", "{likeness,", "{byte_from_number, likeness,"),
+    ("edits.rt", "settings::{Fault, likeness,", "settings::{Fault, byte_from_number, likeness,"),
     # LLVM gathers entries of 32 bits, and inserts entries of 8 bits one by one.
     ("digit.rt", "const VALUES: [u8; 256] = [", "const VALUES: [u32; 256] = ["),
     ("digit.rt", "VALUES[c as usize] as u32", "VALUES[c as usize]"),
@@ -89,8 +89,6 @@ REPLACED = [
     ("lawful.rt", "pub struct Format {\n    word:", "pub struct Format {\n    pub(crate) word:"),
     ("syntax.rt", "pub struct Syntax {\n    format:", "pub struct Syntax {\n    pub(crate) format:"),
     ("syntax.rt", "    options: Option<Options>,\n    conditions: Conditions,\n}\n\nimpl Model for Syntax", "    pub(crate) options: Option<Options>,\n    pub(crate) conditions: Conditions,\n}\n\nimpl Model for Syntax"),
-    # By a syntax that is not lawful, a text may be a literal in one way of reading and not in another.
-    ("read.rt", "unreachable!()", "return self.refuse_byte(text, BEGIN);"),
     # Calls with these names are written by hand: they return a byte, a `Literal` or a range.
     ("syntax.rt", "pub const fn options(&self)", "pub(crate) const fn options(&self)"),
     ("cause.rt", "pub const fn span(&self)", "#[doc(hidden)] pub const fn bounds(&self)"),
@@ -135,7 +133,6 @@ REPLACED += [
     # Only in plain Rust do public calls return this type. The documentation hides the traits of a hidden type.
     ("short_text.rt", "#[derive(Drop)]\n#[doc(hidden)]", "#[derive(Clone,\nCopy)]"),
     ("list.rt", "#[derive(Drop)]", "#[derive(Debug, Clone, Copy, PartialEq, Eq)]"),
-    ("read.rt", "#[derive(Drop)]", "#[derive(Clone)]"),
     ("sink.rt", "#[derive(Drop)]", "#[derive(Debug)]"),
     # `Debug` prints the answers.
     ("cause.rt", "#[derive(Debug, Clone, Copy, PartialEq, Eq, Hash)]\npub struct ReadError {", "#[derive(Clone, Copy, PartialEq, Eq, Hash)]\npub struct ReadError {"),

@@ -18,7 +18,6 @@ ghost use Rattle.lexical_literal.specs.Takes.{Takes};
 ghost use Rattle.lexical_number.specs.Numeral.{unsigned};
 ghost use Rattle.lexical_value.specs.Parsed.{IsParsed};
 
-use lexical_literal::read::Reader;
 use lexical_literal::syntax::Syntax;
 use lexical_util::format::Format;
 use lexical_value::parse::{ParseError, parse_integer};
@@ -62,22 +61,22 @@ pub fn octal_facts()
     ensures options { OptionsFit OCTAL EXPONENT POINT }
 {}
 
-/// Returns a reader of the integers of [`DECIMAL`].
-pub fn decimal() -> Reader
+/// Returns the syntax of the integers of [`DECIMAL`].
+pub fn decimal() -> Syntax
     ensures { result ≡ record { word = DECIMAL; options = None; conditions = no_conditions } }
 {
     decimal_facts();
     match Format::new(DECIMAL) {
-        Ok(format) => Reader::new(Syntax::integers(format)),
+        Ok(format) => Syntax::integers(format),
         Err(_) => unreachable!(),
     }
 }
 
-/// Returns whether `text` is a literal of the syntax of `reader`.
-pub fn is_literal(reader: &Reader, text: &[u8]) -> bool
-    ensures { IsTrue result ↔ ((l : Literal) × Takes reader.now l text.now) }
+/// Returns whether `text` is a literal of `syntax`.
+pub fn is_literal(syntax: &Syntax, text: &[u8]) -> bool
+    ensures { IsTrue result ↔ ((l : Literal) × Takes syntax.now l text.now) }
 {
-    match reader.read(text) {
+    match syntax.read(text) {
         Ok(_) => true,
         Err(_) => false,
     }

@@ -1,6 +1,6 @@
 -- Groups, read from left to right, and where separators are, counted from the right.
 use Rattle.std.proofs.Common.{ℕ, ◌≡◌, ◌<◌, ◌≤◌, ◌+◌, ◌-◌, ◌*◌, ◌%◌, ◌==◌, ◌&&◌, ◌||◌, ◌⊎◌, Bool, true, false, if◌then◌else◌, inl, inr}
-use Rattle.std.proofs.Common.{Some, List, [], ◌∷◌, suc, zero, length, drop, drop-cons, get_or, slice_get, add-one, refl, sym, ap, subst, ◌∙◌, arith}
+use Rattle.std.proofs.Common.{Some, None, List, [], ◌∷◌, suc, zero, length, drop, drop-cons, get_or, slice_get, add-one, refl, sym, ap, subst, ◌∙◌, arith}
 use Rattle.std.proofs.lemmas.Bool.{and_parts, and_from, cases_Bool, cases_lt, false≢true, false_from_ne_true}
 use Rattle.std.proofs.lemmas.Bool.Decides.{nat_tests}
 use Rattle.std.proofs.lemmas.Nat.{mod-mul-add}
@@ -13,7 +13,7 @@ use Rattle.lexical_literal.specs.Cause.{first_in, is_in}
 use Rattle.lexical_literal.specs.Groups.{are_groups, begins_in, group_begins, group_size, has_groups, is_grouped, is_right}
 use Rattle.lexical_literal.specs.Literal.{Literal, Reads}
 use Rattle.lexical_literal.specs.Notation.{integer_group_size, notation_of}
-use Rattle.lexical_literal.specs.Takes.{Refuses}
+use Rattle.lexical_literal.specs.Takes.{AreGroups, Refuses}
 use Rattle.lexical_literal.specs.Additions.Longest.{IsMeasured}
 use Rattle.lexical_literal.specs.Additions.Summary.{cuts_of, HasLengths}
 use Rattle.lexical_literal.specs.declared.syntax.Grammar.{Grammar}
@@ -144,6 +144,10 @@ not_grouped g text l reads refuses size required = false_from_ne_true _ (λ grou
   reads = reads;
   groups = subst (λ o. has_groups (notation_of g).separator o l.integer ≡ true) (sym required) grouped;
 }))
+
+-- A syntax that requires no size of groups takes any.
+pub any_groups : (g : Grammar) (l : Literal) → integer_group_size g.conditions ≡ None → AreGroups g l
+any_groups g l none = ap (λ o. has_groups (notation_of g).separator o l.integer) none
 
 -- Groups decide whether the syntax takes a literal of its notation.
 pub measured : (g : Grammar) (text counts : List ℕ) (is : Bool) → (l : Literal) × Reads (notation_of g) l text

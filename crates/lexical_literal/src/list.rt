@@ -1,4 +1,4 @@
-//! Lists of readers: the numbers of a language that has several forms, such as `10`, `0x1F` and `0b1`.
+//! Lists of syntaxes: the numbers of a language that has several forms, such as `10`, `0x1F` and `0b1`.
 
 ghost use Rattle.std.specs.Prelude.{◌≡◌, ◌<◌, All, SomeIff, length};
 ghost use Rattle.lexical_literal.specs.Additions.Forms.{IsFoundForm, IsFoundFrontForm, IsFurthestForm, IsLongestForm, further, longer};
@@ -7,24 +7,25 @@ ghost use Rattle.lexical_literal.specs.Takes.{Refuses};
 
 use crate::cause::ReadError;
 use crate::plain::At;
-use crate::read::{Found, Reader};
+use crate::read::Found;
+use crate::syntax::Syntax;
 use std::marker::Model;
 
-/// The readers of the forms of numbers, at least one. The first form that takes a text decides what number it is.
+/// The syntaxes of the forms of numbers, at least one. The first form that takes a text decides what number it is.
 #[derive(Drop)]
-pub struct ReaderList<'a> {
-    readers: &'a [Reader],
+pub struct SyntaxList<'a> {
+    syntaxes: &'a [Syntax],
 }
 
-impl<'a> Model for ReaderList<'a> {
+impl<'a> Model for SyntaxList<'a> {
     ghost use Rattle.std.specs.Prelude.{◌<◌, List, length};
     ghost use Rattle.lexical_literal.specs.declared.syntax.Grammar.{Grammar};
 
     ghost Value = { List Grammar };
 
-    ghost view = { λ list. list.readers.now };
+    ghost view = { λ list. list.syntaxes.now };
 
-    ghost invariant = { λ list. 0 < length list.readers.now };
+    ghost invariant = { λ list. 0 < length list.syntaxes.now };
 }
 
 /// Why a text is not a number of any form: the error of the form that goes furthest in the text. Of several, it is the
@@ -37,26 +38,26 @@ pub struct FormError {
     pub error: ReadError,
 }
 
-impl<'a> ReaderList<'a> {
-    /// Returns the list of `readers`, or `None` if there are none.
+impl<'a> SyntaxList<'a> {
+    /// Returns the list of `syntaxes`, or `None` if there are none.
     #[must_use]
-    pub const fn new(readers: &'a [Reader]) -> Option<ReaderList<'a>>
-        ensures { SomeIff result (0 < length readers.now) readers.now }
+    pub const fn new(syntaxes: &'a [Syntax]) -> Option<SyntaxList<'a>>
+        ensures { SomeIff result (0 < length syntaxes.now) syntaxes.now }
     {
-        if readers.len() == 0 {
+        if syntaxes.len() == 0 {
             None
         } else {
-            Some(ReaderList { readers })
+            Some(SyntaxList { syntaxes })
         }
     }
 
-    /// Returns the readers.
+    /// Returns the syntaxes.
     #[must_use]
-    pub const fn readers(&self) -> &'a [Reader]
+    pub const fn syntaxes(&self) -> &'a [Syntax]
         ensures list { result.now ≡ self.now }
         ensures some { 0 < length self.now }
     {
-        self.readers
+        self.syntaxes
     }
 
     // Returns the index of the first form that takes `text`, and the lengths of its parts, or why no form takes it.
@@ -65,15 +66,15 @@ impl<'a> ReaderList<'a> {
     {
         let mut furthest = None;
         let mut form = 0;
-        while form < self.readers.len() {
-            let reader = &self.readers[form];
-            let counted = reader.begin(text, false);
-            if reader.is_whole(text, counted) {
+        while form < self.syntaxes.len() {
+            let syntax = &self.syntaxes[form];
+            let counted = syntax.begin(text, false);
+            if syntax.is_whole(text, counted) {
                 let counts = counted.counts;
                 return Ok((form, counts));
             }
-            let stop = reader.stop(text, counted.at);
-            match reader.lengths(text, stop) {
+            let stop = syntax.stop(text, counted.at);
+            match syntax.lengths(text, stop) {
                 Some(counts) => return Ok((form, counts)),
                 None => furthest = further(furthest, form, stop),
             }
@@ -90,8 +91,8 @@ impl<'a> ReaderList<'a> {
         let mut furthest = None;
         let mut longest = None;
         let mut form = 0;
-        while form < self.readers.len() {
-            let (stop, found) = self.readers[form].front(text);
+        while form < self.syntaxes.len() {
+            let (stop, found) = self.syntaxes[form].front(text);
             furthest = further(furthest, form, stop);
             longest = longer(longest, form, found);
             form += 1;
@@ -107,7 +108,7 @@ impl<'a> ReaderList<'a> {
         requires { IsLongestForm self.now text.now form found }
         ensures { IsFoundFrontForm self.now text.now result }
     {
-        match self.readers()[form].grouped(text, found) {
+        match self.syntaxes()[form].grouped(text, found) {
             Ok(()) => Ok((form, found)),
             Err(error) => Err(FormError { form, error }),
         }
@@ -124,14 +125,14 @@ impl<'a> ReaderList<'a> {
         let Some((first, stop)) = furthest else {
             unreachable!()
         };
-        let readers = self.readers();
-        let error = readers[first].refuse(text, stop);
+        let syntaxes = self.syntaxes();
+        let error = syntaxes[first].refuse(text, stop);
         let mut form = first + 1;
-        while form < readers.len() {
-            let reader = &readers[form];
-            let reached = reader.stop(text, reader.begin(text, false).at);
+        while form < syntaxes.len() {
+            let syntax = &syntaxes[form];
+            let reached = syntax.stop(text, syntax.begin(text, false).at);
             if reached.size == stop.size {
-                let other = reader.refuse(text, reached);
+                let other = syntax.refuse(text, reached);
                 if !other.is_byte() && error.is_byte() {
                     return FormError { form, error: other };
                 }

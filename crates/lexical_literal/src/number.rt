@@ -6,9 +6,10 @@ ghost use Rattle.lexical_literal.specs.Forms.{IsFrontByForms, IsReadByForms};
 ghost use Rattle.lexical_literal.specs.Parts.{IsRead, IsReadPrefix};
 
 use crate::cause::ReadError;
-use crate::list::{FormError, ReaderList};
+use crate::list::{FormError, SyntaxList};
 use crate::plain::At;
-use crate::read::{Found, Parts, Reader, cut, front_of};
+use crate::read::{Found, Parts, cut, front_of};
+use crate::syntax::Syntax;
 
 /// A leading piece of a text that is a literal.
 #[derive(Debug, Clone, Copy, PartialEq, Eq, Hash)]
@@ -19,7 +20,7 @@ pub struct Front<'a> {
     pub size: usize,
 }
 
-impl Reader {
+impl Syntax {
     /// Returns the parts of the literal `text`.
     ///
     /// # Errors
@@ -94,7 +95,7 @@ pub struct FormFront<'a> {
     pub size: usize,
 }
 
-impl<'r> ReaderList<'r> {
+impl<'s> SyntaxList<'s> {
     /// Returns the parts of `text`, and the index of the first form of which it is a literal.
     ///
     /// # Errors

@@ -8,7 +8,7 @@ ghost use Rattle.lexical_literal.specs.Additions.Summary.{HasLengths, cuts_of, i
 ghost use Rattle.lexical_literal.specs.Additions.Causes.{lets};
 ghost use Rattle.lexical_literal.specs.Cause.{IsRefusal, tail_of, tail_size};
 ghost use Rattle.lexical_literal.specs.Literal.{Literal, Reads, text_of};
-ghost use Rattle.lexical_literal.specs.Notation.{notation_of};
+ghost use Rattle.lexical_literal.specs.Notation.{integer_group_size, notation_of};
 ghost use Rattle.lexical_literal.specs.Parts.{literal_of};
 ghost use Rattle.lexical_literal.specs.Takes.{IsError, IsUngrouped, Refuses};
 
@@ -17,9 +17,8 @@ use crate::groups::{is_grouped, wrong_group};
 use crate::plain::{At, BEGIN, Counted, plain};
 use crate::span::marks;
 use crate::steps::{Summary, byte_class, is_complete, piece_number, step, step_at};
-use crate::syntax::Syntax;
+use crate::syntax::{Condition, Syntax};
 use lexical_util::laws::flags::role_facts;
-use std::marker::Model;
 
 /// The parts of a literal, in the order of the text. An absent part has no bytes.
 #[derive(Debug, Clone, Copy, PartialEq, Eq, Hash)]
@@ -51,41 +50,7 @@ pub(crate) struct Found {
     pub(crate) counts: [usize; 9],
 }
 
-/// A syntax that reads literals.
-#[derive(Drop)]
-pub struct Reader {
-    pub(crate) syntax: Syntax,
-}
-
-impl Model for Reader {
-    ghost use Rattle.lexical_literal.specs.declared.syntax.Grammar.{Grammar};
-
-    ghost Value = { Grammar };
-
-    ghost use Rattle.lexical_literal.specs.Syntax.{IsSyntax};
-
-    ghost view = { λ reader. reader.syntax };
-
-    ghost invariant = { λ reader. IsSyntax reader.syntax };
-}
-
-impl Reader {
-    /// Returns a reader of the literals of `syntax`.
-    #[must_use]
-    pub const fn new(syntax: Syntax) -> Reader
-        ensures { result ≡ syntax }
-    {
-        Reader { syntax }
-    }
-
-    /// Returns the syntax.
-    #[must_use]
-    pub const fn syntax(&self) -> Syntax
-        ensures { result ≡ self.now }
-    {
-        self.syntax
-    }
-
+impl Syntax {
     // Returns whether the integer of the literal `text` is in groups, if the syntax requires it.
     #[inline(always)]
     fn has_groups(&self, text: &[u8], counts: [usize; 9]) -> bool
@@ -93,8 +58,8 @@ impl Reader {
         requires counted { (l : Literal) → Reads (notation_of self.now) l text.now → HasLengths l (cuts_of counts) }
         ensures { IsMeasured self.now text.now counts result }
     {
-        let grammar = self.syntax.grammar();
-        match grammar.conditions.integer_group_size() {
+        let grammar = self.grammar();
+        match grammar.conditions.get(Condition::IntegerGroupSize) {
             None => true,
             Some(size) => {
                 let parts = cut(text, counts);
@@ -134,10 +99,9 @@ impl Reader {
         ensures { IsGrouped self.now text.now found result }
     {
         let front = front_of(text, found.size);
-        if self.has_groups(front, found.counts) {
-            Ok(())
-        } else {
-            Err(self.ungrouped(front))
+        match self.grammar().conditions.get(Condition::IntegerGroupSize) {
+            Some(size) if !self.has_groups(front, found.counts) => Err(self.ungrouped(front, size)),
+            _ => Ok(()),
         }
     }
 
@@ -148,7 +112,7 @@ impl Reader {
         ensures { HasFound (notation_of self.now) text.now result }
     {
         role_facts();
-        plain(self.syntax.grammar(), text, fronts)
+        plain(self.grammar(), text, fronts)
     }
 
     // Returns whether all of `text` is a literal that has been read.
@@ -200,7 +164,7 @@ impl Reader {
         ensures stop { IsNone result → IsStopped (notation_of self.now) text.now at }
     {
         role_facts();
-        let grammar = self.syntax.grammar();
+        let grammar = self.grammar();
         let At { size, read } = at;
         if size == text.len() {
             return None;
@@ -250,7 +214,7 @@ impl Reader {
         ensures { IsScanned (notation_of self.now) seeks text.now result }
     {
         role_facts();
-        let grammar = self.syntax.grammar();
+        let grammar = self.grammar();
         let At { mut size, mut read } = BEGIN;
         let mut counts = [0; 9];
         let mut literal = None;
@@ -283,7 +247,7 @@ impl Reader {
     const fn is_complete(&self, read: Summary) -> bool
         ensures { result ≡ is_complete (notation_of self.now) read }
     {
-        is_complete(self.syntax.grammar(), read)
+        is_complete(self.grammar(), read)
     }
 
     // Returns why `text`, of which reading stopped at `stop`, is not a literal.
@@ -293,25 +257,24 @@ impl Reader {
         requires refuses { Refuses self.now text.now }
         ensures { IsError self.now text.now result.refusal }
     {
-        if stop.size == text.len() && self.is_complete(stop.read) {
-            self.ungrouped(text)
-        } else {
-            self.refuse_byte(text, stop)
+        match self.grammar().conditions.get(Condition::IntegerGroupSize) {
+            Some(size) if stop.size == text.len() && self.is_complete(stop.read) => {
+                self.ungrouped(text, size)
+            }
+            _ => self.refuse_byte(text, stop),
         }
     }
 
-    // Returns that the integer of `text` is not in groups, and the first wrong group.
+    // Returns that the integer of `text` is not in groups of `size`, and the first wrong group.
     #[cold]
-    fn ungrouped(&self, text: &[u8]) -> ReadError
+    fn ungrouped(&self, text: &[u8], size: u8) -> ReadError
+        requires size { integer_group_size self.now.conditions ≡ Some size }
         requires read { (l : Literal) × Reads (notation_of self.now) l text.now }
         requires refuses { Refuses self.now text.now }
         ensures { IsUngrouped self.now text.now result.refusal }
     {
         let counts = self.count(text);
-        let grammar = self.syntax.grammar();
-        let Some(size) = grammar.conditions.integer_group_size() else {
-            unreachable!()
-        };
+        let grammar = self.grammar();
         let parts = cut(text, counts);
         let before = parts.sign.len() + parts.prefix.len();
         let (start, end) = wrong_group(grammar, size, parts.integer);
@@ -340,7 +303,7 @@ impl Reader {
         ensures { IsRefusal (notation_of self.now) text.now result.refusal }
     {
         role_facts();
-        let grammar = self.syntax.grammar();
+        let grammar = self.grammar();
         let size = stop.size;
         let byte = byte_at(text, size);
         ReadError {

@@ -10,7 +10,7 @@ ghost use Rattle.lexical_util.specs.declared.lawful.Rejected.TheVariants as reje
 ghost use Rattle.lexical_literal.specs.declared.syntax.Condition.{Condition};
 ghost use Rattle.lexical_literal.specs.declared.syntax.Options.{Options};
 ghost use Rattle.lexical_literal.specs.declared.syntax.TheConstants.{CONDITIONS};
-ghost use Rattle.lexical_literal.specs.Notation.{integer_group_size, has, is_same, kept, no_conditions, notation_of, number_of, IsOnlyRole};
+ghost use Rattle.lexical_literal.specs.Notation.{get, has, is_same, kept, no_conditions, notation_of, number_of, IsOnlyRole};
 ghost use Rattle.lexical_literal.specs.Syntax.{IsSyntax, contradiction, fault, limits, missing};
 
 use crate::steps::{byte_class, role_of};
@@ -133,13 +133,13 @@ impl Conditions {
         Conditions::NONE.with(condition, self.number(condition))
     }
 
-    // Returns the size of the groups of digits of an integer, if it has to have any.
-    pub(crate) const fn integer_group_size(self) -> Option<u8>
-        ensures { result ≡ integer_group_size self }
+    // Returns the number of `condition`, or `None` if it is not one of them.
+    pub(crate) const fn get(self, condition: Condition) -> Option<u8>
+        ensures { result ≡ get self condition }
     {
-        match self.number(Condition::IntegerGroupSize) {
+        match self.number(condition) {
             0 => None,
-            size => Some(size),
+            number => Some(number),
         }
     }
 }

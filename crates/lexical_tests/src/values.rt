@@ -2,8 +2,7 @@
 //! The tests of plain Rust compare more values, with std.
 
 use callers::formats::read_decimal;
-use lexical_literal::list::{FormError, ReaderList};
-use lexical_literal::read::Reader;
+use lexical_literal::list::{FormError, SyntaxList};
 use lexical_literal::syntax::Syntax;
 use lexical_number::integer::Integer;
 use lexical_util::edits::{Edit, FlagSetter};
@@ -32,8 +31,8 @@ const PREFIXED: u128 = 0x00001000_78000000_00000000_0001000C;
 
 // Returns the value of an integer.
 fn integer<T: Integer>(word: u128, text: &str) -> Option<Result<T, ParseError>> {
-    let reader = Reader::new(Syntax::integers(Format::new(word).ok()?));
-    Some(parse_integer(&reader, text.as_bytes()))
+    let syntax = Syntax::integers(Format::new(word).ok()?);
+    Some(parse_integer(&syntax, text.as_bytes()))
 }
 
 #[test]
@@ -73,11 +72,8 @@ fn integers_have_values(rt: HostRuntime) {
 fn an_error_is_that_of_the_form_that_goes_furthest(rt: HostRuntime) -> Result<(), Fail> {
     let decimal = Format::new(STANDARD).ok().ok_or("a format")?;
     let prefixed = Format::new(PREFIXED).ok().ok_or("a format")?;
-    let readers = [
-        Reader::new(Syntax::integers(decimal)),
-        Reader::new(Syntax::integers(prefixed)),
-    ];
-    let list = ReaderList::new(&readers).ok_or("readers")?;
+    let syntaxes = [Syntax::integers(decimal), Syntax::integers(prefixed)];
+    let list = SyntaxList::new(&syntaxes).ok_or("syntaxes")?;
     assert!(rt; matches!(list.read(b"0xZ"), Err(FormError { form: 1, .. })));
     // Both go as far. The cause is a wrong byte, and the case of the prefix.
     assert!(rt; matches!(list.read(b"0XF"), Err(FormError { form: 1, .. })));
@@ -88,11 +84,11 @@ fn an_error_is_that_of_the_form_that_goes_furthest(rt: HostRuntime) -> Result<()
 // Returns the bits of both floats of `text`, whose exponent character is `^`.
 fn bits(word: u128, text: &str) -> Option<(u64, u32)> {
     let format = Format::new(word).ok()?;
-    let reader = Reader::new(Syntax::new(format, b'^', b'.').ok()?);
-    let parts = reader.read(text.as_bytes()).ok()?;
+    let syntax = Syntax::new(format, b'^', b'.').ok()?;
+    let parts = syntax.read(text.as_bytes()).ok()?;
     match (
         to_float::<f64>(format.view(), &parts),
-        parse_float::<f32>(&reader, text.as_bytes()),
+        parse_float::<f32>(&syntax, text.as_bytes()),
     ) {
         (Ok(double), Ok(single)) => Some((double.to_bits(), single.to_bits())),
         _ => None,
@@ -139,8 +135,8 @@ fn numbers_are_written(rt: HostRuntime) -> Result<(), Fail> {
         .ok_or("a layout")?;
     assert_eq!(rt; layout.write(&mut buffer), 8);
     assert_eq!(rt; buffer.as_slice(), b"-1234567".as_slice());
-    let reader = Reader::new(Syntax::new(format, b'e', b',').ok().ok_or("a syntax")?);
-    let parts = reader.read(b"-0012,50e+3").ok().ok_or("a literal")?;
+    let comma = Syntax::new(format, b'e', b',').ok().ok_or("a syntax")?;
+    let parts = comma.read(b"-0012,50e+3").ok().ok_or("a literal")?;
     let layout = format_literal(format.view(), &parts, &syntax, PLAIN)
         .ok()
         .ok_or("a layout")?;

@@ -10,7 +10,7 @@ use crate::integer::{ValueErrorKind, to_integer};
 use crate::plain::plain_integer;
 use crate::plain_float::plain_float;
 use lexical_literal::cause::ReadError;
-use lexical_literal::read::Reader;
+use lexical_literal::syntax::Syntax;
 use lexical_number::float::Float;
 use lexical_number::integer::Integer;
 
@@ -28,14 +28,13 @@ pub enum ParseError {
 /// # Errors
 ///
 /// If `text` is not a literal, or if it has no value in the type, returns why.
-pub fn parse_integer<T: Integer>(reader: &Reader, text: &[u8]) -> Result<T, ParseError>
-    ensures { IsParsed T.range reader.now text.now result }
+pub fn parse_integer<T: Integer>(syntax: &Syntax, text: &[u8]) -> Result<T, ParseError>
+    ensures { IsParsed T.range syntax.now text.now result }
 {
-    let syntax = reader.syntax();
-    if let Some(value) = plain_integer(syntax, text) {
+    if let Some(value) = plain_integer(*syntax, text) {
         return Ok(value);
     }
-    match reader.read(text) {
+    match syntax.read(text) {
         Ok(parts) => match to_integer(syntax.format().view(), &parts) {
             Ok(value) => Ok(value),
             Err(kind) => Err(ParseError::Value(kind)),
@@ -49,15 +48,14 @@ pub fn parse_integer<T: Integer>(reader: &Reader, text: &[u8]) -> Result<T, Pars
 /// # Errors
 ///
 /// If `text` is not a literal, or if literals have no value in a float type, returns why.
-pub fn parse_float<F: Float>(reader: &Reader, text: &[u8]) -> Result<F, ParseError>
-    ensures value { IsParsedFloat (format_of F.DOUBLE) F.value reader.now text.now result }
+pub fn parse_float<F: Float>(syntax: &Syntax, text: &[u8]) -> Result<F, ParseError>
+    ensures value { IsParsedFloat (format_of F.DOUBLE) F.value syntax.now text.now result }
     ensures no_nan { IfOk result (λ value. NotNan (F.value value)) }
 {
-    let syntax = reader.syntax();
-    if let Some(value) = plain_float(syntax, text) {
+    if let Some(value) = plain_float(*syntax, text) {
         return Ok(value);
     }
-    match reader.read(text) {
+    match syntax.read(text) {
         Ok(parts) => match to_float(syntax.format().view(), &parts) {
             Ok(value) => Ok(value),
             Err(kind) => Err(ParseError::Value(kind)),

@@ -3,7 +3,7 @@
 //!
 //!     RUSTFLAGS="-L rust/target/make/release" cargo run --release -p peltzivar-capi --features speed --example speed
 
-use peltzivar::literal::{Language, Reader};
+use peltzivar::literal::Language;
 use std::ffi::{c_char, c_void};
 use std::hint::black_box;
 use std::mem::MaybeUninit;
@@ -47,8 +47,8 @@ fn main() {
             peltzivar_read(syntax.as_ptr(), text.as_ptr(), text.len() - 1, literal.as_mut_ptr().cast(), null_mut())
         }
     };
-    let reader = Reader::new(Language::JSON.forms()[0].syntax);
-    time("read of Rust", |text| black_box(black_box(&reader).read(text[..text.len() - 1].as_bytes())).is_ok());
+    let json = Language::JSON.forms()[0].syntax;
+    time("read of Rust", |text| black_box(black_box(&json).read(&text[..text.len() - 1])).is_ok());
     time("peltzivar_read", |text| read(text, black_box(&mut MaybeUninit::uninit())));
     time("peltzivar_read and peltzivar_to_f64", |text| {
         let (mut literal, mut value) = (MaybeUninit::uninit(), 0.0);

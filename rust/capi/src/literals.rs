@@ -231,13 +231,13 @@ const TOO_LONG: &str = "the text has more than PTRDIFF_MAX bytes";
 unsafe fn read_by<'a>(
     (syntax, text, len): (Option<&Syntax>, *const u8, usize),
     (literal, error): (Out<Literal<'a>>, Out<ReadError>),
-    read: impl FnOnce(literal::Reader, &'a [u8]) -> Result<literal::Literal<'a>, literal::ReadError>,
+    read: impl FnOnce(literal::Syntax, &'a [u8]) -> Result<literal::Literal<'a>, literal::ReadError>,
 ) -> bool {
     let Some(syntax) = Syntax::given(syntax) else {
         return refuse("peltzivar_check_syntax refuses this syntax", error);
     };
     let Some(text) = input(text, len) else { return refuse(TOO_LONG, error) };
-    match read(literal::Reader::new(syntax), text) {
+    match read(syntax, text) {
         Ok(found) => literal.write_some(Some(Literal::of(found, 0))),
         Err(why) => stop(why, 0, error),
     }
@@ -289,25 +289,25 @@ calls! {
     fn peltzivar_read(
         syntax: Option<&Syntax>, text: *const u8, len: usize, literal: Out<Literal>, error: Out<ReadError>
     ) -> bool {
-        read_by((syntax, text, len), (literal, error), |it, text| it.read(text))
+        read_by((syntax, text, len), (literal, error), |syntax, text| syntax.read_bytes(text))
     }
 
     fn peltzivar_read_prefix(
         syntax: Option<&Syntax>, text: *const u8, len: usize, literal: Out<Literal>, error: Out<ReadError>
     ) -> bool {
-        read_by((syntax, text, len), (literal, error), |it, text| Ok(it.read_prefix(text)?.0))
+        read_by((syntax, text, len), (literal, error), |syntax, text| Ok(syntax.read_prefix_bytes(text)?.0))
     }
 
     fn peltzivar_forms_read(
         forms: Option<&Forms>, text: *const u8, len: usize, literal: Out<Literal>, error: Out<ReadError>
     ) -> bool {
-        read_by_forms((forms, text, len), (literal, error), |forms, text| forms.read(text))
+        read_by_forms((forms, text, len), (literal, error), |forms, text| forms.read_bytes(text))
     }
 
     fn peltzivar_forms_read_prefix(
         forms: Option<&Forms>, text: *const u8, len: usize, literal: Out<Literal>, error: Out<ReadError>
     ) -> bool {
-        read_by_forms((forms, text, len), (literal, error), |forms, text| Ok(forms.read_prefix(text)?.0))
+        read_by_forms((forms, text, len), (literal, error), |forms, text| Ok(forms.read_prefix_bytes(text)?.0))
     }
 
     fn peltzivar_explain(error: &ReadError, out: Out<Explanation>) -> bool {

@@ -132,8 +132,8 @@ calls! {
     ) -> WriteStatus {
         let format = |digits: Shortest| write((syntax, style), (text, len, needed), |syntax, style| {
             let digits = &digits.bytes[..digits.len];
-            // With a second caller, `read` would not be inlined in `peltzivar_read`.
-            let (literal, _) = literal::Reader::new(FLOATS).read_prefix(digits).map_err(|_| WriteError::Special)?;
+            // With a second caller, `read_bytes` would not be inlined in `peltzivar_read`.
+            let (literal, _) = FLOATS.read_prefix_bytes(digits).map_err(|_| WriteError::Special)?;
             match syntax.point() {
                 // No float type has a value of a literal with these digits and another exponent base.
                 _ if syntax.format().exponent_base() != 10 => Err(WriteError::Radix),

@@ -3,8 +3,8 @@
 use crate::literal::{FormError, FromLiteral, Number, ParseError, Readers, Specials, Syntax};
 use core::{fmt, hash};
 
-/// How a language, or a file, writes numbers: the syntax and the reader of each form, such as decimal and hexadecimal,
-/// and the spellings of NaN and infinity. The readers are constants.
+/// How a language, or a file, writes numbers: the syntax of each form, such as decimal and hexadecimal, and the spellings
+/// of NaN and infinity.
 ///
 /// A text is a number if it is one token of the language. So `-1` is one only where the grammar says so, and a suffix that
 /// names a type, as in `10u`, belongs to no number: [`read_prefix`][Self::read_prefix] returns `10` and `u`. Decimal is the
@@ -17,12 +17,12 @@ use core::{fmt, hash};
 /// ```
 /// use peltzivar::literal::{Language, Number};
 ///
-/// let Ok(Number::Literal { literal, .. }) = Language::TOML.read(b"1_000.5") else { unreachable!() };
+/// let Ok(Number::Literal { literal, .. }) = Language::TOML.read("1_000.5") else { unreachable!() };
 /// assert_eq!((literal.integer(), literal.fraction()), (&b"1_000"[..], &b"5"[..]));
-/// assert!(matches!(Language::TOML.read(b"-inf"), Ok(Number::Special(_))));
+/// assert!(matches!(Language::TOML.read("-inf"), Ok(Number::Special(_))));
 /// assert_eq!(Language::TOML.parse::<u16>("65_535"), Ok(65535));
 ///
-/// let error = Language::TOML.read(b"1_000.").unwrap_err();
+/// let error = Language::TOML.read("1_000.").unwrap_err();
 /// assert_eq!(error.to_string(), "expected a digit after the decimal point, which required_fraction_digits requires");
 /// assert_eq!(format!("{error:#}"), "expected a digit after the decimal point");
 /// ```
@@ -60,7 +60,7 @@ impl Language {
         self.0.forms
     }
 
-    /// Returns the readers of the forms, in the same order, with the special values.
+    /// Returns the syntaxes of the forms, in the same order, with the special values.
     #[must_use]
     pub const fn readers(&self) -> &'static Readers<'static> {
         &self.0.readers
@@ -77,8 +77,17 @@ impl Language {
     /// # Errors
     ///
     /// If `text` is neither a literal nor a special value, returns why it is not a literal.
-    pub const fn read<'a>(&self, text: &'a [u8]) -> Result<Number<'a>, FormError> {
+    pub fn read<'t>(&self, text: &'t (impl AsRef<[u8]> + ?Sized)) -> Result<Number<'t>, FormError> {
         self.readers().read(text)
+    }
+
+    /// Returns what [`read`][Self::read] returns, also in a constant.
+    ///
+    /// # Errors
+    ///
+    /// Those of `read`.
+    pub const fn read_bytes<'t>(&self, text: &'t [u8]) -> Result<Number<'t>, FormError> {
+        self.readers().read_bytes(text)
     }
 
     /// Returns the longest literal that `text` begins with, and the rest of `text`, as [`Readers::read_prefix`] does.
@@ -86,8 +95,17 @@ impl Language {
     /// # Errors
     ///
     /// If `text` does not begin with a literal, returns why it is not one.
-    pub const fn read_prefix<'a>(&self, text: &'a [u8]) -> Result<(Number<'a>, &'a [u8]), FormError> {
+    pub fn read_prefix<'t>(&self, text: &'t (impl AsRef<[u8]> + ?Sized)) -> Result<(Number<'t>, &'t [u8]), FormError> {
         self.readers().read_prefix(text)
+    }
+
+    /// Returns what [`read_prefix`][Self::read_prefix] returns, also in a constant.
+    ///
+    /// # Errors
+    ///
+    /// Those of `read_prefix`.
+    pub const fn read_prefix_bytes<'t>(&self, text: &'t [u8]) -> Result<(Number<'t>, &'t [u8]), FormError> {
+        self.readers().read_prefix_bytes(text)
     }
 
     /// Returns the value of the number `text`, as [`Readers::parse`] does.
@@ -144,7 +162,7 @@ macro_rules! languages {
                 Language(&Definition {
                     name: stringify!($name),
                     forms: &[$(Form { name: $form, syntax: $syntax }),+],
-                    readers: Readers::new_or_panic(const { &[$(Reader::new($syntax)),+] }).with_specials(SPECIALS),
+                    readers: Readers::new_or_panic(const { &[$($syntax),+] }).with_specials(SPECIALS),
                     specials: SPECIALS,
                 })
             };)+

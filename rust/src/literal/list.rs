@@ -1,15 +1,16 @@
 // Made by rust/tools/erase.py from crates/lexical_literal/src/list.rt: change that file.
 
-//! Lists of readers: the numbers of a language that has several forms, such as `10`, `0x1F` and `0b1`.
+//! Lists of syntaxes: the numbers of a language that has several forms, such as `10`, `0x1F` and `0b1`.
 
 use crate::literal::cause::ReadError;
 use crate::literal::plain::At;
-use crate::literal::read::{Found, Reader};
+use crate::literal::read::Found;
+use crate::literal::syntax::Syntax;
 
-/// The readers of the forms of numbers, at least one. The first form that takes a text decides what number it is.
+/// The syntaxes of the forms of numbers, at least one. The first form that takes a text decides what number it is.
 #[derive(Debug, Clone, Copy, PartialEq, Eq)]
-pub struct ReaderList<'a> {
-    readers: &'a [Reader],
+pub struct SyntaxList<'a> {
+    syntaxes: &'a [Syntax],
 }
 
 /// Why a text is not a number of any form: the error of the form that goes furthest in the text. Of several, it is the
@@ -23,36 +24,36 @@ pub struct FormError {
     pub error: ReadError,
 }
 
-impl<'a> ReaderList<'a> {
-    /// Returns the list of `readers`, or `None` if there are none.
+impl<'a> SyntaxList<'a> {
+    /// Returns the list of `syntaxes`, or `None` if there are none.
     #[must_use]
-    pub const fn new(readers: &'a [Reader]) -> Option<ReaderList<'a>> {
-        if readers.len() == 0 {
+    pub const fn new(syntaxes: &'a [Syntax]) -> Option<SyntaxList<'a>> {
+        if syntaxes.len() == 0 {
             None
         } else {
-            Some(ReaderList { readers })
+            Some(SyntaxList { syntaxes })
         }
     }
 
-    /// Returns the readers.
+    /// Returns the syntaxes.
     #[must_use]
-    pub const fn readers(&self) -> &'a [Reader] {
-        self.readers
+    pub const fn syntaxes(&self) -> &'a [Syntax] {
+        self.syntaxes
     }
 
     // Returns the index of the first form that takes `text`, and the lengths of its parts, or why no form takes it.
     pub(crate) const fn find(&self, text: &[u8]) -> Result<(usize, [usize; 9]), FormError> {
         let mut furthest = None;
         let mut form = 0;
-        while form < self.readers.len() {
-            let reader = &self.readers[form];
-            let counted = reader.begin(text, false);
-            if reader.is_whole(text, counted) {
+        while form < self.syntaxes.len() {
+            let syntax = &self.syntaxes[form];
+            let counted = syntax.begin(text, false);
+            if syntax.is_whole(text, counted) {
                 let counts = counted.counts;
                 return Ok((form, counts));
             }
-            let stop = reader.stop(text, counted.at);
-            match reader.lengths(text, stop) {
+            let stop = syntax.stop(text, counted.at);
+            match syntax.lengths(text, stop) {
                 Some(counts) => return Ok((form, counts)),
                 None => furthest = further(furthest, form, stop),
             }
@@ -67,8 +68,8 @@ impl<'a> ReaderList<'a> {
         let mut furthest = None;
         let mut longest = None;
         let mut form = 0;
-        while form < self.readers.len() {
-            let (stop, found) = self.readers[form].front(text);
+        while form < self.syntaxes.len() {
+            let (stop, found) = self.syntaxes[form].front(text);
             furthest = further(furthest, form, stop);
             longest = longer(longest, form, found);
             form += 1;
@@ -81,7 +82,7 @@ impl<'a> ReaderList<'a> {
 
     // Returns the front `found` of a form, or why its integer is not in groups.
     const fn grouped(&self, text: &[u8], form: usize, found: Found) -> Result<(usize, Found), FormError> {
-        match self.readers()[form].grouped(text, found) {
+        match self.syntaxes()[form].grouped(text, found) {
             Ok(()) => Ok((form, found)),
             Err(error) => Err(FormError { form, error }),
         }
@@ -92,14 +93,14 @@ impl<'a> ReaderList<'a> {
     #[cold]
     const fn refuse(&self, text: &[u8], furthest: Option<(usize, At)>) -> FormError {
         let Some((first, stop)) = furthest else { unreachable!() };
-        let readers = self.readers();
-        let error = readers[first].refuse(text, stop);
+        let syntaxes = self.syntaxes();
+        let error = syntaxes[first].refuse(text, stop);
         let mut form = first + 1;
-        while form < readers.len() {
-            let reader = &readers[form];
-            let reached = reader.stop(text, reader.begin(text, false).at);
+        while form < syntaxes.len() {
+            let syntax = &syntaxes[form];
+            let reached = syntax.stop(text, syntax.begin(text, false).at);
             if reached.size == stop.size {
-                let other = reader.refuse(text, reached);
+                let other = syntax.refuse(text, reached);
                 if !other.is_byte() && error.is_byte() {
                     return FormError { form, error: other };
                 }

@@ -7,7 +7,7 @@ use crate::digit::char_to_valid_digit_const;
 use crate::format_flags::Part;
 use crate::literal::plain::At;
 use crate::literal::read::{cut, Found, Parts};
-use crate::literal::{ReadError, Reader, Syntax};
+use crate::literal::{ReadError, Syntax};
 use crate::view::FormatView;
 
 impl Syntax {
@@ -28,18 +28,34 @@ impl Syntax {
             None => None,
         }
     }
-}
 
-impl Reader {
     /// Returns `text` as a literal.
+    ///
+    /// ```
+    /// use peltzivar::literal::Language;
+    ///
+    /// let syntax = Language::JSON.forms()[0].syntax;
+    /// assert_eq!(syntax.read("-1.5")?.fraction(), b"5");
+    /// assert_eq!(syntax.read(b"-1.").unwrap_err().valid_up_to(), 3);
+    /// # Ok::<(), peltzivar::literal::ReadError>(())
+    /// ```
     ///
     /// # Errors
     ///
     /// If `text` is not a literal, returns why, and how far it is right.
-    pub const fn read<'a>(&self, text: &'a [u8]) -> Result<Literal<'a>, ReadError> {
+    pub fn read<'t>(&self, text: &'t (impl AsRef<[u8]> + ?Sized)) -> Result<Literal<'t>, ReadError> {
+        self.read_bytes(text.as_ref())
+    }
+
+    /// Returns what [`read`][Self::read] returns, also in a constant.
+    ///
+    /// # Errors
+    ///
+    /// Those of `read`.
+    pub const fn read_bytes<'t>(&self, text: &'t [u8]) -> Result<Literal<'t>, ReadError> {
         let counted = self.begin(text, false);
         if self.is_whole(text, counted) {
-            Ok(Literal { text, counts: counted.counts, view: self.syntax.format().view() })
+            Ok(self.literal(text, counted.counts))
         } else {
             self.read_slowly(text, counted.at)
         }
@@ -47,10 +63,10 @@ impl Reader {
 
     // Returns what `read` returns, where `at` has been read.
     #[inline(never)]
-    const fn read_slowly<'a>(&self, text: &'a [u8], at: At) -> Result<Literal<'a>, ReadError> {
+    const fn read_slowly<'t>(&self, text: &'t [u8], at: At) -> Result<Literal<'t>, ReadError> {
         let stop = self.stop(text, at);
         match self.lengths(text, stop) {
-            Some(counts) => Ok(Literal { text, counts, view: self.syntax.format().view() }),
+            Some(counts) => Ok(self.literal(text, counts)),
             None => Err(self.refuse(text, stop)),
         }
     }
@@ -59,18 +75,18 @@ impl Reader {
     /// no byte behind the first character that cannot follow.
     ///
     /// ```
-    /// use peltzivar::literal::{Reader, Syntax};
+    /// use peltzivar::literal::Syntax;
     /// use peltzivar::{format::STANDARD, Format};
     ///
-    /// static READER: Reader = Reader::new(Syntax::new_or_panic(Format::of::<STANDARD>(), b'e', b'.'));
+    /// const SYNTAX: Syntax = Syntax::new_or_panic(Format::of::<STANDARD>(), b'e', b'.');
     /// let mut rest = &b"1.5-3e2+.25-;"[..];
-    /// while let Ok((literal, after)) = READER.read_prefix(rest) {
+    /// while let Ok((literal, after)) = SYNTAX.read_prefix(rest) {
     ///     println!("{literal}"); // 1.5, then -3e2, then +.25
     ///     rest = after;
     /// }
-    /// let error = READER.read_prefix(rest).unwrap_err();
+    /// let error = SYNTAX.read_prefix(rest).unwrap_err();
     /// assert_eq!((error.valid_up_to(), error.to_string()), (1, "unexpected character ';'".into()));
-    /// let missing = READER.read(&rest[..error.valid_up_to()]).unwrap_err();
+    /// let missing = SYNTAX.read(&rest[..error.valid_up_to()]).unwrap_err();
     /// assert_eq!(missing.to_string(), "expected a digit of the integer");
     /// ```
     ///
@@ -79,55 +95,53 @@ impl Reader {
     /// If `text` does not begin with a literal, returns the error of [`read`][Self::read]. For a wrong byte, the text
     /// before it may have an error that states what is missing, as above. A text such as `1e;` begins with the literal
     /// `1`. To refuse it, the example `tokenizer` first finds the end of the token, and reads all of it.
-    pub const fn read_prefix<'a>(&self, text: &'a [u8]) -> Result<(Literal<'a>, &'a [u8]), ReadError> {
+    pub fn read_prefix<'t>(&self, text: &'t (impl AsRef<[u8]> + ?Sized)) -> Result<(Literal<'t>, &'t [u8]), ReadError> {
+        self.read_prefix_bytes(text.as_ref())
+    }
+
+    /// Returns what [`read_prefix`][Self::read_prefix] returns, also in a constant.
+    ///
+    /// # Errors
+    ///
+    /// Those of `read_prefix`.
+    pub const fn read_prefix_bytes<'t>(&self, text: &'t [u8]) -> Result<(Literal<'t>, &'t [u8]), ReadError> {
         match self.front(text) {
             (stop, None) => Err(self.refuse(text, stop)),
             (_, Some(found)) => match self.grouped(text, found) {
                 Ok(()) => {
                     let Found { size, counts } = found;
                     let (text, rest) = text.split_at(size);
-                    Ok((Literal { text, counts, view: self.syntax.format().view() }, rest))
+                    Ok((self.literal(text, counts), rest))
                 }
                 Err(error) => Err(error),
             },
         }
     }
-}
 
-/// Returns the reader of a syntax, as [`Reader::new`] does.
-impl From<Syntax> for Reader {
-    fn from(syntax: Syntax) -> Self {
-        Reader::new(syntax)
+    /// Returns the literal `text`, whose parts have these lengths.
+    pub(super) const fn literal<'t>(&self, text: &'t [u8], counts: [usize; 9]) -> Literal<'t> {
+        Literal { text, counts, view: self.format().view() }
     }
 }
-
-/// Readers are equal if they have the same syntax.
-impl PartialEq for Reader {
-    fn eq(&self, other: &Self) -> bool {
-        self.syntax == other.syntax
-    }
-}
-
-impl Eq for Reader {}
 
 /// A text that was read as a literal: its parts, and the values of its digits.
 ///
 /// A part that is absent has no bytes. All bytes are ASCII. Two literals are equal if they have the same format, up to
 /// its [normal form][crate::Format::normal_form], and the same parts.
 ///
-/// An integer type of Rust, `f64` or `f32` can be made from a literal. Some of these can be made in a constant. A [`Reader`]
-/// can [parse][Reader::parse] a text in one call.
+/// An integer type of Rust, `f64` or `f32` can be made from a literal. Some of these can be made in a constant. A [`Syntax`]
+/// can [parse][Syntax::parse] a text in one call.
 ///
 /// ```
 /// use peltzivar::literal::{Language, ParseError, ValueErrorKind};
 ///
-/// let literal = Language::TOML.read(b"-9_223_372_036_854_775_808")?.literal().unwrap();
+/// let literal = Language::TOML.read("-9_223_372_036_854_775_808")?.literal().unwrap();
 /// assert_eq!(i64::try_from(literal), Ok(i64::MIN));
 /// assert_eq!(i32::try_from(literal).unwrap_err().to_string(), "below -2147483648, the least i32");
 /// assert_eq!(Language::RUST.parse::<u16>("0xFFFF")?, u16::MAX);
 ///
 /// // A float is no integer, even if its value is whole.
-/// let literal = Language::CSV_EN.read(b"1,234.50")?.literal().unwrap();
+/// let literal = Language::CSV_EN.read("1,234.50")?.literal().unwrap();
 /// assert_eq!(literal.to_i64().unwrap_err().kind(), ValueErrorKind::Float);
 /// assert_eq!(f64::try_from(literal)?, 1234.5);
 /// # Ok::<(), ParseError>(())

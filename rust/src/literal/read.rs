@@ -7,7 +7,7 @@ use crate::literal::groups::{is_grouped, wrong_group};
 use crate::literal::plain::{plain, At, Counted, BEGIN};
 use crate::literal::span::marks;
 use crate::literal::steps::{byte_class, is_complete, piece_number, step, step_at, Summary};
-use crate::literal::syntax::Syntax;
+use crate::literal::syntax::{Condition, Syntax};
 
 /// The parts of a literal, in the order of the text. An absent part has no bytes.
 #[derive(Debug, Clone, Copy, PartialEq, Eq, Hash)]
@@ -39,30 +39,12 @@ pub(crate) struct Found {
     pub(crate) counts: [usize; 9],
 }
 
-/// A syntax that reads literals.
-#[derive(Clone)]
-pub struct Reader {
-    pub(crate) syntax: Syntax,
-}
-
-impl Reader {
-    /// Returns a reader of the literals of `syntax`.
-    #[must_use]
-    pub const fn new(syntax: Syntax) -> Reader {
-        Reader { syntax }
-    }
-
-    /// Returns the syntax.
-    #[must_use]
-    pub const fn syntax(&self) -> Syntax {
-        self.syntax
-    }
-
+impl Syntax {
     // Returns whether the integer of the literal `text` is in groups, if the syntax requires it.
     #[inline(always)]
     const fn has_groups(&self, text: &[u8], counts: [usize; 9]) -> bool {
-        let grammar = self.syntax.grammar();
-        match grammar.conditions.integer_group_size {
+        let grammar = self.grammar();
+        match grammar.conditions.get(Condition::IntegerGroupSize) {
             None => true,
             Some(size) => {
                 let parts = cut(text, counts);
@@ -93,10 +75,9 @@ impl Reader {
     #[inline(always)]
     pub(crate) const fn grouped(&self, text: &[u8], found: Found) -> Result<(), ReadError> {
         let front = front_of(text, found.size);
-        if self.has_groups(front, found.counts) {
-            Ok(())
-        } else {
-            Err(self.ungrouped(front))
+        match self.grammar().conditions.get(Condition::IntegerGroupSize) {
+            Some(size) if !self.has_groups(front, found.counts) => Err(self.ungrouped(front, size)),
+            _ => Ok(()),
         }
     }
 
@@ -104,7 +85,7 @@ impl Reader {
     // `text`, may not be said to be one, which takes less time.
     #[inline(always)]
     pub(crate) const fn begin(&self, text: &[u8], fronts: bool) -> Counted {
-        plain(self.syntax.grammar(), text, fronts)
+        plain(self.grammar(), text, fronts)
     }
 
     // Returns whether all of `text` is a literal that has been read.
@@ -141,7 +122,7 @@ impl Reader {
     // Returns what has been read with one more byte, or `None` if reading stops at `at`.
     #[inline(always)]
     const fn step(&self, text: &[u8], at: At) -> Option<At> {
-        let grammar = self.syntax.grammar();
+        let grammar = self.grammar();
         let At { size, read } = at;
         if size == text.len() {
             return None;
@@ -178,7 +159,7 @@ impl Reader {
     // that is a literal if `seeks` is true.
     #[cold]
     const fn read_on(&self, text: &[u8], seeks: bool) -> Scanned {
-        let grammar = self.syntax.grammar();
+        let grammar = self.grammar();
         let At { mut size, mut read } = BEGIN;
         let mut counts = [0; 9];
         let mut literal = None;
@@ -201,27 +182,23 @@ impl Reader {
     // Returns whether what has been read is a literal.
     #[inline(always)]
     const fn is_complete(&self, read: Summary) -> bool {
-        is_complete(self.syntax.grammar(), read)
+        is_complete(self.grammar(), read)
     }
 
     // Returns why `text`, of which reading stopped at `stop`, is not a literal.
     #[inline(always)]
     pub(crate) const fn refuse(&self, text: &[u8], stop: At) -> ReadError {
-        if stop.size == text.len() && self.is_complete(stop.read) {
-            self.ungrouped(text)
-        } else {
-            self.refuse_byte(text, stop)
+        match self.grammar().conditions.get(Condition::IntegerGroupSize) {
+            Some(size) if stop.size == text.len() && self.is_complete(stop.read) => self.ungrouped(text, size),
+            _ => self.refuse_byte(text, stop),
         }
     }
 
-    // Returns that the integer of `text` is not in groups, and the first wrong group.
+    // Returns that the integer of `text` is not in groups of `size`, and the first wrong group.
     #[cold]
-    const fn ungrouped(&self, text: &[u8]) -> ReadError {
+    const fn ungrouped(&self, text: &[u8], size: u8) -> ReadError {
         let counts = self.count(text);
-        let grammar = self.syntax.grammar();
-        let Some(size) = grammar.conditions.integer_group_size else {
-            return self.refuse_byte(text, BEGIN);
-        };
+        let grammar = self.grammar();
         let parts = cut(text, counts);
         let before = parts.sign.len() + parts.prefix.len();
         let (start, end) = wrong_group(grammar, size, parts.integer);
@@ -240,7 +217,7 @@ impl Reader {
     // Returns why the byte that follows is not allowed, or what is missing.
     #[cold]
     const fn refuse_byte(&self, text: &[u8], stop: At) -> ReadError {
-        let grammar = self.syntax.grammar();
+        let grammar = self.grammar();
         let size = stop.size;
         let byte = byte_at(text, size);
         ReadError {

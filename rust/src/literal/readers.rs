@@ -1,37 +1,36 @@
-//! Lists of readers with special values, which are written by hand around the proved list.
+//! Lists of syntaxes with special values, which are written by hand around the proved list.
 
 use core::fmt;
 
-use crate::literal::list::{FormError, ReaderList};
-use crate::literal::read::{Found, Reader};
-use crate::literal::{FromLiteral, Literal, ParseError, ReadError, Special, Specials};
+use crate::literal::list::{FormError, SyntaxList};
+use crate::literal::read::Found;
+use crate::literal::{FromLiteral, Literal, ParseError, ReadError, Special, Specials, Syntax};
 
-/// The readers of numbers that have several forms, such as `10`, `0x1F` and `0b1`, at least one, and the spellings of NaN
+/// The syntaxes of numbers that have several forms, such as `10`, `0x1F` and `0b1`, at least one, and the spellings of NaN
 /// and infinity.
 ///
 /// A text is a number if it is a literal of one of the forms. The first such form gives its parts and its value, so the
 /// order matters where forms overlap, as here in `10`:
 ///
 /// ```
-/// use peltzivar::literal::{Reader, Readers, Syntax};
+/// use peltzivar::literal::{Readers, Syntax};
 /// use peltzivar::NumberFormatBuilder;
 ///
 /// const DECIMAL: NumberFormatBuilder = NumberFormatBuilder::new().no_integer_leading_zeros(true);
 /// const OCTAL: NumberFormatBuilder = NumberFormatBuilder::new().mantissa_radix(8);
 /// static READERS: Readers<'static> = Readers::new_or_panic(&[
-///     Reader::new(Syntax::integers(DECIMAL.build_format_or_panic())),
-///     Reader::new(Syntax::integers(OCTAL.build_format_or_panic())),
+///     Syntax::integers(DECIMAL.build_format_or_panic()),
+///     Syntax::integers(OCTAL.build_format_or_panic()),
 /// ]);
 ///
 /// assert_eq!((READERS.parse("10"), READERS.parse("017")), (Ok(10), Ok(15)));
-/// let number = READERS.read(b"017").unwrap();
-/// assert_eq!(number.form(), Some(1));
-/// let error = READERS.read(b"0178").unwrap_err();
+/// assert_eq!(READERS.read("017").unwrap().form(), Some(1));
+/// let error = READERS.read("0178").unwrap_err();
 /// assert_eq!((error.form, error.to_string()), (1, "unexpected character '8'".into()));
 /// ```
 #[derive(Debug, Clone, Copy, PartialEq, Eq)]
 pub struct Readers<'a> {
-    list: ReaderList<'a>,
+    list: SyntaxList<'a>,
     specials: Specials<'a>,
 }
 
@@ -71,39 +70,39 @@ impl<'a> Number<'a> {
 }
 
 impl<'a> Readers<'a> {
-    /// Returns the list of `readers` without special values, or `None` if there are no readers.
+    /// Returns the list of `syntaxes` without special values, or `None` if there are no syntaxes.
     #[must_use]
-    pub const fn new(readers: &'a [Reader]) -> Option<Readers<'a>> {
-        match ReaderList::new(readers) {
+    pub const fn new(syntaxes: &'a [Syntax]) -> Option<Readers<'a>> {
+        match SyntaxList::new(syntaxes) {
             Some(list) => Some(Readers { list, specials: Specials { nan: None, inf: None, infinity: None } }),
             None => None,
         }
     }
 
-    /// Returns the list of `readers`, for a constant.
+    /// Returns the list of `syntaxes`, for a constant.
     ///
     /// # Panics
     ///
-    /// If there are no readers.
+    /// If there are no syntaxes.
     #[must_use]
     #[track_caller]
-    pub const fn new_or_panic(readers: &'a [Reader]) -> Readers<'a> {
-        match Readers::new(readers) {
+    pub const fn new_or_panic(syntaxes: &'a [Syntax]) -> Readers<'a> {
+        match Readers::new(syntaxes) {
             Some(list) => list,
-            None => panic!("a list of readers must have at least one"),
+            None => panic!("a list of syntaxes must have at least one"),
         }
     }
 
-    /// Returns the same readers with these special values. The format of the first form decides what flags say of them.
+    /// Returns the same syntaxes with these special values. The format of the first form decides what flags say of them.
     #[must_use]
     pub const fn with_specials(self, specials: Specials<'a>) -> Readers<'a> {
         Readers { specials, ..self }
     }
 
-    /// Returns the readers.
+    /// Returns the syntaxes.
     #[must_use]
-    pub const fn as_slice(&self) -> &'a [Reader] {
-        self.list.readers()
+    pub const fn as_slice(&self) -> &'a [Syntax] {
+        self.list.syntaxes()
     }
 
     /// Returns the spellings of special values.
@@ -119,10 +118,19 @@ impl<'a> Readers<'a> {
     /// If `text` is neither, returns the error of the form for which most of the text is right. Of several, it is the
     /// first whose cause is not a wrong byte, or the first if the cause of each is one. So `0b12` has the error of the
     /// binary form.
-    pub const fn read<'t>(&self, text: &'t [u8]) -> Result<Number<'t>, FormError> {
+    pub fn read<'t>(&self, text: &'t (impl AsRef<[u8]> + ?Sized)) -> Result<Number<'t>, FormError> {
+        self.read_bytes(text.as_ref())
+    }
+
+    /// Returns what [`read`][Self::read] returns, also in a constant.
+    ///
+    /// # Errors
+    ///
+    /// Those of `read`.
+    pub const fn read_bytes<'t>(&self, text: &'t [u8]) -> Result<Number<'t>, FormError> {
         match self.list.find(text) {
             Ok((form, counts)) => Ok(self.number(form, text, counts)),
-            Err(error) => match self.specials.read(&self.as_slice()[0].syntax, text) {
+            Err(error) => match self.specials.read(&self.as_slice()[0], text) {
                 Some(special) => Ok(Number::Special(special)),
                 None => Err(error),
             },
@@ -136,7 +144,16 @@ impl<'a> Readers<'a> {
     /// # Errors
     ///
     /// If `text` does not begin with a literal, returns why it is not one.
-    pub const fn read_prefix<'t>(&self, text: &'t [u8]) -> Result<(Number<'t>, &'t [u8]), FormError> {
+    pub fn read_prefix<'t>(&self, text: &'t (impl AsRef<[u8]> + ?Sized)) -> Result<(Number<'t>, &'t [u8]), FormError> {
+        self.read_prefix_bytes(text.as_ref())
+    }
+
+    /// Returns what [`read_prefix`][Self::read_prefix] returns, also in a constant.
+    ///
+    /// # Errors
+    ///
+    /// Those of `read_prefix`.
+    pub const fn read_prefix_bytes<'t>(&self, text: &'t [u8]) -> Result<(Number<'t>, &'t [u8]), FormError> {
         match self.list.find_front(text) {
             Ok((form, Found { size, counts })) => {
                 let (text, rest) = text.split_at(size);
@@ -156,13 +173,12 @@ impl<'a> Readers<'a> {
         // What the first form takes is of the first form.
         match T::from_plain(&self.as_slice()[0], text) {
             Some(value) => Ok(value),
-            None => Ok(T::try_from(self.read(text)?)?),
+            None => Ok(T::try_from(self.read_bytes(text)?)?),
         }
     }
 
     const fn number<'t>(&self, form: usize, text: &'t [u8], counts: [usize; 9]) -> Number<'t> {
-        let view = self.as_slice()[form].syntax.format().view();
-        Number::Literal { literal: Literal { text, counts, view }, form }
+        Number::Literal { literal: self.as_slice()[form].literal(text, counts), form }
     }
 }
 

@@ -36,16 +36,15 @@ impl ReadError {
     /// wrong byte, for missing digits and for [conditions][Self::conditions].
     ///
     /// ```
-    /// use peltzivar::literal::{Reader, Syntax};
+    /// use peltzivar::literal::Syntax;
     /// use peltzivar::{Format, FormatError, NumberFormatBuilder};
     ///
-    /// let reader = Reader::new(Syntax::new(Format::default(), b'e', b'.')?);
-    /// let error = reader.read(b"1e").unwrap_err();
+    /// let syntax = Syntax::new(Format::default(), b'e', b'.')?;
+    /// let error = syntax.read("1e").unwrap_err();
     /// assert!(error.is_incomplete());
     /// let mut builder = NumberFormatBuilder::from(Format::default());
     /// builder.extend(error.settings()); // required_exponent_digits=false
-    /// let reader = Reader::new(Syntax::new(builder.build_format()?, b'e', b'.')?);
-    /// assert!(reader.read(b"1e").is_ok());
+    /// assert!(Syntax::new(builder.build_format()?, b'e', b'.')?.read("1e").is_ok());
     /// # Ok::<(), FormatError>(())
     /// ```
     pub fn settings(&self) -> impl Iterator<Item = Edit> + Clone {
@@ -59,11 +58,11 @@ impl ReadError {
     /// does not compile, and the compiler prints why:
     ///
     /// ```compile_fail,E0080
-    /// use peltzivar::literal::{Literal, Reader, Syntax};
+    /// use peltzivar::literal::{Literal, Syntax};
     /// use peltzivar::{format::STANDARD, Format};
     ///
-    /// const READER: Reader = Reader::new(Syntax::new_or_panic(Format::of::<STANDARD>(), b'e', b'.'));
-    /// const LITERAL: Literal = match READER.read(b"1e") {
+    /// const SYNTAX: Syntax = Syntax::new_or_panic(Format::of::<STANDARD>(), b'e', b'.');
+    /// const LITERAL: Literal = match SYNTAX.read_bytes(b"1e") {
     ///     Ok(literal) => literal,
     ///     Err(error) => panic!("{}", error.text().as_str()), // expected a digit after the exponent character, ..
     /// };

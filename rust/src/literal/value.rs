@@ -4,7 +4,7 @@ use core::fmt::{self, Write};
 
 use crate::format_flags::Part;
 use crate::literal::read::Parts;
-use crate::literal::{Literal, Number, ReadError, Reader, Sign, Special, Spelling, Syntax};
+use crate::literal::{Literal, Number, ReadError, Sign, Special, Spelling, Syntax};
 
 mod float;
 mod integer;
@@ -22,7 +22,7 @@ use integer::{integer_digits, to_integer};
 use plain::plain_integer;
 use plain_float::{plain_float, text_to_float};
 
-/// A type that can be [parsed][Reader::parse]: each integer type of Rust, `f64` and `f32`.
+/// A type that can be [parsed][Syntax::parse]: each integer type of Rust, `f64` and `f32`.
 ///
 /// Each of these types is also [made][TryFrom] from a [`Literal`] or a [`Number`], as in `u16::try_from(literal)`.
 ///
@@ -39,33 +39,7 @@ pub trait Sealed:
     const TARGET: &'static Target;
 
     /// Returns the value of some literals that are digits alone, and `None` for all other texts.
-    fn from_plain(reader: &Reader, text: &[u8]) -> Option<Self>;
-}
-
-impl Reader {
-    /// Returns the value of the literal `text`. That of `-0` is 0 in each integer type.
-    ///
-    /// ```
-    /// use peltzivar::literal::Language;
-    ///
-    /// let reader = &Language::TOML.readers().as_slice()[0];
-    /// assert_eq!(reader.parse::<u16>("65_535"), Ok(65535));
-    /// let error = reader.parse::<u16>("65_536").unwrap_err();
-    /// assert_eq!(error.to_string(), "above 65535, the largest u16");
-    /// let error = reader.parse::<u16>("65_").unwrap_err();
-    /// assert_eq!(error.to_string(), reader.read(b"65_").unwrap_err().to_string());
-    /// ```
-    ///
-    /// # Errors
-    ///
-    /// If `text` is not a literal, or if its value is not one of the type, returns why.
-    pub fn parse<T: FromLiteral>(&self, text: impl AsRef<[u8]>) -> Result<T, ParseError> {
-        let text = text.as_ref();
-        match T::from_plain(self, text) {
-            Some(value) => Ok(value),
-            None => Ok(T::try_from(self.read(text)?)?),
-        }
-    }
+    fn from_plain(syntax: &Syntax, text: &[u8]) -> Option<Self>;
 }
 
 impl<'a> Literal<'a> {
@@ -78,7 +52,7 @@ impl<'a> Literal<'a> {
     /// ```
     /// use peltzivar::literal::Language;
     ///
-    /// let literal = Language::RUST.read(b"0xFF")?.literal().unwrap();
+    /// let literal = Language::RUST.read("0xFF")?.literal().unwrap();
     /// assert_eq!(u128::from_str_radix(&literal.plain().unwrap().to_string(), 16), Ok(255));
     /// # Ok::<(), peltzivar::literal::FormError>(())
     /// ```
@@ -221,8 +195,8 @@ macro_rules! conversions {
                     &Target { name: stringify!($type), least: $type::MIN as i128, largest: $type::MAX as u128 };
 
                 #[inline]
-                fn from_plain(reader: &Reader, text: &[u8]) -> Option<$type> {
-                    $plain(reader.syntax, text)
+                fn from_plain(syntax: &Syntax, text: &[u8]) -> Option<$type> {
+                    $plain(*syntax, text)
                 }
             }
 
@@ -336,6 +310,30 @@ macro_rules! floats {
 floats! { f64 to_f64 binary_to_f64 u64, f32 to_f32 binary_to_f32 u32, }
 
 impl Syntax {
+    /// Returns the value of the literal `text`. That of `-0` is 0 in each integer type.
+    ///
+    /// ```
+    /// use peltzivar::literal::Language;
+    ///
+    /// let syntax = Language::TOML.forms()[0].syntax;
+    /// assert_eq!(syntax.parse::<u16>("65_535"), Ok(65535));
+    /// let error = syntax.parse::<u16>("65_536").unwrap_err();
+    /// assert_eq!(error.to_string(), "above 65535, the largest u16");
+    /// let error = syntax.parse::<u16>("65_").unwrap_err();
+    /// assert_eq!(error.to_string(), syntax.read("65_").unwrap_err().to_string());
+    /// ```
+    ///
+    /// # Errors
+    ///
+    /// If `text` is not a literal, or if its value is not one of the type, returns why.
+    pub fn parse<T: FromLiteral>(&self, text: impl AsRef<[u8]>) -> Result<T, ParseError> {
+        let text = text.as_ref();
+        match T::from_plain(self, text) {
+            Some(value) => Ok(value),
+            None => Ok(T::try_from(self.read_bytes(text)?)?),
+        }
+    }
+
     /// Returns whether literals have values of float types: whether the mantissa radix and the exponent base of the format
     /// are both 10 or both powers of two. Where this is true, [`Literal::to_f64`] returns no error.
     #[must_use]
@@ -351,8 +349,8 @@ impl Number<'_> {
     /// ```
     /// use peltzivar::literal::Language;
     ///
-    /// assert_eq!(Language::TOML.read(b"6.022_140_76e23")?.to_f64(), 6.02214076e23);
-    /// assert_eq!(Language::TOML.read(b"-inf")?.to_f64(), f64::NEG_INFINITY);
+    /// assert_eq!(Language::TOML.read("6.022_140_76e23")?.to_f64(), 6.02214076e23);
+    /// assert_eq!(Language::TOML.read("-inf")?.to_f64(), f64::NEG_INFINITY);
     /// # Ok::<(), peltzivar::literal::FormError>(())
     /// ```
     #[must_use]

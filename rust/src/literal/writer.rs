@@ -56,7 +56,7 @@ impl Default for Style {
 }
 
 impl Syntax {
-    /// Returns the value of an integer as a literal of this syntax. [Parsing][crate::literal::Reader::parse] the text returns
+    /// Returns the value of an integer as a literal of this syntax. [Parsing][Syntax::parse] the text returns
     /// the same value.
     ///
     /// A `+` is written only where a sign is required. Digits are in uppercase.
@@ -85,12 +85,12 @@ impl Syntax {
     /// exponent that the literal does not have, `0` and `e0` are added. Trailing zeros are kept, and so is the sign of `-0`.
     ///
     /// ```
-    /// use peltzivar::literal::{Reader, Style, Syntax};
+    /// use peltzivar::literal::{Style, Syntax};
     /// use peltzivar::{format::STANDARD, Format, NumberFormatBuilder};
     ///
     /// const COMMA: NumberFormatBuilder = NumberFormatBuilder::new().required_digits(true);
-    /// static COMMAS: Reader = Reader::new(Syntax::new_or_panic(COMMA.build_format_or_panic(), b'e', b','));
-    /// let literal = COMMAS.read(b"-0012,50").unwrap();
+    /// const COMMAS: Syntax = Syntax::new_or_panic(COMMA.build_format_or_panic(), b'e', b',');
+    /// let literal = COMMAS.read("-0012,50").unwrap();
     /// let syntax = Syntax::new_or_panic(Format::of::<STANDARD>(), b'e', b'.');
     /// assert_eq!(syntax.format_literal(&literal, Style::PLAIN).unwrap().to_string(), "-12.50");
     /// ```

@@ -1,9 +1,0 @@
-use Rattle.std.proofs.Common.{ℕ, ◌≡◌, ◌≤◌, ◌*◌, All, length, take, true, ◌-◌}
-use Rattle.lexical_literal.specs.Forms.{Reaches, is_byte}
-use Rattle.lexical_literal.proofs.list.ReaderList.refuse.Given as goal
-
-abbrev pub invariant-loop-form : goal.invariant-loop-form
-invariant-loop-form l = is_byte l.error.refusal.kind ≡ true → All (λ g. (n : ℕ) → Reaches l.text g n → n ≤ 2 * l.stop.size) (take l.form l.readers)
-
-abbrev pub decreases-loop-form : goal.decreases-loop-form
-decreases-loop-form l = length l.readers - l.form

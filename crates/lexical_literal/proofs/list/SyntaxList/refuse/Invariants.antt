@@ -1,0 +1,9 @@
+use Rattle.std.proofs.Common.{ℕ, ◌≡◌, ◌≤◌, ◌*◌, All, length, take, true, ◌-◌}
+use Rattle.lexical_literal.specs.Forms.{Reaches, is_byte}
+use Rattle.lexical_literal.proofs.list.SyntaxList.refuse.Given as goal
+
+abbrev pub invariant-loop-form : goal.invariant-loop-form
+invariant-loop-form l = is_byte l.error.refusal.kind ≡ true → All (λ g. (n : ℕ) → Reaches l.text g n → n ≤ 2 * l.stop.size) (take l.form l.syntaxes)
+
+abbrev pub decreases-loop-form : goal.decreases-loop-form
+decreases-loop-form l = length l.syntaxes - l.form
