@@ -118,7 +118,7 @@ module _ (g : Grammar) (sign integer point fraction character exponent_sign expo
           };
         };
       };
-      groups = subst (λ size. IsTrue (has_groups m.separator size integer)) (sym allow.groups) refl;
+      groups = let none = allow.groups in grind arith;
     }
 
 -- Behind its sign, the text of a literal without a prefix and a suffix has its other parts.
