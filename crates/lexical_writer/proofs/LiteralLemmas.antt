@@ -16,7 +16,7 @@ use Rattle.lexical_util.specs.declared.format_flags.Part.{Part}
 use Rattle.lexical_util.specs.declared.format_flags.Part.TheVariants as parts
 use Rattle.lexical_base.proofs.ValueLemmas.{byte_value-digit_character}
 use Rattle.lexical_literal.specs.Literal.{IsSpelled, Literal, condition, has_leading_zero, is_absent, is_none_or_one, is_plus}
-use Rattle.lexical_literal.specs.Literal.{is_present, requirement, text_of}
+use Rattle.lexical_literal.specs.Literal.{is_none_or_prefix, is_present, requirement, text_of}
 use Rattle.lexical_literal.specs.Notation.{Notation, has, integer_group_size, lacks_options, notation_of, point_of, exponent_character_of, radix_of}
 use Rattle.lexical_literal.specs.Groups.{has_groups}
 use Rattle.lexical_literal.specs.Run.{is_run}
@@ -32,7 +32,7 @@ use Rattle.lexical_number.specs.Number.{digits_in, number}
 use Rattle.lexical_value.specs.Value.{is_minus}
 use Rattle.lexical_writer.specs.Digits.{character, grouped, only_if, or_zero, size_of, values_of}
 use Rattle.lexical_writer.specs.Layout.{HasNumber, given_fraction, given_power, group_of, has_exponent, has_point, has_zero, laid_out, options_of}
-use Rattle.lexical_writer.specs.Layout.{IsLaidOut, literal_of, refusal, sign_of}
+use Rattle.lexical_writer.specs.Layout.{IsLaidOut, after_zero, base_byte, literal_of, refusal, sign_of}
 use Rattle.lexical_writer.specs.declared.layout.Amount.{Amount}
 use Rattle.lexical_writer.specs.declared.layout.Layout.{Layout}
 use Rattle.lexical_writer.specs.declared.layout.WriteError.{WriteError}
@@ -280,6 +280,12 @@ module _ (g : Grammar) (style : Style) (amount : Amount) (is : IsSyntax g)
   one_sign : (negative required : Bool) → is_none_or_one sets.signs (option_to_list (sign_of negative required)) ≡ true
   one_sign negative required = grind arith
 
+  one_prefix : (some : Bool) → is_none_or_prefix m.prefix (after_zero (base_byte some (r.byte layout.base_prefix))) ≡ true
+  one_prefix some = grind (arith, own)
+
+  one_suffix : (some : Bool) → is_none_or_one m.suffix (option_to_list (base_byte some (r.byte layout.base_suffix))) ≡ true
+  one_suffix some = grind (arith, own)
+
   -- The decimal point and the exponent character are those of the options.
   in_role : (o : Option Options) → FitIfAny g.word o → lacks_options o ≡ false
       → (point_of o (unwrap_or o (record { exponent = 0; point = 0 })).point ≡ true)
@@ -294,7 +300,7 @@ module _ (g : Grammar) (style : Style) (amount : Amount) (is : IsSyntax g)
   spelled : IsSpelled m l
   spelled = record {
     sign = one_sign amount.negative _;
-    prefix = grind (arith, own);
+    prefix = one_prefix (style.prefix || has g.conditions conditions.BasePrefix);
     integer = integer_run.0;
     point = one_byte (point_of g.options) (lacks_options g.options) (has_point g amount) _ no_point (λ some. (in_role g.options is.fit some).0);
     fraction = fraction_run.0;
@@ -302,7 +308,7 @@ module _ (g : Grammar) (style : Style) (amount : Amount) (is : IsSyntax g)
         (λ lacks. no_exponent (or_left _ _ lacks)) (λ some. (in_role g.options is.fit some).1);
     exponent_sign = one_sign (given_power amount).negative _;
     exponent = exponent_run.0;
-    suffix = grind (arith, own);
+    suffix = one_suffix (style.suffix || has g.conditions conditions.BaseSuffix);
     after_point = no_fraction amount _ _ (options_of g).point radix;
     after_character = no_power amount _ _ (options_of g).exponent exponent_radix;
     some_number = fraction_is_float (is_present l.integer) amount _ (is_present l.exponent_character) radix (options_of g).point some_digits;

@@ -107,12 +107,15 @@ laid_out g style amount =
       suffix = option_to_list (base_byte (style.suffix || has g.conditions conditions.BaseSuffix) (r.byte layout.base_suffix));
     }
 
+-- `first_error sign fraction exponent` is the error of the first of the three that is refused.
+abbrev pub first_error : Bool → Bool → Bool → Option WriteError
+first_error sign fraction exponent =
+    if sign then Some errors.Negative else (if fraction then Some errors.Fraction else (if exponent then Some errors.Exponent else None))
+
 -- `refusal g amount` is why `amount` cannot be written as a literal of `g`, or `None` if it can.
 abbrev pub refusal : Grammar → Amount → Option WriteError
-refusal g amount =
-    if amount.negative && has g.conditions conditions.NegativeSign then Some errors.Negative
-    else (if lacks_options g.options && is_some amount.fraction then Some errors.Fraction
-    else (if (lacks_options g.options || (raw g.word).flag layout.no_exponent_notation) && is_some amount.exponent then Some errors.Exponent else None))
+refusal g amount = first_error (amount.negative && has g.conditions conditions.NegativeSign) (lacks_options g.options && is_some amount.fraction)
+    ((lacks_options g.options || (raw g.word).flag layout.no_exponent_notation) && is_some amount.exponent)
 
 -- `IsLaidOut g style amount result` holds if `result` is what is written for `amount`, or why it cannot be written.
 abbrev pub IsLaidOut : Grammar → Style → Amount → Result Layout WriteError → Type 0

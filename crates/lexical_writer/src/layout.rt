@@ -8,7 +8,7 @@ ghost use Rattle.lexical_literal.specs.Literal.{is_present, text_of};
 ghost use Rattle.lexical_literal.specs.Syntax.{IsSyntax};
 ghost use Rattle.lexical_literal.specs.Takes.{Takes};
 ghost use Rattle.lexical_writer.specs.Digits.{grouped, only_if, or_zero, run_text, size_of, values_of};
-ghost use Rattle.lexical_writer.specs.Layout.{base_byte, given_fraction, group_of, has_zero};
+ghost use Rattle.lexical_writer.specs.Layout.{base_byte, first_error, given_fraction, group_of, has_zero};
 ghost use Rattle.lexical_writer.specs.Layout.{HasNumber, IsLaidOut, literal_of, needs_exponent, refusal, sign_of};
 ghost use Rattle.lexical_writer.specs.Buffer.{IsTaken};
 
@@ -256,15 +256,11 @@ impl<'a> Amount<'a> {
     {
         let integers = syntax.options().is_none();
         let no_exponent = integers | syntax.format().view().no_exponent_notation();
-        if self.negative & syntax.conditions().has(Condition::NegativeSign) {
-            Some(WriteError::Negative)
-        } else if integers & self.fraction.is_some() {
-            Some(WriteError::Fraction)
-        } else if no_exponent & self.exponent.is_some() {
-            Some(WriteError::Exponent)
-        } else {
-            None
-        }
+        first_error(
+            self.negative & syntax.conditions().has(Condition::NegativeSign),
+            integers & self.fraction.is_some(),
+            no_exponent & self.exponent.is_some(),
+        )
     }
 
     // Returns whether a 0 stands for absent integer digits.
@@ -294,6 +290,21 @@ pub(crate) fn needs_exponent(syntax: &Syntax) -> bool
     ensures { result ≡ needs_exponent syntax.now }
 {
     syntax.format().view().required_exponent_notation() && syntax.options().is_some()
+}
+
+// Returns the error of a sign, a fraction or an exponent that is refused, the first if several are.
+const fn first_error(sign: bool, fraction: bool, exponent: bool) -> Option<WriteError>
+    ensures { result ≡ first_error sign fraction exponent }
+{
+    if sign {
+        Some(WriteError::Negative)
+    } else if fraction {
+        Some(WriteError::Fraction)
+    } else if exponent {
+        Some(WriteError::Exponent)
+    } else {
+        None
+    }
 }
 
 // Returns the number of digits of a group, or 0 if there are no groups.

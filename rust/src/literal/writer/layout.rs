@@ -189,15 +189,11 @@ impl<'a> Amount<'a> {
     fn refusal(&self, syntax: &Syntax) -> Option<WriteError> {
         let integers = syntax.options().is_none();
         let no_exponent = integers | syntax.format().view().no_exponent_notation();
-        if self.negative & syntax.conditions().has(Condition::NegativeSign) {
-            Some(WriteError::Negative)
-        } else if integers & self.fraction.is_some() {
-            Some(WriteError::Fraction)
-        } else if no_exponent & self.exponent.is_some() {
-            Some(WriteError::Exponent)
-        } else {
-            None
-        }
+        first_error(
+            self.negative & syntax.conditions().has(Condition::NegativeSign),
+            integers & self.fraction.is_some(),
+            no_exponent & self.exponent.is_some(),
+        )
     }
 
     // Returns whether a 0 stands for absent integer digits.
@@ -218,6 +214,19 @@ impl<'a> Amount<'a> {
 // Returns whether each literal has an exponent.
 pub(crate) fn needs_exponent(syntax: &Syntax) -> bool {
     syntax.format().view().required_exponent_notation() && syntax.options().is_some()
+}
+
+// Returns the error of a sign, a fraction or an exponent that is refused, the first if several are.
+const fn first_error(sign: bool, fraction: bool, exponent: bool) -> Option<WriteError> {
+    if sign {
+        Some(WriteError::Negative)
+    } else if fraction {
+        Some(WriteError::Fraction)
+    } else if exponent {
+        Some(WriteError::Exponent)
+    } else {
+        None
+    }
 }
 
 // Returns the number of digits of a group, or 0 if there are no groups.
