@@ -249,7 +249,8 @@ fn accepting(state: State, text: &[u8], roles: usize, found: &mut Found<'_>) {
             // In place of a condition that refuses the text, it or another one may have another number.
             let numbered = Condition::ALL.into_iter().filter(|_| settled.conditions != state.conditions);
             for condition in numbered.filter(|it| it.limits().1 > 1) {
-                let states = state.with_numbers(condition).filter(|it| it.exact().is_some_and(|it| read(it, text).is_ok()));
+                let states =
+                    state.with_numbers(condition).filter(|it| it.exact().is_some_and(|it| read(it, text).is_ok()));
                 State::first_best(states, found.lines).map(|it| found.push(it));
             }
             found.push(settled);

@@ -4,7 +4,9 @@ use core::array;
 use core::fmt::{self, Write};
 use core::str::from_utf8;
 
-use crate::edits::{apply, likeness, nearest, ArgumentKind, Edit, EditError, EditErrorKind, Fault, Setter, FIELD_COUNT};
+use crate::edits::{
+    apply, likeness, nearest, ArgumentKind, Edit, EditError, EditErrorKind, Fault, Setter, FIELD_COUNT,
+};
 use crate::format::{NumberFormatBuilder, EXPONENT_BASE, EXPONENT_RADIX, MANTISSA_RADIX};
 use crate::format_error::ONE_OPTION;
 use crate::lawful::Rejected;

@@ -128,7 +128,8 @@ fn named<T: std::error::Error + 'static>(error: T) -> (&'static str, Box<dyn std
 fn a_chain_of_errors_has_each_sentence_once() {
     let settings = Settings::read(["radix=37"]).unwrap();
     let read = Language::JSON.read("").unwrap_err();
-    let misfit = Syntax::integers(Format::default()).with_conditions(Conditions::NONE.integer_group_size(Some(9))).unwrap_err();
+    let misfit =
+        Syntax::integers(Format::default()).with_conditions(Conditions::NONE.integer_group_size(Some(9))).unwrap_err();
     let [missing, large] = ["", "256"].map(|text| Language::JSON.parse::<u8>(text).unwrap_err());
     #[rustfmt::skip]
     let errors = [

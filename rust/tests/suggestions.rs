@@ -63,7 +63,12 @@ fn numbers_of_many_forms_lead_to_their_formats() {
     let separators = state(flags, b'e', b'.');
     let none = State { word: separators.word & !DIGIT_SEPARATOR_FLAG_MASK, ..separators };
     assert_eq!(offered(separators, "!1_0\n10").first(), Some(&none));
-    let unfit = State { word: 0x0A0A_1000_0000_005F_0000_0007_0000_000C, exponent: b'e', point: b'.', conditions: Conditions::NONE };
+    let unfit = State {
+        word: 0x0A0A_1000_0000_005F_0000_0007_0000_000C,
+        exponent: b'e',
+        point: b'.',
+        conditions: Conditions::NONE,
+    };
     assert!(offered(unfit, "!2").contains(&State { word: unfit.word | REQUIRED_MANTISSA_SIGN, ..unfit }));
     let all = Conditions::NONE.required_base_prefix(true).required_base_suffix(true).integer_group_size(Some(3));
     let conditions = State { conditions: all, ..state("", b'e', b'.') };
@@ -121,7 +126,12 @@ fn repairs_end_each_reason() {
         assert!(steps <= 16, "{word:#034X}: {steps}");
     }
     // The digit separator is a digit in radix 42, and also in radix 10.
-    let state = State { word: 0x0000_2A00_0000_0031_0000_0001_0000_000C, exponent: b'^', point: b'.', conditions: Conditions::NONE };
+    let state = State {
+        word: 0x0000_2A00_0000_0031_0000_0001_0000_000C,
+        exponent: b'^',
+        point: b'.',
+        conditions: Conditions::NONE,
+    };
     let separator = problems(state).find(|it| it.to_string().contains("separator '1'")).unwrap();
     assert!(repairs(state, separator).all(|it| it.word & DIGIT_SEPARATOR == 0));
 }

@@ -1,6 +1,8 @@
 //! Writers: what is written, and that it is read back with the same value.
 
-use peltzivar::literal::{Condition, Conditions, Form, FromLiteral, Language, Literal, Style, Syntax, WriteError, WriteInteger};
+use peltzivar::literal::{
+    Condition, Conditions, Form, FromLiteral, Language, Literal, Style, Syntax, WriteError, WriteInteger,
+};
 use peltzivar::{Format, NumberFormatBuilder, Part};
 use std::{collections::BTreeMap, fmt::Debug, num::NonZeroU8};
 

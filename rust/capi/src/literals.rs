@@ -34,7 +34,8 @@ impl Syntax {
     fn conditions(&self) -> Option<Conditions> {
         let (numbers, rest) = self.numbers.split_at(Condition::ALL.len());
         let all = Condition::ALL.into_iter().zip(numbers);
-        (!rest.iter().any(|&it| it != 0)).then(|| all.fold(Conditions::NONE, |them, (it, &number)| them.with(it, number)))
+        (!rest.iter().any(|&it| it != 0))
+            .then(|| all.fold(Conditions::NONE, |them, (it, &number)| them.with(it, number)))
     }
 
     /// Returns the syntax, which may not be lawful, or `None` if there is none or if a later version may read it otherwise.

@@ -102,7 +102,11 @@ impl Conditions {
     pub(crate) fn append_to(self, text: ShortText) -> ShortText {
         self.iter().fold(text, |text, (condition, number)| {
             let text = text.and(" ").and(condition.name());
-            if condition.has_number() { text.and("=").decimal(number.into()) } else { text.and("=true") }
+            if condition.has_number() {
+                text.and("=").decimal(number.into())
+            } else {
+                text.and("=true")
+            }
         })
     }
 }

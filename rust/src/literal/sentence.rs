@@ -99,8 +99,12 @@ impl ReadError {
     const fn unmet(&self, condition: Condition) -> ShortText {
         let (grammar, number) = (self.spot.grammar, self.spot.grammar.conditions.number(condition));
         let (text, verb) = match condition {
-            Condition::BasePrefix => (shown(ShortText::of("expected the prefix 0"), base_prefix(grammar.word)), " requires"),
-            Condition::BaseSuffix => (shown(ShortText::of("expected the suffix "), base_suffix(grammar.word)), " requires"),
+            Condition::BasePrefix => {
+                (shown(ShortText::of("expected the prefix 0"), base_prefix(grammar.word)), " requires")
+            }
+            Condition::BaseSuffix => {
+                (shown(ShortText::of("expected the suffix "), base_suffix(grammar.word)), " requires")
+            }
             Condition::NegativeSign => (ShortText::of("unexpected minus sign"), " forbids"),
             Condition::IntegerGroupSize => {
                 (ShortText::of("expected groups of ").decimal(number as usize).and(" digits"), " requires")
