@@ -237,7 +237,8 @@ fn refusing(state: State, text: &[u8], found: &mut Found<'_>) {
     let refuses = |it: &State| is_refused(it) && count(*it) <= count(state);
     flags.filter(refuses).for_each(|it| found.push(it));
     for condition in Condition::ALL {
-        State::first_best(state.with_numbers(condition).filter(refuses), found.lines).map(|it| found.push(it));
+        let best = State::first_best(state.with_numbers(condition).filter(refuses), found.lines);
+        best.into_iter().for_each(|it| found.push(it));
     }
 }
 
@@ -251,7 +252,7 @@ fn accepting(state: State, text: &[u8], roles: usize, found: &mut Found<'_>) {
             for condition in numbered.filter(|it| it.limits().1 > 1) {
                 let states =
                     state.with_numbers(condition).filter(|it| it.exact().is_some_and(|it| read(it, text).is_ok()));
-                State::first_best(states, found.lines).map(|it| found.push(it));
+                State::first_best(states, found.lines).into_iter().for_each(|it| found.push(it));
             }
             found.push(settled);
         }
