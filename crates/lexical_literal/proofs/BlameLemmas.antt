@@ -1,7 +1,7 @@
 -- The flags that are found are to blame.
 use Rattle.std.proofs.Common.{ℕ, ◌≡◌, ◌≤◌, ◌↔◌, ◌⊎◌, Bool, true, false, not, ◌==◌, ◌&&◌, ◌||◌, inl, inr, IsTrue, if◌then◌else◌, List, length, take}
 use Rattle.std.proofs.Common.{Option, None, Some, refl, sym, ap, subst, ◌∙◌, arith}
-use Rattle.std.proofs.lemmas.Bool.{false≢true, and_parts, and_from, or_parts, cases_Bool, eqb-true, false_from_ne_true}
+use Rattle.std.proofs.lemmas.Bool.{false≢true, and_parts, and_from, cases_Bool, eqb-true, false_from_ne_true}
 use Rattle.std.proofs.lemmas.List.{length-take-le}
 use Rattle.std.proofs.lemmas.Bool.Decides.{nat_tests}
 use Rattle.std.specs.Prelude.{slice_get}
@@ -10,7 +10,7 @@ use Rattle.lexical_util.specs.Layout as layout
 use Rattle.lexical_util.specs.Layout.{Flag, bit}
 use Rattle.lexical_util.specs.Record.{raw}
 use Rattle.lexical_util.specs.Roles.{other_case}
-use Rattle.lexical_literal.specs.Notation.{Notation, has, is_same, kept, notation_of, number_of}
+use Rattle.lexical_literal.specs.Notation.{all_conditions, Notation, has, is_same, kept, notation_of}
 use Rattle.lexical_literal.specs.Cause.{Allows, IsCaseFlag, IsCause, IsRefusal, IsRequirement, IsUnmet, Permits, RefusesAlone, adding}
 use Rattle.lexical_literal.specs.Cause.{bare, binds, case_set, error_of, first_unmet, is_at, is_one_of, lowest, marks_of, number_separator_flags}
 use Rattle.lexical_literal.specs.Cause.{requirement_flags, requiring, span_of, tail_of, with_rules}
@@ -27,7 +27,6 @@ use Rattle.lexical_literal.specs.declared.cause.Spot.{Spot}
 use Rattle.lexical_literal.specs.declared.steps.Summary.{Summary}
 use Rattle.lexical_literal.specs.declared.syntax.Condition.{Condition}
 use Rattle.lexical_literal.specs.declared.syntax.Grammar.{Grammar}
-use Rattle.lexical_literal.specs.declared.syntax.TheConstants.{CONDITIONS}
 use Rattle.lexical_literal.proofs.CauseLemmas.{flag_zero, found_in, mask_flags, none_of, only_mask, only_none, same_flag, some_of}
 use Rattle.lexical_literal.proofs.JointLemmas.{Alone, at_next, each_passes, free_allows, free_is, going, joint, split}
 use Rattle.lexical_literal.proofs.NumberLemmas.{has_kept, none_of_all}
@@ -188,7 +187,7 @@ module _ (m : Notation) (s : Summary) (front : List ℕ) (read : IsReadOf m s fr
           first_of : (mask_of (alone m s next) == 0 && not (some_unmet m s next)) ≡ false
               → ((f : Flag) × (alone m s next f ≡ true)) ⊎ ((c : Condition) × (unmet m s next c ≡ true))
           first_of some = elim (cases_Bool (mask_of (alone m s next) == 0)) [
-            | inl zero ↦ inr (found_in (unmet m s next) CONDITIONS (some_there _ (ap (λ t. t && not (some_unmet m s next)) (sym zero) ∙ some)))
+            | inl zero ↦ inr (found_in (unmet m s next) all_conditions (some_there _ (ap (λ t. t && not (some_unmet m s next)) (sym zero) ∙ some)))
             | inr flag ↦ inl (some_of (alone m s next) flag)
           ]
 

@@ -6,19 +6,18 @@ use Rattle.lexical_util.specs.Layout.{Flag}
 use Rattle.lexical_util.specs.Roles.{signs}
 use Rattle.lexical_util.specs.declared.format_flags.Part.TheVariants as parts
 use Rattle.lexical_literal.specs.Cause.{requirement_flags}
-use Rattle.lexical_literal.specs.Notation.{Notation}
+use Rattle.lexical_literal.specs.Notation.{all_conditions, Notation}
 use Rattle.lexical_literal.specs.Literal.{Literal, IsLiteral, condition, text_of, requirement}
 use Rattle.lexical_literal.specs.Literal.{is_absent, is_present, is_float, is_none_or_one, is_none_or_prefix}
 use Rattle.lexical_literal.specs.Readings.{HasTwoReadings}
 use Rattle.lexical_literal.specs.Run.{is_run}
 use Rattle.lexical_literal.specs.Additions.Summary.{implies}
 use Rattle.lexical_literal.specs.declared.syntax.Condition.{Condition}
-use Rattle.lexical_literal.specs.declared.syntax.TheConstants.{CONDITIONS}
 use Rattle.lexical_literal.proofs.CutLemmas.{only}
 
 -- `is_free m` is true if no flag and no condition requires anything.
 abbrev is_free : Notation → Bool
-is_free m = not (list_any m.flag requirement_flags) && not (list_any m.condition CONDITIONS)
+is_free m = not (list_any m.flag requirement_flags) && not (list_any m.condition all_conditions)
 
 -- The tests of the spelling of each part of `l`, and of the parts that go together.
 abbrev tests : Notation → Literal → List Bool

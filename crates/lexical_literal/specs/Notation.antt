@@ -1,5 +1,5 @@
 -- How numbers are written: the bytes that play each role, the flags, and the conditions.
-use Rattle.std.specs.Prelude.{ℕ, ◌≡◌, ◌↔◌, ◌==◌, ◌||◌, Bool, true, false, not, IsTrue, if◌then◌else◌, nat_lt, List, map, Option, Some, None, get_or}
+use Rattle.std.specs.Prelude.{ℕ, ◌≡◌, ◌↔◌, ◌==◌, ◌||◌, Bool, true, false, not, IsTrue, if◌then◌else◌, nat_lt, List, [], ◌∷◌, map, Option, Some, None, get_or}
 use Rattle.lexical_util.specs.Ascii.{ByteSet}
 use Rattle.lexical_util.specs.Digits.{byte_value}
 use Rattle.lexical_util.specs.Layout as layout
@@ -15,7 +15,6 @@ use Rattle.lexical_literal.specs.declared.syntax.Condition.TheVariants as condit
 use Rattle.lexical_literal.specs.declared.syntax.Conditions.{Conditions}
 use Rattle.lexical_literal.specs.declared.syntax.Options.{Options}
 use Rattle.lexical_literal.specs.declared.syntax.Grammar.{Grammar}
-use Rattle.lexical_literal.specs.declared.syntax.TheConstants.{CONDITIONS}
 
 -- `Notation` has the flags, the conditions and their numbers, the digits of each part, and the bytes that play each other role. If
 -- `integers_only` is true, every literal is an integer.
@@ -52,7 +51,10 @@ abbrev pub lacks_options : Option Options → Bool
 lacks_options None = true
 lacks_options (Some options) = false
 
--- `order d` is the place of the condition `d` in `CONDITIONS`.
+-- `all_conditions` lists the conditions, and `order d` is the place of `d` in this list.
+abbrev pub all_conditions : List Condition
+all_conditions = conditions.BasePrefix ∷ conditions.BaseSuffix ∷ conditions.NegativeSign ∷ conditions.IntegerGroupSize ∷ []
+
 abbrev pub order : Condition → ℕ
 order conditions.BasePrefix = 0
 order conditions.BaseSuffix = 1
@@ -73,10 +75,10 @@ has c d = not (number_of c d == 0)
 
 -- `kept C N` has the conditions for which `C` is true, with the numbers `N`, and `no_conditions` has none.
 abbrev pub kept : (Condition → Bool) → (Condition → ℕ) → Conditions
-kept C N = record { numbers = map (λ d. if C d then N d else 0) CONDITIONS }
+kept C N = record { numbers = map (λ d. if C d then N d else 0) all_conditions }
 
 abbrev pub no_conditions : Conditions
-no_conditions = record { numbers = map (λ d. 0) CONDITIONS }
+no_conditions = record { numbers = map (λ d. 0) all_conditions }
 
 -- `get c d` is the number of `d`, or `None` if it is not one of the conditions `c`, and `integer_group_size c` that of groups of digits.
 abbrev pub get : Conditions → Condition → Option ℕ

@@ -6,7 +6,7 @@ use Rattle.lexical_util.specs.NormalForm.{IsNormal}
 use Rattle.lexical_util.specs.Options.{OptionsFit}
 use Rattle.lexical_util.specs.Record.{Record, raw}
 use Rattle.lexical_util.specs.Rules.{Lawful}
-use Rattle.lexical_literal.specs.Notation.{number_of}
+use Rattle.lexical_literal.specs.Notation.{all_conditions, number_of}
 use Rattle.lexical_literal.specs.declared.syntax.Condition.{Condition}
 use Rattle.lexical_literal.specs.declared.syntax.Condition.TheVariants as conditions
 use Rattle.lexical_literal.specs.declared.syntax.Conditions.{Conditions}
@@ -15,7 +15,6 @@ use Rattle.lexical_literal.specs.declared.syntax.ConditionsErrorKind.{Conditions
 use Rattle.lexical_literal.specs.declared.syntax.ConditionsErrorKind.TheVariants as faults
 use Rattle.lexical_literal.specs.declared.syntax.Options.{Options}
 use Rattle.lexical_literal.specs.declared.syntax.Grammar.{Grammar}
-use Rattle.lexical_literal.specs.declared.syntax.TheConstants.{CONDITIONS}
 
 -- `FitIfAny word options` holds if there are no options, or if they fit `word`.
 abbrev pub FitIfAny : ℕ → Option Options → Type 0
@@ -34,21 +33,20 @@ missing r conditions.BaseSuffix = if r.byte layout.base_suffix == 0 then Some fa
 missing r conditions.IntegerGroupSize = if r.flag layout.integer_internal_digit_separator then None else Some faults.NoInternalSeparator
 missing r _ = None
 
--- `fault r d number` is what is wrong with the condition `d` with this `number` in the format `r`, or `None` if nothing is.
-abbrev pub fault : Record → Condition → ℕ → Option ConditionsErrorKind
-fault r d number =
+-- `fault r d number` is the error of the condition `d` with this `number` in the format `r`, or `None` if there is none.
+unfoldable pub fault : Record → Condition → ℕ → Option ConditionsError
+fault r d number = option_map (λ kind. record { condition = d; kind = kind }) (
     if number == 0 then None
-    else (if nat_le (limits d).0 number && nat_le number (limits d).1 then missing r d else Some faults.Number)
+    else (if nat_le (limits d).0 number && nat_le number (limits d).1 then missing r d else Some faults.Number))
 
 -- `first_fault r c ds` is the error of the first of `ds` that is one of the conditions `c` and that the format `r` contradicts, or
 -- `None` if there is none, and `contradiction r c` that of all conditions.
 abbrev pub first_fault : Record → Conditions → List Condition → Option ConditionsError
 first_fault r c [] = None
-first_fault r c (d ∷ ds) =
-    option_or (option_map (λ kind. record { condition = d; kind = kind }) (fault r d (number_of c d))) (first_fault r c ds)
+first_fault r c (d ∷ ds) = option_or (fault r d (number_of c d)) (first_fault r c ds)
 
 abbrev pub contradiction : Record → Conditions → Option ConditionsError
-contradiction r c = first_fault r c CONDITIONS
+contradiction r c = first_fault r c all_conditions
 
 -- `IsSyntax g` holds if the format of `g` is lawful and its own normal form, if the options fit it, if there are any, and if
 -- the conditions do not contradict it.

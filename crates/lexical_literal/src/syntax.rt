@@ -9,8 +9,7 @@ ghost use Rattle.lexical_util.specs.Options.{OptionsFit, IsOptionsError};
 ghost use Rattle.lexical_util.specs.declared.lawful.Rejected.TheVariants as rejected;
 ghost use Rattle.lexical_literal.specs.declared.syntax.Condition.{Condition};
 ghost use Rattle.lexical_literal.specs.declared.syntax.Options.{Options};
-ghost use Rattle.lexical_literal.specs.declared.syntax.TheConstants.{CONDITIONS};
-ghost use Rattle.lexical_literal.specs.Notation.{get, has, is_same, kept, no_conditions, notation_of, number_of, IsOnlyRole};
+ghost use Rattle.lexical_literal.specs.Notation.{all_conditions, get, has, is_same, kept, no_conditions, notation_of, number_of, IsOnlyRole};
 ghost use Rattle.lexical_literal.specs.Syntax.{IsSyntax, contradiction, fault, limits, missing};
 
 use crate::steps::{byte_class, role_of};
@@ -96,7 +95,7 @@ impl Conditions {
     /// Returns the same conditions with another number of `condition`, or without it if `number` is 0.
     #[must_use]
     pub const fn with(self, condition: Condition, number: u8) -> Conditions
-        ensures all { length result.numbers ≡ length CONDITIONS }
+        ensures all { length result.numbers ≡ length all_conditions }
         ensures each { (d : Condition) → number_of result d ≡ (if is_same condition d then number else number_of self d) }
     {
         let mut numbers = self.numbers;
@@ -107,14 +106,14 @@ impl Conditions {
     /// Returns whether there are no conditions.
     #[must_use]
     pub const fn is_none(self) -> bool
-        ensures { result ≡ not (list_any (has self) CONDITIONS) }
+        ensures { result ≡ not (list_any (has self) all_conditions) }
     {
         matches!(self.first(), None)
     }
 
     // Returns the first of them.
     pub(crate) const fn first(self) -> Option<Condition>
-        ensures { result ≡ find (has self) CONDITIONS }
+        ensures { result ≡ find (has self) all_conditions }
     {
         let mut index = 0;
         while index < CONDITIONS.len() {
@@ -220,6 +219,7 @@ impl Syntax {
     /// # Errors
     ///
     /// If the options do not fit the normal form, returns an error with the reasons.
+    #[tactic(auto, unfolding(crate::specs::Syntax::fault))]
     pub const fn new(format: Format, exponent: u8, point: u8) -> Result<Syntax, FormatError>
         ensures accepted { OkIff result (OptionsFit (normal_form_of format) exponent point) (record {
           word = normal_form_of format;
@@ -243,6 +243,7 @@ impl Syntax {
 
     /// Returns the syntax of the integers of a format. Equivalent formats have the same syntax.
     #[must_use]
+    #[tactic(auto, unfolding(crate::specs::Syntax::fault))]
     pub const fn integers(format: Format) -> Syntax
         ensures { result ≡ record { word = normal_form_of format; options = None; conditions = no_conditions } }
     {
@@ -326,8 +327,9 @@ const fn contradiction(grammar: Grammar, conditions: Conditions) -> Option<Condi
     let mut index = 0;
     while index < CONDITIONS.len() {
         let condition = CONDITIONS[index];
-        if let Some(kind) = fault(grammar, condition, conditions.number(condition)) {
-            return Some(ConditionsError { condition, kind });
+        let error = fault(grammar, condition, conditions.number(condition));
+        if let Some(_) = error {
+            return error;
         }
         index += 1;
     }
@@ -335,16 +337,21 @@ const fn contradiction(grammar: Grammar, conditions: Conditions) -> Option<Condi
 }
 
 // Returns what is wrong with a condition that has this number, in the format of `grammar`.
-const fn fault(grammar: Grammar, condition: Condition, number: u8) -> Option<ConditionsErrorKind>
+#[tactic(auto, unfolding(crate::specs::Syntax::fault))]
+const fn fault(grammar: Grammar, condition: Condition, number: u8) -> Option<ConditionsError>
     ensures { result ≡ fault (raw grammar.word) condition number }
 {
     let (least, most) = condition.limits();
-    if number == 0 {
+    let kind = if number == 0 {
         None
     } else if number < least || most < number {
         Some(ConditionsErrorKind::Number)
     } else {
         missing(grammar, condition)
+    };
+    match kind {
+        None => None,
+        Some(kind) => Some(ConditionsError { condition, kind }),
     }
 }
 
@@ -353,8 +360,12 @@ const fn missing(grammar: Grammar, condition: Condition) -> Option<ConditionsErr
     ensures { result ≡ missing (raw grammar.word) condition }
 {
     match condition {
-        Condition::BasePrefix if base_prefix(grammar.word) == 0 => Some(ConditionsErrorKind::NoBasePrefix),
-        Condition::BaseSuffix if base_suffix(grammar.word) == 0 => Some(ConditionsErrorKind::NoBaseSuffix),
+        Condition::BasePrefix if base_prefix(grammar.word) == 0 => Some(
+            ConditionsErrorKind::NoBasePrefix,
+        ),
+        Condition::BaseSuffix if base_suffix(grammar.word) == 0 => Some(
+            ConditionsErrorKind::NoBaseSuffix,
+        ),
         Condition::IntegerGroupSize if !grammar.view().integer_internal_digit_separator() => {
             Some(ConditionsErrorKind::NoInternalSeparator)
         }

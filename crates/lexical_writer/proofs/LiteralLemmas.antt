@@ -20,7 +20,7 @@ use Rattle.lexical_literal.specs.Literal.{is_none_or_prefix, is_present, require
 use Rattle.lexical_literal.specs.Notation.{Notation, has, integer_group_size, lacks_options, notation_of, point_of, exponent_character_of, radix_of}
 use Rattle.lexical_literal.specs.Groups.{has_groups}
 use Rattle.lexical_literal.specs.Run.{is_run}
-use Rattle.lexical_literal.specs.Syntax.{IsSyntax, FitIfAny, contradiction}
+use Rattle.lexical_literal.specs.Syntax.{IsSyntax, FitIfAny, contradiction, fault}
 use Rattle.lexical_literal.specs.Takes.{Takes}
 use Rattle.lexical_literal.specs.declared.syntax.Condition.{Condition}
 use Rattle.lexical_literal.specs.declared.syntax.Condition.TheVariants as conditions
@@ -52,6 +52,7 @@ agree word lawful = let flags = lawful.flags in assumption flags
 no_contradiction : (r : Record) (c : Conditions) → contradiction r c ≡ None → ((has c conditions.BasePrefix && (r.byte layout.base_prefix == 0)) ≡ false)
     × ((has c conditions.BaseSuffix && (r.byte layout.base_suffix == 0)) ≡ false)
     × ((s : ℕ) → integer_group_size c ≡ Some s → 2 ≤ s)
+unfolding fault
 no_contradiction r c none = (grind (arith, nat_tests), grind (arith, nat_tests), λ s has. grind (arith, nat_tests))
 
 -- Groups have the size that a condition requires.

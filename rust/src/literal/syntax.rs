@@ -234,8 +234,9 @@ const fn contradiction(grammar: Grammar, conditions: Conditions) -> Option<Condi
     let mut index = 0;
     while index < CONDITIONS.len() {
         let condition = CONDITIONS[index];
-        if let Some(kind) = fault(grammar, condition, conditions.number(condition)) {
-            return Some(ConditionsError { condition, kind });
+        let error = fault(grammar, condition, conditions.number(condition));
+        if let Some(_) = error {
+            return error;
         }
         index += 1;
     }
@@ -243,14 +244,18 @@ const fn contradiction(grammar: Grammar, conditions: Conditions) -> Option<Condi
 }
 
 // Returns what is wrong with a condition that has this number, in the format of `grammar`.
-const fn fault(grammar: Grammar, condition: Condition, number: u8) -> Option<ConditionsErrorKind> {
+const fn fault(grammar: Grammar, condition: Condition, number: u8) -> Option<ConditionsError> {
     let (least, most) = condition.limits();
-    if number == 0 {
+    let kind = if number == 0 {
         None
     } else if number < least || most < number {
         Some(ConditionsErrorKind::Number)
     } else {
         missing(grammar, condition)
+    };
+    match kind {
+        None => None,
+        Some(kind) => Some(ConditionsError { condition, kind }),
     }
 }
 

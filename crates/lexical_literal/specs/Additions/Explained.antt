@@ -1,5 +1,5 @@
 -- What an error answers, computed from where reading stopped.
-use Rattle.std.specs.Prelude.{ℕ, ◌+◌, ◌==◌, ◌&&◌, ◌||◌, not, nat_lt, if◌then◌else◌, Bool, Option, Some, None, List, get_or}
+use Rattle.std.specs.Prelude.{ℕ, ◌+◌, ◌==◌, ◌&&◌, not, nat_lt, if◌then◌else◌, Bool, Option, Some, None, List, get_or}
 use Rattle.std.specs.List.{list_any}
 use Rattle.lexical_util.specs.declared.error.Error.TheVariants as errors
 use Rattle.lexical_util.specs.Layout.{Flag}
@@ -9,14 +9,13 @@ use Rattle.lexical_literal.specs.Additions.Causes.{is_at_gap, lets, place_of}
 use Rattle.lexical_literal.specs.Additions.Summary.{byte_class, in_part}
 use Rattle.lexical_literal.specs.Cause.{Explained, adding, bare, binds, case_set, error_of, first_unmet, is_one_of}
 use Rattle.lexical_literal.specs.Cause.{leading_zero_flags, lowest, number_separator_flags, requiring, span_of}
-use Rattle.lexical_literal.specs.Notation.{Notation, is_same, kept, notation_of, number_of}
+use Rattle.lexical_literal.specs.Notation.{all_conditions, Notation, is_same, kept, notation_of, number_of}
 use Rattle.lexical_literal.specs.declared.cause.Blame.{Blame}
 use Rattle.lexical_literal.specs.declared.cause.ReadErrorKind.TheVariants as causes
 use Rattle.lexical_literal.specs.declared.cause.Refusal.{Refusal}
 use Rattle.lexical_literal.specs.declared.cause.Spot.{Spot}
 use Rattle.lexical_literal.specs.declared.syntax.Condition.{Condition}
 use Rattle.lexical_literal.specs.declared.syntax.Condition.TheVariants as conditions
-use Rattle.lexical_literal.specs.declared.syntax.TheConstants.{CONDITIONS}
 use Rattle.lexical_literal.specs.declared.steps.Summary.{Summary}
 
 -- `mask_of flag` is the mask of the flags for which `flag` is true.
@@ -37,7 +36,7 @@ zeros m f = binds m f && is_one_of leading_zero_flags f
 
 -- `some_unmet m s next` is true if some condition alone refuses what cannot follow `s`.
 abbrev pub some_unmet : Notation → Summary → Option ℕ → Bool
-some_unmet m s next = list_any (unmet m s next) CONDITIONS
+some_unmet m s next = list_any (unmet m s next) all_conditions
 
 -- `requirements m s next` is the mask of the flags that are to blame for a requirement.
 abbrev pub requirements : Notation → Summary → Option ℕ → ℕ

@@ -1,8 +1,7 @@
 -- One condition is added to none.
-use Rattle.std.proofs.Common.{◌≡◌, ◌==◌, Bool, if◌then◌else◌, ◌∙◌, sym, arith}
+use Rattle.std.proofs.Common.{arith}
 use Rattle.std.proofs.lemmas.Bool.Decides.{nat_tests}
-use Rattle.lexical_literal.specs.Notation.{is_same, no_conditions, number_of}
-use Rattle.lexical_literal.specs.declared.syntax.Condition.{Condition}
+use Rattle.lexical_literal.specs.Notation.{is_same, number_of}
 use Rattle.lexical_literal.proofs.NumberLemmas.{is_kept}
 use Rattle.lexical_literal.proofs.syntax.Conditions.only.Goals as goal
 
