@@ -49,7 +49,7 @@ pub fn states_of(line: &str) -> impl Iterator<Item = State> {
     line.split('\t').take(1).flat_map(|it| it.split(' ')).map(|state| {
         let (word, options) = state.split_once(':').unwrap_or((state, ""));
         let [exponent, point, numbers @ ..] = u128::from_str(options).unwrap_or(0).to_le_bytes();
-        let conditions = Condition::ALL.into_iter().zip(numbers).fold(Conditions::NONE, |all, (it, number)| all.with(it, number));
+        let conditions = Condition::ALL.iter().zip(numbers).fold(Conditions::NONE, |all, (&it, number)| all.with(it, number));
         State { word: u128::from_str(word).unwrap_or(0), exponent, point, conditions }
     })
 }

@@ -63,7 +63,7 @@ impl State {
     pub fn misfits(self) -> impl Iterator<Item = ConditionsError> {
         let syntax = Format::new(self.word).ok().map(Syntax::integers);
         let only = move |it| Conditions::NONE.with(it, self.conditions.number(it));
-        Condition::ALL.into_iter().filter_map(move |it| syntax?.with_conditions(only(it)).err())
+        Condition::ALL.iter().filter_map(move |&it| syntax?.with_conditions(only(it)).err())
     }
 
     fn with_condition(self, condition: Condition, number: u8) -> Self {
@@ -236,7 +236,7 @@ fn refusing(state: State, text: &[u8], found: &mut Found<'_>) {
     let is_refused = |it: &State| it.syntax().is_some_and(|it| read(it, text).is_err());
     let refuses = |it: &State| is_refused(it) && count(*it) <= count(state);
     flags.filter(refuses).for_each(|it| found.push(it));
-    for condition in Condition::ALL {
+    for &condition in Condition::ALL {
         let best = State::first_best(state.with_numbers(condition).filter(refuses), found.lines);
         best.into_iter().for_each(|it| found.push(it));
     }
@@ -248,8 +248,8 @@ fn accepting(state: State, text: &[u8], roles: usize, found: &mut Found<'_>) {
     match settled(state, text) {
         Ok(settled) => {
             // In place of a condition that refuses the text, it or another one may have another number.
-            let numbered = Condition::ALL.into_iter().filter(|_| settled.conditions != state.conditions);
-            for condition in numbered.filter(|it| it.limits().1 > 1) {
+            let numbered = Condition::ALL.iter().filter(|_| settled.conditions != state.conditions);
+            for &condition in numbered.filter(|it| it.limits().1 > 1) {
                 let states =
                     state.with_numbers(condition).filter(|it| it.exact().is_some_and(|it| read(it, text).is_ok()));
                 State::first_best(states, found.lines).into_iter().for_each(|it| found.push(it));
@@ -278,8 +278,8 @@ fn settled(mut state: State, text: &[u8]) -> Result<State, usize> {
         match error {
             Some(error) if matches!(error.kind(), ReadErrorKind::Requirement | ReadErrorKind::Case) => {
                 state.word &= !error.mask();
-                let unmet = Condition::ALL.into_iter().filter(|&it| error.conditions().has(it));
-                state.conditions = unmet.fold(state.conditions, |all, it| all.with(it, 0));
+                let unmet = Condition::ALL.iter().filter(|&&it| error.conditions().has(it));
+                state.conditions = unmet.fold(state.conditions, |all, &it| all.with(it, 0));
             }
             error => return Err(error.map_or(text.len(), |it| it.valid_up_to())),
         }

@@ -279,7 +279,7 @@ impl Name {
 
     /// Returns the names of options and conditions.
     fn beside_fields() -> impl Iterator<Item = Name> {
-        (0..OPTIONS.len()).map(Name::Option).chain(Condition::ALL.map(Name::Condition))
+        (0..OPTIONS.len()).map(Name::Option).chain(Condition::ALL.iter().copied().map(Name::Condition))
     }
 
     const fn text(self) -> &'static str {

@@ -15,6 +15,7 @@ macro_rules! items {
 
 items! {
 const _: &'static [&'static str] = <Edit>::NAMES;
+const _: &'static [Condition] = <Condition>::ALL;
 const _: &'static [FlagSetter] = <FlagSetter>::ALL;
 const _: &'static [FlagSetter] = <FlagSetter>::FLAGS;
 const _: &'static [Language] = <Language>::ALL;
@@ -1260,7 +1261,6 @@ const _: WriteError = <WriteError>::Fraction;
 const _: WriteError = <WriteError>::Negative;
 const _: WriteError = <WriteError>::Radix;
 const _: WriteError = <WriteError>::Special;
-const _: [Condition; 4] = <Condition>::ALL;
 const _: bool = <NumberFormat<STANDARD>>::CASE_SENSITIVE_BASE_PREFIX;
 const _: bool = <NumberFormat<STANDARD>>::CASE_SENSITIVE_BASE_SUFFIX;
 const _: bool = <NumberFormat<STANDARD>>::CASE_SENSITIVE_EXPONENT;

@@ -18,7 +18,6 @@ use Rattle.lexical_literal.specs.Notation.{Notation, has, notation_of}
 use Rattle.lexical_literal.specs.Readings.{AllIn}
 use Rattle.lexical_literal.specs.Run.{are_fit}
 use Rattle.lexical_literal.specs.Takes.{Takes}
-use Rattle.lexical_literal.specs.Groups.{has_groups}
 use Rattle.lexical_literal.specs.declared.syntax.Condition.{Condition}
 use Rattle.lexical_literal.specs.declared.syntax.Grammar.{Grammar}
 use Rattle.lexical_value.specs.Private.{AllowPlain, IsSpelled, TakesDecimals, unsigned}

@@ -1,5 +1,5 @@
 -- Definitions for contracts of functions that are not public.
-use Rattle.std.specs.Prelude.{ℕ, ◌≡◌, ◌%◌, ◌^◌, ◌<◌, ◌||◌, ◌++◌, Bool, false, IsTrue, List, None, length, slice_index}
+use Rattle.std.specs.Prelude.{ℕ, ◌≡◌, ◌%◌, ◌^◌, ◌<◌, ◌||◌, ◌++◌, Bool, false, IsTrue, List, length, slice_index}
 use Rattle.std.specs.Str.Parse.{AllDigits, digits_value, digits_value_after}
 use Rattle.lexical_util.specs.Layout as layout
 use Rattle.lexical_util.specs.Record.{Record, effective_exponent_base, effective_exponent_radix}

@@ -33,9 +33,8 @@ impl Syntax {
     /// Returns the conditions, or `None` if a later version may have others.
     fn conditions(&self) -> Option<Conditions> {
         let (numbers, rest) = self.numbers.split_at(Condition::ALL.len());
-        let all = Condition::ALL.into_iter().zip(numbers);
-        (!rest.iter().any(|&it| it != 0))
-            .then(|| all.fold(Conditions::NONE, |them, (it, &number)| them.with(it, number)))
+        let all = Condition::ALL.iter().zip(numbers).fold(Conditions::NONE, |all, (&it, &number)| all.with(it, number));
+        Some(all).filter(|_| rest.iter().all(|&it| it == 0))
     }
 
     /// Returns the syntax, which may not be lawful, or `None` if there is none or if a later version may read it otherwise.

@@ -57,7 +57,7 @@ conditions! {
 
 impl Condition {
     /// All conditions, in the order in which they are checked and printed.
-    pub const ALL: [Condition; CONDITIONS.len()] = CONDITIONS;
+    pub const ALL: &'static [Condition] = &CONDITIONS;
 
     /// Returns whether the condition has a number.
     const fn has_number(self) -> bool {
@@ -88,14 +88,14 @@ impl Condition {
     /// Returns the condition of the setting `text`, such as `required_base_prefix=true`, and its value, if it is one.
     pub(crate) fn split(text: &str) -> Option<(Self, &str)> {
         let (name, value) = text.split_once('=')?;
-        Some((Self::ALL.into_iter().find(|it| it.name() == name)?, value))
+        Some((CONDITIONS.into_iter().find(|it| it.name() == name)?, value))
     }
 }
 
 impl Conditions {
     /// Returns each of the conditions, and its number.
     pub(crate) fn iter(self) -> impl Iterator<Item = (Condition, u8)> + Clone {
-        Condition::ALL.into_iter().map(move |it| (it, self.number(it))).filter(|it| it.1 > 0)
+        CONDITIONS.into_iter().map(move |it| (it, self.number(it))).filter(|it| it.1 > 0)
     }
 
     /// Appends the settings of the conditions, with a space before each.
