@@ -111,13 +111,14 @@ def fields():
 
 
 def conditions():
-    """Returns the conditions: the name of each, what it does, and a text that it refuses."""
-    text = (TOP / "rust/src/literal/conditions.rs").read_text()
-    row = r"((?: +///.*\n)+) +#\[must_use\]\n +pub const fn (\w+)\(mut self, \w+: (\S+)\)"
-    for comment, name, kind in re.findall(row, text):
+    """Returns the conditions: the name of each, what it does, a text that it refuses, and its least and greatest number."""
+    text, syntax = ((TOP / f"rust/src/literal/{name}.rs").read_text() for name in ("conditions", "syntax"))
+    limits = {it: [int(least), int(most)] for it, least, most in re.findall(r"Condition::(\w+) => \((\d+), (\d+)\)", syntax)}
+    for comment, condition, name in re.findall(r"((?: +///.*\n)+) +(\w+): (\w+)\(\w+\);", text):
         does, *_ = re.split(r"\. |, from ", " ".join(comment.replace("///", "").split()))
         refused = re.findall(r"refuses `([^`]*)`", comment)
-        yield {"name": name, "meaning": does, "refuses": refused, "isNumber": kind != "bool"}
+        numbers = {"isNumber": True, "limits": limits[condition]} if condition in limits else {}
+        yield {"name": name, "meaning": does, "refuses": refused, **numbers}
 
 
 def numbers(name):

@@ -51,7 +51,7 @@ class Code {
             `/// ${wordText(word)}`,
             `pub const FORMAT: Format = ${shown.isBuilt ? build : `Format::of::<${wordText(word)}>()`};`,
             `pub const SYNTAX: Syntax = ${syntax}${conditions.length ? "" : ";"}`,
-            ...(conditions.length ? [`    .with_or_panic(Conditions::NONE${conditions.join("")});`] : []),
+            ...(conditions.length ? [`    .with_conditions_or_panic(Conditions::NONE${conditions.join("")});`] : []),
             `pub static READERS: Readers<'static> = Readers::new_or_panic(&[SYNTAX])${nan ? "" : ";"}`,
             ...(nan ? [`    .with_specials(Specials { nan: ${nan}, inf: ${inf}, infinity: ${infinity} });`] : []),
             "",

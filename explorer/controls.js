@@ -42,10 +42,13 @@ class Controls {
         const change = ({ target }) => this.edit(name, Number(field.isNumber ? target.value : target.checked));
         const label = `${[meaning, examples(field)].filter(Boolean).join(": ")} (${name})`.replaceAll("`", "");
         const attributes = { id: name, change, "aria-label": label };
-        const sizes = [0, 2, 3, 4, 5, 6, 7, 8].map((size) => element("option", { value: size }, size || "none"));
-        if (field.isNumber) return element("select", attributes, sizes);
+        if (field.isNumber) {
+            const [least, most] = field.limits;
+            const numbers = [0, ...Array.from({ length: most - least + 1 }, (_, index) => least + index)];
+            return element("select", attributes, numbers.map((value) => element("option", { value }, value || "none")));
+        }
         const box = element("input", { type: "checkbox", ...attributes });
-        if (field.mask && typeof field.mask === "bigint") this.boxes.set(name, box);
+        if (this.library.named.has(name)) this.boxes.set(name, box);
         return box;
     }
 

@@ -2,7 +2,7 @@
 
 use core::str::FromStr;
 
-use peltzivar::literal::{Number, Readers, Specials, Syntax, ValueError};
+use peltzivar::literal::{Condition, Conditions, Number, Readers, Specials, Syntax, ValueError};
 
 use crate::suggest::State;
 
@@ -43,12 +43,13 @@ impl Forms {
     }
 }
 
-/// Reads the states of a line. Each is its word and, behind a colon, a number of three bytes: the exponent character, above
-/// it the decimal point, and then the conditions.
+/// Reads the states of a line. Each is its word and, behind a colon, a number of bytes, from the lowest: the exponent
+/// character, the decimal point, and then the number of each condition.
 pub fn states_of(line: &str) -> impl Iterator<Item = State> {
     line.split('\t').take(1).flat_map(|it| it.split(' ')).map(|state| {
         let (word, options) = state.split_once(':').unwrap_or((state, ""));
-        let [exponent, point, conditions, _] = u32::from_str(options).unwrap_or(0).to_le_bytes();
+        let [exponent, point, numbers @ ..] = u128::from_str(options).unwrap_or(0).to_le_bytes();
+        let conditions = Condition::ALL.iter().zip(numbers).fold(Conditions::NONE, |all, (&it, number)| all.with(it, number));
         State { word: u128::from_str(word).unwrap_or(0), exponent, point, conditions }
     })
 }

@@ -10,16 +10,16 @@ const OPTIONS = [
     { name: "exponent", part: "exponent", isByte: true, title: "exponent character", meaning: "an option of the parser, such as the `e` in `1e5`" },
     { name: "point", isByte: true, title: "decimal point", meaning: "an option of the parser, such as the `.` in `1.5`" },
 ];
-const STANDARD_OPTIONS = { exponent: 101, point: 46, conditions: 0 };
+const STANDARD_OPTIONS = { exponent: 101, point: 46, conditions: 0n };
 /* The spellings of special values, unless a form has those of its language. */
 const SPECIALS = ["NaN", "inf", "infinity"];
 
 class Library {
     constructor(calls, { flags, groups, bytes, conditions }) {
         this.calls = calls;
-        /* The conditions are the fields of a byte: flags from its lowest bit on, and a number in its upper half. */
+        /* The conditions are the bytes of a number. */
         this.conditions = conditions.map((condition, index) => {
-            return { ...condition, part: "option", ...(condition.isNumber ? { mask: 240, shift: 4 } : { mask: 1 << index, shift: index }) };
+            return { ...condition, part: "option", mask: 255n << BigInt(8 * index), shift: BigInt(8 * index) };
         });
         this.flags = flags.map((flag) => ({ ...flag, mask: 1n << BigInt(flag.bit) }));
         this.bytes = bytes.map((byte) => ({ ...byte, isByte: true, mask: 255n << BigInt(byte.bit) }));
@@ -65,12 +65,13 @@ class Library {
             return { ...it, mask: BigInt(mask), fields, repairs: repairs.map(withWord) };
         };
         const [reasons, options, notes] = ["reasons", "options", "notes"].map((name) => answer[name].map(named));
-        const conditions = answer.conditions.map(({ text, bits }) => {
-            const flags = this.flags.filter(({ name }) => text.endsWith(name)).map(({ name }) => name);
+        const conditions = answer.conditions.map(({ text, condition, mask }) => {
+            const flags = this.flags.filter((flag) => flag.mask & BigInt(mask)).map(({ name }) => name);
+            const { name, mask: bits } = this.conditions[condition];
             const fitted = this.put(state.word, "digit_separator", this.get(state.word, "digit_separator") || 95);
             const repairs = flags.map((name) => ({ ...state, word: this.put(fitted, name, 1) }));
             repairs.unshift({ ...state, conditions: state.conditions & ~bits });
-            return { text, fields: [text.split(" ")[0], ...flags], rules: [], repairs };
+            return { text, fields: [name, ...flags], rules: [], repairs };
         });
         const taken = "numfmt options and is_valid_options_punctuation refuse this, but a reader takes it: no flag allows it as a separator";
         if (answer.fits) notes.push(...options.splice(0).map((it) => ({ ...it, text: `${it.text}: ${taken}` })));
@@ -92,7 +93,7 @@ class Library {
      * conditions as settings. */
     stateOfSyntax(text) {
         const [word, exponent = 0, point = 0] = text.split(" ").filter((it) => !it.includes("="));
-        const conditions = this.withConditions(0, text);
+        const conditions = this.withConditions(0n, text);
         return { word: BigInt(word), exponent: Number(exponent), point: Number(point), conditions };
     }
 
@@ -100,14 +101,14 @@ class Library {
     withConditions(conditions, text) {
         return this.conditions.reduce((all, { name, mask, shift }) => {
             const [, value] = new RegExp(`\\b${name}=(\\w+)`).exec(text) ?? [];
-            return value ? (all & ~mask) | ((value === "true" ? 1 : Number(value) || 0) << shift) : all;
+            return value ? (all & ~mask) | (BigInt(value === "true" ? 1 : Number(value) || 0) << shift) : all;
         }, conditions);
     }
 
     /* Returns the value of a field, an option or a condition of a state as a number: 1 for a flag that is set. */
     value(state, { name, mask, shift }) {
         if (name in STANDARD_OPTIONS) return state[name];
-        return shift === undefined ? this.get(state.word, name) : (state.conditions & mask) >> shift;
+        return shift === undefined ? this.get(state.word, name) : Number((state.conditions & mask) >> shift);
     }
 
     /* Returns {value}, or {error} if the setter does not take the text. A separator needs a flag that allows it. */
@@ -171,7 +172,7 @@ class Library {
         const [options, settings] = [{}, []];
         const rest = this.conditions.reduce((rest, { name }) => {
             return rest.replace(new RegExp(`\\b${name}=\\w+[\\s,;]*`, "g"), (setting) => {
-                options.conditions = this.withConditions(options.conditions ?? 0, setting);
+                options.conditions = this.withConditions(options.conditions ?? 0n, setting);
                 return "";
             });
         }, text);
@@ -196,7 +197,7 @@ class Library {
 /* Returns the line by which states are passed to the library, with the spellings of the first. */
 function passed(states) {
     const [{ specials = SPECIALS }] = states;
-    const options = ({ exponent, point, conditions }) => exponent | (point << 8) | (conditions << 16);
+    const options = ({ exponent, point, conditions }) => BigInt(exponent | (point << 8)) | (conditions << 16n);
     return [states.map((state) => `${state.word}:${options(state)}`).join(" "), ...specials].join("\t");
 }
 
@@ -212,9 +213,9 @@ function valueText({ integer, float, unknown }) {
     return Object.is(value, -0) ? "-0" : String(value);
 }
 
-/* Returns an answer with its word as a number. */
+/* Returns an answer with its word and its conditions as numbers. */
 function withWord(answer) {
-    return { ...answer, word: BigInt(answer.word) };
+    return { ...answer, word: BigInt(answer.word), conditions: BigInt(answer.conditions) };
 }
 
 /* Returns a word as text. */

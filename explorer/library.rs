@@ -7,7 +7,7 @@ use core::fmt::{self, Display, Write};
 use core::ops::Range;
 
 use peltzivar::edits::{apply, is_built, normal_form};
-use peltzivar::literal::{FormError, Number, Readers};
+use peltzivar::literal::{Condition, Conditions, FormError, Number, Readers};
 use peltzivar::{Edit, Error, FormatView, NumberFormatBuilder, Reason, Rule};
 use examples::{Refused, other_values, refused};
 use forms::{Forms, Value, states_of, value_of};
@@ -71,11 +71,14 @@ pub extern "C" fn explain(length: usize) -> usize {
         write!(out, r#"{{"normal":{},"isBuilt":{}"#, Word(normal_form(word)), is_built(word))?;
         write!(out, r#","error":{},"reasons":"#, Quoted(Failure(view.error())))?;
         list(out, view.reasons(), |out, reason| put_reason(out, state, reason))?;
-        write!(out, r#","fits":{},"options":"#, State { conditions: 0, ..state }.exact().is_some())?;
+        write!(out, r#","fits":{},"options":"#, State { conditions: Conditions::NONE, ..state }.exact().is_some())?;
         let options = view.options_reasons(state.exponent, state.point).filter(|_| !state.is_integers());
         list(out, options, |out, reason| put_reason(out, state, reason))?;
         out.write_str(r#","conditions":"#)?;
-        list(out, state.misfits(), |out, (bits, error)| write!(out, r#"{{"text":{},"bits":{bits}}}"#, Quoted(error)))?;
+        list(out, state.misfits(), |out, error| {
+            let (condition, mask) = (error.condition as usize, Word(error.mask()));
+            write!(out, r#"{{"text":{},"condition":{condition},"mask":{mask}}}"#, Quoted(error))
+        })?;
         out.write_str(r#","notes":"#)?;
         list(out, view.notes(), |out, note| {
             write!(out, r#"{{"text":{},"mask":{}}}"#, Quoted(note), Word(note.mask()))
@@ -103,7 +106,8 @@ fn put_reason(out: &mut Answer, state: State, reason: Reason) -> fmt::Result {
 
 /// Writes an object with a state, without its last brace.
 fn put_state(out: &mut Answer, State { word, exponent, point, conditions }: State) -> fmt::Result {
-    write!(out, r#"{{"word":{},"exponent":{exponent},"point":{point},"conditions":{conditions}"#, Word(word))
+    let numbers = Condition::ALL.iter().rev().fold(0, |all, &it| all << 8 | u128::from(conditions.number(it)));
+    write!(out, r#"{{"word":{},"exponent":{exponent},"point":{point},"conditions":{}"#, Word(word), Word(numbers))
 }
 
 /// Returns an object for each line but the first, which has the forms: the value and the parts of its number, or the parts

@@ -192,7 +192,7 @@ class Page {
     edit(name, value, key) {
         const condition = this.library.conditions.find((it) => it.name === name);
         const { conditions } = this.state;
-        if (condition) return this.change({ conditions: (conditions & ~condition.mask) | (value << condition.shift) }, key);
+        if (condition) return this.change({ conditions: (conditions & ~condition.mask) | (BigInt(value) << condition.shift) }, key);
         if (!(name in STANDARD_OPTIONS)) return this.change({ word: this.library.put(this.state.word, name, value) }, key);
         const other = name === "point" ? "exponent" : "point";
         const isAlone = (value === 0) !== (this.state[other] === 0);
@@ -253,7 +253,7 @@ class Page {
         const parts = new URLSearchParams(FRAGMENT.test(hash) ? hash.replaceAll("+", "%2B") : { word: hash });
         const byte = (name) => (parts.has(name) ? this.library.byte(parts.get(name)) : STANDARD_OPTIONS[name]);
         const word = parts.get("word") ? this.library.read(parts.get("word")).word : this.library.standard;
-        const conditions = this.library.withConditions(0, parts.get("conditions") ?? "");
+        const conditions = this.library.withConditions(0n, parts.get("conditions") ?? "");
         const found = { word, exponent: byte("exponent"), point: byte("point"), conditions };
         const lost = Object.keys(found).filter((name) => found[name] === undefined);
         for (const name of lost) found[name] = this.library.usual[name];

@@ -6,7 +6,7 @@ use peltzivar::format::{
     BASE_PREFIX, BASE_SUFFIX, CONSECUTIVE_DIGIT_SEPARATOR, DIGIT_SEPARATOR, DIGIT_SEPARATOR_FLAG_MASK, EXPONENT_BASE,
     EXPONENT_RADIX, FLAG_MASK, MANTISSA_RADIX, SPECIAL_DIGIT_SEPARATOR,
 };
-use peltzivar::literal::{Conditions, ConditionsError, ReadError, ReadErrorKind, Specials, Syntax};
+use peltzivar::literal::{Condition, Conditions, ConditionsError, ReadError, ReadErrorKind, Specials, Syntax};
 use peltzivar::reasons::Byte;
 use peltzivar::{Cause, Format, FormatView, Reason, Rule};
 
@@ -29,17 +29,19 @@ const RESERVED: u128 = Rule::ReservedBitsAreZero.mask();
 const NO_EXPONENT: u8 = 11;
 const NO_POINT: u8 = 12;
 
+/// The usual size of groups of digits.
+const USUAL_SIZE: u8 = 3;
+
 /// The usual exponent characters.
 const EXPONENTS: [u8; 3] = [b'e', b'p', b'^'];
 
-/// A format word, the options of a parser, and the conditions: three flags and, in the upper half, the size of groups. If
-/// both options are 0, numbers are integers alone.
+/// A format word, the options of a parser, and the conditions. If both options are 0, numbers are integers alone.
 #[derive(Clone, Copy, Debug, PartialEq, Eq)]
 pub struct State {
     pub word: u128,
     pub exponent: u8,
     pub point: u8,
-    pub conditions: u8,
+    pub conditions: Conditions,
 }
 
 impl State {
@@ -54,19 +56,30 @@ impl State {
             true => Syntax::integers(format),
             false => Syntax::new(format, self.exponent, self.point).ok()?,
         };
-        syntax.with(conditions_of(self.conditions)).ok()
+        syntax.with_conditions(self.conditions).ok()
     }
 
-    /// Returns the bits of each condition that does not fit a lawful word, and why.
-    pub fn misfits(self) -> impl Iterator<Item = (u8, ConditionsError)> {
+    /// Returns why each condition that does not fit a lawful word does not.
+    pub fn misfits(self) -> impl Iterator<Item = ConditionsError> {
         let syntax = Format::new(self.word).ok().map(Syntax::integers);
-        let error = move |bits| syntax?.with(conditions_of(self.conditions & bits)).err().map(|error| (bits, error));
-        [1, 2, 4, 0xF0].into_iter().filter_map(error)
+        let only = move |it| Conditions::NONE.with(it, self.conditions.number(it));
+        Condition::ALL.iter().filter_map(move |&it| syntax?.with_conditions(only(it)).err())
+    }
+
+    fn with_condition(self, condition: Condition, number: u8) -> Self {
+        Self { conditions: self.conditions.with(condition, number), ..self }
+    }
+
+    /// Returns the states in which the condition has each of its numbers, and the usual size of groups first.
+    fn with_numbers(self, condition: Condition) -> impl Iterator<Item = Self> {
+        let (least, most) = condition.limits();
+        let usual = Some(USUAL_SIZE).filter(|&size| least < size && size < most);
+        usual.into_iter().chain(least..=most).map(move |number| self.with_condition(condition, number))
     }
 
     /// Returns the syntax without the conditions that do not fit, if the word is lawful and the options fit.
     fn fit(self) -> Option<Syntax> {
-        self.misfits().fold(self, |it, (bits, _)| Self { conditions: it.conditions & !bits, ..it }).exact()
+        self.misfits().fold(self, |it, error| it.with_condition(error.condition, 0)).exact()
     }
 
     /// Returns the same, if the word is lawful. No byte matches an option that does not fit.
@@ -111,6 +124,11 @@ impl State {
         let is_accepted = |text| syntax.is_some_and(|it| read(it, text).is_ok());
         lines_of(lines).filter(|line| is_accepted(line.text) != line.is_refused).count()
     }
+
+    /// Returns the first of some states with which the most lines are as expected.
+    fn first_best(states: impl Iterator<Item = Self>, lines: &[u8]) -> Option<Self> {
+        states.reduce(|best, it| if it.as_expected(lines) > best.as_expected(lines) { it } else { best })
+    }
 }
 
 /// A number, and whether it must be refused.
@@ -134,21 +152,6 @@ pub fn read(syntax: Syntax, text: &[u8]) -> Result<(), ReadError> {
         Err(error) if SPECIALS.read(&syntax, text).is_none() => Err(error),
         _ => Ok(()),
     }
-}
-
-/// Returns the conditions of a byte.
-pub fn conditions_of(bits: u8) -> Conditions {
-    let [prefix, suffix, sign] = [1, 2, 4].map(|bit| bits & bit != 0);
-    let flags =
-        Conditions::NONE.required_base_prefix(prefix).required_base_suffix(suffix).no_negative_mantissa_sign(sign);
-    flags.integer_group_size(Some(bits >> 4).filter(|&size| size > 0))
-}
-
-/// Returns the bits that some conditions have in a byte.
-fn mask_of(it: Conditions) -> u8 {
-    let flags = [it.required_base_prefix, it.required_base_suffix, it.no_negative_mantissa_sign];
-    let flags = flags.iter().rev().fold(0, |bits, &is_set| bits << 1 | u8::from(is_set));
-    flags | it.integer_group_size.map_or(0, |_| 0xF0)
 }
 
 /// Returns each flag of a mask of flags, from the lowest.
@@ -205,7 +208,7 @@ impl<'a> Found<'a> {
 }
 
 /// Returns the states that are offered for one of the lines: those that need the fewest new roles to accept it, or those
-/// with one other flag that refuse it and with which the most lines are as expected.
+/// with one other flag or condition that refuse it and with which the most lines are as expected.
 pub fn offers<'a>(state: State, lines: &'a [u8], line: Line<'_>) -> Found<'a> {
     let mut found = Found::new(lines);
     if line.is_refused {
@@ -229,18 +232,30 @@ fn refusing(state: State, text: &[u8], found: &mut Found<'_>) {
         let single = State { word: other.word & !CONSECUTIVE_DIGIT_SEPARATOR, ..other };
         other.syntax().map_or(single, |_| other)
     });
-    let conditions = [1, 2, 4, 3 << 4].map(|bits| State { conditions: state.conditions | bits, ..state });
     let count = |it: State| problems(it).count() + it.misfits().count();
     let is_refused = |it: &State| it.syntax().is_some_and(|it| read(it, text).is_err());
-    let all = flags.chain(conditions).filter(|it| is_refused(it) && count(*it) <= count(state));
-    all.for_each(|it| found.push(it));
+    let refuses = |it: &State| is_refused(it) && count(*it) <= count(state);
+    flags.filter(refuses).for_each(|it| found.push(it));
+    for &condition in Condition::ALL {
+        let best = State::first_best(state.with_numbers(condition).filter(refuses), found.lines);
+        best.into_iter().for_each(|it| found.push(it));
+    }
 }
 
 /// Finds states with up to this many new roles that accept the text.
 fn accepting(state: State, text: &[u8], roles: usize, found: &mut Found<'_>) {
     let Some(state) = state.fitting() else { return };
     match settled(state, text) {
-        Ok(state) => found.push(state),
+        Ok(settled) => {
+            // In place of a condition that refuses the text, it or another one may have another number.
+            let numbered = Condition::ALL.iter().filter(|_| settled.conditions != state.conditions);
+            for &condition in numbered.filter(|it| it.limits().1 > 1) {
+                let states =
+                    state.with_numbers(condition).filter(|it| it.exact().is_some_and(|it| read(it, text).is_ok()));
+                State::first_best(states, found.lines).into_iter().for_each(|it| found.push(it));
+            }
+            found.push(settled);
+        }
         Err(_) if roles == 0 => {}
         Err(at) => {
             candidates(state, text, at).into_iter().flatten().for_each(|it| accepting(it, text, roles - 1, found))
@@ -263,7 +278,8 @@ fn settled(mut state: State, text: &[u8]) -> Result<State, usize> {
         match error {
             Some(error) if matches!(error.kind(), ReadErrorKind::Requirement | ReadErrorKind::Case) => {
                 state.word &= !error.mask();
-                state.conditions &= !mask_of(error.conditions());
+                let unmet = Condition::ALL.iter().filter(|&&it| error.conditions().has(it));
+                state.conditions = unmet.fold(state.conditions, |all, &it| all.with(it, 0));
             }
             error => return Err(error.map_or(text.len(), |it| it.valid_up_to())),
         }

@@ -49,8 +49,8 @@ TEXTS = r"""1 1\5 1'5 1"5 -0 12 1F inf nan 9007199254740993 12345678901234567 12
 # a language: its link, that of the page, its normal form, the code in three languages, and what is told of each text.
 SHOWN = """const [shown, tried] = arguments;
     const { library, trial, data } = page;
-    const states = shown.map(([word, exponent, point]) => [{ word: BigInt(word), exponent, point, conditions: 0 }, ""]);
-    const each = library.conditions.map(({ mask, shift }) => mask & (3 << shift));
+    const states = shown.map(([word, exponent, point]) => [{ word: BigInt(word), exponent, point, conditions: 0n }, ""]);
+    const each = library.conditions.map(({ isNumber, shift }) => (isNumber ? 3n : 1n) << shift);
     const all = [...each, each.reduce((all, it) => all | it)].map((conditions) => [{ ...states.at(-1)[0], conditions }, ""]);
     const forms = data.languages.flatMap(({ name, forms }) => forms.map((form) => [stateOf(form), name]));
     const texts = [...new Set([...tried, ...data.languages.flatMap((it) => it.numbers.replaceAll("!", "").split("\\n"))])];

@@ -15,8 +15,8 @@ const PLAIN: NumberFormatBuilder = NumberFormatBuilder::new()
     .internal_digit_separator(true);
 const DECIMAL: Syntax = Syntax::new_or_panic(PLAIN.build_format_or_panic(), b'e', b'.');
 const PREFIXED: NumberFormatBuilder = PLAIN.mantissa_radix(16).base_prefix(NonZeroU8::new(b'x'));
-const HEXADECIMAL: Syntax =
-    Syntax::integers(PREFIXED.build_format_or_panic()).with_or_panic(Conditions::NONE.required_base_prefix(true));
+const HEXADECIMAL: Syntax = Syntax::integers(PREFIXED.build_format_or_panic())
+    .with_conditions_or_panic(Conditions::NONE.required_base_prefix(true));
 
 static NUMBERS: Readers = Readers::new_or_panic(&[DECIMAL, HEXADECIMAL]);
 

@@ -54,7 +54,8 @@ impl FormatError {
             (_, Rejected::Options(_, 0, 1..) | Rejected::Options(_, 1.., 0), _) => ShortText::of(ONE_OPTION),
             (Some(reason), ..) => reason.text(),
             (_, Rejected::Conditions(error), _) => error.text(),
-            (_, Rejected::Setting(name, fault), _) => ShortText::of(name).and(fault),
+            (_, Rejected::Setting(condition, true), _) => ShortText::of(condition.name()).and(" is set twice"),
+            (_, Rejected::Setting(condition, false), _) => condition.taken(),
             (None, Rejected::Bytes, _) => {
                 ShortText::of("each of the two options is a character such as 'e', a number from 0 to 255, or `none`")
             }

@@ -138,8 +138,8 @@ pub(crate) enum Rejected {
     // A word that is not lawful.
     Word(u128),
     Conditions(crate::literal::ConditionsError),
-    // The setting of a condition, by its name and what is wrong with it.
-    Setting(&'static str, &'static str),
+    // The setting of a condition, and whether it is set twice.
+    Setting(crate::literal::Condition, bool),
     // A word that is lawful, with an exponent character and a decimal point that do not fit it.
     Options(u128, u8, u8),
 }

@@ -85,6 +85,6 @@ pub use list::FormError;
 pub use number::{Digits, Literal};
 pub use readers::{Number, Readers};
 pub use specials::{Sign, Special, Specials, Spelling};
-pub use syntax::{Conditions, ConditionsError, Syntax};
+pub use syntax::{Condition, Conditions, ConditionsError, ConditionsErrorKind, Syntax};
 pub use value::{FromLiteral, ParseError, ValueError, ValueErrorKind};
 pub use writer::{Style, WriteError, WriteInteger, Written};

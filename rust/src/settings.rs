@@ -4,26 +4,22 @@ use core::array;
 use core::fmt::{self, Write};
 use core::str::from_utf8;
 
-use crate::edits::{apply, likeness, ArgumentKind, Edit, EditError, EditErrorKind, Fault, Setter, FIELD_COUNT};
-use crate::format::{
-    NumberFormatBuilder, BASE_PREFIX, BASE_SUFFIX, EXPONENT_BASE, EXPONENT_RADIX, INTEGER_INTERNAL_DIGIT_SEPARATOR,
-    MANTISSA_RADIX,
+use crate::edits::{
+    apply, likeness, nearest, ArgumentKind, Edit, EditError, EditErrorKind, Fault, Setter, FIELD_COUNT,
 };
+use crate::format::{NumberFormatBuilder, EXPONENT_BASE, EXPONENT_RADIX, MANTISSA_RADIX};
 use crate::format_error::ONE_OPTION;
 use crate::lawful::Rejected;
-use crate::literal::{Conditions, ConditionsError, Syntax};
+use crate::literal::{Condition, Conditions, ConditionsError, Syntax};
 use crate::reasons::{Byte, Cause, Note, Reason};
 use crate::{Format, FormatError};
 
-/// The settings of options, the exponent character and the decimal point, and then of conditions.
-const OPTIONS: [&str; 6] = {
-    let [prefix, suffix, sign, groups] = Conditions::NAMES;
-    ["exponent", "point", prefix, suffix, sign, groups]
-};
+/// The settings of options, the exponent character and the decimal point.
+const OPTIONS: [&str; 2] = ["exponent", "point"];
 const DEFAULTS: [u8; 2] = *b"e.";
 
-/// The number of fields and options, and thereby the largest number of settings that are not overridden.
-const LIVE: usize = FIELD_COUNT + OPTIONS.len();
+/// The number of fields, options and conditions, and thereby the largest number of settings that are not overridden.
+const LIVE: usize = FIELD_COUNT + OPTIONS.len() + Condition::ALL.len();
 
 /// The number of overridden settings that are kept.
 const OVERRIDDEN: usize = 32;
@@ -92,12 +88,12 @@ struct Setting {
     mask: Mask,
 }
 
-/// The bits of fields of a word, and a bit for each option, by its index in [`OPTIONS`]. A word has no bits to spare: a
+/// The bits of fields of a word, and a bit for each option, and then for each condition. A word has no bits to spare: a
 /// reserved one may become a field.
 #[derive(Debug, Clone, Copy, PartialEq, Eq, Hash)]
 struct Mask {
     word: u128,
-    options: u8,
+    options: u32,
 }
 
 impl Mask {
@@ -171,22 +167,17 @@ impl Settings {
         if matches!(text, [] | [b'#', ..]) {
             return Ok(());
         }
-        let (option, edit) = parse(index, text).inspect_err(|it| match (it.option, it.error.0) {
-            (Some(option), _) => self.refused.options |= 1 << option,
-            (None, Fault::BadValue(setter)) => self.refused.word |= setter.mask(),
-            _ => (),
+        let (name, value) = parse(index, text).inspect_err(|it| {
+            let Mask { word, options } = it.name.map_or(Mask::EMPTY, Name::mask);
+            self.refused = Mask { word: self.refused.word | word, options: self.refused.options | options };
         })?;
-        let (name, mask) = match option {
-            Some(option) => (OPTIONS[option], Mask { word: 0, options: 1 << option }),
-            None => (edit.name(), Mask::of_word(edit.mask())),
-        };
-        self.refused = self.refused.without(mask);
-        match option {
-            Some(option @ (0 | 1)) => self.options[option] = edit.argument_byte(),
-            Some(option) => self.conditions = self.conditions.edited(option - 2, edit.argument_byte()),
-            None => self.builder = apply(self.builder, edit),
+        self.refused = self.refused.without(name.mask());
+        match name {
+            Name::Field(setter) => self.builder = apply(self.builder, setter.with_argument(value)),
+            Name::Option(option) => self.options[option] = value,
+            Name::Condition(condition) => self.conditions = self.conditions.with(condition, value),
         }
-        self.push(Setting { index, name, mask });
+        self.push(Setting { index, name: name.text(), mask: name.mask() });
         Ok(())
     }
 
@@ -224,7 +215,7 @@ impl Settings {
                 FormatError::new(error.code(), Rejected::Options(format.word(), exponent, point))
             })?,
         };
-        Ok(syntax.with(self.conditions)?)
+        Ok(syntax.with_conditions(self.conditions)?)
     }
 
     /// Returns the reasons why the settings do not build a syntax: why the format is not lawful or, if it is, why the
@@ -241,9 +232,12 @@ impl Settings {
     /// Returns each condition that contradicts the format, if that is lawful.
     fn contradictions(&self) -> impl Iterator<Item = Finding> + Clone + '_ {
         let syntax = self.build_format().ok().map(Syntax::integers);
-        let values = self.conditions.values().into_iter().enumerate();
-        let errors = values.filter_map(move |(index, value)| syntax?.with(Conditions::NONE.edited(index, value)).err());
-        errors.filter_map(|error| self.finding(FindingKind::Conditions(error), mask_of(error)))
+        let each = self.conditions.iter().map(|(condition, number)| Conditions::NONE.with(condition, number));
+        let errors = each.filter_map(move |it| syntax?.with_conditions(it).err());
+        errors.filter_map(|error| {
+            let mask = Mask { word: error.mask(), ..Name::Condition(error.condition).mask() };
+            self.finding(FindingKind::Conditions(error), mask)
+        })
     }
 
     /// Returns notes on the first 32 settings that later ones override completely, and then on fields that are set but
@@ -269,40 +263,68 @@ impl Settings {
     }
 }
 
-/// Returns the edit of a text. If it sets an option or a condition, returns its number, and an edit with its value.
-fn parse(index: usize, text: &[u8]) -> Result<(Option<usize>, Edit), LineError> {
-    let refuse = |error, option, refused: &[u8]| {
-        let piece = array::from_fn(|at| refused.get(at).copied().unwrap_or_default());
-        let value = text.splitn(2, |byte| *byte == b'=').last().unwrap_or(text).trim_ascii();
-        let has_comment = value.windows(2).any(|it| it[0].is_ascii_whitespace() && it[1] == b'#');
-        LineError { index, error, option, piece, length: refused.len(), has_comment }
-    };
-    let equals = text.iter().position(|byte| *byte == b'=');
-    let equals = equals.ok_or_else(|| refuse(EditError(Fault::NoEquals), None, text))?;
-    let (name, value) = (text[..equals].trim_ascii(), text[equals + 1..].trim_ascii());
-    let option = OPTIONS.iter().position(|it| it.as_bytes() == name);
-    // Bytes that are not UTF-8 are read as an empty text, which is neither a name nor a value.
-    let argument = from_utf8(value).unwrap_or_default();
-    let edit = match option {
-        Some(0 | 1) => Setter::DigitSeparator.parse(argument),
-        Some(option) => Conditions::parse(option - 2, argument),
-        None => Edit::from_setting(from_utf8(name).unwrap_or_default(), argument),
-    };
-    match edit {
-        Ok(edit) => Ok((option, edit)),
-        Err(error) if error.name().is_none() => Err(refuse(error, option, name)),
-        Err(error) => Err(refuse(error, option, value)),
+/// What a text sets: a field or a group, an option by its index in [`OPTIONS`], or a condition.
+#[derive(Debug, Clone, Copy, PartialEq, Eq, Hash)]
+enum Name {
+    Field(Setter),
+    Option(usize),
+    Condition(Condition),
+}
+
+impl Name {
+    /// Returns the name of an option or a condition.
+    fn from_text(name: &str) -> Option<Name> {
+        Name::beside_fields().find(|it| it.text() == name)
+    }
+
+    /// Returns the names of options and conditions.
+    fn beside_fields() -> impl Iterator<Item = Name> {
+        (0..OPTIONS.len()).map(Name::Option).chain(Condition::ALL.iter().copied().map(Name::Condition))
+    }
+
+    const fn text(self) -> &'static str {
+        match self {
+            Name::Field(setter) => setter.name(),
+            Name::Option(option) => OPTIONS[option],
+            Name::Condition(condition) => condition.name(),
+        }
+    }
+
+    const fn mask(self) -> Mask {
+        match self {
+            Name::Field(setter) => Mask::of_word(setter.mask()),
+            Name::Option(option) => Mask { word: 0, options: 1 << option },
+            Name::Condition(condition) => Mask { word: 0, options: 4 << condition as u32 },
+        }
+    }
+
+    /// Parses a value that it takes.
+    fn parse(self, value: &str) -> Option<u8> {
+        match self {
+            Name::Field(setter) => setter.parse(value).ok().map(Edit::argument_byte),
+            Name::Option(_) => Setter::DigitSeparator.parse(value).ok().map(Edit::argument_byte),
+            Name::Condition(condition) => condition.parse(value),
+        }
     }
 }
 
-/// Returns the fields and the condition that contradict each other.
-fn mask_of(error: ConditionsError) -> Mask {
-    let word = match error {
-        ConditionsError::NoBasePrefix => BASE_PREFIX,
-        ConditionsError::NoBaseSuffix => BASE_SUFFIX,
-        ConditionsError::GroupSize | ConditionsError::NoInternalSeparator => INTEGER_INTERNAL_DIGIT_SEPARATOR,
+/// Returns what a text sets, and its value.
+fn parse(index: usize, text: &[u8]) -> Result<(Name, u8), LineError> {
+    let refuse = |kind, name, refused: &[u8]| {
+        let piece = array::from_fn(|at| refused.get(at).copied().unwrap_or_default());
+        let value = text.splitn(2, |byte| *byte == b'=').last().unwrap_or(text).trim_ascii();
+        let has_comment = value.windows(2).any(|it| it[0].is_ascii_whitespace() && it[1] == b'#');
+        LineError { index, kind, name, piece, length: refused.len(), has_comment }
     };
-    Mask { word, options: 4 << error.condition() }
+    let equals = text.iter().position(|byte| *byte == b'=');
+    let equals = equals.ok_or_else(|| refuse(EditErrorKind::NoEquals, None, text))?;
+    let (name, value) = (text[..equals].trim_ascii(), text[equals + 1..].trim_ascii());
+    // Bytes that are not UTF-8 are read as an empty text, which is neither a name nor a value.
+    let [word, argument] = [name, value].map(|it| from_utf8(it).unwrap_or_default());
+    let known = Name::from_text(word).or_else(|| Setter::from_name(word).map(Name::Field));
+    let known = known.ok_or_else(|| refuse(EditErrorKind::UnknownName, None, name))?;
+    let byte = known.parse(argument).ok_or_else(|| refuse(EditErrorKind::BadValue, Some(known), value))?;
+    Ok((known, byte))
 }
 
 /// Returns whether an option is `none`. This is a cause if the other is not.
@@ -311,7 +333,7 @@ const fn is_one_option(cause: Cause) -> bool {
 }
 
 /// Returns the bits of the options that a cause names, or of both if one is `none`.
-fn options_of(cause: Cause) -> u8 {
+fn options_of(cause: Cause) -> u32 {
     let bytes = cause.bytes().into_iter().flatten();
     bytes.fold(0, |mask, byte| match byte.name {
         _ if is_one_option(cause) => 3,
@@ -390,8 +412,9 @@ impl fmt::Display for Finding {
 #[derive(Debug, Clone, Copy, PartialEq, Eq, Hash)]
 pub struct LineError {
     index: usize,
-    error: EditError,
-    option: Option<usize>,
+    kind: EditErrorKind,
+    /// What does not take a value.
+    name: Option<Name>,
     /// The first bytes of what is refused, and its length.
     piece: [u8; SHOWN],
     length: usize,
@@ -409,18 +432,19 @@ impl LineError {
     /// Returns what is wrong with the text.
     #[must_use]
     pub const fn kind(&self) -> EditErrorKind {
-        self.error.kind()
+        self.kind
     }
 
     /// Returns the option or the setter whose name is most like an unknown one.
     fn suggestion(&self, name: &[u8]) -> Option<&'static str> {
-        let Fault::UnknownName(nearest) = self.error.0 else { return None };
-        let (nearest, alike) = (nearest.map(Setter::name), |other: &&str| likeness(name, other));
+        let EditErrorKind::UnknownName = self.kind else { return None };
+        let nearest = nearest(from_utf8(name).unwrap_or_default()).map(Setter::name);
+        let alike = |other: &&str| likeness(name, other);
         // Of equals, the last counts.
-        let names = OPTIONS.into_iter().chain(nearest).filter(|it| alike(it) >= 50);
+        let names = Name::beside_fields().map(Name::text).chain(nearest).filter(|it| alike(it) >= 50);
         match name {
             _ if name.starts_with(b"decimal") => Some("point"),
-            _ if name.starts_with(b"group") => Some(Conditions::GROUP_SIZE),
+            _ if name.starts_with(b"group") => Some(Condition::IntegerGroupSize.name()),
             _ => names.max_by_key(alike).or(nearest),
         }
     }
@@ -428,8 +452,12 @@ impl LineError {
     /// Returns the character that stands alone or in double quotes where one in single quotes is taken.
     fn character(&self, value: &[u8]) -> Option<char> {
         let ([byte @ b' '..=b'~'] | [b'"', byte @ b' '..=b'~', b'"']) = value else { return None };
-        let takes_one = |setter: Setter| setter.kind() == ArgumentKind::OptionalCharacter;
-        matches!(self.error.0, Fault::BadValue(setter) if takes_one(setter)).then_some(char::from(*byte))
+        let takes_one = match self.name {
+            Some(Name::Field(setter)) => setter.kind() == ArgumentKind::OptionalCharacter,
+            Some(Name::Option(_)) => true,
+            _ => false,
+        };
+        takes_one.then_some(char::from(*byte))
     }
 }
 
@@ -437,16 +465,16 @@ impl core::error::Error for LineError {}
 
 impl fmt::Display for LineError {
     fn fmt(&self, f: &mut fmt::Formatter<'_>) -> fmt::Result {
-        let name = self.option.map_or(self.error.name(), |it| Some(OPTIONS[it])).unwrap_or_default();
-        match (self.kind(), self.option) {
+        match (self.kind, self.name) {
             (EditErrorKind::UnknownName, _) => f.write_str("unknown setting `")?,
-            (EditErrorKind::BadValue, _) if self.has_comment => {
-                write!(f, "a comment has a line of its own, so {name} does not take `")?;
+            (_, Some(name)) if self.has_comment => {
+                write!(f, "a comment has a line of its own, so {} does not take `", name.text())?;
             }
-            (_, None) => write!(f, "{}, not `", self.error)?,
-            (_, Some(option @ 2..)) => write!(f, "{name}{}, not `", Conditions::TAKEN[option - 2])?,
-            (_, Some(option)) => {
-                write!(f, "{name} takes a character such as '{}', ", char::from(DEFAULTS[option]))?;
+            (_, None) => write!(f, "{}, not `", EditError(Fault::NoEquals))?,
+            (_, Some(Name::Field(setter))) => write!(f, "{}, not `", EditError(Fault::BadValue(setter)))?,
+            (_, Some(Name::Condition(condition))) => write!(f, "{}, not `", condition.taken().as_str())?,
+            (_, Some(Name::Option(option))) => {
+                write!(f, "{} takes a character such as '{}', ", OPTIONS[option], char::from(DEFAULTS[option]))?;
                 f.write_str("a number from 0 to 255, or `none`, not `")?;
             }
         }
@@ -461,7 +489,7 @@ impl fmt::Display for LineError {
         match (self.suggestion(shown), self.character(shown)) {
             (Some(name), _) => write!(f, "; did you mean `{name}`?"),
             (None, Some(character)) => write!(f, "; did you mean `'{character}'`?"),
-            _ if self.has_comment && self.kind() != EditErrorKind::BadValue => {
+            _ if self.has_comment && self.kind != EditErrorKind::BadValue => {
                 f.write_str("; a comment has a line of its own")
             }
             _ => Ok(()),

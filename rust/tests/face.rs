@@ -3,7 +3,7 @@
 
 use peltzivar::edits::edits_of;
 use peltzivar::format::{NumberFormatBuilder, BASE_PREFIX_SHIFT, BASE_SUFFIX_SHIFT, STANDARD};
-use peltzivar::literal::{ConditionsError, FormError, Language, Literal, ReadError, Syntax, WriteError};
+use peltzivar::literal::{Conditions, FormError, Language, Literal, ReadError, Syntax, WriteError};
 use peltzivar::{Edit, Error, FlagSetter, Format, FormatView, Settings};
 use std::{iter, num::NonZeroU8, panic};
 
@@ -128,12 +128,14 @@ fn named<T: std::error::Error + 'static>(error: T) -> (&'static str, Box<dyn std
 fn a_chain_of_errors_has_each_sentence_once() {
     let settings = Settings::read(["radix=37"]).unwrap();
     let read = Language::JSON.read("").unwrap_err();
+    let misfit =
+        Syntax::integers(Format::default()).with_conditions(Conditions::NONE.integer_group_size(Some(9))).unwrap_err();
     let [missing, large] = ["", "256"].map(|text| Language::JSON.parse::<u8>(text).unwrap_err());
     #[rustfmt::skip]
     let errors = [
         named(Error::Empty(1)), named(Format::new(0).unwrap_err()), named(FormatView::new(0).reasons().next().unwrap()),
         named("".parse::<Edit>().unwrap_err()), named(Settings::new().add("x").unwrap_err()), named(WriteError::Radix),
-        named(settings.reasons().next().unwrap()), named(ConditionsError::GroupSize), named(read), named(read.error),
+        named(settings.reasons().next().unwrap()), named(misfit), named(read), named(read.error),
         named(missing), named(large), named(i8::try_from(Language::JSON.read("1.5").unwrap()).unwrap_err()),
     ];
     let listed = include_str!("surface.rs").lines().filter_map(|line| line.strip_suffix(": std::error::Error {} };"));

@@ -323,7 +323,7 @@ fn compare(word: u128, options: Option<(u8, u8)>, required: u128, bytes: &[u8], 
     let format = Format::new(word).unwrap();
     let float = |(exponent, point)| literal::Syntax::new(format, exponent, point).unwrap();
     let library = options.map_or_else(|| literal::Syntax::integers(format), float);
-    let library = library.with(conditions(required)).unwrap();
+    let library = library.with_conditions(conditions(required)).unwrap();
     let differs = |&byte: &u8| library.role_of(byte) != syntax.roles[usize::from(byte)];
     assert_eq!((0..=255).find(differs), None, "the first byte with another role in {name}");
     let mut random = 1;

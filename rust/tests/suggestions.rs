@@ -4,7 +4,7 @@
 mod suggest;
 
 use peltzivar::format::{DIGIT_SEPARATOR, DIGIT_SEPARATOR_FLAG_MASK, REQUIRED_MANTISSA_SIGN, STANDARD};
-use peltzivar::literal::Language;
+use peltzivar::literal::{Conditions, Language};
 use peltzivar::{Edit, NumberFormatBuilder};
 use suggest::{lines_of, offers, problems, read, repairs, State};
 
@@ -14,7 +14,7 @@ const HEXADECIMAL: &str = "mantissa_radix=16 exponent_base=2 exponent_radix=10";
 fn state(settings: &str, exponent: u8, point: u8) -> State {
     let edits = settings.replace("hexadecimal", HEXADECIMAL);
     let builder: Result<NumberFormatBuilder, _> = edits.split_whitespace().map(str::parse::<Edit>).collect();
-    State { word: builder.expect(settings).build_unchecked(), exponent, point, conditions: 0 }
+    State { word: builder.expect(settings).build_unchecked(), exponent, point, conditions: Conditions::NONE }
 }
 
 /// Returns what is offered for the first of the lines.
@@ -63,15 +63,36 @@ fn numbers_of_many_forms_lead_to_their_formats() {
     let separators = state(flags, b'e', b'.');
     let none = State { word: separators.word & !DIGIT_SEPARATOR_FLAG_MASK, ..separators };
     assert_eq!(offered(separators, "!1_0\n10").first(), Some(&none));
-    let unfit = State { word: 0x0A0A_1000_0000_005F_0000_0007_0000_000C, exponent: b'e', point: b'.', conditions: 0 };
+    let unfit = State {
+        word: 0x0A0A_1000_0000_005F_0000_0007_0000_000C,
+        exponent: b'e',
+        point: b'.',
+        conditions: Conditions::NONE,
+    };
     assert!(offered(unfit, "!2").contains(&State { word: unfit.word | REQUIRED_MANTISSA_SIGN, ..unfit }));
-    let conditions = State { conditions: 0x3B, ..state("", b'e', b'.') };
+    let all = Conditions::NONE.required_base_prefix(true).required_base_suffix(true).integer_group_size(Some(3));
+    let conditions = State { conditions: all, ..state("", b'e', b'.') };
     assert!(["0x1F", "1_000", "1_0", "!1"].iter().all(|text| !offered(conditions, text).is_empty()));
+}
+
+/// Examples show the size of groups: it refuses what it must, and is another one if a number with another must be accepted.
+#[test]
+fn examples_lead_to_the_size_of_groups() {
+    let plain = state("digit_separator=',' integer_internal_digit_separator=true", b'e', b'.');
+    let grouped = |size| State { conditions: Conditions::NONE.integer_group_size(size), ..plain };
+    for (size, lines, found) in [
+        (None, "!1,2345\n1,234", Some(3)),
+        (None, "!1,234\n12,34,56", Some(2)),
+        (Some(3), "1,2345", Some(4)),
+        (Some(3), "1,2345\n12,34", None),
+    ] {
+        assert!(offered(grouped(size), lines).contains(&grouped(found)), "{lines}");
+    }
 }
 
 /// Returns the state to which the first offers lead from the standard format.
 fn walk(lines: &str) -> Option<State> {
-    let mut state = State { word: STANDARD, exponent: b'e', point: b'.', conditions: 0 };
+    let mut state = State { word: STANDARD, exponent: b'e', point: b'.', conditions: Conditions::NONE };
     for line in lines_of(lines.as_bytes()) {
         if state.syntax().is_none_or(|it| read(it, line.text).is_err()) {
             state = offers(state, lines.as_bytes(), line).best().next()?.0;
@@ -97,7 +118,7 @@ fn the_first_offers_lead_to_a_format_of_each_language() {
 fn repairs_end_each_reason() {
     let words = [0, u128::MAX, 0x0001_0002_FF09_0009_0000_0000_0000_7DB8, 0x0000_1000_6200_0000_0000_0E00_8000_4DBC];
     for word in words {
-        let (mut state, mut steps) = (State { word, exponent: b'e', point: b'e', conditions: 0 }, 0);
+        let (mut state, mut steps) = (State { word, exponent: b'e', point: b'e', conditions: Conditions::NONE }, 0);
         while let Some(reason) = problems(state).next() {
             state = repairs(state, reason).next().unwrap_or_else(|| panic!("{state:?}: {reason}"));
             steps += 1;
@@ -105,7 +126,12 @@ fn repairs_end_each_reason() {
         assert!(steps <= 16, "{word:#034X}: {steps}");
     }
     // The digit separator is a digit in radix 42, and also in radix 10.
-    let state = State { word: 0x0000_2A00_0000_0031_0000_0001_0000_000C, exponent: b'^', point: b'.', conditions: 0 };
+    let state = State {
+        word: 0x0000_2A00_0000_0031_0000_0001_0000_000C,
+        exponent: b'^',
+        point: b'.',
+        conditions: Conditions::NONE,
+    };
     let separator = problems(state).find(|it| it.to_string().contains("separator '1'")).unwrap();
     assert!(repairs(state, separator).all(|it| it.word & DIGIT_SEPARATOR == 0));
 }

@@ -1,6 +1,8 @@
 //! Writers: what is written, and that it is read back with the same value.
 
-use peltzivar::literal::{Conditions, Form, FromLiteral, Language, Literal, Style, Syntax, WriteError, WriteInteger};
+use peltzivar::literal::{
+    Condition, Conditions, Form, FromLiteral, Language, Literal, Style, Syntax, WriteError, WriteInteger,
+};
 use peltzivar::{Format, NumberFormatBuilder, Part};
 use std::{collections::BTreeMap, fmt::Debug, num::NonZeroU8};
 
@@ -13,7 +15,7 @@ fn is_read_back<T: WriteInteger + FromLiteral + PartialEq + Copy + Debug>(value:
             match syntax.format_integer(value, style) {
                 Ok(text) => assert_eq!(syntax.parse::<T>(text.to_string()), Ok(value), "{text}"),
                 Err(WriteError::Float) => assert!(syntax.format().required_exponent_notation()),
-                Err(WriteError::Negative) => assert!(syntax.conditions().no_negative_mantissa_sign),
+                Err(WriteError::Negative) => assert!(syntax.conditions().has(Condition::NegativeSign)),
                 Err(error) => panic!("{value:?} in {syntax}: {error}"),
             }
         }
@@ -63,7 +65,7 @@ fn is_reason(error: WriteError, literal: &Literal, source: &Syntax, target: &Syn
     let has_exponent = !literal.exponent_character().is_empty();
     match error {
         WriteError::Radix => from.radix() != to.radix() || has_exponent && from.exponent_base() != to.exponent_base(),
-        WriteError::Negative => literal.is_negative() && target.conditions().no_negative_mantissa_sign,
+        WriteError::Negative => literal.is_negative() && target.conditions().has(Condition::NegativeSign),
         WriteError::Fraction => !literal.point().is_empty() && target.point().is_none(),
         WriteError::Exponent => has_exponent && (target.exponent().is_none() || to.no_exponent_notation()),
         _ => false,
@@ -179,7 +181,7 @@ fn the_style_and_conditions_decide_on_prefix_suffix_and_groups() {
     let text = |syntax: Syntax, style| syntax.format_integer(0xFFFF, style).unwrap().to_string();
     assert_eq!((text(syntax, Style::PLAIN).as_str(), text(syntax, bare.group(2)).as_str()), ("0xFFFF", "FF,FF"));
     let conditions = Conditions::NONE.required_base_prefix(true).no_negative_mantissa_sign(true);
-    let strict = syntax.with(conditions.integer_group_size(Some(3))).unwrap();
+    let strict = syntax.with_conditions(conditions.integer_group_size(Some(3))).unwrap();
     assert_eq!((text(strict, bare).as_str(), text(strict, bare.group(2)).as_str()), ("0xFFFF", "0xF,FFF"));
     assert_eq!(strict.format_integer(-1, bare).unwrap_err(), WriteError::Negative);
 }

@@ -77,6 +77,9 @@ TEST_FORMS = [
 
 # Texts that plain Rust replaces: the end of the path, the text, and the replacement.
 REPLACED = [
+    # Conditions parse numbers, too.
+    ("edits/settings.rt", "fn byte_from_number(", "pub(crate) fn byte_from_number("),
+    ("edits.rt", "settings::{Fault, likeness,", "settings::{Fault, byte_from_number, likeness,"),
     # LLVM gathers entries of 32 bits, and inserts entries of 8 bits one by one.
     ("digit.rt", "const VALUES: [u8; 256] = [", "const VALUES: [u32; 256] = ["),
     ("digit.rt", "VALUES[c as usize] as u32", "VALUES[c as usize]"),
@@ -102,9 +105,9 @@ EVERYWHERE = [
 
 # Types that may grow. In plain Rust, a match outside the crate has to have an arm for what they lack today.
 GROWS = {
-    "enum": "ArgumentKind Byte Cause Class Edit EditErrorKind Error FlagSetter Note Part Place Radixes ReadErrorKind Role Rule "
+    "enum": "ArgumentKind Byte Cause Class Condition ConditionsErrorKind Edit EditErrorKind Error FlagSetter Note Part Place Radixes ReadErrorKind Role Rule "
     "Setter ValueErrorKind WriteError",
-    "struct": "FormError NamedByte Separators Style",
+    "struct": "ConditionsError FormError NamedByte Separators Style",
 }
 for kind, types in GROWS.items():
     items = [f"pub {kind} {name} {{" for name in types.split()]
@@ -114,10 +117,9 @@ for kind, types in GROWS.items():
 COMPARED = "Clone, Copy, PartialEq, Eq, PartialOrd, Ord, Hash"
 DEPRECATED = '#[deprecated = "Use `build_strict` or `build_unchecked` instead."]'
 REPLACED += [
-    ("syntax.rt", "Default)]\npub struct Conditions", "Default)]\n#[non_exhaustive]\npub struct Conditions"),
-    ("syntax.rt", "Hash)]\npub enum ConditionsError", "Hash)]\n#[non_exhaustive]\npub enum ConditionsError"),
+    ("syntax.rt", "Hash)]\npub struct Conditions {", "Hash, Default)]\npub struct Conditions {"),
     ("lawful.rt", "    Word(u128),", "    Word(u128),\n    Conditions(crate::literal::ConditionsError),\n    "
-     "// The setting of a condition, by its name and what is wrong with it.\n    Setting(&'static str, &'static str),"),
+     "// The setting of a condition, and whether it is set twice.\n    Setting(crate::literal::Condition, bool),"),
     ("error.rt", "#[derive(Clone, Copy, Debug)]", f"#[derive({COMPARED}, Debug)]"),
     ("format_builder.rt", "#[derive(Drop)]", "#[derive(Clone, Copy, PartialEq, Eq, Hash)] #[must_use]"),
     ("format_builder.rt", "pub const fn build(&self)", f"{DEPRECATED} pub const fn build(&self)"),

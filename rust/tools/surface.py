@@ -35,7 +35,7 @@ items! {
 SHOWN = re.compile(r"""item-decl"><code>(.*?)</code></pre>|<code>(pub[ ]use[ ].*?)</code>
 |<section[ ]id="[^"]*"[ ]class="(\w+|associatedtype[ ]trait-impl)">.*?<h[34][ ]class="code-header">(.*?)</h[34]>
 |<span[ ]id="([\w.]*)"[ ]class="(?:structfield[ ])?section-header">.*?<code>(.*?)</code>""", re.S | re.X)  # fmt: skip
-FUNCTION = re.compile(r"pub (const )?fn (\w+)(?:<(.*?)>)?\((.*)\)(?: -> (.*))?$")
+FUNCTION = re.compile(r"pub (const )?fn (\w+)(?:<(.*?)>)?\((.*?)\)(?: -> (.*))?$")
 
 
 def text_of(piece):

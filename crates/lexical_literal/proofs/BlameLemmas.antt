@@ -1,21 +1,22 @@
 -- The flags that are found are to blame.
 use Rattle.std.proofs.Common.{ℕ, ◌≡◌, ◌≤◌, ◌↔◌, ◌⊎◌, Bool, true, false, not, ◌==◌, ◌&&◌, ◌||◌, inl, inr, IsTrue, if◌then◌else◌, List, length, take}
 use Rattle.std.proofs.Common.{Option, None, Some, refl, sym, ap, subst, ◌∙◌, arith}
-use Rattle.std.proofs.lemmas.Bool.{false≢true, and_parts, and_from, or_parts, cases_Bool, eqb-true, false_from_ne_true}
+use Rattle.std.proofs.lemmas.Bool.{false≢true, and_parts, and_from, cases_Bool, eqb-true, false_from_ne_true}
 use Rattle.std.proofs.lemmas.List.{length-take-le}
+use Rattle.std.proofs.lemmas.Bool.Decides.{nat_tests}
 use Rattle.std.specs.Prelude.{slice_get}
 use Rattle.lexical_util.specs.Groups.{bits_of}
 use Rattle.lexical_util.specs.Layout as layout
 use Rattle.lexical_util.specs.Layout.{Flag, bit}
 use Rattle.lexical_util.specs.Record.{raw}
 use Rattle.lexical_util.specs.Roles.{other_case}
-use Rattle.lexical_literal.specs.Notation.{Notation, has, notation_of}
-use Rattle.lexical_literal.specs.Cause.{Allows, IsCaseFlag, IsCause, IsRefusal, IsRequirement, IsUnmet, Permits, RefusesAlone, adding, all_conditions}
-use Rattle.lexical_literal.specs.Cause.{bare, binds, case_set, error_of, first_unmet, is_at, is_one_of, is_same, lowest, marks_of, number_separator_flags}
+use Rattle.lexical_literal.specs.Notation.{all_conditions, Notation, has, is_same, kept, notation_of}
+use Rattle.lexical_literal.specs.Cause.{Allows, IsCaseFlag, IsCause, IsRefusal, IsRequirement, IsUnmet, Permits, RefusesAlone, adding}
+use Rattle.lexical_literal.specs.Cause.{bare, binds, case_set, error_of, first_unmet, is_at, is_one_of, lowest, marks_of, number_separator_flags}
 use Rattle.lexical_literal.specs.Cause.{requirement_flags, requiring, span_of, tail_of, with_rules}
 use Rattle.lexical_literal.specs.Front.{IsValidUpTo}
 use Rattle.lexical_literal.specs.Additions.Causes.{IsReadOf, IsWeaker, is_at_gap, lets, place_of}
-use Rattle.lexical_literal.specs.Additions.Explained.{alone, blame, cases, conditions_of, mask_of, otherwise, refusal_of, requirements, separators}
+use Rattle.lexical_literal.specs.Additions.Explained.{alone, blame, cases, mask_of, otherwise, refusal_of, requirements, separators}
 use Rattle.lexical_literal.specs.Additions.Explained.{some_unmet, unmet, zeros}
 use Rattle.lexical_literal.specs.Additions.Summary.{no_condition, role_at, part_of}
 use Rattle.lexical_literal.specs.declared.cause.Blame.{Blame}
@@ -25,10 +26,10 @@ use Rattle.lexical_literal.specs.declared.cause.ReadErrorKind.TheVariants as cau
 use Rattle.lexical_literal.specs.declared.cause.Spot.{Spot}
 use Rattle.lexical_literal.specs.declared.steps.Summary.{Summary}
 use Rattle.lexical_literal.specs.declared.syntax.Condition.{Condition}
-use Rattle.lexical_literal.specs.declared.syntax.Condition.TheVariants as conditions
 use Rattle.lexical_literal.specs.declared.syntax.Grammar.{Grammar}
 use Rattle.lexical_literal.proofs.CauseLemmas.{flag_zero, found_in, mask_flags, none_of, only_mask, only_none, same_flag, some_of}
 use Rattle.lexical_literal.proofs.JointLemmas.{Alone, at_next, each_passes, free_allows, free_is, going, joint, split}
+use Rattle.lexical_literal.proofs.NumberLemmas.{has_kept, none_of_all}
 use Rattle.lexical_literal.proofs.RefusalLemmas.{apart}
 
 -- FEWER REQUIREMENTS
@@ -41,7 +42,7 @@ module _ (m : Notation) where
   own_weaker = record { no_more = λ f is. grind arith; no_less = λ f is. grind arith; conditions = λ c is. is }
 
   same_condition : (c d : Condition) → (is_same c d || false) ≡ true → c ≡ d
-  same_condition c d is = grind arith
+  same_condition c d is = grind (arith, nat_tests)
 
   -- One condition of those that are set.
   requiring_weaker : (c : Condition) → m.condition c ≡ true → IsWeaker m (bare m).flag (requiring c (bare m)).condition
@@ -110,11 +111,7 @@ module _ (m : Notation) (s : Summary) (front : List ℕ) (read : IsReadOf m s fr
   )
 
   none_unmet : some_unmet m s next ≡ false → (c : Condition) → unmet m s next c ≡ false
-  none_unmet none conditions.BasePrefix = (or_parts (unmet m s next conditions.BasePrefix) _ none).0
-  none_unmet none conditions.BaseSuffix =
-      (or_parts (unmet m s next conditions.BaseSuffix) _ (or_parts (unmet m s next conditions.BasePrefix) _ none).1).0
-  none_unmet none conditions.NegativeSign =
-      (or_parts (unmet m s next conditions.BaseSuffix) _ (or_parts (unmet m s next conditions.BasePrefix) _ none).1).1
+  none_unmet none c = none_of_all (unmet m s next) none c
 
   met : (b a : Bool) → (b && not a) ≡ false → b ≡ true → a ≡ true
   met b a none is = grind arith
@@ -184,16 +181,13 @@ module _ (m : Notation) (s : Summary) (front : List ℕ) (read : IsReadOf m s fr
           none_there : (u : Bool) → not u ≡ true → u ≡ false
           none_there u is = grind arith
 
-          some_there : (a b c : Bool) → not (a || (b || c)) ≡ false → (a || (b || (c || false))) ≡ true
-          some_there a b c is = grind arith
+          some_there : (u : Bool) → not u ≡ false → u ≡ true
+          some_there u is = grind arith
 
           first_of : (mask_of (alone m s next) == 0 && not (some_unmet m s next)) ≡ false
               → ((f : Flag) × (alone m s next f ≡ true)) ⊎ ((c : Condition) × (unmet m s next c ≡ true))
           first_of some = elim (cases_Bool (mask_of (alone m s next) == 0)) [
-            | inl zero ↦
-                let U = unmet m s next in
-                inr (found_in U all_conditions (some_there (U conditions.BasePrefix) (U conditions.BaseSuffix) (U conditions.NegativeSign)
-                (ap (λ t. t && not (some_unmet m s next)) (sym zero) ∙ some)))
+            | inl zero ↦ inr (found_in (unmet m s next) all_conditions (some_there _ (ap (λ t. t && not (some_unmet m s next)) (sym zero) ∙ some)))
             | inr flag ↦ inl (some_of (alone m s next) flag)
           ]
 
@@ -279,11 +273,6 @@ module _ (m : Notation) (s : Summary) (front : List ℕ) (read : IsReadOf m s fr
 
 -- THE REFUSAL
 
-has_of : (C : Condition → Bool) (c : Condition) → has (conditions_of C) c ≡ C c
-has_of C conditions.BasePrefix = refl
-has_of C conditions.BaseSuffix = refl
-has_of C conditions.NegativeSign = refl
-
 module _ (g : Grammar) (text : List ℕ) (s : Summary) (tail : List ℕ) (k : Marks) (size : ℕ) (within : size ≤ length text) where
   abbrev n : Notation
   n = notation_of g
@@ -297,7 +286,9 @@ module _ (g : Grammar) (text : List ℕ) (s : Summary) (tail : List ℕ) (k : Ma
   refusal_at valid read refused next is_next is_tail is_marks =
       let b = blame n s next in
       let C = unmet n s next in
-      let c = first_unmet b.mask (conditions_of C) in
+      let set = kept C n.number in
+      let c = first_unmet b.mask set in
+      let has_unmet : (c : Condition) → has set c ≡ C c = has_kept g.conditions (λ c. lets (bare n) s next && not (lets (requiring c (bare n)) s next)) in
       let is_size : size ≡ k.size = sym (length-take-le size text within) ∙ sym (ap (λ (k : Marks). k.size) is_marks) in
       let same : k ≡ marks_of n (take k.size text) = is_marks ∙ (λ j. marks_of n (take (is_size j) text)) in
       let byte = is_next ∙ ap (slice_get text) is_size in
@@ -308,10 +299,10 @@ module _ (g : Grammar) (text : List ℕ) (s : Summary) (tail : List ℕ) (k : Ma
         cause = subst (λ next. IsCause n (take k.size text) next b.kind (raw b.mask).flag) byte
             (subst (λ size. IsCause n (take size text) next b.kind (raw b.mask).flag) is_size
             (is_blamed n s (take size text) read next (ap (lets n s) is_next ∙ refused)));
-        conditions = λ c. subst (λ next. (has (conditions_of C) c ≡ true) ↔ IsUnmet n (take k.size text) next c) byte
-            (subst (λ size. (has (conditions_of C) c ≡ true) ↔ IsUnmet n (take size text) next c) is_size
-            (subst (λ t. (t ≡ true) ↔ IsUnmet n (take size text) next c) (sym (has_of C c)) (each_unmet n s (take size text) read next c)));
-        groups = refl;
+        conditions = λ c. subst (λ next. (has set c ≡ true) ↔ IsUnmet n (take k.size text) next c) byte
+            (subst (λ size. (has set c ≡ true) ↔ IsUnmet n (take size text) next c) is_size
+            (subst (λ t. (t ≡ true) ↔ IsUnmet n (take size text) next c) (sym (has_unmet c)) (each_unmet n s (take size text) read next c)));
+        numbers = λ j. kept (λ c. sym (has_unmet c) j) n.number;
         mask = is_mask n s (take size text) read next;
         span = ap (λ k. span_of n k next b.kind (lowest b.mask) c) same;
         code = λ j. error_of n (same j) b.kind (lowest b.mask) c (span_of n k next b.kind (lowest b.mask) c).0;

@@ -5,8 +5,8 @@ use Rattle.std.specs.List.{list_any, AllByRecursion}
 use Rattle.lexical_util.specs.Layout.{Flag}
 use Rattle.lexical_util.specs.Roles.{signs}
 use Rattle.lexical_util.specs.declared.format_flags.Part.TheVariants as parts
-use Rattle.lexical_literal.specs.Cause.{all_conditions, requirement_flags}
-use Rattle.lexical_literal.specs.Notation.{Notation}
+use Rattle.lexical_literal.specs.Cause.{requirement_flags}
+use Rattle.lexical_literal.specs.Notation.{all_conditions, Notation}
 use Rattle.lexical_literal.specs.Literal.{Literal, IsLiteral, condition, text_of, requirement}
 use Rattle.lexical_literal.specs.Literal.{is_absent, is_present, is_float, is_none_or_one, is_none_or_prefix}
 use Rattle.lexical_literal.specs.Readings.{HasTwoReadings}

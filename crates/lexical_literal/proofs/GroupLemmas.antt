@@ -12,7 +12,7 @@ use Rattle.lexical_util.specs.Ascii.{ByteSet}
 use Rattle.lexical_literal.specs.Cause.{first_in, is_in}
 use Rattle.lexical_literal.specs.Groups.{are_groups, begins_in, group_begins, group_size, has_groups, is_grouped, is_right}
 use Rattle.lexical_literal.specs.Literal.{Literal, Reads}
-use Rattle.lexical_literal.specs.Notation.{notation_of}
+use Rattle.lexical_literal.specs.Notation.{integer_group_size, notation_of}
 use Rattle.lexical_literal.specs.Takes.{AreGroups, Refuses}
 use Rattle.lexical_literal.specs.Additions.Longest.{IsMeasured}
 use Rattle.lexical_literal.specs.Additions.Summary.{cuts_of, HasLengths}
@@ -139,20 +139,20 @@ module _ (S : ByteSet) (size : ℕ) where
 
 -- A literal that the syntax refuses is not in groups.
 pub not_grouped : (g : Grammar) (text : List ℕ) (l : Literal) → Reads (notation_of g) l text → Refuses g text → (size : ℕ)
-    → g.conditions.integer_group_size ≡ Some size → is_grouped (notation_of g).separator size l.integer ≡ false
+    → integer_group_size g.conditions ≡ Some size → is_grouped (notation_of g).separator size l.integer ≡ false
 not_grouped g text l reads refuses size required = false_from_ne_true _ (λ grouped. refuses l (record {
   reads = reads;
   groups = subst (λ o. has_groups (notation_of g).separator o l.integer ≡ true) (sym required) grouped;
 }))
 
 -- A syntax that requires no size of groups takes any.
-pub any_groups : (g : Grammar) (l : Literal) → g.conditions.integer_group_size ≡ None → AreGroups g l
+pub any_groups : (g : Grammar) (l : Literal) → integer_group_size g.conditions ≡ None → AreGroups g l
 any_groups g l none = ap (λ o. has_groups (notation_of g).separator o l.integer) none
 
 -- Groups decide whether the syntax takes a literal of its notation.
 pub measured : (g : Grammar) (text counts : List ℕ) (is : Bool) → (l : Literal) × Reads (notation_of g) l text
     → ((l : Literal) → Reads (notation_of g) l text → HasLengths l (cuts_of counts))
-    → ((l : Literal) → Reads (notation_of g) l text → has_groups (notation_of g).separator g.conditions.integer_group_size l.integer ≡ is)
+    → ((l : Literal) → Reads (notation_of g) l text → has_groups (notation_of g).separator (integer_group_size g.conditions) l.integer ≡ is)
     → IsMeasured g text counts is
 measured g text counts is l counted same = record {
   takes = λ yes. (l.0, record { reads = l.1; groups = same l.0 l.1 ∙ yes });

@@ -17,6 +17,7 @@ mod PlainLemmas
 mod SumLemmas
 mod JoinLemmas
 mod SpecialLemmas
+mod NumberLemmas
 mod CauseLemmas
 mod RefusalLemmas
 mod JointLemmas

@@ -9,7 +9,7 @@ use Rattle.lexical_util.specs.Groups.{bits_of}
 use Rattle.lexical_util.specs.Layout.{Flag, bit, flags}
 use Rattle.lexical_util.specs.Record.{raw}
 use Rattle.lexical_util.specs.declared.format_flags.Part.{Part}
-use Rattle.lexical_literal.specs.Notation.{Notation, has}
+use Rattle.lexical_literal.specs.Notation.{Notation, has, kept}
 use Rattle.lexical_literal.specs.Cause.{IsCause, IsRefusal, IsSeparator, IsUnmet, SameBlame, error_of, first_unmet, is_at, lowest, marks_of}
 use Rattle.lexical_literal.specs.Cause.{span_of, tail_of}
 use Rattle.lexical_literal.specs.Front.{IsValidUpTo}
@@ -18,8 +18,6 @@ use Rattle.lexical_literal.specs.declared.cause.ReadErrorKind.TheVariants as cau
 use Rattle.lexical_literal.specs.declared.cause.Place.{Place}
 use Rattle.lexical_literal.specs.declared.cause.Refusal.{Refusal}
 use Rattle.lexical_literal.specs.declared.syntax.Condition.{Condition}
-use Rattle.lexical_literal.specs.declared.syntax.Condition.TheVariants as conditions
-use Rattle.lexical_literal.specs.declared.syntax.Conditions.{Conditions}
 
 -- A flag allows separators at one place of one part.
 same_at : (x y : Place) (p q : Part) (f : Flag) → is_at x p f ≡ true → is_at y q f ≡ true → (x ≡ y) × (p ≡ q)
@@ -66,14 +64,6 @@ one_mask : (a b : ℕ) → a ≡ bits_of a flags → b ≡ bits_of b flags → (
 unfolding bits_of
 one_mask a b one two same = one ∙ (λ j. sum_by (λ f. if same f j then 2 ^ bit f else 0) flags) ∙ sym two
 
-one_set : (a b : Conditions) → ((c : Condition) → has a c ≡ has b c) → a.integer_group_size ≡ b.integer_group_size → a ≡ b
-one_set a b same groups = λ j. record {
-  required_base_prefix = same conditions.BasePrefix j;
-  required_base_suffix = same conditions.BaseSuffix j;
-  no_negative_mantissa_sign = same conditions.NegativeSign j;
-  integer_group_size = groups j;
-}
-
 module _ (m : Notation) (text : List ℕ) where
   no_longer : (i k : ℕ) → IsValidUpTo m text i → IsValidUpTo m text k → k ≤ i
   no_longer i k one two = let longer = λ (below : i < k). one.no_longer k below two.within two.front in grind arith
@@ -85,8 +75,9 @@ module _ (m : Notation) (text : List ℕ) where
       let other = subst (λ n. IsCause m (take n text) (slice_get text n) b.kind (raw b.mask).flag) (sym size) two.cause in
       let same = one_cause m _ _ _ (slice_get text a.valid_up_to) a.kind b.kind one.cause other in
       let mask = one_mask a.mask b.mask one.mask two.mask same.flags in
-      let unmet = one_set a.conditions b.conditions (λ c. same_truth (has a.conditions c) (has b.conditions c) (one.conditions c)
-      (subst (λ n. (has b.conditions c ≡ true) ↔ IsUnmet m (take n text) (slice_get text n) c) (sym size) (two.conditions c))) (one.groups ∙ sym two.groups) in
+      let has_same = λ (c : Condition). same_truth (has a.conditions c) (has b.conditions c) (one.conditions c)
+      (subst (λ n. (has b.conditions c ≡ true) ↔ IsUnmet m (take n text) (slice_get text n) c) (sym size) (two.conditions c)) in
+      let unmet = one.numbers ∙ (λ j. kept (λ c. has_same c j) m.number) ∙ sym two.numbers in
       let byte = one.byte ∙ ap (slice_get text) size ∙ sym two.byte in
       let span = one.span
       ∙ (λ j. span_of m (marks_of m (take (size j) text)) (byte j) (same.kind j) (lowest (mask j)) (first_unmet (mask j) (unmet j))) ∙ sym two.span in

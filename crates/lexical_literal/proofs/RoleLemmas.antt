@@ -19,8 +19,9 @@ use Rattle.lexical_util.specs.declared.feature_format.roles.Role.TheVariants as 
 use Rattle.lexical_util.specs.declared.format_flags.Part.TheVariants as parts
 use Rattle.lexical_util.specs.declared.format_flags.Part.{Part}
 use Rattle.lexical_util.proofs.ByteRoleLemmas.{AreApart, apart_from, one_role}
-use Rattle.lexical_literal.specs.Notation.{notation_of, radix_of, set_of_role, point_of, exponent_character_of, lacks_options}
-use Rattle.lexical_literal.specs.Syntax.{IsSyntax, FitIfAny, contradiction}
+use Rattle.lexical_literal.specs.Notation.{has, notation_of, radix_of, set_of_role, point_of, exponent_character_of, lacks_options}
+use Rattle.lexical_literal.specs.Syntax.{IsSyntax, FitIfAny, contradiction, fault}
+use Rattle.lexical_literal.specs.declared.syntax.Condition.TheVariants as conditions
 use Rattle.lexical_literal.specs.declared.syntax.Conditions.{Conditions}
 use Rattle.lexical_literal.specs.declared.syntax.Options.{Options}
 use Rattle.lexical_literal.specs.declared.syntax.Grammar.{Grammar}
@@ -56,11 +57,13 @@ cased_present counts own some = grind (arith, nat_tests)
 
 -- What the conditions require is possible.
 module _ (r : Record) (c : Conditions) (none : contradiction r c ≡ None) where
-  has_prefix : c.required_base_prefix ≡ true → (r.byte layout.base_prefix == 0) ≡ false
-  has_prefix set = grind arith
+  has_prefix : has c conditions.BasePrefix ≡ true → (r.byte layout.base_prefix == 0) ≡ false
+  unfolding fault
+  has_prefix set = grind (arith, nat_tests)
 
-  has_suffix : c.required_base_suffix ≡ true → (r.byte layout.base_suffix == 0) ≡ false
-  has_suffix set = grind arith
+  has_suffix : has c conditions.BaseSuffix ≡ true → (r.byte layout.base_suffix == 0) ≡ false
+  unfolding fault
+  has_suffix set = grind (arith, nat_tests)
 
 -- A lawful format is as each rule demands.
 demanded : (rule : Rule) (word : ℕ) → Lawful word → Meets (shape_of rule) word

@@ -9,7 +9,7 @@ use Rattle.lexical_util.specs.declared.format_flags.Part.{Part}
 use Rattle.lexical_util.specs.declared.format_flags.Part.TheVariants as parts
 use Rattle.lexical_literal.specs.declared.syntax.Conditions.{Conditions}
 use Rattle.lexical_literal.specs.declared.syntax.Options.{Options}
-use Rattle.lexical_literal.specs.Notation.{has, notation_of, radix_of, point_of, exponent_character_of, lacks_options}
+use Rattle.lexical_literal.specs.Notation.{has, notation_of, number_of, radix_of, point_of, exponent_character_of, lacks_options}
 
 module _ (r s : Record) (same : SameFormat r s) where
   same_radix : (part : Part) → radix_of r part ≡ radix_of s part
@@ -29,6 +29,7 @@ pub same_notation : (a b : ℕ) (options : Option Options) (conditions : Conditi
 same_notation a b options conditions same = λ j. record {
   flag = λ f. same.flags f j;
   condition = has conditions;
+  number = number_of conditions;
   digit = λ part byte. nat_lt (byte_value byte) (same_radix (raw a) (raw b) same part j);
   separator = λ byte. same_separator (raw a) (raw b) same byte j;
   prefix = λ byte. cased (same.flags layout.case_sensitive_base_prefix j) (same.base_prefix j) byte;

@@ -1,5 +1,5 @@
 -- Why a text is not a literal: the cause, the flags and conditions that are to blame, and the bytes to show.
-use Rattle.std.specs.Prelude.{ℕ, ◌≡◌, ◌+◌, ◌==◌, ◌&&◌, ◌↔◌, ◌⊎◌, ◌||◌, not, Bool, true, false, if◌then◌else◌, IsTrue, List, [], ◌∷◌, ◌++◌, drop, length}
+use Rattle.std.specs.Prelude.{ℕ, ◌≡◌, ◌+◌, ◌==◌, ◌&&◌, ◌↔◌, ◌⊎◌, ◌||◌, not, Bool, false, if◌then◌else◌, IsTrue, List, [], ◌∷◌, ◌++◌, drop, length}
 use Rattle.std.specs.Prelude.{nat_lt, take}
 use Rattle.std.specs.Prelude.{slice_get, Option, Some, None}
 use Rattle.std.specs.Int.{w128, trailing_zeros}
@@ -17,7 +17,7 @@ use Rattle.lexical_util.specs.declared.format_flags.Part.{Part}
 use Rattle.lexical_util.specs.declared.format_flags.Part.TheVariants as parts
 use Rattle.lexical_literal.specs.Front.{IsFront, IsValidUpTo, NoLiteral}
 use Rattle.lexical_literal.specs.Literal.{Literal, Reads}
-use Rattle.lexical_literal.specs.Notation.{Notation, has}
+use Rattle.lexical_literal.specs.Notation.{all_conditions, Notation, has, is_same, kept}
 use Rattle.lexical_literal.specs.declared.syntax.Condition.{Condition}
 use Rattle.lexical_literal.specs.declared.syntax.Condition.TheVariants as conditions
 use Rattle.lexical_literal.specs.declared.syntax.Conditions.{Conditions}
@@ -50,17 +50,6 @@ number_separator_flags =
 -- `is_one_of fs f` is true if `f` is one of `fs`.
 abbrev pub is_one_of : List Flag → Flag → Bool
 is_one_of fs f = list_any (λ g. bit g == bit f) fs
-
--- `all_conditions` lists the conditions.
-abbrev pub all_conditions : List Condition
-all_conditions = conditions.BasePrefix ∷ conditions.BaseSuffix ∷ conditions.NegativeSign ∷ []
-
--- `is_same c d` is true if `c` and `d` are the same condition.
-abbrev pub is_same : Condition → Condition → Bool
-is_same conditions.BasePrefix conditions.BasePrefix = true
-is_same conditions.BaseSuffix conditions.BaseSuffix = true
-is_same conditions.NegativeSign conditions.NegativeSign = true
-is_same _ _ = false
 
 -- `with_rules m flag condition` is `m` with the flags for which `flag` is true, the conditions for which `condition` is true,
 -- and no others.
@@ -254,8 +243,8 @@ requirement_span _ m k next = (k.size, k.size)
 -- belongs or at the end, or the sign.
 abbrev pub condition_span : Condition → Marks → Option ℕ → ℕ × ℕ
 condition_span conditions.BasePrefix k next = (k.first, k.first)
-condition_span conditions.BaseSuffix k next = (k.size, k.size)
 condition_span conditions.NegativeSign k next = (k.size, wrong_end k next)
+condition_span _ k next = (k.size, k.size)
 
 -- `first_unmet mask unmet` is the first of the conditions `unmet` if no flag of `mask` is to blame, and `None` otherwise.
 abbrev pub first_unmet : ℕ → Conditions → Option Condition
@@ -321,8 +310,9 @@ pub record IsRefusal (m : Notation) (text : List ℕ) (error : Refusal) : Type 0
   pub byte : error.byte ≡ slice_get text error.valid_up_to
   pub tail : error.tail ≡ tail_of text error.valid_up_to
   pub cause : IsCause m (take error.valid_up_to text) (slice_get text error.valid_up_to) error.kind (raw error.mask).flag
-  pub groups : error.conditions.integer_group_size ≡ None
   pub conditions : (c : Condition) → IsTrue (has error.conditions c) ↔ IsUnmet m (take error.valid_up_to text) (slice_get text error.valid_up_to) c
+  -- Conditions have the numbers of the syntax.
+  pub numbers : error.conditions ≡ kept (has error.conditions) m.number
   -- No bit of the mask is set but those of flags.
   pub mask : error.mask ≡ bits_of error.mask layout.flags
   pub span : (error.start, error.end)

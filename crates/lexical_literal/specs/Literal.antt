@@ -87,11 +87,12 @@ requirement layout.no_float_leading_zeros m l = not (is_float l) || not (is_zero
 requirement layout.required_exponent_notation m l = m.integers_only || is_present l.exponent_character
 requirement _ m l = true
 
--- `condition c l` is true if the parts of `l` are as the condition `c` requires.
+-- `condition c l` is true if the parts of `l` are as the condition `c` requires. `Takes` states what groups of digits require.
 abbrev pub condition : Condition → Literal → Bool
 condition conditions.BasePrefix l = is_present l.prefix
 condition conditions.BaseSuffix l = is_present l.suffix
 condition conditions.NegativeSign l = is_absent l.sign || is_plus l.sign
+condition conditions.IntegerGroupSize l = true
 
 -- `IsSpelled m l` holds if each part of `l` is spelled as the notation `m` allows, if the parts go together, and if they
 -- are as each flag that is set requires.

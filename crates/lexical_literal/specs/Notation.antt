@@ -1,5 +1,5 @@
 -- How numbers are written: the bytes that play each role, the flags, and the conditions.
-use Rattle.std.specs.Prelude.{ℕ, ◌≡◌, ◌↔◌, ◌||◌, Bool, true, false, IsTrue, nat_lt, Option, Some, None}
+use Rattle.std.specs.Prelude.{ℕ, ◌≡◌, ◌↔◌, ◌==◌, ◌||◌, Bool, true, false, not, IsTrue, if◌then◌else◌, nat_lt, List, [], ◌∷◌, map, Option, Some, None, get_or}
 use Rattle.lexical_util.specs.Ascii.{ByteSet}
 use Rattle.lexical_util.specs.Digits.{byte_value}
 use Rattle.lexical_util.specs.Layout as layout
@@ -16,11 +16,12 @@ use Rattle.lexical_literal.specs.declared.syntax.Conditions.{Conditions}
 use Rattle.lexical_literal.specs.declared.syntax.Options.{Options}
 use Rattle.lexical_literal.specs.declared.syntax.Grammar.{Grammar}
 
--- `Notation` has the flags, the conditions, the digits of each part, and the bytes that play each other role. If
+-- `Notation` has the flags, the conditions and their numbers, the digits of each part, and the bytes that play each other role. If
 -- `integers_only` is true, every literal is an integer.
 pub record Notation : Type 0 where
   pub flag : Flag → Bool
   pub condition : Condition → Bool
+  pub number : Condition → ℕ
   pub digit : Part → ByteSet
   pub separator : ByteSet
   pub prefix : ByteSet
@@ -50,22 +51,48 @@ abbrev pub lacks_options : Option Options → Bool
 lacks_options None = true
 lacks_options (Some options) = false
 
--- `has c condition` is true if `condition` is one of the conditions `c`.
-abbrev pub has : Conditions → Condition → Bool
-has c conditions.BasePrefix = c.required_base_prefix
-has c conditions.BaseSuffix = c.required_base_suffix
-has c conditions.NegativeSign = c.no_negative_mantissa_sign
+-- `all_conditions` lists the conditions, and `order d` is the place of `d` in this list.
+abbrev pub all_conditions : List Condition
+all_conditions = conditions.BasePrefix ∷ conditions.BaseSuffix ∷ conditions.NegativeSign ∷ conditions.IntegerGroupSize ∷ []
 
--- `no_conditions` has no condition.
+abbrev pub order : Condition → ℕ
+order conditions.BasePrefix = 0
+order conditions.BaseSuffix = 1
+order conditions.NegativeSign = 2
+order conditions.IntegerGroupSize = 3
+
+-- `is_same d e` is true if `d` and `e` are the same condition.
+abbrev pub is_same : Condition → Condition → Bool
+is_same d e = order d == order e
+
+-- `number_of c d` is the number of the condition `d` in `c`, or 0 if it is not one of the conditions `c`, and `has c d` is true if
+-- it is.
+abbrev pub number_of : Conditions → Condition → ℕ
+number_of c d = get_or c.numbers (order d) 0
+
+abbrev pub has : Conditions → Condition → Bool
+has c d = not (number_of c d == 0)
+
+-- `kept C N` has the conditions for which `C` is true, with the numbers `N`, and `no_conditions` has none.
+abbrev pub kept : (Condition → Bool) → (Condition → ℕ) → Conditions
+kept C N = record { numbers = map (λ d. if C d then N d else 0) all_conditions }
+
 abbrev pub no_conditions : Conditions
-no_conditions =
-    record { required_base_prefix = false; required_base_suffix = false; no_negative_mantissa_sign = false; integer_group_size = None }
+no_conditions = record { numbers = map (λ d. 0) all_conditions }
+
+-- `get c d` is the number of `d`, or `None` if it is not one of the conditions `c`, and `integer_group_size c` that of groups of digits.
+abbrev pub get : Conditions → Condition → Option ℕ
+get c d = if has c d then Some (number_of c d) else None
+
+abbrev pub integer_group_size : Conditions → Option ℕ
+integer_group_size c = get c conditions.IntegerGroupSize
 
 -- `notation_of g` is the notation of the format, the options and the conditions of `g`.
 abbrev pub notation_of : Grammar → Notation
 notation_of g = record {
   flag = (raw g.word).flag;
   condition = has g.conditions;
+  number = number_of g.conditions;
   digit = λ part byte. nat_lt (byte_value byte) (radix_of (raw g.word) part);
   separator = sets.used_separator (raw g.word);
   prefix = sets.prefix (raw g.word);

@@ -1,15 +1,18 @@
 -- A syntax: a lawful format, with options that fit it or without options, and conditions that do not contradict it.
-use Rattle.std.specs.Prelude.{ℕ, ⊤, ◌≡◌, ◌==◌, ◌&&◌, not, nat_le, Bool, true, [], ◌∷◌, Option, Some, None, is_some}
-use Rattle.std.specs.List.{find}
+use Rattle.std.specs.Prelude.{ℕ, ⊤, ◌≡◌, ◌==◌, ◌&&◌, nat_le, if◌then◌else◌, List, [], ◌∷◌, Option, Some, None, option_map}
+use Rattle.std.specs.Option.{option_or}
 use Rattle.lexical_util.specs.Layout as layout
 use Rattle.lexical_util.specs.NormalForm.{IsNormal}
 use Rattle.lexical_util.specs.Options.{OptionsFit}
 use Rattle.lexical_util.specs.Record.{Record, raw}
 use Rattle.lexical_util.specs.Rules.{Lawful}
-use Rattle.lexical_literal.specs.Notation.{no_conditions}
+use Rattle.lexical_literal.specs.Notation.{all_conditions, number_of}
+use Rattle.lexical_literal.specs.declared.syntax.Condition.{Condition}
+use Rattle.lexical_literal.specs.declared.syntax.Condition.TheVariants as conditions
 use Rattle.lexical_literal.specs.declared.syntax.Conditions.{Conditions}
 use Rattle.lexical_literal.specs.declared.syntax.ConditionsError.{ConditionsError}
-use Rattle.lexical_literal.specs.declared.syntax.ConditionsError.TheVariants as errors
+use Rattle.lexical_literal.specs.declared.syntax.ConditionsErrorKind.{ConditionsErrorKind}
+use Rattle.lexical_literal.specs.declared.syntax.ConditionsErrorKind.TheVariants as faults
 use Rattle.lexical_literal.specs.declared.syntax.Options.{Options}
 use Rattle.lexical_literal.specs.declared.syntax.Grammar.{Grammar}
 
@@ -18,27 +21,32 @@ abbrev pub FitIfAny : ℕ → Option Options → Type 0
 FitIfAny word None = ⊤
 FitIfAny word (Some options) = OptionsFit word options.exponent options.point
 
--- `is_group_size size` is true if no `size` is required, or one from 2 to 8.
-abbrev pub is_group_size : Option ℕ → Bool
-is_group_size None = true
-is_group_size (Some size) = nat_le 2 size && nat_le size 8
+-- `limits d` has the least and the greatest number of the condition `d`, which are 1 if it has no number.
+abbrev pub limits : Condition → ℕ × ℕ
+limits conditions.IntegerGroupSize = (2, 8)
+limits _ = (1, 1)
 
--- `contradicts error r conditions` is true if `error` is true of `conditions` and the format `r`.
-abbrev pub contradicts : ConditionsError → Record → Conditions → Bool
-contradicts errors.NoBasePrefix r c = c.required_base_prefix && (r.byte layout.base_prefix == 0)
-contradicts errors.NoBaseSuffix r c = c.required_base_suffix && (r.byte layout.base_suffix == 0)
-contradicts errors.GroupSize r c = not (is_group_size c.integer_group_size)
-contradicts errors.NoInternalSeparator r c = is_some c.integer_group_size && not (r.flag layout.integer_internal_digit_separator)
+-- `missing r d` is what the condition `d` needs and the format `r` has not, or `None` if there is nothing.
+abbrev pub missing : Record → Condition → Option ConditionsErrorKind
+missing r conditions.BasePrefix = if r.byte layout.base_prefix == 0 then Some faults.NoBasePrefix else None
+missing r conditions.BaseSuffix = if r.byte layout.base_suffix == 0 then Some faults.NoBaseSuffix else None
+missing r conditions.IntegerGroupSize = if r.flag layout.integer_internal_digit_separator then None else Some faults.NoInternalSeparator
+missing r _ = None
 
--- `contradiction r conditions` is the first error of `conditions` with the format `r`, or `None` if there is none.
+-- `fault r d number` is the error of the condition `d` with this `number` in the format `r`, or `None` if there is none.
+unfoldable pub fault : Record → Condition → ℕ → Option ConditionsError
+fault r d number = option_map (λ kind. record { condition = d; kind = kind }) (
+    if number == 0 then None
+    else (if nat_le (limits d).0 number && nat_le number (limits d).1 then missing r d else Some faults.Number))
+
+-- `first_fault r c ds` is the error of the first of `ds` that is one of the conditions `c` and that the format `r` contradicts, or
+-- `None` if there is none, and `contradiction r c` that of all conditions.
+abbrev pub first_fault : Record → Conditions → List Condition → Option ConditionsError
+first_fault r c [] = None
+first_fault r c (d ∷ ds) = option_or (fault r d (number_of c d)) (first_fault r c ds)
+
 abbrev pub contradiction : Record → Conditions → Option ConditionsError
-contradiction r c =
-    find (λ error. contradicts error r c) (errors.NoBasePrefix ∷ errors.NoBaseSuffix ∷ errors.GroupSize ∷ errors.NoInternalSeparator ∷ [])
-
--- `groups_error r size` is the error of a `size` of groups with the format `r`, or `None` if there is none.
-abbrev pub groups_error : Record → Option ℕ → Option ConditionsError
-groups_error r size =
-    find (λ error. contradicts error r (record no_conditions { integer_group_size = size })) (errors.GroupSize ∷ errors.NoInternalSeparator ∷ [])
+contradiction r c = first_fault r c all_conditions
 
 -- `IsSyntax g` holds if the format of `g` is lawful and its own normal form, if the options fit it, if there are any, and if
 -- the conditions do not contradict it.

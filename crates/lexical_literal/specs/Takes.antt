@@ -6,14 +6,15 @@ use Rattle.lexical_literal.specs.Cause.{IsRefusal}
 use Rattle.lexical_literal.specs.Front.{NoLiteral, ReadsFront}
 use Rattle.lexical_literal.specs.Groups.{IsFirstWrongGroup, has_groups, is_grouped}
 use Rattle.lexical_literal.specs.Literal.{Literal, Reads}
-use Rattle.lexical_literal.specs.Notation.{no_conditions, notation_of}
+use Rattle.lexical_literal.specs.Notation.{integer_group_size, is_same, kept, notation_of, number_of}
 use Rattle.lexical_literal.specs.declared.cause.ReadErrorKind.TheVariants as causes
 use Rattle.lexical_literal.specs.declared.cause.Refusal.{Refusal}
+use Rattle.lexical_literal.specs.declared.syntax.Condition.TheVariants as conditions
 use Rattle.lexical_literal.specs.declared.syntax.Grammar.{Grammar}
 
 -- `AreGroups g l` holds if the integer of `l` is in groups, as the syntax `g` requires.
 abbrev pub AreGroups : Grammar → Literal → Type 0
-AreGroups g l = IsTrue (has_groups (notation_of g).separator g.conditions.integer_group_size l.integer)
+AreGroups g l = IsTrue (has_groups (notation_of g).separator (integer_group_size g.conditions) l.integer)
 
 -- `Takes g l text` holds if `text` is a literal of the syntax `g` with the parts of `l`.
 pub record Takes (g : Grammar) (l : Literal) (text : List ℕ) : Type 0 where
@@ -30,7 +31,7 @@ pub record IsUngrouped (g : Grammar) (text : List ℕ) (error : Refusal) : Type 
   pub literal : Literal
   pub reads : Reads (notation_of g) literal text
   pub size : ℕ
-  pub required : g.conditions.integer_group_size ≡ Some size
+  pub required : integer_group_size g.conditions ≡ Some size
   pub ungrouped : is_grouped (notation_of g).separator size literal.integer ≡ false
   pub start : ℕ
   pub end : ℕ
@@ -40,7 +41,7 @@ pub record IsUngrouped (g : Grammar) (text : List ℕ) (error : Refusal) : Type 
   pub tail : error.tail ≡ 0 ∷ 0 ∷ 0 ∷ []
   pub kind : error.kind ≡ causes.Requirement
   pub mask : error.mask ≡ 0
-  pub conditions : error.conditions ≡ record no_conditions { integer_group_size = Some size }
+  pub conditions : error.conditions ≡ kept (is_same conditions.IntegerGroupSize) (number_of g.conditions)
   pub error_start : error.start ≡ length literal.sign + length literal.prefix + start
   pub error_end : error.end ≡ length literal.sign + length literal.prefix + end
   pub code : error.code ≡ errors.InvalidDigit error.start

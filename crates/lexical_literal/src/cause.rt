@@ -5,18 +5,18 @@ ghost use Rattle.lexical_util.specs.Layout.{Flag, bit};
 ghost use Rattle.lexical_util.specs.Record.{raw};
 ghost use Rattle.lexical_util.specs.Roles.{other_case};
 ghost use Rattle.lexical_literal.specs.Additions.Causes.{is_at_gap, lets, place_of};
-ghost use Rattle.lexical_literal.specs.Additions.Explained.{alone, blame, cases, conditions_of, mask_of, refusal_of, requirements, separators};
+ghost use Rattle.lexical_literal.specs.Additions.Explained.{alone, blame, cases, mask_of, refusal_of, requirements, separators};
 ghost use Rattle.lexical_literal.specs.Additions.Explained.{ungrouped_of, unmet, zeros};
 ghost use Rattle.lexical_literal.specs.Additions.Summary.{part_of, role_at};
-ghost use Rattle.lexical_literal.specs.Cause.{adding, bare, binds, case_set, first_unmet, is_same, with_rules};
+ghost use Rattle.lexical_literal.specs.Cause.{adding, bare, binds, case_set, first_unmet, with_rules};
 ghost use Rattle.lexical_literal.specs.Forms.{is_byte};
-ghost use Rattle.lexical_literal.specs.Notation.{has, notation_of};
+ghost use Rattle.lexical_literal.specs.Notation.{has, kept, notation_of, number_of};
 
 use crate::span::{error, span};
 use crate::steps::{
     Summary, has_digit, is_complete, is_exponent_character, moved, needs_exponent, part_of, role_at,
 };
-use crate::syntax::{Condition, Conditions, Grammar};
+use crate::syntax::{CONDITIONS, Condition, Conditions, Grammar};
 use lexical_util::error::Error;
 use lexical_util::format as masks;
 use lexical_util::format::{Part, Role};
@@ -224,12 +224,7 @@ impl Spot {
             tail,
             kind: ReadErrorKind::Requirement,
             mask: 0,
-            conditions: Conditions {
-                required_base_prefix: false,
-                required_base_suffix: false,
-                no_negative_mantissa_sign: false,
-                integer_group_size: self.grammar.conditions.integer_group_size,
-            },
+            conditions: self.grammar.conditions.only(Condition::IntegerGroupSize),
             start: first,
             end: run,
             code: Error::InvalidDigit(first),
@@ -276,29 +271,7 @@ impl Spot {
 pub(crate) const fn first_unmet(mask: u128, unmet: Conditions) -> Option<Condition>
     ensures { result ≡ first_unmet mask unmet }
 {
-    if mask != 0 {
-        None
-    } else if unmet.required_base_prefix {
-        Some(Condition::BasePrefix)
-    } else if unmet.required_base_suffix {
-        Some(Condition::BaseSuffix)
-    } else if unmet.no_negative_mantissa_sign {
-        Some(Condition::NegativeSign)
-    } else {
-        None
-    }
-}
-
-// Returns one condition, and no others.
-const fn alone(condition: Condition) -> Conditions
-    ensures { (d : Condition) → has result d ≡ is_same condition d }
-{
-    Conditions {
-        required_base_prefix: matches!(condition, Condition::BasePrefix),
-        required_base_suffix: matches!(condition, Condition::BaseSuffix),
-        no_negative_mantissa_sign: matches!(condition, Condition::NegativeSign),
-        integer_group_size: None,
-    }
+    if mask == 0 { unmet.first() } else { None }
 }
 
 // The flags that require something of the parts of a literal.
@@ -423,7 +396,7 @@ impl Stop {
         ensures { result ≡ requirements (notation_of self.grammar) self.read self.byte }
     {
         let alone = self.alone();
-        if alone == 0 && self.unmet().are_free() {
+        if alone == 0 && self.unmet().is_none() {
             self.zeros()
         } else {
             alone
@@ -432,14 +405,18 @@ impl Stop {
 
     // Returns the conditions to blame for a requirement: those that refuse alone.
     const fn unmet(self) -> Conditions
-        ensures { result ≡ conditions_of (unmet (notation_of self.grammar) self.read self.byte) }
+        ensures { result ≡ kept (unmet (notation_of self.grammar) self.read self.byte) (number_of self.grammar.conditions) }
     {
-        Conditions {
-            required_base_prefix: self.is_unmet(Condition::BasePrefix),
-            required_base_suffix: self.is_unmet(Condition::BaseSuffix),
-            no_negative_mantissa_sign: self.is_unmet(Condition::NegativeSign),
-            integer_group_size: None,
+        let mut unmet = Conditions::NONE;
+        let mut index = 0;
+        while index < CONDITIONS.len() {
+            let condition = CONDITIONS[index];
+            if self.is_unmet(condition) {
+                unmet = unmet.with(condition, self.grammar.conditions.number(condition));
+            }
+            index += 1;
         }
+        unmet
     }
 
     // Returns whether the syntax has a condition, and it alone refuses what cannot follow.
@@ -448,7 +425,7 @@ impl Stop {
     {
         self.grammar.conditions.has(condition)
             && self.is_free()
-            && !self.allows(self.bare(), alone(condition))
+            && !self.allows(self.bare(), self.grammar.conditions.only(condition))
     }
 
     // Returns the flags each of which would allow a separator that is not allowed.

@@ -14,6 +14,7 @@ ghost use Rattle.lexical_literal.specs.Takes.{IsError, IsFrontError};
 ghost use Rattle.lexical_literal.specs.declared.cause.ReadErrorKind.{ReadErrorKind};
 ghost use Rattle.lexical_literal.specs.declared.cause.Refusal.{Refusal};
 ghost use Rattle.lexical_literal.specs.declared.syntax.Condition.{Condition};
+ghost use Rattle.lexical_literal.specs.declared.syntax.Condition.TheVariants as conditions;
 ghost use Rattle.lexical_literal.specs.declared.syntax.Conditions.{Conditions};
 ghost use Rattle.lexical_literal.specs.declared.syntax.Grammar.{Grammar};
 ghost use Rattle.lexical_literal.specs.declared.syntax.Options.{Options};
@@ -65,7 +66,7 @@ pub fn literal_facts()
     ensures digits { (g : Grammar) → IsSyntax g → (first : ℕ) → (digits : List ℕ) → first ≢ 48
         → AllIn ((notation_of g).digit Part.Integer) (first ∷ digits)
         → ((l : Literal) × Reads (notation_of g) l (first ∷ digits))
-        ↔ IsFalse ((g.conditions.required_base_prefix || g.conditions.required_base_suffix)
+        ↔ IsFalse ((has g.conditions conditions.BasePrefix || has g.conditions conditions.BaseSuffix)
         || ((notation_of g).flag layout.required_mantissa_sign
         || ((notation_of g).flag layout.required_exponent_notation && not (notation_of g).integers_only))) }
 
@@ -74,8 +75,8 @@ pub fn literal_facts()
     ensures negative { (g : Grammar) → IsSyntax g → (first : ℕ) → (digits : List ℕ) → first ≢ 48
         → AllIn ((notation_of g).digit Part.Integer) (first ∷ digits)
         → ((l : Literal) × Reads (notation_of g) l (45 ∷ first ∷ digits))
-        ↔ IsFalse ((g.conditions.required_base_prefix || g.conditions.required_base_suffix)
-        || (g.conditions.no_negative_mantissa_sign
+        ↔ IsFalse ((has g.conditions conditions.BasePrefix || has g.conditions conditions.BaseSuffix)
+        || (has g.conditions conditions.NegativeSign
         || ((notation_of g).flag layout.required_exponent_notation && not (notation_of g).integers_only))) }
 {
     role_facts();

@@ -15,7 +15,7 @@ use crate::steps::{
     digits_of, has_digit, is_complete, is_exponent_character, is_point, is_separator, is_signed,
     may_follow, radix_of, takes,
 };
-use crate::syntax::Grammar;
+use crate::syntax::{Condition, Grammar};
 use lexical_util::format::{Part, Role};
 
 // What has been read of a text: the number of bytes, and their summary.
@@ -354,7 +354,7 @@ const fn open(grammar: Grammar, text: &[u8], sign: usize) -> Option<Opening>
             size: sign + 2,
             stage: Stage::Prefixed,
         })
-    } else if grammar.conditions.required_base_prefix {
+    } else if grammar.conditions.has(Condition::BasePrefix) {
         None
     } else {
         Some(Opening {

@@ -8,7 +8,7 @@ ghost use Rattle.lexical_literal.specs.Additions.Summary.{HasLengths, cuts_of, i
 ghost use Rattle.lexical_literal.specs.Additions.Causes.{lets};
 ghost use Rattle.lexical_literal.specs.Cause.{IsRefusal, tail_of, tail_size};
 ghost use Rattle.lexical_literal.specs.Literal.{Literal, Reads, text_of};
-ghost use Rattle.lexical_literal.specs.Notation.{notation_of};
+ghost use Rattle.lexical_literal.specs.Notation.{integer_group_size, notation_of};
 ghost use Rattle.lexical_literal.specs.Parts.{literal_of};
 ghost use Rattle.lexical_literal.specs.Takes.{IsError, IsUngrouped, Refuses};
 
@@ -17,7 +17,7 @@ use crate::groups::{is_grouped, wrong_group};
 use crate::plain::{At, BEGIN, Counted, plain};
 use crate::span::marks;
 use crate::steps::{Summary, is_complete, part_of, piece_number, piece_of, role_at, step};
-use crate::syntax::Syntax;
+use crate::syntax::{Condition, Syntax};
 
 /// The parts of a literal, in the order of the text. An absent part has no bytes.
 #[derive(Debug, Clone, Copy, PartialEq, Eq, Hash)]
@@ -58,7 +58,7 @@ impl Syntax {
         ensures { IsMeasured self.now text.now counts result }
     {
         let grammar = self.grammar();
-        match grammar.conditions.integer_group_size {
+        match grammar.conditions.get(Condition::IntegerGroupSize) {
             None => true,
             Some(size) => {
                 let parts = cut(text, counts);
@@ -92,7 +92,7 @@ impl Syntax {
         ensures { IsGrouped self.now text.now found result }
     {
         let front = front_of(text, found.size);
-        match self.grammar().conditions.integer_group_size {
+        match self.grammar().conditions.get(Condition::IntegerGroupSize) {
             Some(size) if !self.has_groups(front, found.counts) => self.ungrouped(front, size),
             _ => Ok(()),
         }
@@ -233,7 +233,7 @@ impl Syntax {
         requires refuses { Refuses self.now text.now }
         ensures { IsErrAnd result (λ error. IsError self.now text.now error.refusal) }
     {
-        match self.grammar().conditions.integer_group_size {
+        match self.grammar().conditions.get(Condition::IntegerGroupSize) {
             Some(size) if stop.size == text.len() && self.is_complete(stop.read) => {
                 self.ungrouped(text, size)
             }
@@ -244,7 +244,7 @@ impl Syntax {
     // Returns that the integer of `text` is not in groups of `size`, and the first wrong group.
     #[cold]
     fn ungrouped<T>(&self, text: &[u8], size: u8) -> Result<T, ReadError>
-        requires size { self.now.conditions.integer_group_size ≡ Some size }
+        requires size { integer_group_size self.now.conditions ≡ Some size }
         requires read { (l : Literal) × Reads (notation_of self.now) l text.now }
         requires refuses { Refuses self.now text.now }
         ensures { IsErrAnd result (λ error. IsUngrouped self.now text.now error.refusal) }

@@ -155,8 +155,8 @@ const fn condition_span(marks: Marks, next: Option<u8>, condition: Condition) ->
 {
     match condition {
         Condition::BasePrefix => (marks.first, marks.first),
-        Condition::BaseSuffix => (marks.size, marks.size),
         Condition::NegativeSign => (marks.size, wrong_end(marks, next)),
+        _ => (marks.size, marks.size),
     }
 }
 

@@ -5,7 +5,7 @@ ghost use Rattle.lexical_literal.specs.Notation.{notation_of};
 ghost use Rattle.lexical_literal.specs.Specials.{allows, behind_sign, is_spelled, letter_of, matches, sign_of, special_of};
 ghost use Rattle.lexical_literal.specs.Specials.{special_separator, spelling_of};
 
-use crate::syntax::{Grammar, Syntax};
+use crate::syntax::{Condition, Grammar, Syntax};
 use lexical_util::format_flags::digit_separator;
 
 /// The spellings of special values. A spelling that is absent or empty matches no text.
@@ -116,7 +116,7 @@ const fn allows(grammar: Grammar, sign: Option<Sign>) -> bool
         && match sign {
             None => !format.required_mantissa_sign(),
             Some(Sign::Plus) => !format.no_positive_mantissa_sign(),
-            Some(Sign::Minus) => !grammar.conditions.no_negative_mantissa_sign,
+            Some(Sign::Minus) => !grammar.conditions.has(Condition::NegativeSign),
         }
 }
 

@@ -12,7 +12,7 @@ ghost use Rattle.lexical_literal.specs.Additions.Summary.{admits, finishes, forb
 ghost use Rattle.lexical_literal.specs.Additions.Summary.{leads_to_prefix, needs_exponent};
 ghost use Rattle.lexical_literal.specs.Additions.Summary.{continues, ends, is_complete, move_by, step, takes, after};
 
-use crate::syntax::{Conditions, Grammar};
+use crate::syntax::{Condition, Conditions, Grammar};
 use lexical_util::format::{Part, Role};
 use lexical_util::format_flags::digit_separator;
 
@@ -145,7 +145,7 @@ pub(crate) const fn allows_plus(grammar: Grammar, part: Part) -> bool
 pub(crate) const fn allows_minus(grammar: Grammar, part: Part) -> bool
     ensures { result ≡ not (has grammar.conditions conditions.NegativeSign && is_negative part false Role.Sign) }
 {
-    matches!(part, Part::Exponent) || !grammar.conditions.no_negative_mantissa_sign
+    matches!(part, Part::Exponent) || !grammar.conditions.has(Condition::NegativeSign)
 }
 
 // Returns whether `byte` is the decimal point.
@@ -365,7 +365,7 @@ pub(crate) const fn admits(
 ) -> bool
     ensures { result ≡ admits (has conditions) read plus zero role }
 {
-    if conditions.are_free() {
+    if conditions.is_none() {
         return true;
     }
     some_admit(conditions, read, plus, zero, role)
@@ -382,9 +382,9 @@ const fn some_admit(
 ) -> bool
     ensures { result ≡ admits (has conditions) read plus zero role }
 {
-    let needs_prefix = conditions.required_base_prefix && lacks_prefix(read.stage);
+    let needs_prefix = conditions.has(Condition::BasePrefix) && lacks_prefix(read.stage);
     (!needs_prefix || leads_to_prefix(read.stage, zero, role))
-        && !(conditions.no_negative_mantissa_sign && is_negative(part_of(read.stage), plus, role))
+        && !(conditions.has(Condition::NegativeSign) && is_negative(part_of(read.stage), plus, role))
 }
 
 // Returns whether the conditions let a literal end.
@@ -392,8 +392,8 @@ const fn some_admit(
 const fn finishes(conditions: Conditions, read: Summary) -> bool
     ensures { result ≡ finishes (has conditions) read }
 {
-    !(conditions.required_base_prefix && lacks_prefix(read.stage))
-        && (!conditions.required_base_suffix || read.ended)
+    !(conditions.has(Condition::BasePrefix) && lacks_prefix(read.stage))
+        && (!conditions.has(Condition::BaseSuffix) || read.ended)
 }
 
 // Returns whether some literal goes on with a byte that has the role `role`, and is a plus sign if `plus` is true.

@@ -18,7 +18,6 @@ use Rattle.lexical_literal.specs.Notation.{Notation, has, notation_of}
 use Rattle.lexical_literal.specs.Readings.{AllIn}
 use Rattle.lexical_literal.specs.Run.{are_fit}
 use Rattle.lexical_literal.specs.Takes.{Takes}
-use Rattle.lexical_literal.specs.Groups.{has_groups}
 use Rattle.lexical_literal.specs.declared.syntax.Condition.{Condition}
 use Rattle.lexical_literal.specs.declared.syntax.Grammar.{Grammar}
 use Rattle.lexical_value.specs.Private.{AllowPlain, IsSpelled, TakesDecimals, unsigned}
@@ -118,7 +117,7 @@ module _ (g : Grammar) (sign integer point fraction character exponent_sign expo
           };
         };
       };
-      groups = subst (λ size. IsTrue (has_groups m.separator size integer)) (sym allow.groups) refl;
+      groups = let none = allow.groups in grind arith;
     }
 
 -- Behind its sign, the text of a literal without a prefix and a suffix has its other parts.

@@ -1,21 +1,23 @@
 -- Definitions for contracts of functions that are not public.
-use Rattle.std.specs.Prelude.{ℕ, ◌≡◌, ◌%◌, ◌^◌, ◌<◌, ◌||◌, ◌++◌, Bool, false, IsTrue, List, None, length, slice_index}
+use Rattle.std.specs.Prelude.{ℕ, ◌≡◌, ◌%◌, ◌^◌, ◌<◌, ◌||◌, ◌++◌, Bool, false, IsTrue, List, length, slice_index}
 use Rattle.std.specs.Str.Parse.{AllDigits, digits_value, digits_value_after}
 use Rattle.lexical_util.specs.Layout as layout
 use Rattle.lexical_util.specs.Record.{Record, effective_exponent_base, effective_exponent_radix}
 use Rattle.lexical_util.specs.Roles.{signs}
 use Rattle.lexical_literal.specs.Literal.{Literal, is_absent, is_none_or_one, is_present}
 use Rattle.lexical_literal.specs.Parts.{literal_of}
+use Rattle.lexical_literal.specs.Notation.{has}
+use Rattle.lexical_literal.specs.declared.syntax.Condition.TheVariants as conditions
 use Rattle.lexical_literal.specs.declared.syntax.Conditions.{Conditions}
 use Rattle.lexical_value.specs.declared.plain_float.Plain.{Plain}
 
 -- `AllowPlain c negative` holds if no condition of `c` requires a prefix, a suffix or groups of digits, and if none forbids
 -- the sign `-` or `negative` is false.
 pub record AllowPlain (c : Conditions) (negative : Bool) : Type 0 where
-  pub prefix : c.required_base_prefix ≡ false
-  pub suffix : c.required_base_suffix ≡ false
-  pub groups : c.integer_group_size ≡ None
-  pub sign : IsTrue c.no_negative_mantissa_sign → negative ≡ false
+  pub prefix : has c conditions.BasePrefix ≡ false
+  pub suffix : has c conditions.BaseSuffix ≡ false
+  pub groups : has c conditions.IntegerGroupSize ≡ false
+  pub sign : IsTrue (has c conditions.NegativeSign) → negative ≡ false
 
 -- `TakesDecimals r` holds if all radixes of `r` are 10, and no flag requires a sign or an exponent, or restricts exponents.
 pub record TakesDecimals (r : Record) : Type 0 where

@@ -12,7 +12,7 @@ ghost use Rattle.lexical_value.specs.Value.{is_minus};
 
 use crate::integer::is_minus;
 use lexical_literal::read::Parts;
-use lexical_literal::syntax::{Conditions, Syntax};
+use lexical_literal::syntax::{Condition, Conditions, Syntax};
 use lexical_number::integer::Integer;
 use lexical_number::numeral::Numeral;
 
@@ -57,10 +57,10 @@ pub(crate) fn plain_integer<T: Integer>(syntax: Syntax, text: &[u8]) -> Option<T
 pub(crate) const fn allow_plain(conditions: Conditions, text: &[u8]) -> bool
     ensures { IsTrue result → AllowPlain conditions (is_minus text.now) }
 {
-    !conditions.required_base_prefix
-        && !conditions.required_base_suffix
-        && matches!(conditions.integer_group_size, None)
-        && !(conditions.no_negative_mantissa_sign && is_minus(text))
+    !conditions.has(Condition::BasePrefix)
+        && !conditions.has(Condition::BaseSuffix)
+        && !conditions.has(Condition::IntegerGroupSize)
+        && !(conditions.has(Condition::NegativeSign) && is_minus(text))
 }
 
 // Returns whether the parts have the digits that they need, and no leading zero.

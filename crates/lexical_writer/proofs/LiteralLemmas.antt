@@ -16,11 +16,11 @@ use Rattle.lexical_util.specs.declared.format_flags.Part.{Part}
 use Rattle.lexical_util.specs.declared.format_flags.Part.TheVariants as parts
 use Rattle.lexical_base.proofs.ValueLemmas.{byte_value-digit_character}
 use Rattle.lexical_literal.specs.Literal.{IsSpelled, Literal, condition, has_leading_zero, is_absent, is_none_or_one, is_plus}
-use Rattle.lexical_literal.specs.Literal.{is_present, requirement, text_of}
-use Rattle.lexical_literal.specs.Notation.{Notation, lacks_options, notation_of, point_of, exponent_character_of, radix_of}
+use Rattle.lexical_literal.specs.Literal.{is_none_or_prefix, is_present, requirement, text_of}
+use Rattle.lexical_literal.specs.Notation.{Notation, has, integer_group_size, lacks_options, notation_of, point_of, exponent_character_of, radix_of}
 use Rattle.lexical_literal.specs.Groups.{has_groups}
 use Rattle.lexical_literal.specs.Run.{is_run}
-use Rattle.lexical_literal.specs.Syntax.{IsSyntax, FitIfAny, contradiction, is_group_size}
+use Rattle.lexical_literal.specs.Syntax.{IsSyntax, FitIfAny, contradiction, fault}
 use Rattle.lexical_literal.specs.Takes.{Takes}
 use Rattle.lexical_literal.specs.declared.syntax.Condition.{Condition}
 use Rattle.lexical_literal.specs.declared.syntax.Condition.TheVariants as conditions
@@ -32,7 +32,7 @@ use Rattle.lexical_number.specs.Number.{digits_in, number}
 use Rattle.lexical_value.specs.Value.{is_minus}
 use Rattle.lexical_writer.specs.Digits.{character, grouped, only_if, or_zero, size_of, values_of}
 use Rattle.lexical_writer.specs.Layout.{HasNumber, given_fraction, given_power, group_of, has_exponent, has_point, has_zero, laid_out, options_of}
-use Rattle.lexical_writer.specs.Layout.{IsLaidOut, literal_of, refusal, sign_of}
+use Rattle.lexical_writer.specs.Layout.{IsLaidOut, after_zero, base_byte, literal_of, refusal, sign_of}
 use Rattle.lexical_writer.specs.declared.layout.Amount.{Amount}
 use Rattle.lexical_writer.specs.declared.layout.Layout.{Layout}
 use Rattle.lexical_writer.specs.declared.layout.WriteError.{WriteError}
@@ -49,12 +49,14 @@ unfolding Lawful Holds
 agree word lawful = let flags = lawful.flags in assumption flags
 
 -- The conditions of a syntax agree with its format.
-no_contradiction : (r : Record) (c : Conditions) → contradiction r c ≡ None → ((c.required_base_prefix && (r.byte layout.base_prefix == 0)) ≡ false)
-    × ((c.required_base_suffix && (r.byte layout.base_suffix == 0)) ≡ false) × (is_group_size c.integer_group_size ≡ true)
-no_contradiction r c none = (grind arith, grind arith, grind arith)
+no_contradiction : (r : Record) (c : Conditions) → contradiction r c ≡ None → ((has c conditions.BasePrefix && (r.byte layout.base_prefix == 0)) ≡ false)
+    × ((has c conditions.BaseSuffix && (r.byte layout.base_suffix == 0)) ≡ false)
+    × ((s : ℕ) → integer_group_size c ≡ Some s → 2 ≤ s)
+unfolding fault
+no_contradiction r c none = (grind (arith, nat_tests), grind (arith, nat_tests), λ s has. grind (arith, nat_tests))
 
 -- Groups have the size that a condition requires.
-same_size : (r : Record) (c : Conditions) (style : Style) (s : ℕ) → c.integer_group_size ≡ Some s → 0 < group_of r c style → group_of r c style ≡ s
+same_size : (r : Record) (c : Conditions) (style : Style) (s : ℕ) → integer_group_size c ≡ Some s → 0 < group_of r c style → group_of r c style ≡ s
 same_size r c style s has some = grind arith
 
 -- Punctuation is not 0.
@@ -211,21 +213,18 @@ module _ (g : Grammar) (style : Style) (amount : Amount) (is : IsSyntax g)
   }
 
   -- The integer is in groups.
-  groups : (size : Option ℕ) → g.conditions.integer_group_size ≡ size → has_groups m.separator size l.integer ≡ true
+  groups : (size : Option ℕ) → integer_group_size g.conditions ≡ size → has_groups m.separator size l.integer ≡ true
   groups None has = refl
   groups (Some s) has =
       right_groups m.separator radix separator s (λ d below.
       let small : radix ≤ 36 = (radixes g.word is.lawful parts.Integer).1 in
       false_from_ne_true _ (λ in_use. apart (character d) (omega (arith, byte_value-digit_character d (omega arith))) in_use))
-      group _ (size_allowed s has) (λ some. (same_size r g.conditions style s has some, (between some).0))
+      group _ ((no_contradiction r g.conditions is.conditions).2 s has) (λ some. (same_size r g.conditions style s has some, (between some).0))
       (zero_below radix (has_zero r amount) _ (radixes g.word is.lawful parts.Integer).0
       (all_below_base_digits_of radix (size_of radix amount.integer) (radixes g.word is.lawful parts.Integer).0))
-    where
-      size_allowed : (s : ℕ) → g.conditions.integer_group_size ≡ Some s → 2 ≤ s
-      size_allowed s has = let fits = (no_contradiction r g.conditions is.conditions).2 in grind (arith, nat_tests)
 
   -- No exponent is written where none is allowed.
-  allowed : ((amount.negative && g.conditions.no_negative_mantissa_sign) ≡ false) × ((lacks_options g.options && is_some amount.fraction) ≡ false)
+  allowed : ((amount.negative && has g.conditions conditions.NegativeSign) ≡ false) × ((lacks_options g.options && is_some amount.fraction) ≡ false)
       × (((lacks_options g.options || r.flag layout.no_exponent_notation) && is_some amount.exponent) ≡ false)
   allowed = no_refusal _ (lacks_options g.options && is_some amount.fraction) _ can
 
@@ -277,9 +276,16 @@ module _ (g : Grammar) (style : Style) (amount : Amount) (is : IsSyntax g)
   conditions_met conditions.BasePrefix set = let there = no_contradiction r g.conditions is.conditions in grind arith
   conditions_met conditions.BaseSuffix set = let there = no_contradiction r g.conditions is.conditions in grind arith
   conditions_met conditions.NegativeSign set = grind (arith, allowed)
+  conditions_met conditions.IntegerGroupSize set = refl
 
   one_sign : (negative required : Bool) → is_none_or_one sets.signs (option_to_list (sign_of negative required)) ≡ true
   one_sign negative required = grind arith
+
+  one_prefix : (some : Bool) → is_none_or_prefix m.prefix (after_zero (base_byte some (r.byte layout.base_prefix))) ≡ true
+  one_prefix some = grind (arith, own)
+
+  one_suffix : (some : Bool) → is_none_or_one m.suffix (option_to_list (base_byte some (r.byte layout.base_suffix))) ≡ true
+  one_suffix some = grind (arith, own)
 
   -- The decimal point and the exponent character are those of the options.
   in_role : (o : Option Options) → FitIfAny g.word o → lacks_options o ≡ false
@@ -295,7 +301,7 @@ module _ (g : Grammar) (style : Style) (amount : Amount) (is : IsSyntax g)
   spelled : IsSpelled m l
   spelled = record {
     sign = one_sign amount.negative _;
-    prefix = grind (arith, own);
+    prefix = one_prefix (style.prefix || has g.conditions conditions.BasePrefix);
     integer = integer_run.0;
     point = one_byte (point_of g.options) (lacks_options g.options) (has_point g amount) _ no_point (λ some. (in_role g.options is.fit some).0);
     fraction = fraction_run.0;
@@ -303,7 +309,7 @@ module _ (g : Grammar) (style : Style) (amount : Amount) (is : IsSyntax g)
         (λ lacks. no_exponent (or_left _ _ lacks)) (λ some. (in_role g.options is.fit some).1);
     exponent_sign = one_sign (given_power amount).negative _;
     exponent = exponent_run.0;
-    suffix = grind (arith, own);
+    suffix = one_suffix (style.suffix || has g.conditions conditions.BaseSuffix);
     after_point = no_fraction amount _ _ (options_of g).point radix;
     after_character = no_power amount _ _ (options_of g).exponent exponent_radix;
     some_number = fraction_is_float (is_present l.integer) amount _ (is_present l.exponent_character) radix (options_of g).point some_digits;
@@ -313,7 +319,7 @@ module _ (g : Grammar) (style : Style) (amount : Amount) (is : IsSyntax g)
   takes : Takes g l (text_of l)
   takes = record {
     reads = record { whole = refl; literal = record { spelled = spelled; conditions = conditions_met } };
-    groups = groups g.conditions.integer_group_size refl;
+    groups = groups (integer_group_size g.conditions) refl;
   }
 
 -- What is laid out is a literal with the digits of the amount.

@@ -5,7 +5,8 @@ use Rattle.std.specs.Int.Digits.{digits_of}
 use Rattle.lexical_util.specs.Layout as layout
 use Rattle.lexical_util.specs.Record.{Record, raw, effective_exponent_radix}
 use Rattle.lexical_literal.specs.Literal.{Literal, is_absent, is_present}
-use Rattle.lexical_literal.specs.Notation.{lacks_options}
+use Rattle.lexical_literal.specs.Notation.{has, integer_group_size, lacks_options}
+use Rattle.lexical_literal.specs.declared.syntax.Condition.TheVariants as conditions
 use Rattle.lexical_literal.specs.declared.syntax.Conditions.{Conditions}
 use Rattle.lexical_literal.specs.declared.syntax.Grammar.{Grammar}
 use Rattle.lexical_literal.specs.declared.syntax.Options.{Options}
@@ -64,7 +65,7 @@ given_power amount = unwrap_or amount.exponent (record { negative = false; sourc
 abbrev pub group_of : Record → Conditions → Style → ℕ
 group_of r c style =
     if r.flag layout.integer_internal_digit_separator && not (r.byte layout.digit_separator == 0)
-    then (if style.group == 0 then 0 else unwrap_or c.integer_group_size style.group) else 0
+    then (if style.group == 0 then 0 else unwrap_or (integer_group_size c) style.group) else 0
 
 -- `needs_exponent g` is true if each literal of `g` has an exponent.
 abbrev pub needs_exponent : Grammar → Bool
@@ -95,7 +96,7 @@ laid_out g style amount =
     let exponent = has_exponent g amount in
     record {
       sign = option_to_list (sign_of amount.negative (r.flag layout.required_mantissa_sign));
-      prefix = after_zero (base_byte (style.prefix || g.conditions.required_base_prefix) (r.byte layout.base_prefix));
+      prefix = after_zero (base_byte (style.prefix || has g.conditions conditions.BasePrefix) (r.byte layout.base_prefix));
       integer = grouped (r.byte layout.digit_separator) (group_of r g.conditions style)
           (or_zero (has_zero r amount) (digits_of radix (size_of radix amount.integer)));
       point = option_to_list (only_if point (options_of g).point);
@@ -103,15 +104,18 @@ laid_out g style amount =
       exponent_character = option_to_list (only_if exponent (options_of g).exponent);
       exponent_sign = option_to_list (sign_of (given_power amount).negative (exponent && r.flag layout.required_exponent_sign));
       exponent = grouped 0 0 (or_zero exponent (digits_of exponent_radix (size_of exponent_radix (given_power amount).source)));
-      suffix = option_to_list (base_byte (style.suffix || g.conditions.required_base_suffix) (r.byte layout.base_suffix));
+      suffix = option_to_list (base_byte (style.suffix || has g.conditions conditions.BaseSuffix) (r.byte layout.base_suffix));
     }
+
+-- `first_error sign fraction exponent` is the error of the first of the three that is refused.
+abbrev pub first_error : Bool → Bool → Bool → Option WriteError
+first_error sign fraction exponent =
+    if sign then Some errors.Negative else (if fraction then Some errors.Fraction else (if exponent then Some errors.Exponent else None))
 
 -- `refusal g amount` is why `amount` cannot be written as a literal of `g`, or `None` if it can.
 abbrev pub refusal : Grammar → Amount → Option WriteError
-refusal g amount =
-    if amount.negative && g.conditions.no_negative_mantissa_sign then Some errors.Negative
-    else (if lacks_options g.options && is_some amount.fraction then Some errors.Fraction
-    else (if (lacks_options g.options || (raw g.word).flag layout.no_exponent_notation) && is_some amount.exponent then Some errors.Exponent else None))
+refusal g amount = first_error (amount.negative && has g.conditions conditions.NegativeSign) (lacks_options g.options && is_some amount.fraction)
+    ((lacks_options g.options || (raw g.word).flag layout.no_exponent_notation) && is_some amount.exponent)
 
 -- `IsLaidOut g style amount result` holds if `result` is what is written for `amount`, or why it cannot be written.
 abbrev pub IsLaidOut : Grammar → Style → Amount → Result Layout WriteError → Type 0
@@ -140,7 +144,7 @@ whole (negsuc n) = record { negative = true; integer = sources.Number (suc n); f
 abbrev pub whole_refusal : Grammar → ℤ → Option WriteError
 whole_refusal g z =
     if needs_exponent g then Some errors.Float
-    else (if (whole z).negative && g.conditions.no_negative_mantissa_sign then Some errors.Negative else None)
+    else (if (whole z).negative && has g.conditions conditions.NegativeSign then Some errors.Negative else None)
 
 -- `IsWhole g style z l` holds if `l` is what is written for the integer `z`.
 abbrev pub IsWhole : Grammar → Style → ℤ → Literal → Type 0

@@ -8,14 +8,14 @@ ghost use Rattle.lexical_literal.specs.Literal.{is_present, text_of};
 ghost use Rattle.lexical_literal.specs.Syntax.{IsSyntax};
 ghost use Rattle.lexical_literal.specs.Takes.{Takes};
 ghost use Rattle.lexical_writer.specs.Digits.{grouped, only_if, or_zero, run_text, size_of, values_of};
-ghost use Rattle.lexical_writer.specs.Layout.{base_byte, given_fraction, group_of, has_zero};
+ghost use Rattle.lexical_writer.specs.Layout.{base_byte, first_error, given_fraction, group_of, has_zero};
 ghost use Rattle.lexical_writer.specs.Layout.{HasNumber, IsLaidOut, literal_of, needs_exponent, refusal, sign_of};
 ghost use Rattle.lexical_writer.specs.Buffer.{IsTaken};
 
 use crate::digits::{only_if, put_if_any, without_zeros};
 use crate::run::{Run, Source};
 use crate::sink::{Sink, Window};
-use lexical_literal::syntax::{Conditions, Options, Syntax};
+use lexical_literal::syntax::{Condition, Conditions, Options, Syntax};
 use lexical_number::parts::count;
 use lexical_util::format::{NumberFormat, base_prefix, base_suffix, digit_separator};
 use lexical_util::laws::byte_facts;
@@ -224,7 +224,7 @@ impl<'a> Amount<'a> {
         Ok(Layout {
             sign: sign_of(self.negative, format.required_mantissa_sign()),
             prefix: base_byte(
-                style.prefix | conditions.required_base_prefix,
+                style.prefix | conditions.has(Condition::BasePrefix),
                 base_prefix(format.word()),
             ),
             integer: Run {
@@ -244,7 +244,7 @@ impl<'a> Amount<'a> {
             exponent_sign: sign_of(power.negative, exponent & format.required_exponent_sign()),
             exponent: plain_run(lean(power.source, exponent_radix), exponent_radix, exponent),
             suffix: base_byte(
-                style.suffix | conditions.required_base_suffix,
+                style.suffix | conditions.has(Condition::BaseSuffix),
                 base_suffix(format.word()),
             ),
         })
@@ -256,15 +256,11 @@ impl<'a> Amount<'a> {
     {
         let integers = syntax.options().is_none();
         let no_exponent = integers | syntax.format().view().no_exponent_notation();
-        if self.negative & syntax.conditions().no_negative_mantissa_sign {
-            Some(WriteError::Negative)
-        } else if integers & self.fraction.is_some() {
-            Some(WriteError::Fraction)
-        } else if no_exponent & self.exponent.is_some() {
-            Some(WriteError::Exponent)
-        } else {
-            None
-        }
+        first_error(
+            self.negative & syntax.conditions().has(Condition::NegativeSign),
+            integers & self.fraction.is_some(),
+            no_exponent & self.exponent.is_some(),
+        )
     }
 
     // Returns whether a 0 stands for absent integer digits.
@@ -296,6 +292,21 @@ pub(crate) fn needs_exponent(syntax: &Syntax) -> bool
     syntax.format().view().required_exponent_notation() && syntax.options().is_some()
 }
 
+// Returns the error of a sign, a fraction or an exponent that is refused, the first if several are.
+const fn first_error(sign: bool, fraction: bool, exponent: bool) -> Option<WriteError>
+    ensures { result ≡ first_error sign fraction exponent }
+{
+    if sign {
+        Some(WriteError::Negative)
+    } else if fraction {
+        Some(WriteError::Fraction)
+    } else if exponent {
+        Some(WriteError::Exponent)
+    } else {
+        None
+    }
+}
+
 // Returns the number of digits of a group, or 0 if there are no groups.
 const fn group_of(format: NumberFormat, conditions: Conditions, style: Style) -> usize
     ensures { result ≡ group_of (raw format) conditions style }
@@ -303,9 +314,9 @@ const fn group_of(format: NumberFormat, conditions: Conditions, style: Style) ->
     if !format.integer_internal_digit_separator() || digit_separator(format.word()) == 0 {
         return 0;
     }
-    match conditions.integer_group_size {
+    match conditions.number(Condition::IntegerGroupSize) {
         _ if style.group == 0 => 0,
-        Some(size) => size as usize,
-        None => style.group,
+        0 => style.group,
+        size => size as usize,
     }
 }

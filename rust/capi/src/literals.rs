@@ -3,11 +3,11 @@
 use crate::arguments::{input, write_text, Out};
 use crate::languages::Forms;
 use crate::numbers::{error_number, ErrorNumber, Setter, Word, NO_PART, NO_SETTER};
+use core::array;
 use core::fmt::{self, Display, Formatter};
 use core::mem::ManuallyDrop;
-use core::num::NonZeroU8;
 use core::ops::Range;
-use peltzivar::literal::{self, Conditions, FormError, Number, ReadErrorKind, Readers};
+use peltzivar::literal::{self, Condition, Conditions, FormError, Number, ReadErrorKind, Readers};
 use peltzivar::{Error, Format, FormatError};
 
 /// A word with an exponent character, a decimal point and conditions, of any values. If both are 0, literals are
@@ -17,11 +17,8 @@ pub struct Syntax {
     format: Word,
     exponent: u8,
     decimal_point: u8,
-    required_base_prefix: u8,
-    required_base_suffix: u8,
-    no_negative_mantissa_sign: u8,
-    integer_group_size: u8,
-    reserved: [u8; 10],
+    /// The numbers of conditions, in the order of [`Condition::ALL`], and bytes of which a later version may make conditions.
+    numbers: [u8; 14],
 }
 
 impl Syntax {
@@ -33,34 +30,31 @@ impl Syntax {
         }
     }
 
-    /// Returns the conditions.
-    fn conditions(&self) -> Conditions {
-        Conditions::NONE
-            .required_base_prefix(self.required_base_prefix != 0)
-            .required_base_suffix(self.required_base_suffix != 0)
-            .no_negative_mantissa_sign(self.no_negative_mantissa_sign != 0)
-            .integer_group_size(NonZeroU8::new(self.integer_group_size).map(NonZeroU8::get))
+    /// Returns the conditions, or `None` if a later version may have others.
+    fn conditions(&self) -> Option<Conditions> {
+        let (numbers, rest) = self.numbers.split_at(Condition::ALL.len());
+        let all = Condition::ALL.iter().zip(numbers).fold(Conditions::NONE, |all, (&it, &number)| all.with(it, number));
+        Some(all).filter(|_| rest.iter().all(|&it| it == 0))
     }
 
     /// Returns the syntax, which may not be lawful, or `None` if there is none or if a later version may read it otherwise.
     #[inline(always)]
     pub fn given(syntax: Option<&Syntax>) -> Option<literal::Syntax> {
-        let syntax = syntax.filter(|it| it.reserved == [0; 10])?;
-        Some(literal::Syntax::unchecked(syntax.format.number(), syntax.options(), syntax.conditions()))
+        let syntax = syntax?;
+        Some(literal::Syntax::unchecked(syntax.format.number(), syntax.options(), syntax.conditions()?))
     }
 
     /// Returns the checked syntax.
     fn checked(syntax: Option<&Syntax>) -> Result<literal::Syntax, Refusal<FormatError>> {
         let syntax = syntax.ok_or(Refusal::Argument("the syntax is a null pointer"))?;
-        if syntax.reserved != [0; 10] {
-            return Err(Refusal::Argument("the reserved bytes of the syntax are not 0"));
-        }
+        let conditions = syntax.conditions();
+        let conditions = conditions.ok_or(Refusal::Argument("the reserved bytes of the syntax are not 0"))?;
         let format = Format::new(syntax.format.number())?;
         let made = match syntax.options() {
             None => literal::Syntax::integers(format),
             Some((exponent, point)) => literal::Syntax::new(format, exponent, point)?,
         };
-        Ok(made.with(syntax.conditions())?)
+        Ok(made.with_conditions(conditions)?)
     }
 }
 
@@ -71,11 +65,7 @@ impl From<literal::Syntax> for Syntax {
             format: Word::of(syntax.format().word()),
             exponent: syntax.exponent().unwrap_or(0),
             decimal_point: syntax.point().unwrap_or(0),
-            required_base_prefix: conditions.required_base_prefix.into(),
-            required_base_suffix: conditions.required_base_suffix.into(),
-            no_negative_mantissa_sign: conditions.no_negative_mantissa_sign.into(),
-            integer_group_size: conditions.integer_group_size.unwrap_or(0),
-            reserved: [0; 10],
+            numbers: array::from_fn(|at| Condition::ALL.get(at).map_or(0, |&it| conditions.number(it))),
         }
     }
 }
@@ -205,12 +195,6 @@ impl From<literal::ReadError> for Explanation {
         };
         let (Range { start, end }, code, mask) = (error.span(), error.code(), error.mask());
         let unmet = error.conditions();
-        let conditions = [
-            unmet.required_base_prefix,
-            unmet.required_base_suffix,
-            unmet.no_negative_mantissa_sign,
-            unmet.integer_group_size.is_some(),
-        ];
         Explanation {
             span: Span { start, end },
             index: code.index().copied().unwrap_or(0),
@@ -219,7 +203,7 @@ impl From<literal::ReadError> for Explanation {
             kind,
             number: if mask == 0 { NO_SETTER } else { mask.trailing_zeros() as Setter },
             part: part.map_or(NO_PART, |part| part as u8),
-            conditions: conditions.iter().rev().fold(0, |bits, condition| bits << 1 | *condition as u8),
+            conditions: Condition::ALL.iter().rev().fold(0, |bits, &it| bits << 1 | u8::from(unmet.has(it))),
         }
     }
 }

@@ -188,7 +188,7 @@ fn byte_from_character(text: &str) -> Option<u8> {
 }
 
 // Parses a number: `0x` followed by hexadecimal digits, or decimal digits.
-fn byte_from_number(text: &str) -> Option<u8> {
+pub(crate) fn byte_from_number(text: &str) -> Option<u8> {
     match text.as_bytes() {
         [b'0', b'x', digits @ ..] => byte_from_digits(digits, 16, 2),
         digits => byte_from_digits(digits, 10, 3),

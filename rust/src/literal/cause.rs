@@ -7,7 +7,7 @@ use crate::literal::span::{error, span};
 use crate::literal::steps::{
     has_digit, is_complete, is_exponent_character, moved, needs_exponent, part_of, role_at, Summary,
 };
-use crate::literal::syntax::{Condition, Conditions, Grammar};
+use crate::literal::syntax::{Condition, Conditions, Grammar, CONDITIONS};
 use crate::word as masks;
 use crate::word::{Part, Role};
 
@@ -170,12 +170,7 @@ impl Spot {
             tail,
             kind: ReadErrorKind::Requirement,
             mask: 0,
-            conditions: Conditions {
-                required_base_prefix: false,
-                required_base_suffix: false,
-                no_negative_mantissa_sign: false,
-                integer_group_size: self.grammar.conditions.integer_group_size,
-            },
+            conditions: self.grammar.conditions.only(Condition::IntegerGroupSize),
             start: first,
             end: run,
             code: Error::InvalidDigit(first),
@@ -207,26 +202,10 @@ impl Spot {
 
 // Returns the first of the conditions `unmet` if no flag of `mask` is to blame.
 pub(crate) const fn first_unmet(mask: u128, unmet: Conditions) -> Option<Condition> {
-    if mask != 0 {
-        None
-    } else if unmet.required_base_prefix {
-        Some(Condition::BasePrefix)
-    } else if unmet.required_base_suffix {
-        Some(Condition::BaseSuffix)
-    } else if unmet.no_negative_mantissa_sign {
-        Some(Condition::NegativeSign)
+    if mask == 0 {
+        unmet.first()
     } else {
         None
-    }
-}
-
-// Returns one condition, and no others.
-const fn alone(condition: Condition) -> Conditions {
-    Conditions {
-        required_base_prefix: matches!(condition, Condition::BasePrefix),
-        required_base_suffix: matches!(condition, Condition::BaseSuffix),
-        no_negative_mantissa_sign: matches!(condition, Condition::NegativeSign),
-        integer_group_size: None,
     }
 }
 
@@ -328,7 +307,7 @@ impl Stop {
     // Returns the flags to blame for a requirement: those that refuse alone, or else those on leading zeros.
     const fn requirements(self) -> u128 {
         let alone = self.alone();
-        if alone == 0 && self.unmet().are_free() {
+        if alone == 0 && self.unmet().is_none() {
             self.zeros()
         } else {
             alone
@@ -337,17 +316,23 @@ impl Stop {
 
     // Returns the conditions to blame for a requirement: those that refuse alone.
     const fn unmet(self) -> Conditions {
-        Conditions {
-            required_base_prefix: self.is_unmet(Condition::BasePrefix),
-            required_base_suffix: self.is_unmet(Condition::BaseSuffix),
-            no_negative_mantissa_sign: self.is_unmet(Condition::NegativeSign),
-            integer_group_size: None,
+        let mut unmet = Conditions::NONE;
+        let mut index = 0;
+        while index < CONDITIONS.len() {
+            let condition = CONDITIONS[index];
+            if self.is_unmet(condition) {
+                unmet = unmet.with(condition, self.grammar.conditions.number(condition));
+            }
+            index += 1;
         }
+        unmet
     }
 
     // Returns whether the syntax has a condition, and it alone refuses what cannot follow.
     const fn is_unmet(self, condition: Condition) -> bool {
-        self.grammar.conditions.has(condition) && self.is_free() && !self.allows(self.bare(), alone(condition))
+        self.grammar.conditions.has(condition)
+            && self.is_free()
+            && !self.allows(self.bare(), self.grammar.conditions.only(condition))
     }
 
     // Returns the flags each of which would allow a separator that is not allowed.

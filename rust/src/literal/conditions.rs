@@ -2,116 +2,141 @@
 
 use core::fmt;
 
-use crate::edits::{Edit, EditError, Fault, FlagSetter, Setter};
+use crate::edits::byte_from_number;
+use crate::format::{BASE_PREFIX, BASE_SUFFIX, INTEGER_INTERNAL_DIGIT_SEPARATOR};
 use crate::lawful::Rejected;
-use crate::literal::{Conditions, ConditionsError, Syntax};
+use crate::literal::syntax::CONDITIONS;
+use crate::literal::{Condition, Conditions, ConditionsError, ConditionsErrorKind, Syntax};
 use crate::short_text::ShortText;
 use crate::{Error, FormatError};
 
-impl Conditions {
-    /// The names, in the order in which they are printed.
-    pub(crate) const NAMES: [&str; 4] =
-        ["required_base_prefix", "required_base_suffix", "no_negative_mantissa_sign", Self::GROUP_SIZE];
+/// Makes the setters of conditions, which take a flag or a number, and their names.
+macro_rules! conditions {
+    ($($(#[$about:meta])* $condition:ident: $name:ident($kind:ident);)*) => {
+        impl Condition {
+            /// Returns the name, such as `required_base_prefix`.
+            #[must_use]
+            pub const fn name(self) -> &'static str {
+                match self {
+                    $(Condition::$condition => stringify!($name),)*
+                }
+            }
+        }
 
-    /// What they take, in the same order.
-    pub(crate) const TAKEN: [&str; 4] = {
-        let flag = " takes `true` or `false`";
-        [flag, flag, flag, " takes a number from 2 to 8, or `none`"]
+        impl Conditions {
+            $(conditions!($kind $(#[$about])* $condition $name);)*
+        }
     };
+    (flag $(#[$about:meta])* $condition:ident $name:ident) => {
+        $(#[$about])*
+        #[must_use]
+        pub const fn $name(self, is_set: bool) -> Self {
+            self.with(Condition::$condition, is_set as u8)
+        }
+    };
+    (number $(#[$about:meta])* $condition:ident $name:ident) => {
+        $(#[$about])*
+        #[must_use]
+        pub const fn $name(self, number: Option<u8>) -> Self {
+            self.with(Condition::$condition, if let Some(number) = number { number } else { 0 })
+        }
+    };
+}
 
-    /// The name of the condition that is not a flag.
-    pub(crate) const GROUP_SIZE: &str = "integer_group_size";
-
+conditions! {
     /// Requires the base prefix. If set, a reader of C's hexadecimal integers refuses `10`.
-    #[must_use]
-    pub const fn required_base_prefix(mut self, required: bool) -> Self {
-        self.required_base_prefix = required;
-        self
-    }
-
+    BasePrefix: required_base_prefix(flag);
     /// Requires the base suffix. If set, a reader of NASM's hexadecimal integers refuses `10`.
-    #[must_use]
-    pub const fn required_base_suffix(mut self, required: bool) -> Self {
-        self.required_base_suffix = required;
-        self
-    }
-
+    BaseSuffix: required_base_suffix(flag);
     /// Forbids `-` before the number. If set, a reader refuses `-1`, but not `1e-1`.
-    #[must_use]
-    pub const fn no_negative_mantissa_sign(mut self, forbidden: bool) -> Self {
-        self.no_negative_mantissa_sign = forbidden;
-        self
-    }
-
+    NegativeSign: no_negative_mantissa_sign(flag);
     /// Requires groups of as many integer digits, from 2 to 8, counted from the right, if there are separators. With 3, a
     /// reader accepts `1234` and `1,234`, and refuses `12,34`.
-    #[must_use]
-    pub const fn integer_group_size(mut self, size: Option<u8>) -> Self {
-        self.integer_group_size = size;
-        self
+    IntegerGroupSize: integer_group_size(number);
+}
+
+impl Condition {
+    /// All conditions, in the order in which they are checked and printed.
+    pub const ALL: &'static [Condition] = &CONDITIONS;
+
+    /// Returns whether the condition has a number.
+    const fn has_number(self) -> bool {
+        self.limits().1 > 1
     }
 
-    /// Returns the values in the order of [`NAMES`][Self::NAMES], where 0 stands for no condition.
-    pub(crate) const fn values(self) -> [u8; Self::NAMES.len()] {
-        let [prefix, suffix, sign] =
-            [self.required_base_prefix as u8, self.required_base_suffix as u8, self.no_negative_mantissa_sign as u8];
-        [prefix, suffix, sign, if let Some(size) = self.integer_group_size { size } else { 0 }]
+    /// Returns the sentence that states which values the condition takes.
+    pub(crate) const fn taken(self) -> ShortText {
+        let text = ShortText::of(self.name()).and(" takes ");
+        if !self.has_number() {
+            return text.and("`true` or `false`");
+        }
+        let (least, most) = self.limits();
+        text.and("a number from ").decimal(least as usize).and(" to ").decimal(most as usize).and(", or `none`")
     }
 
-    /// Returns the conditions with another value of one of the [`NAMES`][Self::NAMES].
-    pub(crate) const fn edited(self, index: usize, value: u8) -> Self {
-        match index {
-            0 => self.required_base_prefix(value != 0),
-            1 => self.required_base_suffix(value != 0),
-            2 => self.no_negative_mantissa_sign(value != 0),
-            _ => self.integer_group_size(if value == 0 { None } else { Some(value) }),
+    /// Parses a value that the condition takes as its number.
+    pub(crate) fn parse(self, text: &str) -> Option<u8> {
+        let (least, most) = self.limits();
+        match (self.has_number(), text.trim_ascii()) {
+            (false, "true") => Some(1),
+            (false, "false") | (true, "none") => Some(0),
+            (true, text) => byte_from_number(text).filter(|&it| it == 0 || (least..=most).contains(&it)),
+            _ => None,
         }
     }
 
-    /// Returns an edit with the value that `text` has for one of the [`NAMES`][Self::NAMES].
-    pub(crate) fn parse(index: usize, text: &str) -> Result<Edit, EditError> {
-        if Self::NAMES[index] != Self::GROUP_SIZE {
-            return Setter::Flag(FlagSetter::RequiredIntegerDigits).parse(text);
-        }
-        match Setter::ExponentBase.parse(text)? {
-            edit if matches!(edit.argument_byte(), 0 | 2..=8) => Ok(edit),
-            edit => Err(EditError(Fault::BadValue(edit.setter()))),
-        }
-    }
-
-    /// Returns the index in [`NAMES`][Self::NAMES] and the value of the setting `text`, such as
-    /// `required_base_prefix=true`, if it is one.
-    pub(crate) fn split(text: &str) -> Option<(usize, &str)> {
+    /// Returns the condition of the setting `text`, such as `required_base_prefix=true`, and its value, if it is one.
+    pub(crate) fn split(text: &str) -> Option<(Self, &str)> {
         let (name, value) = text.split_once('=')?;
-        Some((Self::NAMES.iter().position(|it| *it == name)?, value))
+        Some((CONDITIONS.into_iter().find(|it| it.name() == name)?, value))
+    }
+}
+
+impl Conditions {
+    /// Returns each of the conditions, and its number.
+    pub(crate) fn iter(self) -> impl Iterator<Item = (Condition, u8)> + Clone {
+        CONDITIONS.into_iter().map(move |it| (it, self.number(it))).filter(|it| it.1 > 0)
     }
 
     /// Appends the settings of the conditions, with a space before each.
-    pub(crate) fn append_to(self, mut text: ShortText) -> ShortText {
-        for (name, value) in Self::NAMES.iter().zip(self.values()) {
-            text = match (*name, value) {
-                (_, 0) => continue,
-                (Self::GROUP_SIZE, size) => text.and(" ").and(name).and("=").decimal(size.into()),
-                _ => text.and(" ").and(name).and("=true"),
-            };
-        }
-        text
+    pub(crate) fn append_to(self, text: ShortText) -> ShortText {
+        self.iter().fold(text, |text, (condition, number)| {
+            let text = text.and(" ").and(condition.name());
+            if condition.has_number() {
+                text.and("=").decimal(number.into())
+            } else {
+                text.and("=true")
+            }
+        })
     }
 }
 
 impl Syntax {
-    /// Returns the syntax that [`with`][Self::with] returns, for constants.
+    /// Returns the syntax that [`with_conditions`][Self::with_conditions] returns, for constants.
     ///
     /// # Panics
     ///
-    /// Panics with the text of the error of `with`, such as `required_base_prefix is set, and the format has no base
-    /// prefix`.
+    /// Panics with the text of the error of `with_conditions`, such as `required_base_prefix is set, and the format has no
+    /// base prefix`.
     #[must_use]
     #[track_caller]
-    pub const fn with_or_panic(self, conditions: Conditions) -> Syntax {
-        match self.with(conditions) {
+    pub const fn with_conditions_or_panic(self, conditions: Conditions) -> Syntax {
+        match self.with_conditions(conditions) {
             Ok(syntax) => syntax,
             Err(error) => panic!("{}", error.text().as_str()),
+        }
+    }
+}
+
+impl ConditionsErrorKind {
+    /// Returns the code of the error, the field that the format lacks, or that allows what it lacks, and its name.
+    const fn lacking(self) -> (Error, u128, &'static str) {
+        match self {
+            Self::NoBasePrefix => (Error::InvalidBasePrefix, BASE_PREFIX, "base prefix"),
+            Self::NoBaseSuffix => (Error::InvalidBaseSuffix, BASE_SUFFIX, "base suffix"),
+            Self::Number | Self::NoInternalSeparator => {
+                (Error::InvalidDigitSeparator, INTEGER_INTERNAL_DIGIT_SEPARATOR, "integer_internal_digit_separator")
+            }
         }
     }
 }
@@ -120,23 +145,19 @@ impl ConditionsError {
     /// Returns the text that `Display` prints.
     #[must_use]
     pub const fn text(&self) -> ShortText {
-        ShortText::of(match self {
-            ConditionsError::NoBasePrefix => "required_base_prefix is set, and the format has no base prefix",
-            ConditionsError::NoBaseSuffix => "required_base_suffix is set, and the format has no base suffix",
-            ConditionsError::GroupSize => "integer_group_size is not from 2 to 8",
-            ConditionsError::NoInternalSeparator => {
-                "integer_group_size is set, and the format has no integer_internal_digit_separator"
+        let text = ShortText::of(self.condition.name());
+        match (self.kind, self.condition.limits()) {
+            (ConditionsErrorKind::Number, (least, most)) => {
+                text.and(" is not from ").decimal(least as usize).and(" to ").decimal(most as usize)
             }
-        })
+            (kind, _) => text.and(" is set, and the format has no ").and(kind.lacking().2),
+        }
     }
 
-    /// Returns the index of the condition in [`Conditions::NAMES`].
-    pub(crate) const fn condition(self) -> usize {
-        match self {
-            ConditionsError::NoBasePrefix => 0,
-            ConditionsError::NoBaseSuffix => 1,
-            ConditionsError::GroupSize | ConditionsError::NoInternalSeparator => 3,
-        }
+    /// Returns the mask of the field that the format lacks, or that allows what it lacks.
+    #[must_use]
+    pub const fn mask(&self) -> u128 {
+        self.kind.lacking().1
     }
 }
 
@@ -152,11 +173,6 @@ impl fmt::Display for ConditionsError {
 /// Makes the error of settings, or of a text, whose conditions contradict the format.
 impl From<ConditionsError> for FormatError {
     fn from(error: ConditionsError) -> FormatError {
-        let code = match error {
-            ConditionsError::NoBasePrefix => Error::InvalidBasePrefix,
-            ConditionsError::NoBaseSuffix => Error::InvalidBaseSuffix,
-            ConditionsError::GroupSize | ConditionsError::NoInternalSeparator => Error::InvalidDigitSeparator,
-        };
-        FormatError::new(code, Rejected::Conditions(error))
+        FormatError::new(error.kind.lacking().0, Rejected::Conditions(error))
     }
 }

@@ -8,7 +8,7 @@ use crate::literal::steps::{
     after_point, allows_minus, allows_plus, awaits_integer, digit_value, digits_of, has_digit, is_complete,
     is_exponent_character, is_point, is_separator, is_signed, may_follow, radix_of, takes, Stage, Summary, START,
 };
-use crate::literal::syntax::Grammar;
+use crate::literal::syntax::{Condition, Grammar};
 use crate::word::{Part, Role};
 
 // What has been read of a text: the number of bytes, and their summary.
@@ -218,7 +218,7 @@ pub(crate) const fn plain(grammar: Grammar, text: &[u8], fronts: bool) -> Counte
 const fn open(grammar: Grammar, text: &[u8], sign: usize) -> Option<Opening> {
     if reads_prefix(grammar, text, sign) {
         Some(Opening { sign, prefix: 1, size: sign + 2, stage: Stage::Prefixed })
-    } else if grammar.conditions.required_base_prefix {
+    } else if grammar.conditions.has(Condition::BasePrefix) {
         None
     } else {
         Some(Opening { sign, prefix: 0, size: sign, stage: behind_sign(Part::Integer, sign) })

@@ -7,7 +7,7 @@ use crate::literal::groups::{is_grouped, wrong_group};
 use crate::literal::plain::{plain, At, Counted, BEGIN};
 use crate::literal::span::marks;
 use crate::literal::steps::{is_complete, part_of, piece_number, piece_of, role_at, step, Summary};
-use crate::literal::syntax::Syntax;
+use crate::literal::syntax::{Condition, Syntax};
 
 /// The parts of a literal, in the order of the text. An absent part has no bytes.
 #[derive(Debug, Clone, Copy, PartialEq, Eq, Hash)]
@@ -44,7 +44,7 @@ impl Syntax {
     #[inline(always)]
     const fn has_groups(&self, text: &[u8], counts: [usize; 9]) -> bool {
         let grammar = self.grammar();
-        match grammar.conditions.integer_group_size {
+        match grammar.conditions.get(Condition::IntegerGroupSize) {
             None => true,
             Some(size) => {
                 let parts = cut(text, counts);
@@ -69,7 +69,7 @@ impl Syntax {
     #[inline(always)]
     pub(crate) const fn grouped(&self, text: &[u8], found: Found) -> Result<(), ReadError> {
         let front = front_of(text, found.size);
-        match self.grammar().conditions.integer_group_size {
+        match self.grammar().conditions.get(Condition::IntegerGroupSize) {
             Some(size) if !self.has_groups(front, found.counts) => self.ungrouped(front, size),
             _ => Ok(()),
         }
@@ -178,7 +178,7 @@ impl Syntax {
     // time than to copy an error.
     #[inline(always)]
     pub(crate) const fn refuse<T>(&self, text: &[u8], stop: At) -> Result<T, ReadError> {
-        match self.grammar().conditions.integer_group_size {
+        match self.grammar().conditions.get(Condition::IntegerGroupSize) {
             Some(size) if stop.size == text.len() && self.is_complete(stop.read) => self.ungrouped(text, size),
             _ => self.refuse_byte(text, stop),
         }

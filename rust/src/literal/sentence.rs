@@ -74,10 +74,6 @@ impl ReadError {
         if let Some(condition) = first_unmet(mask, conditions) {
             return self.unmet(condition);
         }
-        if let Some(size) = conditions.integer_group_size {
-            let text = ShortText::of("expected groups of ").decimal(size as usize);
-            return text.and(" digits, which integer_group_size requires");
-        }
         match kind {
             ReadErrorKind::Requirement | ReadErrorKind::Case => requirement(mask),
             ReadErrorKind::Separator(part, place) => {
@@ -101,18 +97,20 @@ impl Refusal {
 impl ReadError {
     /// Returns the sentence for a condition.
     const fn unmet(&self, condition: Condition) -> ShortText {
-        let view = self.spot.grammar.view();
-        match condition {
+        let (grammar, number) = (self.spot.grammar, self.spot.grammar.conditions.number(condition));
+        let (text, verb) = match condition {
             Condition::BasePrefix => {
-                let text = shown(ShortText::of("expected the prefix 0"), base_prefix(view.word()));
-                text.and(", which required_base_prefix requires")
+                (shown(ShortText::of("expected the prefix 0"), base_prefix(grammar.word)), " requires")
             }
             Condition::BaseSuffix => {
-                let text = shown(ShortText::of("expected the suffix "), base_suffix(view.word()));
-                text.and(", which required_base_suffix requires")
+                (shown(ShortText::of("expected the suffix "), base_suffix(grammar.word)), " requires")
             }
-            Condition::NegativeSign => ShortText::of("unexpected minus sign, which no_negative_mantissa_sign forbids"),
-        }
+            Condition::NegativeSign => (ShortText::of("unexpected minus sign"), " forbids"),
+            Condition::IntegerGroupSize => {
+                (ShortText::of("expected groups of ").decimal(number as usize).and(" digits"), " requires")
+            }
+        };
+        text.and(", which ").and(condition.name()).and(verb)
     }
 }
 

@@ -120,8 +120,8 @@ const fn requirement_span(grammar: Grammar, marks: Marks, next: Option<u8>, numb
 const fn condition_span(marks: Marks, next: Option<u8>, condition: Condition) -> (usize, usize) {
     match condition {
         Condition::BasePrefix => (marks.first, marks.first),
-        Condition::BaseSuffix => (marks.size, marks.size),
         Condition::NegativeSign => (marks.size, wrong_end(marks, next)),
+        _ => (marks.size, marks.size),
     }
 }
 

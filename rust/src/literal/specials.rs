@@ -3,7 +3,7 @@
 //! Special values: the texts that are NaN or infinity.
 
 use crate::format_flags::digit_separator;
-use crate::literal::syntax::{Grammar, Syntax};
+use crate::literal::syntax::{Condition, Grammar, Syntax};
 
 /// The spellings of special values. A spelling that is absent or empty matches no text.
 #[derive(Debug, Clone, Copy, PartialEq, Eq, Hash, Default)]
@@ -104,7 +104,7 @@ const fn allows(grammar: Grammar, sign: Option<Sign>) -> bool {
         && match sign {
             None => !format.required_mantissa_sign(),
             Some(Sign::Plus) => !format.no_positive_mantissa_sign(),
-            Some(Sign::Minus) => !grammar.conditions.no_negative_mantissa_sign,
+            Some(Sign::Minus) => !grammar.conditions.has(Condition::NegativeSign),
         }
 }
 

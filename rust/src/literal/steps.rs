@@ -3,7 +3,7 @@
 //! The steps of reading: what has been read of a number, changed by one byte.
 
 use crate::format_flags::digit_separator;
-use crate::literal::syntax::{Conditions, Grammar};
+use crate::literal::syntax::{Condition, Conditions, Grammar};
 use crate::word::{Part, Role};
 
 // A part of a literal.
@@ -114,7 +114,7 @@ pub(crate) const fn allows_plus(grammar: Grammar, part: Part) -> bool {
 // Returns whether a minus sign may be before the digits of `part`.
 #[inline(always)]
 pub(crate) const fn allows_minus(grammar: Grammar, part: Part) -> bool {
-    matches!(part, Part::Exponent) || !grammar.conditions.no_negative_mantissa_sign
+    matches!(part, Part::Exponent) || !grammar.conditions.has(Condition::NegativeSign)
 }
 
 // Returns whether `byte` is the decimal point.
@@ -286,7 +286,7 @@ const fn is_negative(part: Part, plus: bool, role: Role) -> bool {
 // Returns whether the conditions let a byte with the role `role` follow.
 #[inline(always)]
 pub(crate) const fn admits(conditions: Conditions, read: Summary, plus: bool, zero: bool, role: Role) -> bool {
-    if conditions.are_free() {
+    if conditions.is_none() {
         return true;
     }
     some_admit(conditions, read, plus, zero, role)
@@ -295,15 +295,16 @@ pub(crate) const fn admits(conditions: Conditions, read: Summary, plus: bool, ze
 // Returns the same. It is not inlined, so that steps without conditions take no longer.
 #[cold]
 const fn some_admit(conditions: Conditions, read: Summary, plus: bool, zero: bool, role: Role) -> bool {
-    let needs_prefix = conditions.required_base_prefix && lacks_prefix(read.stage);
+    let needs_prefix = conditions.has(Condition::BasePrefix) && lacks_prefix(read.stage);
     (!needs_prefix || leads_to_prefix(read.stage, zero, role))
-        && !(conditions.no_negative_mantissa_sign && is_negative(part_of(read.stage), plus, role))
+        && !(conditions.has(Condition::NegativeSign) && is_negative(part_of(read.stage), plus, role))
 }
 
 // Returns whether the conditions let a literal end.
 #[inline(always)]
 const fn finishes(conditions: Conditions, read: Summary) -> bool {
-    !(conditions.required_base_prefix && lacks_prefix(read.stage)) && (!conditions.required_base_suffix || read.ended)
+    !(conditions.has(Condition::BasePrefix) && lacks_prefix(read.stage))
+        && (!conditions.has(Condition::BaseSuffix) || read.ended)
 }
 
 // Returns whether some literal goes on with a byte that has the role `role`, and is a plus sign if `plus` is true.

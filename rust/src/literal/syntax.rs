@@ -15,71 +15,122 @@ pub struct Options {
     pub point: u8,
 }
 
-/// What a syntax requires of its literals beside what the flags of its format require.
-#[derive(Debug, Clone, Copy, PartialEq, Eq, PartialOrd, Ord, Hash, Default)]
+/// What a syntax can require of its literals beside what the flags of its format require. A condition has a number if
+/// [`limits`][Self::limits] has two.
+#[derive(Debug, Clone, Copy, PartialEq, Eq, PartialOrd, Ord, Hash)]
 #[non_exhaustive]
-pub struct Conditions {
+pub enum Condition {
     /// A literal has the base prefix.
-    pub required_base_prefix: bool,
+    BasePrefix,
     /// A literal has the base suffix.
-    pub required_base_suffix: bool,
+    BaseSuffix,
     /// The sign of a literal is not `-`. The sign of its exponent may be.
-    pub no_negative_mantissa_sign: bool,
-    /// If there is a size, from 2 to 8, the integer of a literal has no digit separators, or has them between groups of as
-    /// many digits, counted from the right.
-    pub integer_group_size: Option<u8>,
+    NegativeSign,
+    /// The integer of a literal has no digit separators, or has them between groups of as many digits as the number says,
+    /// counted from the right.
+    IntegerGroupSize,
+}
+
+/// All conditions, in the order in which they are checked and printed.
+pub const CONDITIONS: [Condition; 4] =
+    [Condition::BasePrefix, Condition::BaseSuffix, Condition::NegativeSign, Condition::IntegerGroupSize];
+
+impl Condition {
+    /// Returns the least and the greatest number that the condition can have. Both are 1 if it has no number.
+    #[must_use]
+    pub const fn limits(self) -> (u8, u8) {
+        match self {
+            Condition::IntegerGroupSize => (2, 8),
+            _ => (1, 1),
+        }
+    }
+}
+
+/// The conditions of a syntax: for each [`Condition`], its number, which is 1 if it has none, or 0 if the syntax does not have
+/// the condition.
+#[derive(Debug, Clone, Copy, PartialEq, Eq, PartialOrd, Ord, Hash, Default)]
+pub struct Conditions {
+    numbers: [u8; CONDITIONS.len()],
 }
 
 impl Conditions {
     /// No conditions.
-    pub const NONE: Conditions = Conditions {
-        required_base_prefix: false,
-        required_base_suffix: false,
-        no_negative_mantissa_sign: false,
-        integer_group_size: None,
-    };
+    pub const NONE: Conditions = Conditions { numbers: [0; CONDITIONS.len()] };
 
-    // Returns whether `condition` is one of them.
-    pub(crate) const fn has(self, condition: Condition) -> bool {
-        match condition {
-            Condition::BasePrefix => self.required_base_prefix,
-            Condition::BaseSuffix => self.required_base_suffix,
-            Condition::NegativeSign => self.no_negative_mantissa_sign,
-        }
+    /// Returns the number of `condition`, or 0 if it is not one of them.
+    #[must_use]
+    pub const fn number(self, condition: Condition) -> u8 {
+        self.numbers[condition as usize]
+    }
+
+    /// Returns whether `condition` is one of them.
+    #[must_use]
+    pub const fn has(self, condition: Condition) -> bool {
+        self.number(condition) != 0
+    }
+
+    /// Returns the same conditions with another number of `condition`, or without it if `number` is 0.
+    #[must_use]
+    pub const fn with(self, condition: Condition, number: u8) -> Conditions {
+        let mut numbers = self.numbers;
+        numbers[condition as usize] = number;
+        Conditions { numbers }
     }
 
     /// Returns whether there are no conditions.
     #[must_use]
     pub const fn is_none(self) -> bool {
-        self.are_free() && matches!(self.integer_group_size, None)
+        matches!(self.first(), None)
     }
 
-    // Returns whether there are no conditions on what follows what has been read.
-    pub(crate) const fn are_free(self) -> bool {
-        !(self.required_base_prefix | self.required_base_suffix | self.no_negative_mantissa_sign)
+    // Returns the first of them.
+    pub(crate) const fn first(self) -> Option<Condition> {
+        let mut index = 0;
+        while index < CONDITIONS.len() {
+            if self.has(CONDITIONS[index]) {
+                return Some(CONDITIONS[index]);
+            }
+            index += 1;
+        }
+        None
+    }
+
+    // Returns `condition`, if it is one of them, and no others.
+    pub(crate) const fn only(self, condition: Condition) -> Conditions {
+        Conditions::NONE.with(condition, self.number(condition))
+    }
+
+    // Returns the number of `condition`, or `None` if it is not one of them.
+    pub(crate) const fn get(self, condition: Condition) -> Option<u8> {
+        match self.number(condition) {
+            0 => None,
+            number => Some(number),
+        }
     }
 }
 
-// One of `Conditions`.
-#[derive(Debug, Clone, Copy, PartialEq, Eq, Hash)]
-pub enum Condition {
-    BasePrefix,
-    BaseSuffix,
-    NegativeSign,
-}
-
-/// Why a syntax cannot have [`Conditions`]: the format has no byte that they require, or they require groups that it cannot
-/// have. A lawful format that requires a sign allows `+`, so it can forbid `-`.
+/// Why a syntax cannot have a condition. A lawful format that requires a sign allows `+`, so it can forbid `-`.
 #[derive(Debug, Clone, Copy, PartialEq, Eq, Hash)]
 #[non_exhaustive]
-pub enum ConditionsError {
-    /// The base prefix is required, and the format has none.
+pub struct ConditionsError {
+    /// The condition.
+    pub condition: Condition,
+    /// What is wrong with it.
+    pub kind: ConditionsErrorKind,
+}
+
+/// The kind of a [`ConditionsError`]: the number of the condition is not one that it can have, or the format has not what
+/// the condition needs.
+#[derive(Debug, Clone, Copy, PartialEq, Eq, Hash)]
+#[non_exhaustive]
+pub enum ConditionsErrorKind {
+    /// The number is not within the limits of the condition.
+    Number,
+    /// The format has no base prefix.
     NoBasePrefix,
-    /// The base suffix is required, and the format has none.
+    /// The format has no base suffix.
     NoBaseSuffix,
-    /// The size of groups is not from 2 to 8.
-    GroupSize,
-    /// Groups are required, and no flag allows a separator between digits of the integer.
+    /// No flag allows a separator between digits of the integer.
     NoInternalSeparator,
 }
 
@@ -140,8 +191,8 @@ impl Syntax {
     ///
     /// # Errors
     ///
-    /// If the format contradicts the conditions, returns the first error in the order of [`ConditionsError`].
-    pub const fn with(self, conditions: Conditions) -> Result<Syntax, ConditionsError> {
+    /// If the format contradicts the conditions, returns the error of the first that it contradicts.
+    pub const fn with_conditions(self, conditions: Conditions) -> Result<Syntax, ConditionsError> {
         match contradiction(self.grammar(), conditions) {
             None => Ok(Syntax { format: self.format, options: self.options, conditions }),
             Some(error) => Err(error),
@@ -182,23 +233,44 @@ impl Syntax {
     }
 }
 
-// Returns the first error of `conditions` with the format of `grammar`.
+// Returns the error of the first of `conditions` that the format of `grammar` contradicts.
 const fn contradiction(grammar: Grammar, conditions: Conditions) -> Option<ConditionsError> {
-    if conditions.required_base_prefix && base_prefix(grammar.word) == 0 {
-        Some(ConditionsError::NoBasePrefix)
-    } else if conditions.required_base_suffix && base_suffix(grammar.word) == 0 {
-        Some(ConditionsError::NoBaseSuffix)
+    let mut index = 0;
+    while index < CONDITIONS.len() {
+        let condition = CONDITIONS[index];
+        let error = fault(grammar, condition, conditions.number(condition));
+        if let Some(_) = error {
+            return error;
+        }
+        index += 1;
+    }
+    None
+}
+
+// Returns what is wrong with a condition that has this number, in the format of `grammar`.
+const fn fault(grammar: Grammar, condition: Condition, number: u8) -> Option<ConditionsError> {
+    let (least, most) = condition.limits();
+    let kind = if number == 0 {
+        None
+    } else if number < least || most < number {
+        Some(ConditionsErrorKind::Number)
     } else {
-        groups_error(grammar, conditions.integer_group_size)
+        missing(grammar, condition)
+    };
+    match kind {
+        None => None,
+        Some(kind) => Some(ConditionsError { condition, kind }),
     }
 }
 
-// Returns the error of a size of groups with the format of `grammar`.
-const fn groups_error(grammar: Grammar, size: Option<u8>) -> Option<ConditionsError> {
-    match size {
-        None => None,
-        Some(size) if size < 2 || size > 8 => Some(ConditionsError::GroupSize),
-        Some(_) if grammar.view().integer_internal_digit_separator() => None,
-        Some(_) => Some(ConditionsError::NoInternalSeparator),
+// Returns what a condition needs and the format of `grammar` has not.
+const fn missing(grammar: Grammar, condition: Condition) -> Option<ConditionsErrorKind> {
+    match condition {
+        Condition::BasePrefix if base_prefix(grammar.word) == 0 => Some(ConditionsErrorKind::NoBasePrefix),
+        Condition::BaseSuffix if base_suffix(grammar.word) == 0 => Some(ConditionsErrorKind::NoBaseSuffix),
+        Condition::IntegerGroupSize if !grammar.view().integer_internal_digit_separator() => {
+            Some(ConditionsErrorKind::NoInternalSeparator)
+        }
+        _ => None,
     }
 }

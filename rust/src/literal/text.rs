@@ -1,10 +1,10 @@
 //! Syntaxes as constants, and their text.
 
 use crate::literal::syntax::Options;
-use crate::literal::{Conditions, Syntax};
+use crate::literal::{Condition, Conditions, Syntax};
 use crate::{edits::Setter, lawful::Rejected, short_text::ShortText, word_text::word_text};
 use crate::{Error, Format, FormatError};
-use core::{fmt, mem, str::FromStr};
+use core::{fmt, str::FromStr};
 
 impl Syntax {
     /// Returns the syntax of a word, of an exponent character and a decimal point, and of conditions, lawful or not, in
@@ -56,22 +56,22 @@ impl FromStr for Syntax {
     type Err = FormatError;
 
     fn from_str(text: &str) -> Result<Self, FormatError> {
-        let (mut front, mut conditions, mut is_set) = (text, Ok(Conditions::NONE), [false; Conditions::NAMES.len()]);
+        let (mut front, mut conditions, mut set) = (text, Ok(Conditions::NONE), Conditions::NONE);
         while let Some((rest, setting)) = front.rsplit_once(' ') {
-            let Some((index, value)) = Conditions::split(setting) else { break };
-            let refuse = |fault| {
-                let rejected = Rejected::Setting(Conditions::NAMES[index], fault);
-                Err(FormatError::new(Error::InvalidDigit(rest.len() + 1), rejected))
+            let Some((condition, value)) = Condition::split(setting) else { break };
+            let is_twice = set.has(condition);
+            conditions = match condition.parse(value).filter(|_| !is_twice && value.trim_ascii() == value) {
+                Some(number) => conditions.map(|it| it.with(condition, number)),
+                None => {
+                    let rejected = Rejected::Setting(condition, is_twice);
+                    Err(FormatError::new(Error::InvalidDigit(rest.len() + 1), rejected))
+                }
             };
-            conditions = match Conditions::parse(index, value) {
-                _ if mem::replace(&mut is_set[index], true) => refuse(" is set twice"),
-                Ok(edit) if value.trim_ascii() == value => conditions.map(|it| it.edited(index, edit.argument_byte())),
-                _ => refuse(Conditions::TAKEN[index]),
-            };
+            set = set.with(condition, 1);
             front = rest;
         }
         let syntax = unconditional(front)?;
-        Ok(syntax.with(conditions?)?)
+        Ok(syntax.with_conditions(conditions?)?)
     }
 }
 

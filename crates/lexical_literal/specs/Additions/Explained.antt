@@ -1,5 +1,6 @@
 -- What an error answers, computed from where reading stopped.
-use Rattle.std.specs.Prelude.{ℕ, ◌+◌, ◌==◌, ◌&&◌, ◌||◌, not, nat_lt, if◌then◌else◌, Bool, Option, Some, None, List, get_or}
+use Rattle.std.specs.Prelude.{ℕ, ◌+◌, ◌==◌, ◌&&◌, not, nat_lt, if◌then◌else◌, Bool, Option, Some, None, List, get_or}
+use Rattle.std.specs.List.{list_any}
 use Rattle.lexical_util.specs.declared.error.Error.TheVariants as errors
 use Rattle.lexical_util.specs.Layout.{Flag}
 use Rattle.lexical_util.specs.Record.{word_of}
@@ -8,14 +9,13 @@ use Rattle.lexical_literal.specs.Additions.Causes.{is_at_gap, lets, place_of}
 use Rattle.lexical_literal.specs.Additions.Summary.{part_of, role_at}
 use Rattle.lexical_literal.specs.Cause.{Explained, adding, bare, binds, case_set, error_of, first_unmet, is_one_of}
 use Rattle.lexical_literal.specs.Cause.{leading_zero_flags, lowest, number_separator_flags, requiring, span_of}
-use Rattle.lexical_literal.specs.Notation.{Notation, no_conditions, notation_of}
+use Rattle.lexical_literal.specs.Notation.{all_conditions, Notation, is_same, kept, notation_of, number_of}
 use Rattle.lexical_literal.specs.declared.cause.Blame.{Blame}
 use Rattle.lexical_literal.specs.declared.cause.ReadErrorKind.TheVariants as causes
 use Rattle.lexical_literal.specs.declared.cause.Refusal.{Refusal}
 use Rattle.lexical_literal.specs.declared.cause.Spot.{Spot}
 use Rattle.lexical_literal.specs.declared.syntax.Condition.{Condition}
 use Rattle.lexical_literal.specs.declared.syntax.Condition.TheVariants as conditions
-use Rattle.lexical_literal.specs.declared.syntax.Conditions.{Conditions}
 use Rattle.lexical_literal.specs.declared.steps.Summary.{Summary}
 
 -- `mask_of flag` is the mask of the flags for which `flag` is true.
@@ -30,22 +30,13 @@ alone m s next f = binds m f && not (lets (adding f (bare m)) s next)
 abbrev pub unmet : Notation → Summary → Option ℕ → Condition → Bool
 unmet m s next c = m.condition c && (lets (bare m) s next && not (lets (requiring c (bare m)) s next))
 
--- `conditions_of C` has the conditions for which `C` is true.
-abbrev pub conditions_of : (Condition → Bool) → Conditions
-conditions_of C = record {
-  required_base_prefix = C conditions.BasePrefix;
-  required_base_suffix = C conditions.BaseSuffix;
-  no_negative_mantissa_sign = C conditions.NegativeSign;
-  integer_group_size = None;
-}
-
 -- `zeros m f` is true if the flag `f` is on leading zeros, and requires something.
 abbrev pub zeros : Notation → Flag → Bool
 zeros m f = binds m f && is_one_of leading_zero_flags f
 
 -- `some_unmet m s next` is true if some condition alone refuses what cannot follow `s`.
 abbrev pub some_unmet : Notation → Summary → Option ℕ → Bool
-some_unmet m s next = unmet m s next conditions.BasePrefix || (unmet m s next conditions.BaseSuffix || unmet m s next conditions.NegativeSign)
+some_unmet m s next = list_any (unmet m s next) all_conditions
 
 -- `requirements m s next` is the mask of the flags that are to blame for a requirement.
 abbrev pub requirements : Notation → Summary → Option ℕ → ℕ
@@ -83,7 +74,7 @@ ungrouped_of spot = record {
   tail = spot.tail;
   kind = causes.Requirement;
   mask = 0;
-  conditions = record no_conditions { integer_group_size = spot.grammar.conditions.integer_group_size };
+  conditions = kept (is_same conditions.IntegerGroupSize) (number_of spot.grammar.conditions);
   start = spot.marks.first;
   end = spot.marks.run;
   code = errors.InvalidDigit spot.marks.first;
@@ -93,7 +84,7 @@ ungrouped_of spot = record {
 abbrev pub refusal_of : Notation → Spot → Refusal
 refusal_of m spot =
     let b = blame m spot.read spot.byte in
-    let unmet = conditions_of (unmet m spot.read spot.byte) in
+    let unmet = kept (unmet m spot.read spot.byte) m.number in
     let f = lowest b.mask in
     let c = first_unmet b.mask unmet in
     let span = span_of m spot.marks spot.byte b.kind f c in record {

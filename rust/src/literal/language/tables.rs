@@ -29,12 +29,12 @@ const fn numbers(exponent: u8, point: u8, builder: NumberFormatBuilder) -> Synta
 
 /// Returns the same syntax without the sign `-`: rejects `-1`.
 const fn unsigned(syntax: Syntax) -> Syntax {
-    syntax.with_or_panic(syntax.conditions().no_negative_mantissa_sign(true))
+    syntax.with_conditions_or_panic(syntax.conditions().no_negative_mantissa_sign(true))
 }
 
 /// Returns the same syntax with groups of three digits: `1,234` is accepted, and `12,34` rejected.
 const fn grouped(syntax: Syntax) -> Syntax {
-    syntax.with_or_panic(syntax.conditions().integer_group_size(Some(3)))
+    syntax.with_conditions_or_panic(syntax.conditions().integer_group_size(Some(3)))
 }
 
 /// Returns the syntax of decimal floats and integers: `10` and `1.5e3`.
@@ -50,7 +50,7 @@ const fn integers(radix: u8, builder: NumberFormatBuilder) -> Syntax {
 
 /// Returns the same syntax with its prefix required: `0x1F` is accepted, and `1F` rejected.
 const fn required_prefix(syntax: Syntax) -> Syntax {
-    syntax.with_or_panic(syntax.conditions().required_base_prefix(true))
+    syntax.with_conditions_or_panic(syntax.conditions().required_base_prefix(true))
 }
 
 /// Returns the syntax of integers of a radix with a prefix, which is required.
@@ -61,7 +61,7 @@ const fn prefixed(prefix: u8, radix: u8, builder: NumberFormatBuilder) -> Syntax
 /// Returns the syntax of integers of a radix with a suffix, which is required: `1Fh` is accepted, and `1F` rejected.
 const fn suffixed(suffix: u8, radix: u8, builder: NumberFormatBuilder) -> Syntax {
     let syntax = integers(radix, builder.base_suffix(NonZeroU8::new(suffix)));
-    syntax.with_or_panic(syntax.conditions().required_base_suffix(true))
+    syntax.with_conditions_or_panic(syntax.conditions().required_base_suffix(true))
 }
 
 /// Returns the syntax of floats, and of integers if no exponent is required, of a radix with a prefix, which is required.
@@ -74,7 +74,7 @@ const fn binary_floats(prefix: u8, radix: u8, builder: NumberFormatBuilder) -> S
 
 /// Returns the same syntax with the sign `-`, which `unsigned` forbids: accepts `-1`.
 const fn signed(syntax: Syntax) -> Syntax {
-    syntax.with_or_panic(syntax.conditions().no_negative_mantissa_sign(false))
+    syntax.with_conditions_or_panic(syntax.conditions().no_negative_mantissa_sign(false))
 }
 
 /// Digits of Ruby, which are separated by one `_`, after a sign.

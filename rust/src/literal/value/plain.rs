@@ -3,7 +3,7 @@
 //! Numbers without separators, prefix and suffix, which take less time.
 
 use crate::literal::read::Parts;
-use crate::literal::syntax::{Conditions, Syntax};
+use crate::literal::syntax::{Condition, Conditions, Syntax};
 use crate::literal::value::integer::is_minus;
 use crate::number::integer::Integer;
 use crate::number::numeral::Numeral;
@@ -43,10 +43,10 @@ pub(crate) fn plain_integer<T: Integer>(syntax: Syntax, text: &[u8]) -> Option<T
 // Returns whether literals without a prefix, a suffix and separators, with the sign of `text`, are as `conditions` require.
 #[inline(always)]
 pub(crate) const fn allow_plain(conditions: Conditions, text: &[u8]) -> bool {
-    !conditions.required_base_prefix
-        && !conditions.required_base_suffix
-        && matches!(conditions.integer_group_size, None)
-        && !(conditions.no_negative_mantissa_sign && is_minus(text))
+    !conditions.has(Condition::BasePrefix)
+        && !conditions.has(Condition::BaseSuffix)
+        && !conditions.has(Condition::IntegerGroupSize)
+        && !(conditions.has(Condition::NegativeSign) && is_minus(text))
 }
 
 // Returns whether the parts have the digits that they need, and no leading zero.

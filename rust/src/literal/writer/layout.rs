@@ -2,7 +2,7 @@
 
 //! Numbers are laid out as literals.
 
-use crate::literal::syntax::{Conditions, Options, Syntax};
+use crate::literal::syntax::{Condition, Conditions, Options, Syntax};
 use crate::literal::writer::digits::{only_if, put_if_any, without_zeros};
 use crate::literal::writer::run::{Run, Source};
 use crate::literal::writer::sink::{Sink, Window};
@@ -168,7 +168,7 @@ impl<'a> Amount<'a> {
         let point = self.fraction.is_some() | (exponent & format.no_exponent_without_fraction());
         Ok(Layout {
             sign: sign_of(self.negative, format.required_mantissa_sign()),
-            prefix: base_byte(style.prefix | conditions.required_base_prefix, base_prefix(format.word())),
+            prefix: base_byte(style.prefix | conditions.has(Condition::BasePrefix), base_prefix(format.word())),
             integer: Run {
                 source: lean(self.integer, radix),
                 radix,
@@ -181,7 +181,7 @@ impl<'a> Amount<'a> {
             exponent_character: only_if(exponent, options.exponent),
             exponent_sign: sign_of(power.negative, exponent & format.required_exponent_sign()),
             exponent: plain_run(lean(power.source, exponent_radix), exponent_radix, exponent),
-            suffix: base_byte(style.suffix | conditions.required_base_suffix, base_suffix(format.word())),
+            suffix: base_byte(style.suffix | conditions.has(Condition::BaseSuffix), base_suffix(format.word())),
         })
     }
 
@@ -189,15 +189,11 @@ impl<'a> Amount<'a> {
     fn refusal(&self, syntax: &Syntax) -> Option<WriteError> {
         let integers = syntax.options().is_none();
         let no_exponent = integers | syntax.format().view().no_exponent_notation();
-        if self.negative & syntax.conditions().no_negative_mantissa_sign {
-            Some(WriteError::Negative)
-        } else if integers & self.fraction.is_some() {
-            Some(WriteError::Fraction)
-        } else if no_exponent & self.exponent.is_some() {
-            Some(WriteError::Exponent)
-        } else {
-            None
-        }
+        first_error(
+            self.negative & syntax.conditions().has(Condition::NegativeSign),
+            integers & self.fraction.is_some(),
+            no_exponent & self.exponent.is_some(),
+        )
     }
 
     // Returns whether a 0 stands for absent integer digits.
@@ -220,14 +216,27 @@ pub(crate) fn needs_exponent(syntax: &Syntax) -> bool {
     syntax.format().view().required_exponent_notation() && syntax.options().is_some()
 }
 
+// Returns the error of a sign, a fraction or an exponent that is refused, the first if several are.
+const fn first_error(sign: bool, fraction: bool, exponent: bool) -> Option<WriteError> {
+    if sign {
+        Some(WriteError::Negative)
+    } else if fraction {
+        Some(WriteError::Fraction)
+    } else if exponent {
+        Some(WriteError::Exponent)
+    } else {
+        None
+    }
+}
+
 // Returns the number of digits of a group, or 0 if there are no groups.
 const fn group_of(format: FormatView, conditions: Conditions, style: Style) -> usize {
     if !format.integer_internal_digit_separator() || digit_separator(format.word()) == 0 {
         return 0;
     }
-    match conditions.integer_group_size {
+    match conditions.number(Condition::IntegerGroupSize) {
         _ if style.group == 0 => 0,
-        Some(size) => size as usize,
-        None => style.group,
+        0 => style.group,
+        size => size as usize,
     }
 }

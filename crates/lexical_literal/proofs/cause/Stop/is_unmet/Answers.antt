@@ -2,7 +2,10 @@ use Rattle.std.proofs.Common.{◌≡◌, Bool, true, false, not, ◌&&◌, ◌||
 use Rattle.std.proofs.lemmas.Bool.{false≢true}
 use Rattle.lexical_literal.specs.Additions.Causes.{lets}
 use Rattle.lexical_literal.specs.Cause.{bare, with_rules}
-use Rattle.lexical_literal.specs.Notation.{notation_of}
+use Rattle.lexical_literal.specs.Notation.{has, is_same, notation_of}
+use Rattle.lexical_literal.specs.declared.syntax.Condition.{Condition}
+use Rattle.lexical_literal.specs.declared.syntax.Conditions.{Conditions}
+use Rattle.lexical_literal.proofs.NumberLemmas.{has_only}
 use Rattle.lexical_literal.proofs.cause.Stop.is_unmet.Goals as goal
 use Rattle.lexical_literal.proofs.cause.Stop.is_unmet.Goals.{then-has, else-has}
 
@@ -14,11 +17,14 @@ both h f x is free = grind arith
 
 pub returns-then-is_free : goal.returns-then-is_free
 returns-then-is_free c =
+    let conditions = c.args.self.grammar.conditions in
     let m = notation_of c.args.self.grammar in
-    let allowed = c.allows.ensures ∙ (λ j. lets (with_rules m (λ f. c.bare.ensures f j) (λ d. (c.alone.ensures d ∙ or_false _) j))
-    c.args.self.read c.args.self.byte) in
-    ap not allowed ∙ elim c.if-has.branch [
-      | then-has w ↦ both (m.condition c.args.condition) (lets (bare m) c.args.self.read c.args.self.byte) _
-          (sym c.has.ensures ∙ w.if-has.true) (sym w.is_free.ensures ∙ sym w.value-is ∙ c.if-is_free.true)
+    elim c.if-has.branch [
+      | then-has w ↦
+          let set = sym c.has.ensures ∙ w.if-has.true in
+          let only : (d : Condition) → has c.only.result d ≡ (is_same c.args.condition d || false) = λ d. ap (λ (c : Conditions). has c d) c.only.ensures ∙ has_only conditions c.args.condition d set ∙ or_false _ in
+          ap not (c.allows.ensures ∙ (λ j. lets (with_rules m (λ f. c.bare.ensures f j) (λ d. only d j)) c.args.self.read c.args.self.byte))
+          ∙ both (m.condition c.args.condition) (lets (bare m) c.args.self.read c.args.self.byte) _
+          set (sym w.is_free.ensures ∙ sym w.value-is ∙ c.if-is_free.true)
       | else-has w ↦ absurd (false≢true (sym w.if-has.false ∙ sym w.value-is ∙ c.if-is_free.true))
     ]

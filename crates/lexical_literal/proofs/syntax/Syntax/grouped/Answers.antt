@@ -5,7 +5,7 @@ use Rattle.std.specs.Prelude.{⊤}
 use Rattle.lexical_literal.specs.Additions.Longest.{IsCountedFront, IsGrouped}
 use Rattle.lexical_literal.specs.Cause.{Explained}
 use Rattle.lexical_literal.specs.Literal.{Reads}
-use Rattle.lexical_literal.specs.Notation.{notation_of}
+use Rattle.lexical_literal.specs.Notation.{integer_group_size, notation_of}
 use Rattle.lexical_literal.specs.Takes.{IsUngrouped}
 use Rattle.lexical_literal.specs.declared.read.Found.{Found}
 use Rattle.lexical_literal.specs.declared.syntax.Grammar.{Grammar}
@@ -50,6 +50,6 @@ returns-in_default c = elim c.in_default.branch [
       }
   | in_default-via-in_default w ↦
       let l = c.requires.literal in
-      let groups = any_groups c.args.self.now l (sym (ap (λ (g : Grammar). g.conditions.integer_group_size) c.grammar.ensures.value) ∙ w.in_default.is) in
+      let groups = any_groups c.args.self.now l (sym (ap (λ (g : Grammar). integer_group_size g.conditions) c.grammar.ensures.value) ∙ sym c.get.ensures ∙ w.in_default.is) in
       record { grouped = λ _. (l, c.requires.reads, groups, c.requires.counted l c.requires.reads.reads); error = tt }
 ]

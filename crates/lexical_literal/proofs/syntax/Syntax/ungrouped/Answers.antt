@@ -2,8 +2,9 @@
 use Rattle.std.proofs.Common.{ℕ, ◌≡◌, ◌≤◌, ◌+◌, List, false, length, length-append, refl, sym, ap, subst, ◌∙◌, arith}
 use Rattle.lexical_literal.specs.Groups.{IsFirstWrongGroup, is_grouped}
 use Rattle.lexical_literal.specs.Literal.{Literal, Reads, text_of}
-use Rattle.lexical_literal.specs.Notation.{no_conditions, notation_of}
+use Rattle.lexical_literal.specs.Notation.{is_same, kept, notation_of, number_of}
 use Rattle.lexical_literal.specs.Parts.{literal_of}
+use Rattle.lexical_literal.specs.declared.syntax.Condition.TheVariants as conditions
 use Rattle.lexical_literal.specs.declared.syntax.Grammar.{Grammar}
 use Rattle.lexical_literal.proofs.GroupLemmas.{not_grouped}
 use Rattle.lexical_literal.proofs.syntax.Syntax.ungrouped.Goals as goal
@@ -65,8 +66,7 @@ returns _ c =
       tail = refl;
       kind = refl;
       mask = refl;
-      conditions = ap (λ (g : Grammar). record no_conditions { integer_group_size = g.conditions.integer_group_size }) same
-          ∙ ap (λ size. record no_conditions { integer_group_size = size }) required;
+      conditions = ap (λ (g : Grammar). kept (is_same conditions.IntegerGroupSize) (number_of g.conditions)) same;
       error_start = refl;
       error_end = refl;
       code = refl;

@@ -1,0 +1,40 @@
+-- The conditions in their order, and those that are kept of others.
+use Rattle.std.proofs.Common.{ℕ, ◌≡◌, ◌<◌, ◌&&◌, Bool, true, false, if◌then◌else◌, length, get_or, map, refl, sym, ap, ◌∙◌, arith}
+use Rattle.std.proofs.lemmas.Bool.Decides.{nat_tests}
+use Rattle.std.proofs.lemmas.List.{ext_get_or, get_or-map}
+use Rattle.std.proofs.lemmas.List.FromFn.{get_or-range_with_len}
+use Rattle.std.specs.List.{list_any, range_with_len}
+use Rattle.lexical_literal.specs.Notation.{all_conditions, has, is_same, kept, number_of, order}
+use Rattle.lexical_literal.specs.declared.syntax.Condition.{Condition}
+use Rattle.lexical_literal.specs.declared.syntax.Condition.TheVariants as conditions
+use Rattle.lexical_literal.specs.declared.syntax.Conditions.{Conditions}
+
+in_order : map order all_conditions ≡ range_with_len 0 (length all_conditions)
+in_order = refl
+
+-- Each condition is at its place in the list.
+pub at_place : (i : ℕ) → i < length all_conditions → order (get_or all_conditions i conditions.BasePrefix) ≡ i
+at_place i below = sym (get_or-map order all_conditions i conditions.BasePrefix 0 below) ∙ ap (λ is. get_or is i 0) in_order
+    ∙ get_or-range_with_len 0 (length all_conditions) i 0 below ∙ omega arith
+
+-- What is true of no condition of the list is true of none.
+pub none_of_all : (P : Condition → Bool) → list_any P all_conditions ≡ false → (d : Condition) → P d ≡ false
+none_of_all P none d = grind arith
+
+-- Those of some conditions that are kept.
+pub has_kept : (c : Conditions) (x : Condition → Bool) (d : Condition) → has (kept (λ d. has c d && x d) (number_of c)) d ≡ (has c d && x d)
+has_kept c x d = grind (arith, nat_tests)
+
+-- One of them is kept.
+pub has_only : (c : Conditions) (d e : Condition) → has c d ≡ true → has (kept (is_same d) (number_of c)) e ≡ is_same d e
+has_only c d e set = grind (arith, nat_tests)
+
+module _ (C : Condition → Bool) (N : Condition → ℕ) where
+  -- Conditions with the numbers of those that are kept are these.
+  pub is_kept : (c : Conditions) → length c.numbers ≡ length all_conditions → ((d : Condition) → number_of c d ≡ (if C d then N d else 0)) → c ≡ kept C N
+  is_kept c all each = λ j. record { numbers = numbers j } where
+    numbers : c.numbers ≡ map (λ d. if C d then N d else 0) all_conditions
+    numbers = ext_get_or 0 c.numbers (map (λ d. if C d then N d else 0) all_conditions) all (λ i below.
+        let inside : i < length all_conditions = omega (arith, all, below) in
+        let d = get_or all_conditions i conditions.BasePrefix in
+        ap (λ i. get_or c.numbers i 0) (sym (at_place i inside)) ∙ each d ∙ sym (get_or-map (λ d. if C d then N d else 0) all_conditions i conditions.BasePrefix 0 inside))

@@ -1,0 +1,39 @@
+-- Flags that refuse alone, or those on leading zeros.
+use Rattle.std.proofs.Common.{ℕ, ◌≡◌, ◌==◌, ◌&&◌, Bool, true, false, not, if◌then◌else◌, sym, ap, ◌∙◌, arith}
+use Rattle.std.proofs.lemmas.Bool.Decides.{nat_tests}
+use Rattle.std.specs.List.{list_any}
+use Rattle.lexical_literal.specs.Notation.{all_conditions, has, kept, notation_of, number_of}
+use Rattle.lexical_literal.specs.Additions.Causes.{lets}
+use Rattle.lexical_literal.specs.Additions.Explained.{some_unmet, unmet}
+use Rattle.lexical_literal.specs.Cause.{bare, requiring}
+use Rattle.lexical_literal.specs.declared.cause.Stop.{Stop}
+use Rattle.lexical_literal.specs.declared.syntax.Conditions.{Conditions}
+use Rattle.lexical_literal.proofs.NumberLemmas.{has_kept}
+use Rattle.lexical_literal.proofs.cause.Stop.requirements.Goals as goal
+use Rattle.lexical_literal.proofs.cause.Stop.requirements.Goals.{else-alone-eq0-via-then-alone-eq0+else-is_none, else-alone-eq0-via-else-alone-eq0}
+
+-- No condition is to blame if none is kept.
+none_is : (t : Stop) (k : Conditions) (is : Bool) → let m = notation_of t.grammar in k ≡ kept (unmet m t.read t.byte) (number_of t.grammar.conditions)
+    → is ≡ not (list_any (has k) all_conditions) → is ≡ not (some_unmet m t.read t.byte)
+none_is t k is same none =
+    let m = notation_of t.grammar in
+    none ∙ (λ j. not (list_any (λ d. (ap (λ (k : Conditions). has k d) same
+    ∙ has_kept t.grammar.conditions (λ d. lets (bare m) t.read t.byte && not (lets (requiring d (bare m)) t.read t.byte)) d) j) all_conditions))
+
+none_alone : (a z : ℕ) (n : Bool) → a ≡ 0 → n ≡ true → z ≡ (if (a == 0) && n then z else a)
+none_alone a z n zero none = grind (arith, nat_tests)
+
+some_alone : (a z : ℕ) (n : Bool) → ((a == 0) && n) ≡ false → a ≡ (if (a == 0) && n then z else a)
+some_alone a z n some = grind (arith, nat_tests)
+
+pub returns-then-is_none : goal.returns-then-is_none
+returns-then-is_none c = c.zeros.ensures ∙ none_alone _ _ _ (sym c.alone-alone.ensures ∙ c.if-alone-eq0.true)
+    (sym (none_is c.args.self _ _ c.unmet.ensures c.is_none.ensures) ∙ c.if-is_none.true)
+
+pub returns-else-alone-eq0 : goal.returns-else-alone-eq0
+returns-else-alone-eq0 c = c.alone-alone.ensures ∙ some_alone _ _ _ (elim c.else-alone-eq0.branch [
+  | else-alone-eq0-via-then-alone-eq0+else-is_none w ↦
+      let none = sym (none_is c.args.self _ _ w.unmet.ensures w.is_none.ensures) ∙ w.if-is_none.false in grind arith
+  | else-alone-eq0-via-else-alone-eq0 w ↦
+      let some = w.if-alone-eq0.false in let is = c.alone-alone.ensures in grind (arith, nat_tests)
+])

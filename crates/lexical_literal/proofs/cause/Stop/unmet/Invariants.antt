@@ -1,0 +1,15 @@
+use Rattle.std.proofs.Common.{◌≡◌, ◌&&◌, ◌-◌, nat_lt, if◌then◌else◌, length}
+use Rattle.lexical_literal.specs.Notation.{all_conditions, notation_of, number_of, order}
+use Rattle.lexical_literal.specs.Additions.Explained.{unmet}
+use Rattle.lexical_literal.specs.declared.syntax.Condition.{Condition}
+use Rattle.lexical_literal.proofs.cause.Stop.unmet.Given as goal
+
+abbrev pub invariant-loop-index : goal.invariant-loop-index
+invariant-loop-index l = record {
+  all : length l.unmet.numbers ≡ length all_conditions;
+  each : (d : Condition) → number_of l.unmet d
+      ≡ (if nat_lt (order d) l.index && unmet (notation_of l.self.grammar) l.self.read l.self.byte d then number_of l.self.grammar.conditions d else 0);
+}
+
+abbrev pub decreases-loop-index : goal.decreases-loop-index
+decreases-loop-index l = length all_conditions - l.index

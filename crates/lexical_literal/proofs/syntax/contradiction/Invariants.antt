@@ -1,0 +1,12 @@
+use Rattle.std.proofs.Common.{◌≡◌, ◌-◌, drop, length}
+use Rattle.lexical_util.specs.Record.{raw}
+use Rattle.lexical_literal.specs.Notation.{all_conditions}
+use Rattle.lexical_literal.specs.Syntax.{contradiction, first_fault}
+use Rattle.lexical_literal.proofs.syntax.contradiction.Given as goal
+
+abbrev pub invariant-loop-index : goal.invariant-loop-index
+invariant-loop-index l =
+    contradiction (raw l.grammar.word) l.conditions ≡ first_fault (raw l.grammar.word) l.conditions (drop l.index all_conditions)
+
+abbrev pub decreases-loop-index : goal.decreases-loop-index
+decreases-loop-index l = length all_conditions - l.index
