@@ -98,22 +98,23 @@ module _ (m : Notation) (text : List ℕ) where
 
   -- A required base prefix is missing, and its zero may be there.
   pub zero_only : HasRoles m → (sign : ℕ) → IsSign m text parts.Integer 0 sign → sign < length text → get_or text sign 0 ≡ 48
-      → (counted : Counted) → counted.at ≡ at_stage (sign + 1) stages.Bare → counted.complete ≡ false → IsCounted m text counted
-  zero_only h sign is inside naught counted at incomplete =
+      → (counted : Counted) → counted.at ≡ at_stage (sign + 1) stages.Bare → counted.complete ≡ false → counted.exact ≡ false → IsCounted m text counted
+  zero_only h sign is inside naught counted at incomplete inexact =
       let zero_at = at_stage (sign + 1) stages.Bare in
       let counts = cuts_of (sign ∷ 0 ∷ 0 ∷ 0 ∷ 0 ∷ 0 ∷ 0 ∷ 0 ∷ 0 ∷ []) in
       let all = add_more counts pieces.Integer (zero_at.size - sign) in
       stopped_at m text counted all (subst (λ at. IsAt m text at all) (sym at)
-      ((read_zero m text h sign (behind_sign parts.Integer sign) inside naught (first_behind sign is)).reads counts (sign_at sign is))) incomplete
+      ((read_zero m text h sign (behind_sign parts.Integer sign) inside naught (first_behind sign is)).reads counts (sign_at sign is))) incomplete inexact
 
   pub sign_only : (sign : ℕ) → IsSign m text parts.Integer 0 sign
-      → (counted : Counted) → counted.at ≡ at_stage sign (behind_sign parts.Integer sign) → counted.complete ≡ false → IsCounted m text counted
-  sign_only sign is counted at incomplete =
+      → (counted : Counted) → counted.at ≡ at_stage sign (behind_sign parts.Integer sign) → counted.complete ≡ false → counted.exact ≡ false → IsCounted m text counted
+  sign_only sign is counted at incomplete inexact =
       let counts = cuts_of (sign ∷ 0 ∷ 0 ∷ 0 ∷ 0 ∷ 0 ∷ 0 ∷ 0 ∷ 0 ∷ []) in
-      stopped_at m text counted counts (subst (λ at. IsAt m text at counts) (sym at) (sign_at sign is)) incomplete
+      stopped_at m text counted counts (subst (λ at. IsAt m text at counts) (sym at) (sign_at sign is)) incomplete inexact
 
-  pub nothing_at : (counted : Counted) → counted.at ≡ at_stage 0 stages.Start → counted.complete ≡ false → IsCounted m text counted
-  nothing_at counted at incomplete = stopped_at m text counted no_cuts (subst (λ at. IsAt m text at no_cuts) (sym at) begun) incomplete
+  pub nothing_at : (counted : Counted) → counted.at ≡ at_stage 0 stages.Start → counted.complete ≡ false → counted.exact ≡ false → IsCounted m text counted
+  nothing_at counted at incomplete inexact =
+      stopped_at m text counted no_cuts (subst (λ at. IsAt m text at no_cuts) (sym at) begun) incomplete inexact
 
   -- The digits of the integer.
   pub integer_at : (o : Opening) → IsOpened m text o → (size : ℕ) (stage : Stage) → IsReadOn m text (at_stage o.size o.stage) pieces.Integer

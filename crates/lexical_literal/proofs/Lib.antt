@@ -10,6 +10,7 @@ mod LongestLemmas
 mod RoleLemmas
 mod SameLemmas
 mod PartLemmas
+mod PassedLemmas
 mod WriterLemmas
 mod ExampleLemmas
 mod CountLemmas

@@ -260,6 +260,7 @@ module _ (m : Notation) (ready : IsReady m) (text : List ℕ) where
     begun = is.begun;
     literal = λ yes. literal_from m ready.roles (take counted.at.size text) (ap (is_accepted m) is.begun.read ∙ is.complete yes);
     lengths = λ yes. has_counted counted.at.size counted.counts (is.lengths yes);
+    exact = λ yes. let next = is.exact yes in (next.0, stops_at counted.at is.begun (λ _. next.1));
   }
 
   -- A text has one reading.

@@ -264,19 +264,22 @@ module _ (m : Notation) (text : List ℕ) where
           prefix_admitted plus z = grind arith
 
 -- Where reading stops before a literal has been found.
-pub stopped_at : (m : Notation) (text : List ℕ) (counted : Counted) (c : Cuts) → IsAt m text counted.at c → counted.complete ≡ false → IsCounted m text counted
-stopped_at m text counted c is incomplete = record {
+pub stopped_at : (m : Notation) (text : List ℕ) (counted : Counted) (c : Cuts) → IsAt m text counted.at c → counted.complete ≡ false → counted.exact ≡ false
+    → IsCounted m text counted
+stopped_at m text counted c is incomplete inexact = record {
   begun = is.begun;
   complete = λ yes. absurd (false≢true (sym incomplete ∙ yes));
   lengths = λ yes. absurd (false≢true (sym incomplete ∙ yes));
+  exact = λ yes. absurd (false≢true (sym inexact ∙ yes));
 }
 
 -- Where a literal may have been found.
 pub complete_at : (m : Notation) (text : List ℕ) (counted : Counted) → IsAt m text counted.at (cuts_of counted.counts)
-    → counted.complete ≡ is_complete m counted.at.read
+    → counted.complete ≡ is_complete m counted.at.read → counted.exact ≡ false
     → IsCounted m text counted
-complete_at m text counted is complete = record {
+complete_at m text counted is complete inexact = record {
   begun = is.begun;
   complete = λ yes. sym complete ∙ yes;
   lengths = λ yes. is.counted;
+  exact = λ yes. absurd (false≢true (sym inexact ∙ yes));
 }

@@ -30,6 +30,13 @@ is_digit radix b v is = go (nat_lt (byte_value b) radix) is where
   go true is = refl
   go false is = absurd (let apart : None ≡ Some v = is in cc)
 
+-- A byte without a value is no digit.
+pub is_no_digit : (radix b : ℕ) → digit_of b radix ≡ None → nat_lt (byte_value b) radix ≡ false
+is_no_digit radix b is = go (nat_lt (byte_value b) radix) is where
+  go : (test : Bool) → cond test (Some (byte_value b)) None ≡ None → test ≡ false
+  go false is = refl
+  go true is = absurd (let apart : Some (byte_value b) ≡ None = is in cc)
+
 no_value : (radix b : ℕ) → nat_lt (byte_value b) radix ≡ false → digit_of b radix ≡ None
 no_value radix b other = ap (λ test. cond test (Some (byte_value b)) None) other
 

@@ -32,6 +32,8 @@ impl Syntax {
         let counted = self.begin(text, false);
         if self.is_whole(text, counted) {
             Ok(cut(text, counted.counts))
+        } else if counted.exact {
+            self.refuse(text, counted.at)
         } else {
             self.read_slowly(text, counted.at)
         }

@@ -2,17 +2,17 @@
 //!
 //! Reading may stop anywhere here: where it stops, one step decides whether it goes on.
 
-ghost use Rattle.std.specs.Prelude.{◌≡◌, ◌<◌, ◌≤◌, ◌+◌, ◌-◌, ◌*◌, ◌%◌, ◌^◌, ◌∷◌, [], false, true, IfSome, IsTrue, get_or, length};
+ghost use Rattle.std.specs.Prelude.{◌≡◌, ◌<◌, ◌≤◌, ◌+◌, ◌-◌, ◌*◌, ◌%◌, ◌^◌, ◌∷◌, [], false, true, IfSome, IsNone, IsTrue, get_or, length};
 ghost use Rattle.lexical_util.specs.Record.{raw};
 ghost use Rattle.lexical_literal.specs.Notation.{Notation, notation_of, radix_of};
-ghost use Rattle.lexical_literal.specs.Additions.Plain.{HasRoles, IsAt, IsCounted, IsDigitAt, IsFirst, IsOpened, IsReadOn, IsRunOn, IsSeparated, IsSign};
+ghost use Rattle.lexical_literal.specs.Additions.Plain.{HasRoles, IsAt, IsCounted, IsDigitAt, IsFirst, IsOpened, IsOver, IsPassed, IsReadOn, IsRunOn, IsSeparated, IsSign};
 ghost use Rattle.lexical_literal.specs.Additions.Plain.{behind_sign, counts_of, fresh, is_free, at_stage};
 ghost use Rattle.lexical_literal.specs.Additions.Summary.{Cuts, add, after_mark, after_point, cuts_of, has_digit, is_run, is_signed, part_of, piece_of};
 ghost use Rattle.lexical_literal.specs.declared.steps.Piece.TheVariants as pieces;
 
 use crate::steps::{
     START, Stage, Summary, after_point, allows_minus, allows_plus, awaits_integer, digit_value,
-    digits_of, has_digit, is_complete, is_exponent_character, is_point, is_separator, is_signed,
+    digits_of, is_complete, is_exponent_character, is_point, is_run, is_separator, is_signed,
     may_follow, radix_of, takes,
 };
 use crate::syntax::{Condition, Grammar};
@@ -25,12 +25,14 @@ pub(crate) struct At {
     pub(crate) read: Summary,
 }
 
-// What has been read of a text. If `complete` is true, it is a literal, and its parts have the lengths `counts`.
+// What has been read of a text. If `complete` is true, it is a literal, and its parts have the lengths `counts`. If `exact` is
+// true, the byte that follows is refused.
 #[derive(Clone, Copy)]
 pub(crate) struct Counted {
     pub(crate) at: At,
     pub(crate) counts: [usize; 9],
     pub(crate) complete: bool,
+    pub(crate) exact: bool,
 }
 
 // The digits of a part that have been read, and separators: the index behind them, their stage, the number of digits, and
@@ -89,11 +91,13 @@ const fn at_stage(size: usize, stage: Stage) -> At
 const fn stopped(at: At) -> Counted
     ensures at { result.at ≡ at }
     ensures complete { result.complete ≡ false }
+    ensures exact { result.exact ≡ false }
 {
     Counted {
         at,
         counts: [0; 9],
         complete: false,
+        exact: false,
     }
 }
 
@@ -161,7 +165,8 @@ const fn reads_prefix(grammar: Grammar, text: &[u8], size: usize) -> bool
 // Returns the value of the digit of `part` at `index`, if there is one.
 #[inline(always)]
 const fn value_at(grammar: Grammar, text: &[u8], part: Part, index: usize) -> Option<u32>
-    ensures { IfSome result (λ value. IsDigitAt (radix_of (raw grammar.word) part) text.now index value) }
+    ensures some { IfSome result (λ value. IsDigitAt (radix_of (raw grammar.word) part) text.now index value) }
+    ensures none { IsNone result → index < length text.now → (notation_of grammar).digit part (get_or text.now index 0) ≡ false }
 {
     if index < text.len() {
         digit_value(grammar, part, text[index])
@@ -221,6 +226,7 @@ const fn more_digits(grammar: Grammar, text: &[u8], part: Part, begun: Run) -> R
     ensures digits { result.digits ≤ result.size }
     ensures stage { result.stage ≡ begun.stage }
     ensures run { IsRunOn (notation_of grammar) (radix_of (raw grammar.word) part) text.now part begun result }
+    ensures over { IsOver (notation_of grammar) text.now part result }
 {
     let mut run = begun;
     while let Some(value) = value_at(grammar, text, part, run.size) {
@@ -239,6 +245,7 @@ const fn groups(grammar: Grammar, text: &[u8], part: Part, begun: Run) -> Run
     requires part { part_of begun.stage ≡ part }
     ensures stage { result.stage ≡ begun.stage }
     ensures run { IsRunOn (notation_of grammar) (radix_of (raw grammar.word) part) text.now part begun result }
+    ensures over { IsOver (notation_of grammar) text.now part result }
 {
     let mut run = begun;
     loop {
@@ -269,6 +276,8 @@ const fn digits(
     ensures free { is_free (notation_of grammar) result.stage ≡ true }
     ensures run { IsRunOn (notation_of grammar) (radix_of (raw grammar.word) part) text.now part
         (record { size = from; stage = stage; digits = 0; sum = before }) result }
+    ensures over { IsOver (notation_of grammar) text.now part result }
+    ensures part { part_of result.stage ≡ part }
 {
     let none = Run {
         size: from,
@@ -310,6 +319,8 @@ const fn behind_zero(grammar: Grammar, text: &[u8], zero: Run) -> Run
     requires free { is_free (notation_of grammar) Stage.Bare ≡ true }
     ensures free { is_free (notation_of grammar) result.stage ≡ true }
     ensures run { IsRunOn (notation_of grammar) (radix_of (raw grammar.word) Part.Integer) text.now Part.Integer zero result }
+    ensures over { IsOver (notation_of grammar) text.now Part.Integer result }
+    ensures part { part_of result.stage ≡ Part.Integer }
 {
     match value_at(grammar, text, Part::Integer, zero.size) {
         Some(value) if may_follow(grammar, Stage::Bare) => {
@@ -504,6 +515,10 @@ const fn end(
     requires at { IsAt (notation_of grammar) text.now at (cuts_of (counts_of sizes (get_or scale 0 0) (get_or scale 1 0) (get_or scale 2 0) 0)) }
     requires going { at.read.ended ≡ false }
     requires free { is_free (notation_of grammar) at.read.stage ≡ true }
+    requires over { is_run at.read.stage ≡ true → at.size < length text.now
+        → (notation_of grammar).digit (part_of at.read.stage) (get_or text.now at.size 0) ≡ false }
+    requires point { IsPassed (notation_of grammar) text.now at Role.Point }
+    requires exponent { IsPassed (notation_of grammar) text.now at Role.Exponent }
     ensures { IsCounted (notation_of grammar) text.now result }
 {
     let Sizes {
@@ -533,10 +548,16 @@ const fn end(
                 sign, prefix, integer, point, fraction, scale[0], scale[1], scale[2], 1,
             ],
             complete: is_complete(grammar, read),
+            exact: false,
         };
     }
     if !fronts && size < text.len() {
-        return stopped(at);
+        return Counted {
+            at,
+            counts: [0; 9],
+            complete: false,
+            exact: is_run(read.stage) && !is_separator(grammar, text[size]),
+        };
     }
     Counted {
         at,
@@ -544,5 +565,6 @@ const fn end(
             sign, prefix, integer, point, fraction, scale[0], scale[1], scale[2], 0,
         ],
         complete: is_complete(grammar, read),
+        exact: false,
     }
 }

@@ -76,6 +76,7 @@ impl Syntax {
             at,
             counts,
             complete,
+            ..
         } = self.begin(text, true);
         let stop = self.stop(text, at);
         if complete && stop.size == at.size {

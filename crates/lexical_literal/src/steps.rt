@@ -9,7 +9,7 @@ ghost use Rattle.lexical_literal.specs.Run.{is_place};
 ghost use Rattle.lexical_literal.specs.declared.syntax.Condition.TheVariants as conditions;
 ghost use Rattle.lexical_literal.specs.Additions.Summary.{after_point, digits_of, part_of, role_at, piece_number, piece_of, has_digit, may_follow};
 ghost use Rattle.lexical_literal.specs.Additions.Summary.{admits, finishes, forbids_plus, gap_fits, awaits_integer, is_negative, is_signed, lacks_prefix};
-ghost use Rattle.lexical_literal.specs.Additions.Summary.{leads_to_prefix, needs_exponent};
+ghost use Rattle.lexical_literal.specs.Additions.Summary.{is_run, leads_to_prefix, needs_exponent};
 ghost use Rattle.lexical_literal.specs.Additions.Summary.{continues, ends, is_complete, move_by, step, takes, after};
 
 use crate::syntax::{Condition, Conditions, Grammar};
@@ -211,9 +211,17 @@ pub(crate) const fn awaits_integer(stage: Stage) -> bool
 pub(crate) const fn has_digit(stage: Stage) -> bool
     ensures { result ≡ has_digit stage }
 {
+    matches!(stage, Stage::Bare | Stage::Zero) || is_run(stage)
+}
+
+// Returns whether another digit changes no stage, and may follow.
+#[inline(always)]
+pub(crate) const fn is_run(stage: Stage) -> bool
+    ensures { result ≡ is_run stage }
+{
     matches!(
         stage,
-        Stage::Bare | Stage::Zero | Stage::Led | Stage::Integer | Stage::Fraction | Stage::Exponent
+        Stage::Led | Stage::Integer | Stage::Fraction | Stage::Exponent
     )
 }
 

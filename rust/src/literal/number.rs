@@ -43,6 +43,8 @@ impl Syntax {
         let counted = self.begin(text, false);
         if self.is_whole(text, counted) {
             Ok(self.literal(text, counted.counts))
+        } else if counted.exact {
+            self.refuse(text, counted.at)
         } else {
             self.read_slowly(text, counted.at)
         }

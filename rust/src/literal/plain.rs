@@ -5,8 +5,8 @@
 //! Reading may stop anywhere here: where it stops, one step decides whether it goes on.
 
 use crate::literal::steps::{
-    after_point, allows_minus, allows_plus, awaits_integer, digit_value, digits_of, has_digit, is_complete,
-    is_exponent_character, is_point, is_separator, is_signed, may_follow, radix_of, takes, Stage, Summary, START,
+    after_point, allows_minus, allows_plus, awaits_integer, digit_value, digits_of, is_complete, is_exponent_character,
+    is_point, is_run, is_separator, is_signed, may_follow, radix_of, takes, Stage, Summary, START,
 };
 use crate::literal::syntax::{Condition, Grammar};
 use crate::word::{Part, Role};
@@ -18,12 +18,14 @@ pub(crate) struct At {
     pub(crate) read: Summary,
 }
 
-// What has been read of a text. If `complete` is true, it is a literal, and its parts have the lengths `counts`.
+// What has been read of a text. If `complete` is true, it is a literal, and its parts have the lengths `counts`. If `exact` is
+// true, the byte that follows is refused.
 #[derive(Clone, Copy)]
 pub(crate) struct Counted {
     pub(crate) at: At,
     pub(crate) counts: [usize; 9],
     pub(crate) complete: bool,
+    pub(crate) exact: bool,
 }
 
 // The digits of a part that have been read, and separators: the index behind them, their stage, the number of digits, and
@@ -68,7 +70,7 @@ const fn at_stage(size: usize, stage: Stage) -> At {
 // Returns that reading stops at `at`, where no literal has been found.
 #[inline(always)]
 const fn stopped(at: At) -> Counted {
-    Counted { at, counts: [0; 9], complete: false }
+    Counted { at, counts: [0; 9], complete: false, exact: false }
 }
 
 // Returns whether a sign of the mantissa, or of the exponent, follows and is read.
@@ -303,14 +305,21 @@ const fn end(grammar: Grammar, text: &[u8], fronts: bool, at: At, sizes: Sizes, 
             at: At { size: size + 1, read },
             counts: [sign, prefix, integer, point, fraction, scale[0], scale[1], scale[2], 1],
             complete: is_complete(grammar, read),
+            exact: false,
         };
     }
     if !fronts && size < text.len() {
-        return stopped(at);
+        return Counted {
+            at,
+            counts: [0; 9],
+            complete: false,
+            exact: is_run(read.stage) && !is_separator(grammar, text[size]),
+        };
     }
     Counted {
         at,
         counts: [sign, prefix, integer, point, fraction, scale[0], scale[1], scale[2], 0],
         complete: is_complete(grammar, read),
+        exact: false,
     }
 }

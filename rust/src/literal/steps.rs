@@ -166,7 +166,13 @@ pub(crate) const fn awaits_integer(stage: Stage) -> bool {
 // Returns whether the part has a digit.
 #[inline(always)]
 pub(crate) const fn has_digit(stage: Stage) -> bool {
-    matches!(stage, Stage::Bare | Stage::Zero | Stage::Led | Stage::Integer | Stage::Fraction | Stage::Exponent)
+    matches!(stage, Stage::Bare | Stage::Zero) || is_run(stage)
+}
+
+// Returns whether another digit changes no stage, and may follow.
+#[inline(always)]
+pub(crate) const fn is_run(stage: Stage) -> bool {
+    matches!(stage, Stage::Led | Stage::Integer | Stage::Fraction | Stage::Exponent)
 }
 
 // Returns whether a separator may be at a place in `part` with digits before it, or not, and after it, or not.

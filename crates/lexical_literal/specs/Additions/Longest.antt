@@ -31,11 +31,12 @@ pub record IsStopped (m : Notation) (text : List ℕ) (stop : At) : Type 0 where
   pub incomplete : is_complete m stop.read ≡ false → NoLiteral m (take stop.size text)
 
 -- `HasFound m text counted` holds if `counted` has what has been read of `text` and, if it says that this is a literal, the
--- lengths of its parts.
+-- lengths of its parts, and if reading stops there, before the end, if it says so.
 pub record HasFound (m : Notation) (text : List ℕ) (counted : Counted) : Type 0 where
   pub begun : IsBegun m text counted.at
   pub literal : IsTrue counted.complete → (l : Literal) × Reads m l (take counted.at.size text)
   pub lengths : IsTrue counted.complete → (l : Literal) → Reads m l (take counted.at.size text) → HasLengths l (cuts_of counted.counts)
+  pub exact : IsTrue counted.exact → (counted.at.size < length text) × IsStopped m text counted.at
 
 -- `IsMeasured g text counts is` holds if `is` is true if and only if `text` is a literal of the syntax `g`, and if its parts
 -- have the lengths `counts` then.

@@ -1,5 +1,5 @@
 -- What is read of a text part after part.
-use Rattle.std.specs.Prelude.{ℕ, ◌≡◌, ◌<◌, ◌≤◌, ◌+◌, ◌-◌, ◌%◌, ◌^◌, ◌==◌, ◌&&◌, if◌then◌else◌, Bool, not, IsTrue, List, [], ◌∷◌, Some, true, false, drop}
+use Rattle.std.specs.Prelude.{ℕ, ◌≡◌, ◌<◌, ◌≤◌, ◌+◌, ◌-◌, ◌%◌, ◌^◌, ◌==◌, ◌&&◌, if◌then◌else◌, Bool, not, IsTrue, List, [], ◌∷◌, None, Some, true, false, drop}
 use Rattle.std.specs.Prelude.{get_or, length, take}
 use Rattle.std.specs.Int.Digits.{number_from_digits_after}
 use Rattle.std.specs.List.{filter_map}
@@ -11,8 +11,8 @@ use Rattle.lexical_util.specs.declared.feature_format.roles.Role.TheVariants as 
 use Rattle.lexical_util.specs.declared.format_flags.Part.{Part}
 use Rattle.lexical_util.specs.declared.format_flags.Part.TheVariants as parts
 use Rattle.lexical_literal.specs.Notation.{Notation, set_of_role}
-use Rattle.lexical_literal.specs.Additions.Summary.{Cuts, add_more, after_mark, cuts_of, digits_piece, awaits_integer, has_digit, is_complete, is_signed}
-use Rattle.lexical_literal.specs.Additions.Summary.{lacks_prefix, no_cuts, part_of, piece_of, scan, start, tally}
+use Rattle.lexical_literal.specs.Additions.Summary.{Cuts, add_more, after_mark, cuts_of, digits_piece, awaits_integer, has_digit, is_complete, is_run, is_signed}
+use Rattle.lexical_literal.specs.Additions.Summary.{lacks_prefix, no_cuts, part_of, piece_of, scan, start, step, takes, tally}
 use Rattle.lexical_literal.specs.declared.plain.At.{At}
 use Rattle.lexical_literal.specs.declared.plain.Counted.{Counted}
 use Rattle.lexical_literal.specs.declared.plain.Opening.{Opening}
@@ -115,6 +115,14 @@ pub record IsRunOn (m : Notation) (radix : ℕ) (text : List ℕ) (part : Part) 
   pub digits : run.digits ≡ begun.digits + length (digits_in radix (between text begun.size run.size))
   pub sum : run.sum % 2 ^ 64 ≡ number_from_digits_after radix begun.sum (digits_in radix (between text begun.size run.size)) % 2 ^ 64
 
+-- `IsOver m text part run` holds if no digit of `part` follows the digits of `run`, if it has any but a zero.
+abbrev pub IsOver : Notation → List ℕ → Part → Run → Type 0
+IsOver m text part run = is_run run.stage ≡ true → run.size < length text → m.digit part (get_or text run.size 0) ≡ false
+
+-- `IsPassed m text at role` holds if no byte with the role `role` follows that is read.
+abbrev pub IsPassed : Notation → List ℕ → At → Role → Type 0
+IsPassed m text at role = at.size < length text → set_of_role m role (get_or text at.size 0) ≡ true → takes m at.read false role ≡ false
+
 -- `counts_of s mark sign exponent suffix` lists the lengths of the parts.
 abbrev pub counts_of : Sizes → ℕ → ℕ → ℕ → ℕ → List ℕ
 counts_of s mark sign exponent suffix = s.sign ∷ s.prefix ∷ s.integer ∷ s.point ∷ s.fraction ∷ mark ∷ sign ∷ exponent ∷ suffix ∷ []
@@ -130,8 +138,9 @@ pub record IsOpened (m : Notation) (text : List ℕ) (opening : Opening) : Type 
   pub inside : part_of opening.stage ≡ parts.Integer
 
 -- `IsCounted m text counted` holds if `counted` has what has been read of `text` and, if it says that this is a literal, the
--- lengths of its parts.
+-- lengths of its parts, and if the next byte is refused if it says so.
 pub record IsCounted (m : Notation) (text : List ℕ) (counted : Counted) : Type 0 where
   pub begun : IsBegun m text counted.at
   pub complete : IsTrue counted.complete → is_complete m counted.at.read ≡ true
   pub lengths : IsTrue counted.complete → tally m (Some start) no_cuts (take counted.at.size text) ≡ cuts_of counted.counts
+  pub exact : IsTrue counted.exact → (counted.at.size < length text) × (step m counted.at.read (get_or text counted.at.size 0) ≡ None)

@@ -20,7 +20,7 @@ returns-in-Some-clause-run c =
     let radix = radix_of (raw g.word) part in
     let run = c.args.zero in
     let v = c.in-Some.value in
-    let digit = c.in-Some.ensures in
+    let digit = c.in-Some.ensures.some in
     let next : Run = record (pushed radix run v 1) { stage = stages.Led } in
     let same : c.staged.result ≡ next = c.staged.ensures ∙ ap (λ (r : Run). record r { stage = stages.Led }) c.push.ensures in
     let on : IsReadOn m text (at_stage run.size run.stage) (digits_piece part) (at_stage (run.size + 1) stages.Led) =

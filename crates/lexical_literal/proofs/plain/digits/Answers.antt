@@ -22,7 +22,7 @@ returns-then-awaits_integer-clause-run c =
     let radix = radix_of (raw g.word) part in
     let run : Run = record { size = c.args.from; stage = c.args.stage; digits = 0; sum = c.args.before } in
     let v = c.in-Some.value in
-    let digit = c.in-Some.ensures in
+    let digit = c.in-Some.ensures.some in
     let next : Run = record (pushed radix run v 1) { stage = stages.Bare } in
     let same : c.staged.result ≡ next = c.staged.ensures ∙ ap (λ (r : Run). record r { stage = stages.Bare }) c.push-one.ensures in
     let naught : (get_or text run.size 0 == 48) ≡ true = let is = c.if-text-from-eq48.true in grind arith in
@@ -46,7 +46,7 @@ returns-else-text-from-eq48-clause-run c =
     let radix = radix_of (raw g.word) part in
     let run : Run = record { size = c.args.from; stage = c.args.stage; digits = 0; sum = c.args.before } in
     let v = c.in-Some.value in
-    let digit = c.in-Some.ensures in
+    let digit = c.in-Some.ensures.some in
     let next : Run = record (pushed radix run v 1) { stage = (digits_of part) } in
     let same : c.staged-else-text-from-eq48.result ≡ next =
     c.staged-else-text-from-eq48.ensures ∙ (λ j. record (c.push-one.ensures j) { stage = c.digits_of.ensures j }) in

@@ -1,14 +1,19 @@
 -- The suffix is read.
-use Rattle.std.proofs.Common.{◌≡◌, true, get_or, sym, subst, ◌∙◌}
+use Rattle.std.proofs.Common.{◌≡◌, true, false, get_or, refl, sym, subst, ◌∙◌, arith}
+use Rattle.std.proofs.lemmas.Bool.{false≢true}
 use Rattle.lexical_util.specs.Record.{raw}
+use Rattle.lexical_util.specs.declared.feature_format.roles.Role.TheVariants as roles
 use Rattle.lexical_util.specs.Roles.{suffix}
 use Rattle.lexical_literal.specs.Additions.Plain.{IsAt, counts_of}
-use Rattle.lexical_literal.specs.Additions.Summary.{cuts_of}
+use Rattle.lexical_literal.specs.Additions.Summary.{cuts_of, takes}
 use Rattle.lexical_literal.specs.Notation.{notation_of}
 use Rattle.lexical_literal.specs.declared.plain.At.{At}
 use Rattle.lexical_literal.proofs.JoinLemmas.{suffix_at}
-use Rattle.lexical_literal.proofs.PlainLemmas.{complete_at, stopped_at}
+use Rattle.lexical_literal.proofs.PlainLemmas.{complete_at}
+use Rattle.lexical_literal.proofs.PassedLemmas.{passed}
 use Rattle.lexical_literal.proofs.plain.end.Goals as goal
+use Rattle.lexical_literal.proofs.plain.end.Goals.{else-size-text-via-then-size-text+then-is_base_suffix+else-takes, else-size-text-via-then-size-text+else-is_base_suffix}
+use Rattle.lexical_literal.proofs.plain.end.Goals.{else-size-text-via-else-size-text, then-is_run, else-is_run}
 
 pub returns-then-takes : goal.returns-then-takes
 returns-then-takes c =
@@ -17,13 +22,30 @@ returns-then-takes c =
     let at = c.args.at in
     complete_at m text _ (suffix_at m text c.requires.roles c.args.sizes _ _ _ at c.if-size-text.true
     (subst (λ w. suffix (raw w) (get_or text at.size 0) ≡ true) c.view.ensures (sym c.is_base_suffix.ensures ∙ c.if-is_base_suffix.true))
-    c.requires.going (sym c.takes.ensures ∙ c.if-takes.true) c.requires.free c.requires.at) c.is_complete.ensures
+    c.requires.going (sym c.takes.ensures ∙ c.if-takes.true) c.requires.free c.requires.at) c.is_complete.ensures refl
 
 pub returns-then-size-text-2 : goal.returns-then-size-text-2
 returns-then-size-text-2 c =
     let m = notation_of c.args.grammar in
     let text = c.args.text.now in
-    let scale = c.args.scale in
-    let counts = cuts_of (counts_of c.args.sizes (get_or scale 0 0) (get_or scale 1 0) (get_or scale 2 0) 0) in
-    stopped_at m text c.stopped.result counts (subst (λ (at : At). IsAt m text at counts) (sym c.stopped.ensures.at) c.requires.at)
-    c.stopped.ensures.complete
+    let at = c.args.at in
+    let b = get_or text at.size 0 in
+    let inside = c.if-size-text-2.true in
+    let suffix_passed : m.suffix b ≡ true → takes m at.read false roles.Suffix ≡ false = λ is. elim c.else-size-text.branch [
+      | else-size-text-via-then-size-text+then-is_base_suffix+else-takes w ↦ sym w.takes.ensures ∙ w.if-takes.false
+      | else-size-text-via-then-size-text+else-is_base_suffix w ↦ absurd (false≢true
+          (sym (subst (λ v. suffix (raw v) b ≡ false) w.view.ensures (sym w.is_base_suffix.ensures ∙ w.if-is_base_suffix.false)) ∙ is))
+      | else-size-text-via-else-size-text w ↦ absurd (omega (arith, w.if-size-text.false, inside))
+    ] in
+    record {
+      begun = c.requires.at.begun;
+      complete = λ yes. absurd (false≢true yes);
+      lengths = λ yes. absurd (false≢true yes);
+      exact = λ yes. elim c.if-is_run.branch [
+        | then-is_run w ↦
+            let run = sym c.is_run.ensures ∙ w.if-is_run.true in
+            let separator : m.separator b ≡ false = let a = w.is_separator.ensures in let r = w.result-is in grind arith in
+            (inside, passed m at.read b run (c.requires.over run inside) separator (c.requires.point inside) (c.requires.exponent inside) suffix_passed)
+        | else-is_run w ↦ absurd (false≢true (sym w.if-is_run.false ∙ (sym w.result-is ∙ yes)))
+      ];
+    }

@@ -1,5 +1,5 @@
 -- Each digit is read behind the others.
-use Rattle.std.proofs.Common.{◌≡◌, ◌≤◌, length, sym, ap, subst, ◌∙◌, arith}
+use Rattle.std.proofs.Common.{◌≡◌, ◌≤◌, is_some, length, sym, ap, subst, ◌∙◌, arith}
 use Rattle.lexical_util.specs.Record.{raw}
 use Rattle.lexical_literal.specs.Notation.{notation_of, radix_of}
 use Rattle.lexical_literal.specs.Additions.Plain.{IsRunOn}
@@ -21,10 +21,13 @@ loop-value-preserved c =
     let is_run_now = ap is_run now.stage ∙ c.requires.run in
     let digits = now.digits in
     record {
-      within = subst (λ (r : Run). r.size ≤ length text) (sym same) (omega (arith, c.in-Some.ensures.0));
+      within = subst (λ (r : Run). r.size ≤ length text) (sym same) (omega (arith, c.in-Some.ensures.some.0));
       digits = subst (λ (r : Run). r.digits ≤ r.size) (sym same) (omega (arith, digits));
       stage = ap (λ (r : Run). r.stage) same ∙ now.stage;
       on = subst (IsRunOn (notation_of g) radix text c.args.part c.args.begun) (sym same)
           (both_runs (notation_of g) radix text c.args.part c.args.begun run next now.on
-          (more_digit g text c.args.part run v c.requires.roles is_run_now (ap part_of now.stage ∙ c.requires.part) c.in-Some.ensures));
+          (more_digit g text c.args.part run v c.requires.roles is_run_now (ap part_of now.stage ∙ c.requires.part) c.in-Some.ensures.some));
     }
+
+pub returns-clause-over : goal.returns-clause-over
+returns-clause-over c _ = c.value_at.ensures.none (ap is_some c.in_default.is)
