@@ -272,11 +272,6 @@ enum Name {
 }
 
 impl Name {
-    /// Returns the name of an option or a condition.
-    fn from_text(name: &str) -> Option<Name> {
-        Name::beside_fields().find(|it| it.text() == name)
-    }
-
     /// Returns the names of options and conditions.
     fn beside_fields() -> impl Iterator<Item = Name> {
         (0..OPTIONS.len()).map(Name::Option).chain(Condition::ALL.iter().copied().map(Name::Condition))
@@ -321,7 +316,8 @@ fn parse(index: usize, text: &[u8]) -> Result<(Name, u8), LineError> {
     let (name, value) = (text[..equals].trim_ascii(), text[equals + 1..].trim_ascii());
     // Bytes that are not UTF-8 are read as an empty text, which is neither a name nor a value.
     let [word, argument] = [name, value].map(|it| from_utf8(it).unwrap_or_default());
-    let known = Name::from_text(word).or_else(|| Setter::from_name(word).map(Name::Field));
+    let known = Name::beside_fields().find(|it| it.text() == word);
+    let known = known.or_else(|| Setter::from_name(word).map(Name::Field));
     let known = known.ok_or_else(|| refuse(EditErrorKind::UnknownName, None, name))?;
     let byte = known.parse(argument).ok_or_else(|| refuse(EditErrorKind::BadValue, Some(known), value))?;
     Ok((known, byte))
