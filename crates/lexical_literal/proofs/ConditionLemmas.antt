@@ -267,7 +267,7 @@ module _ (m : Notation) (h : HasRoles m) where
       signed [] one plus count is = begun stages.Start no_cuts refl refl (λ fresh. count) is
       signed (b ∷ []) one plus count is =
           one_byte start b roles.Sign pieces.Sign no_cuts (prefix ++ rest) refl (is_role m parts.Integer b h roles.Sign (λ e. cc) one) (let need =
-              plus in grind arith)
+          plus in grind arith)
           (begun stages.Empty (add no_cuts pieces.Sign) refl refl (λ fresh. absurd (false≢true fresh))) is
       signed (b ∷ x ∷ sign) one plus count is = absurd (false≢true one)
 

@@ -20,18 +20,6 @@ small_at_first k = go 9 k where
   go (suc n) zero = omega arith
   go (suc n) (suc k) = go n k
 
--- One more byte of a piece.
-pub count_one : (counts : List ℕ) → length counts ≡ 9 → (piece : Piece)
-    → add (cuts_of counts) piece ≡ cuts_of (set counts (piece_number piece) (get_or counts (piece_number piece) 0 + 1))
-count_one (a ∷ b ∷ c ∷ d ∷ e ∷ f ∷ g ∷ h ∷ i ∷ []) nine piece = λ j other. each piece other j where
-  each : (piece other : Piece) → let counts = a ∷ b ∷ c ∷ d ∷ e ∷ f ∷ g ∷ h ∷ i ∷ [] in
-      add (cuts_of counts) piece other ≡ cuts_of (set counts (piece_number piece) (get_or counts (piece_number piece) 0 + 1)) other
-  each pieces.Sign pieces.Sign = refl
-  each pieces.Sign _ = refl
-  each _ pieces.Sign = refl
-  each _ _ = refl
-count_one counts nine piece = absurd (omega (arith, nine))
-
 -- More bytes of a piece.
 pub count_more : (counts : List ℕ) → length counts ≡ 9 → (piece : Piece) (n : ℕ)
     → add_more (cuts_of counts) piece n ≡ cuts_of (set counts (piece_number piece) (get_or counts (piece_number piece) 0 + n))

@@ -19,7 +19,7 @@ use Rattle.lexical_literal.specs.declared.steps.Piece.TheVariants as pieces
 use Rattle.lexical_literal.specs.declared.steps.Stage.{Stage}
 use Rattle.lexical_literal.specs.declared.steps.Stage.TheVariants as stages
 use Rattle.lexical_literal.specs.declared.syntax.Condition.TheVariants as conditions
-use Rattle.lexical_literal.proofs.CountLemmas.{count_more, count_one, no_counts}
+use Rattle.lexical_literal.proofs.CountLemmas.{count_more, no_counts}
 use Rattle.lexical_literal.proofs.PlainLemmas.{none_begun, one_read, read_free, read_zero, stopped_at}
 use Rattle.lexical_literal.proofs.ScanLemmas.{is_role}
 
@@ -86,8 +86,8 @@ module _ (m : Notation) (text : List ℕ) where
       → IsOpened m text (record { sign = sign; prefix = 1; size = sign + 2; stage = stages.Prefixed })
   opened_prefix h sign is prefix = record {
     at = subst (IsAt m text (at_stage (sign + 2) stages.Prefixed))
-        (ap (λ c. add c pieces.Prefix) (count_one (sign ∷ 0 ∷ 0 ∷ 0 ∷ 0 ∷ 0 ∷ 0 ∷ 0 ∷ 0 ∷ []) refl pieces.Integer)
-        ∙ count_one (sign ∷ 0 ∷ 1 ∷ 0 ∷ 0 ∷ 0 ∷ 0 ∷ 0 ∷ 0 ∷ []) refl pieces.Prefix)
+        (ap (λ c. add c pieces.Prefix) (count_more (sign ∷ 0 ∷ 0 ∷ 0 ∷ 0 ∷ 0 ∷ 0 ∷ 0 ∷ 0 ∷ []) refl pieces.Integer 1)
+        ∙ count_more (sign ∷ 0 ∷ 1 ∷ 0 ∷ 0 ∷ 0 ∷ 0 ∷ 0 ∷ 0 ∷ []) refl pieces.Prefix 1)
         (prefix (behind_sign parts.Integer sign) (cuts_of (sign ∷ 0 ∷ 0 ∷ 0 ∷ 0 ∷ 0 ∷ 0 ∷ 0 ∷ 0 ∷ [])) (first_behind sign is) (sign_at sign is));
     size = omega arith;
     signed = refl;
@@ -164,7 +164,7 @@ module _ (m : Notation) (text : List ℕ) where
         → IsAt m text (at_stage (size + 1) (after_point (has_digit stage))) (cuts_of (counts_of (record s { point = 1 }) 0 0 0 0))
     point_at s size stage none inside point taken free is = let b = get_or text size 0 in
         subst (IsAt m text (at_stage (size + 1) (after_point (has_digit stage))))
-        (count_one (counts_of s 0 0 0 0) refl pieces.Point ∙ ap (λ n. cuts_of (counts_of (record s { point = n + 1 }) 0 0 0 0)) none)
+        (count_more (counts_of s 0 0 0 0) refl pieces.Point 1 ∙ ap (λ n. cuts_of (counts_of (record s { point = n + 1 }) 0 0 0 0)) none)
         (one_read m text (at_stage size stage) (at_stage (size + 1) (after_point (has_digit stage))) pieces.Point
         (read_free m text h (part_of stage) (at_stage size stage) roles.Point refl (λ same. cc) inside
         (is_role m (part_of stage) b h roles.Point (λ same. cc) point) refl taken free) refl _ is)
@@ -175,7 +175,7 @@ module _ (m : Notation) (text : List ℕ) where
         → IsAt m text (at_stage size stage) (cuts_of (counts_of s 0 0 0 0))
         → IsAt m text (at_stage (size + 1) stages.Mark) (cuts_of (counts_of s 1 0 0 0))
     mark_at s size stage inside mark taken free is = let b = get_or text size 0 in
-        subst (IsAt m text (at_stage (size + 1) stages.Mark)) (count_one (counts_of s 0 0 0 0) refl pieces.ExponentCharacter)
+        subst (IsAt m text (at_stage (size + 1) stages.Mark)) (count_more (counts_of s 0 0 0 0) refl pieces.ExponentCharacter 1)
         (one_read m text (at_stage size stage) (at_stage (size + 1) stages.Mark) pieces.ExponentCharacter
         (read_free m text h (part_of stage) (at_stage size stage) roles.Exponent refl (λ same. cc) inside
         (is_role m (part_of stage) b h roles.Exponent (λ same. cc) mark) refl taken free) refl _ is)
@@ -186,7 +186,7 @@ module _ (m : Notation) (text : List ℕ) where
         → IsAt m text at (cuts_of (counts_of s a b c 0))
         → IsAt m text (record { size = at.size + 1; read = record at.read { ended = true } }) (cuts_of (counts_of s a b c 1))
     suffix_at s a b c at inside suffix going taken free is = let byte = get_or text at.size 0 in
-        subst (IsAt m text (record { size = at.size + 1; read = record at.read { ended = true } })) (count_one (counts_of s a b c 0) refl pieces.Suffix)
+        subst (IsAt m text (record { size = at.size + 1; read = record at.read { ended = true } })) (count_more (counts_of s a b c 0) refl pieces.Suffix 1)
         (one_read m text at (record { size = at.size + 1; read = record at.read { ended = true } }) pieces.Suffix
         (read_free m text h (part_of at.read.stage) at roles.Suffix refl (λ same. cc) inside
         (is_role m (part_of at.read.stage) byte h roles.Suffix (λ same. cc) suffix) going taken free) refl _ is)

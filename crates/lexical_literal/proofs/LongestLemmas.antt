@@ -23,7 +23,7 @@ use Rattle.lexical_literal.specs.declared.steps.Summary.{Summary}
 use Rattle.lexical_literal.proofs.ScanLemmas.{scan_append, tally_append}
 use Rattle.lexical_literal.proofs.ConditionLemmas.{has_lengths, literal_from, literal_arrives}
 use Rattle.lexical_literal.proofs.LiteralLemmas.{all_cuts}
-use Rattle.lexical_literal.proofs.CountLemmas.{count_one, no_counts, small_at_first, small_more}
+use Rattle.lexical_literal.proofs.CountLemmas.{count_more, no_counts, small_at_first, small_more}
 use Rattle.lexical_util.specs.declared.feature_format.roles.Role.{Role}
 use Rattle.lexical_literal.proofs.FrontLemmas.{front_from, front_is_read}
 
@@ -247,7 +247,7 @@ module _ (m : Notation) (ready : IsReady m) (text : List ℕ) where
           has.read.counted,
           plays,
         )
-        (count_one counts has.nine (piece_of (part_of at.read.stage) r) ∙ ap (λ k. cuts_of (set counts k (get_or counts k 0 + 1))) (sym same)) in record {
+        (count_more counts has.nine (piece_of (part_of at.read.stage) r) 1 ∙ ap (λ k. cuts_of (set counts k (get_or counts k 0 + 1))) (sym same)) in record {
           nine = length-set counts k (get_or counts k 0 + 1) ∙ has.nine;
           small = λ j. let one = small_more counts at.size k (omega (arith, small, has.nine)) has.small j in omega (arith, one, size);
           read = record { begun = begun; counted = counted };

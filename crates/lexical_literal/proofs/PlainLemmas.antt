@@ -83,13 +83,13 @@ module _ (m : Notation) (stage : Stage) (run : is_run stage ≡ true) where
       → takes_in m part stage gap plus roles.Digit ≡ true
   takes_more part plus gap allowed =
       and_from _ _ (signed (is_fresh stage) run_facts.0) (and_from _ _ (fits gap (has_digit stage) run_facts.1 allowed) run_facts.2) where
-    signed : (fresh : Bool) → fresh ≡ false → (not fresh || not (needs_sign m part)) ≡ true
-    signed fresh is = grind arith
+        signed : (fresh : Bool) → fresh ≡ false → (not fresh || not (needs_sign m part)) ≡ true
+        signed fresh is = grind arith
 
-    fits : (gap digit : Bool) → digit ≡ true → (gap ≡ true → m.flag (separators_in part).internal ≡ true) → gap_fits m part digit gap true ≡ true
-    fits false digit is allowed = refl
-    fits true true is allowed = allowed refl
-    fits true false is allowed = absurd (false≢true is)
+        fits : (gap digit : Bool) → digit ≡ true → (gap ≡ true → m.flag (separators_in part).internal ≡ true) → gap_fits m part digit gap true ≡ true
+        fits false digit is allowed = refl
+        fits true true is allowed = allowed refl
+        fits true false is allowed = absurd (false≢true is)
 
   takes_separator : (part : Part) (plus : Bool) → m.flag (separators_in part).internal ≡ true → takes_in m part stage false plus roles.Separator ≡ true
   takes_separator part plus allowed = go (is_fresh stage) (has_digit stage) (may_follow m stage) run_facts.0 run_facts.1 run_facts.2 where
@@ -130,8 +130,14 @@ module _ (m : Notation) (text : List ℕ) where
           read = rw (take_more text at.size 0 inside, scan_append m.condition m (Some start) (take at.size text) (b ∷ []), is.begun.read)
               (moved m.condition m at.read b r plays going taken admitted);
         };
-        counted = rw (take_more text at.size 0 inside, tally_append m.condition m (Some start) no_cuts (take at.size text)
-        (b ∷ []), is.begun.read, is.counted, plays)
+        counted = rw (
+          take_more text at.size 0 inside,
+          tally_append m.condition m (Some start) no_cuts (take at.size text)
+              (b ∷ []),
+          is.begun.read,
+          is.counted,
+          plays,
+        )
             (sym (λ j other. one_more c (piece_of (part_of at.read.stage) r) other at.size j));
       };
     }

@@ -12,8 +12,8 @@ ghost use Rattle.lexical_literal.specs.declared.steps.Piece.TheVariants as piece
 
 use crate::steps::{
     START, Stage, Summary, after_point, allows_minus, allows_plus, awaits_integer, digit_value,
-    digits_of, has_digit, is_complete, is_exponent_character, is_point, is_separator, is_signed,
-    may_follow, radix_of, takes,
+    digits_of, is_complete, is_exponent_character, is_point, is_separator, is_signed, may_follow,
+    radix_of, takes,
 };
 use crate::syntax::Grammar;
 use lexical_util::format::{Part, Role};
@@ -182,14 +182,12 @@ const fn push(grammar: Grammar, part: Part, run: Run, value: u32, bytes: usize) 
       sum = (run.sum * radix_of (raw grammar.word) part % 2 ^ 64 + value) % 2 ^ 64;
     } }
 {
+    let sum = run.sum.wrapping_mul(radix_of(grammar, part));
     Run {
         size: run.size + bytes,
-        stage: run.stage,
         digits: run.digits + 1,
-        sum: run
-            .sum
-            .wrapping_mul(radix_of(grammar, part))
-            .wrapping_add(value as u64),
+        sum: sum.wrapping_add(value as u64),
+        ..run
     }
 }
 
@@ -281,22 +279,11 @@ const fn digits(
     };
     let one = push(grammar, part, none, value, 1);
     if text[from] == b'0' && awaits_integer(stage) {
-        behind_zero(grammar, text, staged(one, Stage::Bare))
+        let stage = Stage::Bare;
+        behind_zero(grammar, text, Run { stage, ..one })
     } else {
-        groups(grammar, text, part, staged(one, digits_of(part)))
-    }
-}
-
-// Returns the run with another stage.
-#[inline(always)]
-const fn staged(run: Run, stage: Stage) -> Run
-    ensures { result ≡ record run { stage = stage } }
-{
-    Run {
-        size: run.size,
-        stage,
-        digits: run.digits,
-        sum: run.sum,
+        let stage = digits_of(part);
+        groups(grammar, text, part, Run { stage, ..one })
     }
 }
 
@@ -313,12 +300,9 @@ const fn behind_zero(grammar: Grammar, text: &[u8], zero: Run) -> Run
 {
     match value_at(grammar, text, Part::Integer, zero.size) {
         Some(value) if may_follow(grammar, Stage::Bare) => {
-            groups(
-                grammar,
-                text,
-                Part::Integer,
-                staged(push(grammar, Part::Integer, zero, value, 1), Stage::Led),
-            )
+            let one = push(grammar, Part::Integer, zero, value, 1);
+            let stage = Stage::Led;
+            groups(grammar, text, Part::Integer, Run { stage, ..one })
         }
         _ => zero,
     }
@@ -412,13 +396,7 @@ const fn integer(grammar: Grammar, text: &[u8], fronts: bool, opening: Opening) 
     {
         return fraction(grammar, text, fronts, sizes, run);
     }
-    if run.size < text.len()
-        && is_exponent_character(grammar, text[run.size])
-        && takes(grammar, at.read, false, Role::Exponent)
-    {
-        return exponent(grammar, text, fronts, sizes, run.size + 1);
-    }
-    end(grammar, text, fronts, at, sizes, [0; 3])
+    behind_mantissa(grammar, text, fronts, sizes, run)
 }
 
 // Reads the fraction behind its decimal point, and what follows it.
@@ -443,27 +421,37 @@ const fn fraction(
     if run.size == from {
         return stopped(at_stage(from, stage));
     }
-    let Sizes {
-        sign,
-        prefix,
-        integer,
-        ..
-    } = sizes;
     let sizes = Sizes {
-        sign,
-        prefix,
-        integer,
         point: 1,
         fraction: run.size - from,
+        ..sizes
     };
+    behind_mantissa(grammar, text, fronts, sizes, run)
+}
+
+// Reads what follows the digits of the mantissa, an exponent or the suffix.
+#[inline(always)]
+const fn behind_mantissa(
+    grammar: Grammar,
+    text: &[u8],
+    fronts: bool,
+    sizes: Sizes,
+    run: Run,
+) -> Counted
+    requires roles { HasRoles (notation_of grammar) }
+    requires at { IsAt (notation_of grammar) text.now (at_stage run.size run.stage) (cuts_of (counts_of sizes 0 0 0 0)) }
+    requires free { is_free (notation_of grammar) run.stage ≡ true }
+    ensures { IsCounted (notation_of grammar) text.now result }
+{
     let at = at_stage(run.size, run.stage);
     if run.size < text.len()
         && is_exponent_character(grammar, text[run.size])
         && takes(grammar, at.read, false, Role::Exponent)
     {
-        return exponent(grammar, text, fronts, sizes, run.size + 1);
+        exponent(grammar, text, fronts, sizes, run.size + 1)
+    } else {
+        end(grammar, text, fronts, at, sizes, [0; 3])
     }
-    end(grammar, text, fronts, at, sizes, [0; 3])
 }
 
 // Reads the exponent behind its character, and what follows it.
@@ -518,12 +506,7 @@ const fn end(
         && grammar.view().is_base_suffix(text[size])
         && takes(grammar, read, false, Role::Suffix)
     {
-        let Summary { stage, gap, .. } = read;
-        let read = Summary {
-            stage,
-            gap,
-            ended: true,
-        };
+        let read = Summary { ended: true, ..read };
         return Counted {
             at: At {
                 size: size + 1,

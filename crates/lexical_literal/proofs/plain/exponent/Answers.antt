@@ -21,7 +21,7 @@ digits-run-requires-clause-free c = subst (λ stage. is_free (notation_of c.args
     (exponent_behind (notation_of c.args.grammar) c.in-Some.sign).2
 
 pub digits-run-requires-clause-part : goal.digits-run-requires-clause-part
-digits-run-requires-clause-part c = subst (λ stage. part_of stage ≡ parts.Exponent) (sym c.behind_sign.ensures) 
+digits-run-requires-clause-part c = subst (λ stage. part_of stage ≡ parts.Exponent) (sym c.behind_sign.ensures)
     (exponent_behind (notation_of c.args.grammar) c.in-Some.sign).1
 
 pub end-requires-clause-at : goal.end-requires-clause-at
