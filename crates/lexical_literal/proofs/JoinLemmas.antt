@@ -6,7 +6,8 @@ use Rattle.lexical_util.specs.declared.feature_format.roles.Role.TheVariants as 
 use Rattle.lexical_util.specs.declared.format_flags.Part.{Part}
 use Rattle.lexical_util.specs.declared.format_flags.Part.TheVariants as parts
 use Rattle.lexical_literal.specs.Notation.{Notation}
-use Rattle.lexical_literal.specs.Additions.Plain.{HasRoles, IsAt, IsCounted, IsFirst, IsOpened, IsReadOn, IsSign, behind_sign, counts_of, fresh, is_free}
+use Rattle.lexical_literal.specs.Additions.Longest.{HasFound}
+use Rattle.lexical_literal.specs.Additions.Plain.{HasRoles, IsAt, IsOpened, IsReadOn, IsSign, behind_sign, counts_of, fresh, is_free}
 use Rattle.lexical_literal.specs.Additions.Plain.{at_stage}
 use Rattle.lexical_literal.specs.Additions.Summary.{Cuts, add, add_more, after_mark, after_point, cuts_of, has_digit, awaits_integer, is_signed, no_cuts, takes}
 use Rattle.lexical_literal.specs.Additions.Summary.{part_of}
@@ -64,9 +65,6 @@ module _ (m : Notation) (text : List ℕ) where
       (ap (λ n. add_more no_cuts pieces.Sign n) none ∙ ap (λ c. add_more c pieces.Sign sign) no_counts
       ∙ count_more (replicate 9 0) refl pieces.Sign sign ∙ ap (λ n. cuts_of (n ∷ 0 ∷ 0 ∷ 0 ∷ 0 ∷ 0 ∷ 0 ∷ 0 ∷ 0 ∷ [])) same))
 
-  first_behind : (sign : ℕ) → IsSign m text parts.Integer 0 sign → IsFirst m (behind_sign parts.Integer sign)
-  first_behind sign is = record { begun = begun_behind sign; signed = is.signed }
-
   -- Without a base prefix.
   pub opened : (sign : ℕ) → IsSign m text parts.Integer 0 sign → m.condition conditions.BasePrefix ≡ false
       → IsOpened m text (record { sign = sign; prefix = 0; size = sign; stage = behind_sign parts.Integer sign })
@@ -81,14 +79,14 @@ module _ (m : Notation) (text : List ℕ) where
 
   -- Behind a base prefix.
   pub opened_prefix : HasRoles m → (sign : ℕ) → IsSign m text parts.Integer 0 sign
-      → ((stage : Stage) (c : Cuts) → IsFirst m stage → IsAt m text (at_stage sign stage) c
+      → ((stage : Stage) (c : Cuts) → awaits_integer stage ≡ true → is_signed m parts.Integer stage ≡ true → IsAt m text (at_stage sign stage) c
       → IsAt m text (at_stage (sign + 2) stages.Prefixed) (add (add c pieces.Integer) pieces.Prefix))
       → IsOpened m text (record { sign = sign; prefix = 1; size = sign + 2; stage = stages.Prefixed })
   opened_prefix h sign is prefix = record {
     at = subst (IsAt m text (at_stage (sign + 2) stages.Prefixed))
         (ap (λ c. add c pieces.Prefix) (count_more (sign ∷ 0 ∷ 0 ∷ 0 ∷ 0 ∷ 0 ∷ 0 ∷ 0 ∷ 0 ∷ []) refl pieces.Integer 1)
         ∙ count_more (sign ∷ 0 ∷ 1 ∷ 0 ∷ 0 ∷ 0 ∷ 0 ∷ 0 ∷ 0 ∷ []) refl pieces.Prefix 1)
-        (prefix (behind_sign parts.Integer sign) (cuts_of (sign ∷ 0 ∷ 0 ∷ 0 ∷ 0 ∷ 0 ∷ 0 ∷ 0 ∷ 0 ∷ [])) (first_behind sign is) (sign_at sign is));
+        (prefix (behind_sign parts.Integer sign) (cuts_of (sign ∷ 0 ∷ 0 ∷ 0 ∷ 0 ∷ 0 ∷ 0 ∷ 0 ∷ 0 ∷ [])) (begun_behind sign) is.signed (sign_at sign is));
     size = omega arith;
     signed = refl;
     free = grind arith;
@@ -98,21 +96,21 @@ module _ (m : Notation) (text : List ℕ) where
 
   -- A required base prefix is missing, and its zero may be there.
   pub zero_only : HasRoles m → (sign : ℕ) → IsSign m text parts.Integer 0 sign → sign < length text → get_or text sign 0 ≡ 48
-      → (counted : Counted) → counted.at ≡ at_stage (sign + 1) stages.Bare → counted.complete ≡ false → IsCounted m text counted
+      → (counted : Counted) → counted.at ≡ at_stage (sign + 1) stages.Bare → counted.complete ≡ false → HasFound m text counted
   zero_only h sign is inside naught counted at incomplete =
       let zero_at = at_stage (sign + 1) stages.Bare in
       let counts = cuts_of (sign ∷ 0 ∷ 0 ∷ 0 ∷ 0 ∷ 0 ∷ 0 ∷ 0 ∷ 0 ∷ []) in
       let all = add_more counts pieces.Integer (zero_at.size - sign) in
       stopped_at m text counted all (subst (λ at. IsAt m text at all) (sym at)
-      ((read_zero m text h sign (behind_sign parts.Integer sign) inside naught (first_behind sign is)).reads counts (sign_at sign is))) incomplete
+      ((read_zero m text h sign (behind_sign parts.Integer sign) inside naught (begun_behind sign) is.signed).reads counts (sign_at sign is))) incomplete
 
   pub sign_only : (sign : ℕ) → IsSign m text parts.Integer 0 sign
-      → (counted : Counted) → counted.at ≡ at_stage sign (behind_sign parts.Integer sign) → counted.complete ≡ false → IsCounted m text counted
+      → (counted : Counted) → counted.at ≡ at_stage sign (behind_sign parts.Integer sign) → counted.complete ≡ false → HasFound m text counted
   sign_only sign is counted at incomplete =
       let counts = cuts_of (sign ∷ 0 ∷ 0 ∷ 0 ∷ 0 ∷ 0 ∷ 0 ∷ 0 ∷ 0 ∷ []) in
       stopped_at m text counted counts (subst (λ at. IsAt m text at counts) (sym at) (sign_at sign is)) incomplete
 
-  pub nothing_at : (counted : Counted) → counted.at ≡ at_stage 0 stages.Start → counted.complete ≡ false → IsCounted m text counted
+  pub nothing_at : (counted : Counted) → counted.at ≡ at_stage 0 stages.Start → counted.complete ≡ false → HasFound m text counted
   nothing_at counted at incomplete = stopped_at m text counted no_cuts (subst (λ at. IsAt m text at no_cuts) (sym at) begun) incomplete
 
   -- The digits of the integer.

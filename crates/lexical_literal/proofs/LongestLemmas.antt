@@ -14,7 +14,7 @@ use Rattle.lexical_literal.specs.Front.{IsFront, IsValidUpTo, NoLiteral, ReadsFr
 use Rattle.lexical_literal.specs.Takes.{NoFront}
 use Rattle.lexical_literal.specs.Additions.Longest.{HasFound, IsCountedFront, IsFronted, IsLongest, IsStopped}
 use Rattle.lexical_literal.specs.Additions.Causes.{lets}
-use Rattle.lexical_literal.specs.Additions.Plain.{IsReady, IsAt, IsBegun, IsCounted}
+use Rattle.lexical_literal.specs.Additions.Plain.{IsReady, IsAt, IsBegun}
 use Rattle.lexical_literal.specs.declared.read.Found.{Found}
 use Rattle.lexical_literal.specs.declared.plain.At.{At}
 use Rattle.lexical_literal.specs.declared.plain.Counted.{Counted}
@@ -254,12 +254,13 @@ module _ (m : Notation) (ready : IsReady m) (text : List ℕ) where
           longest = longer more counted complete is;
         }
 
-  -- What has been found at first.
-  pub has_found : (counted : Counted) → IsCounted m text counted → HasFound m text counted
-  has_found counted is = record {
+  -- Where a literal may have been found.
+  pub complete_at : (counted : Counted) → IsAt m text counted.at (cuts_of counted.counts) → counted.complete ≡ is_complete m counted.at.read
+      → HasFound m text counted
+  complete_at counted is complete = record {
     begun = is.begun;
-    literal = λ yes. literal_from m ready.roles (take counted.at.size text) (ap (is_accepted m) is.begun.read ∙ is.complete yes);
-    lengths = λ yes. has_counted counted.at.size counted.counts (is.lengths yes);
+    literal = λ yes. literal_from m ready.roles (take counted.at.size text) (ap (is_accepted m) is.begun.read ∙ sym complete ∙ yes);
+    lengths = λ yes. has_counted counted.at.size counted.counts is.counted;
   }
 
   -- A text has one reading.

@@ -11,7 +11,8 @@ use Rattle.lexical_util.specs.declared.feature_format.roles.Role.TheVariants as 
 use Rattle.lexical_util.specs.declared.format_flags.Part.{Part}
 use Rattle.lexical_util.specs.declared.format_flags.Part.TheVariants as parts
 use Rattle.lexical_literal.specs.Notation.{Notation}
-use Rattle.lexical_literal.specs.Additions.Plain.{HasRoles, IsAt, IsCounted, IsFirst, IsReadOn, fresh, is_free, at_stage}
+use Rattle.lexical_literal.specs.Additions.Longest.{HasFound}
+use Rattle.lexical_literal.specs.Additions.Plain.{HasRoles, IsAt, IsReadOn, fresh, is_free, at_stage}
 use Rattle.lexical_literal.specs.Additions.Summary.{Cuts, add, add_more, admits, after, after_digit, after_mark, cuts_of, digits_piece, forbids_plus}
 use Rattle.lexical_literal.specs.Additions.Summary.{leads_to_prefix}
 use Rattle.lexical_literal.specs.Additions.Summary.{has_digit, awaits_integer, is_complete, is_negative, is_run, is_signed, may_follow, gap_fits, is_open}
@@ -227,20 +228,21 @@ module _ (m : Notation) (text : List ℕ) where
         read_free parts.Integer (at_stage size stages.Bare) roles.Digit refl (λ same. cc) inside (digit_role m parts.Integer b digit) refl may free
 
     -- The zero that begins the integer.
-    pub read_zero : (size : ℕ) (stage : Stage) → size < length text → get_or text size 0 ≡ 48 → IsFirst m stage
+    pub read_zero : (size : ℕ) (stage : Stage) → size < length text → get_or text size 0 ≡ 48 → awaits_integer stage ≡ true
+        → is_signed m parts.Integer stage ≡ true
         → IsReadOn m text (at_stage size stage) pieces.Integer (at_stage (size + 1) stages.Bare)
-    read_zero size stage inside naught is =
+    read_zero size stage inside naught begun signed =
         let b = get_or text size 0 in
         let is_zero : (b == 48) ≡ true = grind arith in
-        let in_part = awaited_part stage is.begun in
+        let in_part = awaited_part stage begun in
         subst (λ piece. IsReadOn m text (at_stage size stage) piece (at_stage (size + 1) stages.Bare)) (ap digits_piece in_part)
         (subst (λ after. IsReadOn m text (at_stage size stage) (digits_piece (part_of stage)) (at_stage (size + 1) after))
-        (ap (after_digit stage false) is_zero ∙ bare stage is.begun)
+        (ap (after_digit stage false) is_zero ∙ bare stage begun)
         (read_one (at_stage size stage) roles.Digit inside
         (digit_role m (part_of stage) b (ap (m.digit (part_of stage)) naught ∙ h.zero_is_digit (part_of stage))) refl
         (subst (λ part. takes_in m part stage false (b == 43) roles.Digit ≡ true) (sym in_part)
-        (and_from _ _ is.signed (and_from _ _ refl (first_follows m stage (none_begun stage is.begun)))))
-        (ap (λ z. admits m.condition (at_stage size stage).read (b == 43) z roles.Digit) is_zero ∙ admitted stage (b == 43) is.begun))) where
+        (and_from _ _ signed (and_from _ _ refl (first_follows m stage (none_begun stage begun)))))
+        (ap (λ z. admits m.condition (at_stage size stage).read (b == 43) z roles.Digit) is_zero ∙ admitted stage (b == 43) begun))) where
           bare : (stage : Stage) → awaits_integer stage ≡ true → after_digit stage false true ≡ stages.Bare
           bare stages.Start is = refl
           bare stages.Empty is = refl
@@ -253,36 +255,26 @@ module _ (m : Notation) (text : List ℕ) where
 
     -- The base prefix, with its zero.
     pub read_prefix : (size : ℕ) (stage : Stage) → size + 1 < length text → get_or text size 0 ≡ 48 → m.prefix (get_or text (size + 1) 0) ≡ true
-        → IsFirst m stage
+        → awaits_integer stage ≡ true → is_signed m parts.Integer stage ≡ true
         → (c : Cuts) → IsAt m text (at_stage size stage) c → IsAt m text (at_stage (size + 2) stages.Prefixed) (add (add c pieces.Integer)
         pieces.Prefix)
-    read_prefix size stage inside naught prefix is c begun =
+    read_prefix size stage inside naught prefix first signed c begun =
         let b = get_or text (size + 1) 0 in
         let zero_at : At = at_stage (size + 1) stages.Bare in
         let two : size + 1 + 1 ≡ size + 2 = omega arith in
-        let first = read_zero size stage (omega (arith, inside)) naught is in
+        let zero = read_zero size stage (omega (arith, inside)) naught first signed in
         let second : IsReadOn m text zero_at pieces.Prefix (at_stage (size + 1 + 1) stages.Prefixed) =
         read_one zero_at roles.Prefix inside (is_role m parts.Integer b h roles.Prefix (λ same. cc) prefix) refl refl (prefix_admitted (b == 43) (b == 48)) in
         subst (λ n. IsAt m text (at_stage n stages.Prefixed) (add (add c pieces.Integer) pieces.Prefix)) two
         (one_read zero_at (at_stage (size + 1 + 1) stages.Prefixed) pieces.Prefix second refl (add c pieces.Integer)
-        (one_read (at_stage size stage) zero_at pieces.Integer first refl c begun)) where
+        (one_read (at_stage size stage) zero_at pieces.Integer zero refl c begun)) where
           prefix_admitted : (plus z : Bool) → admits m.condition (at_stage 0 stages.Bare).read plus z roles.Prefix ≡ true
           prefix_admitted plus z = grind arith
 
 -- Where reading stops before a literal has been found.
-pub stopped_at : (m : Notation) (text : List ℕ) (counted : Counted) (c : Cuts) → IsAt m text counted.at c → counted.complete ≡ false → IsCounted m text counted
+pub stopped_at : (m : Notation) (text : List ℕ) (counted : Counted) (c : Cuts) → IsAt m text counted.at c → counted.complete ≡ false → HasFound m text counted
 stopped_at m text counted c is incomplete = record {
   begun = is.begun;
-  complete = λ yes. absurd (false≢true (sym incomplete ∙ yes));
+  literal = λ yes. absurd (false≢true (sym incomplete ∙ yes));
   lengths = λ yes. absurd (false≢true (sym incomplete ∙ yes));
-}
-
--- Where a literal may have been found.
-pub complete_at : (m : Notation) (text : List ℕ) (counted : Counted) → IsAt m text counted.at (cuts_of counted.counts)
-    → counted.complete ≡ is_complete m counted.at.read
-    → IsCounted m text counted
-complete_at m text counted is complete = record {
-  begun = is.begun;
-  complete = λ yes. sym complete ∙ yes;
-  lengths = λ yes. is.counted;
 }

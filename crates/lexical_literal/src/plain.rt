@@ -5,9 +5,10 @@
 ghost use Rattle.std.specs.Prelude.{◌≡◌, ◌<◌, ◌≤◌, ◌+◌, ◌-◌, ◌*◌, ◌%◌, ◌^◌, ◌∷◌, [], false, true, IfSome, IsTrue, get_or, length};
 ghost use Rattle.lexical_util.specs.Record.{raw};
 ghost use Rattle.lexical_literal.specs.Notation.{Notation, notation_of, radix_of};
-ghost use Rattle.lexical_literal.specs.Additions.Plain.{HasRoles, IsAt, IsCounted, IsDigitAt, IsFirst, IsOpened, IsReadOn, IsRunOn, IsSeparated, IsSign};
+ghost use Rattle.lexical_literal.specs.Additions.Longest.{HasFound};
+ghost use Rattle.lexical_literal.specs.Additions.Plain.{IsAt, IsDigitAt, IsOpened, IsReadOn, IsReady, IsRunOn, IsSeparated, IsSign};
 ghost use Rattle.lexical_literal.specs.Additions.Plain.{behind_sign, counts_of, fresh, is_free, at_stage};
-ghost use Rattle.lexical_literal.specs.Additions.Summary.{Cuts, add, after_mark, after_point, cuts_of, has_digit, is_run, is_signed, part_of, piece_of};
+ghost use Rattle.lexical_literal.specs.Additions.Summary.{Cuts, add, after_mark, after_point, awaits_integer, cuts_of, has_digit, is_run, is_signed, part_of, piece_of};
 ghost use Rattle.lexical_literal.specs.declared.steps.Piece.TheVariants as pieces;
 
 use crate::steps::{
@@ -100,7 +101,7 @@ const fn stopped(at: At) -> Counted
 // Returns whether a sign of the mantissa, or of the exponent, follows and is read.
 #[inline(always)]
 const fn reads_sign(grammar: Grammar, text: &[u8], part: Part, size: usize) -> bool
-    requires roles { HasRoles (notation_of grammar) }
+    requires ready { IsReady (notation_of grammar) }
     ensures inside { IsTrue result → size < length text.now }
     ensures on { IsTrue result → IsReadOn (notation_of grammar) text.now (at_stage size (fresh part)) (piece_of part Role.Sign)
         (at_stage (size + 1) (after_mark (fresh part))) }
@@ -116,7 +117,7 @@ const fn reads_sign(grammar: Grammar, text: &[u8], part: Part, size: usize) -> b
 // Returns the length of the sign of the mantissa, or of the exponent, or `None` if one is required that does not follow.
 #[inline(always)]
 const fn sign(grammar: Grammar, text: &[u8], part: Part, size: usize) -> Option<usize>
-    requires roles { HasRoles (notation_of grammar) }
+    requires ready { IsReady (notation_of grammar) }
     requires within { size ≤ length text.now }
     ensures { IfSome result (λ sign. IsSign (notation_of grammar) text.now part size sign) }
 {
@@ -145,10 +146,11 @@ const fn behind_sign(part: Part, sign: usize) -> Stage
 // Returns whether a base prefix follows, with its zero, and is read.
 #[inline(always)]
 const fn reads_prefix(grammar: Grammar, text: &[u8], size: usize) -> bool
-    requires roles { HasRoles (notation_of grammar) }
+    requires ready { IsReady (notation_of grammar) }
     requires within { size ≤ length text.now }
     ensures inside { IsTrue result → size + 1 < length text.now }
-    ensures on { IsTrue result → (stage : Stage) (c : Cuts) → IsFirst (notation_of grammar) stage
+    ensures on { IsTrue result → (stage : Stage) (c : Cuts) → awaits_integer stage ≡ true
+        → is_signed (notation_of grammar) Part.Integer stage ≡ true
         → IsAt (notation_of grammar) text.now (at_stage size stage) c
         → IsAt (notation_of grammar) text.now (at_stage (size + 2) Stage.Prefixed) (add (add c pieces.Integer) pieces.Prefix) }
 {
@@ -210,7 +212,7 @@ const fn separated(grammar: Grammar, text: &[u8], part: Part, index: usize) -> O
 // Reads the digits that follow others. They do not change the stage.
 #[inline(always)]
 const fn more_digits(grammar: Grammar, text: &[u8], part: Part, begun: Run) -> Run
-    requires roles { HasRoles (notation_of grammar) }
+    requires ready { IsReady (notation_of grammar) }
     requires within { begun.size ≤ length text.now }
     requires digits { begun.digits ≤ begun.size }
     requires run { is_run begun.stage ≡ true }
@@ -230,7 +232,7 @@ const fn more_digits(grammar: Grammar, text: &[u8], part: Part, begun: Run) -> R
 // Reads the digits that follow others, and separators between them. They do not change the stage.
 #[inline(always)]
 const fn groups(grammar: Grammar, text: &[u8], part: Part, begun: Run) -> Run
-    requires roles { HasRoles (notation_of grammar) }
+    requires ready { IsReady (notation_of grammar) }
     requires within { begun.size ≤ length text.now }
     requires digits { begun.digits ≤ begun.size }
     requires run { is_run begun.stage ≡ true }
@@ -258,7 +260,7 @@ const fn digits(
     stage: Stage,
     before: u64,
 ) -> Run
-    requires roles { HasRoles (notation_of grammar) }
+    requires ready { IsReady (notation_of grammar) }
     requires within { from ≤ length text.now }
     requires none { has_digit stage ≡ false }
     requires signed { is_signed (notation_of grammar) part stage ≡ true }
@@ -290,7 +292,7 @@ const fn digits(
 // Reads the digits behind the zero that begins the integer.
 #[inline(always)]
 const fn behind_zero(grammar: Grammar, text: &[u8], zero: Run) -> Run
-    requires roles { HasRoles (notation_of grammar) }
+    requires ready { IsReady (notation_of grammar) }
     requires within { zero.size ≤ length text.now }
     requires digits { zero.digits ≤ zero.size }
     requires bare { zero.stage ≡ Stage.Bare }
@@ -312,8 +314,8 @@ const fn behind_zero(grammar: Grammar, text: &[u8], zero: Run) -> Run
 // `text`, may not be said to be one, which takes less time.
 #[inline(always)]
 pub(crate) const fn plain(grammar: Grammar, text: &[u8], fronts: bool) -> Counted
-    requires roles { HasRoles (notation_of grammar) }
-    ensures { IsCounted (notation_of grammar) text.now result }
+    requires ready { IsReady (notation_of grammar) }
+    ensures { HasFound (notation_of grammar) text.now result }
 {
     let Some(sign) = sign(grammar, text, Part::Integer, 0) else {
         return stopped(BEGIN);
@@ -327,7 +329,7 @@ pub(crate) const fn plain(grammar: Grammar, text: &[u8], fronts: bool) -> Counte
 // Returns what comes before the digits of the integer, or `None` if a base prefix is required that does not follow.
 #[inline(always)]
 const fn open(grammar: Grammar, text: &[u8], sign: usize) -> Option<Opening>
-    requires roles { HasRoles (notation_of grammar) }
+    requires ready { IsReady (notation_of grammar) }
     requires sign { IsSign (notation_of grammar) text.now Part.Integer 0 sign }
     ensures { IfSome result (IsOpened (notation_of grammar) text.now) }
 {
@@ -353,9 +355,9 @@ const fn open(grammar: Grammar, text: &[u8], sign: usize) -> Option<Opening>
 // Reads the zero with which a required base prefix begins, if it follows.
 #[inline(always)]
 const fn without_prefix(_grammar: Grammar, text: &[u8], sign: usize) -> Counted
-    requires roles { HasRoles (notation_of _grammar) }
+    requires ready { IsReady (notation_of _grammar) }
     requires sign { IsSign (notation_of _grammar) text.now Part.Integer 0 sign }
-    ensures { IsCounted (notation_of _grammar) text.now result }
+    ensures { HasFound (notation_of _grammar) text.now result }
 {
     if sign < text.len() && text[sign] == b'0' {
         stopped(at_stage(sign + 1, Stage::Bare))
@@ -367,9 +369,9 @@ const fn without_prefix(_grammar: Grammar, text: &[u8], sign: usize) -> Counted
 // Reads the integer, and what follows it.
 #[inline(always)]
 const fn integer(grammar: Grammar, text: &[u8], fronts: bool, opening: Opening) -> Counted
-    requires roles { HasRoles (notation_of grammar) }
+    requires ready { IsReady (notation_of grammar) }
     requires opened { IsOpened (notation_of grammar) text.now opening }
-    ensures { IsCounted (notation_of grammar) text.now result }
+    ensures { HasFound (notation_of grammar) text.now result }
 {
     let Opening {
         sign,
@@ -408,12 +410,12 @@ const fn fraction(
     sizes: Sizes,
     integer: Run,
 ) -> Counted
-    requires roles { HasRoles (notation_of grammar) }
+    requires ready { IsReady (notation_of grammar) }
     requires inside { integer.size < length text.now }
     requires at { IsAt (notation_of grammar) text.now (at_stage (integer.size + 1) (after_point (has_digit integer.stage)))
         (cuts_of (counts_of (record sizes { point = 1 }) 0 0 0 0)) }
     requires none { sizes.fraction ≡ 0 }
-    ensures { IsCounted (notation_of grammar) text.now result }
+    ensures { HasFound (notation_of grammar) text.now result }
 {
     let from = integer.size + 1;
     let stage = after_point(integer.stage);
@@ -438,10 +440,10 @@ const fn behind_mantissa(
     sizes: Sizes,
     run: Run,
 ) -> Counted
-    requires roles { HasRoles (notation_of grammar) }
+    requires ready { IsReady (notation_of grammar) }
     requires at { IsAt (notation_of grammar) text.now (at_stage run.size run.stage) (cuts_of (counts_of sizes 0 0 0 0)) }
     requires free { is_free (notation_of grammar) run.stage ≡ true }
-    ensures { IsCounted (notation_of grammar) text.now result }
+    ensures { HasFound (notation_of grammar) text.now result }
 {
     let at = at_stage(run.size, run.stage);
     if run.size < text.len()
@@ -457,10 +459,10 @@ const fn behind_mantissa(
 // Reads the exponent behind its character, and what follows it.
 #[inline(always)]
 const fn exponent(grammar: Grammar, text: &[u8], fronts: bool, sizes: Sizes, size: usize) -> Counted
-    requires roles { HasRoles (notation_of grammar) }
+    requires ready { IsReady (notation_of grammar) }
     requires within { size ≤ length text.now }
     requires at { IsAt (notation_of grammar) text.now (at_stage size Stage.Mark) (cuts_of (counts_of sizes 1 0 0 0)) }
-    ensures { IsCounted (notation_of grammar) text.now result }
+    ensures { HasFound (notation_of grammar) text.now result }
 {
     let Some(sign) = sign(grammar, text, Part::Exponent, size) else {
         return stopped(at_stage(size, Stage::Mark));
@@ -488,11 +490,11 @@ const fn end(
     sizes: Sizes,
     scale: [usize; 3],
 ) -> Counted
-    requires roles { HasRoles (notation_of grammar) }
+    requires ready { IsReady (notation_of grammar) }
     requires at { IsAt (notation_of grammar) text.now at (cuts_of (counts_of sizes (get_or scale 0 0) (get_or scale 1 0) (get_or scale 2 0) 0)) }
     requires going { at.read.ended ≡ false }
     requires free { is_free (notation_of grammar) at.read.stage ≡ true }
-    ensures { IsCounted (notation_of grammar) text.now result }
+    ensures { HasFound (notation_of grammar) text.now result }
 {
     let Sizes {
         sign,
@@ -506,7 +508,10 @@ const fn end(
         && grammar.view().is_base_suffix(text[size])
         && takes(grammar, read, false, Role::Suffix)
     {
-        let read = Summary { ended: true, ..read };
+        let read = Summary {
+            ended: true,
+            ..read
+        };
         return Counted {
             at: At {
                 size: size + 1,

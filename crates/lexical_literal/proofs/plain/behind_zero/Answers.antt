@@ -20,7 +20,7 @@ returns-in-Some-clause-run c =
     let digit = c.in-Some.ensures in
     behind_digit m radix text parts.Integer run stages.Led v c.push-one.result c.groups.result digit c.push-one.ensures
     (subst (λ stage. IsReadOn m text (at_stage run.size stage) pieces.Integer (at_stage (run.size + 1) stages.Led)) (sym c.requires.bare)
-    (read_led m text c.requires.roles run.size digit.0 (is_digit radix (get_or text run.size 0) v digit.1)
+    (read_led m text c.requires.ready.roles run.size digit.0 (is_digit radix (get_or text run.size 0) v digit.1)
     (sym c.may_follow.ensures ∙ c.if-may_follow.true) c.requires.free)) c.groups.ensures.run
 
 pub returns-in_default-clause-run : goal.returns-in_default-clause-run

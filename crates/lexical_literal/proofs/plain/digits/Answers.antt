@@ -28,14 +28,20 @@ first_digit g text part none one last v stage leads h in_part lacks signed free 
     (ap (λ leads. if leads then stages.Bare else digits_of part) first ∙ is)
     (read_first (notation_of g) text h part none.size none.stage in_part digit.0 (is_digit radix (get_or text none.size 0) v digit.1) lacks signed free))
 
+begun_later : (zero awaits : Bool) → awaits ≡ false → (zero && awaits) ≡ false
+begun_later zero awaits is = grind arith
+
+no_zero : (b : ℕ) (awaits : Bool) → (b ≡ 48 → ⊥) → ((b == 48) && awaits) ≡ false
+no_zero b awaits is = grind arith
+
 pub returns-then-awaits_integer-clause-run : goal.returns-then-awaits_integer-clause-run
 returns-then-awaits_integer-clause-run c =
     let g = c.args.grammar in
     let text = c.args.text.now in
     let part = c.args.part in
-    let naught : (get_or text c.args.from 0 == 48) ≡ true = let is = c.if-text-from-eq48.true in grind arith in
+    let naught : (get_or text c.args.from 0 == 48) ≡ true = ap (λ b. b == 48) c.if-text-from-eq48.true in
     let begun : awaits_integer c.args.stage ≡ true = sym c.awaits_integer.ensures ∙ c.if-awaits_integer.true in
-    first_digit g text part _ c.push-one.result c.behind_zero.result c.in-Some.value stages.Bare true c.requires.roles c.requires.part c.requires.none
+    first_digit g text part _ c.push-one.result c.behind_zero.result c.in-Some.value stages.Bare true c.requires.ready.roles c.requires.part c.requires.none
     c.requires.signed c.requires.free c.in-Some.ensures c.push-one.ensures (λ j. naught j && begun j) refl
     (subst (λ part. IsRunOn (notation_of g) (radix_of (raw g.word) part) text part (record c.push-one.result { stage = stages.Bare }) c.behind_zero.result)
     (sym (awaited_part c.args.stage begun) ∙ c.requires.part) c.behind_zero.ensures.run)
@@ -45,10 +51,10 @@ returns-else-text-from-eq48-clause-run c =
     let text = c.args.text.now in
     let other : ((get_or text c.args.from 0 == 48) && awaits_integer c.args.stage) ≡ false = elim c.else-text-from-eq48.branch [
       | else-text-from-eq48-via-then-text-from-eq48+else-awaits_integer w ↦
-          let begun : awaits_integer c.args.stage ≡ false = sym w.awaits_integer.ensures ∙ w.if-awaits_integer.false in grind arith
-      | else-text-from-eq48-via-else-text-from-eq48 w ↦ let is = w.if-text-from-eq48.false in grind arith
+          begun_later (get_or text c.args.from 0 == 48) _ (sym w.awaits_integer.ensures ∙ w.if-awaits_integer.false)
+      | else-text-from-eq48-via-else-text-from-eq48 w ↦ no_zero (get_or text c.args.from 0) _ w.if-text-from-eq48.false
     ] in
-    first_digit c.args.grammar text c.args.part _ c.push-one.result c.groups.result c.in-Some.value c.digits_of-stage.result false c.requires.roles
+    first_digit c.args.grammar text c.args.part _ c.push-one.result c.groups.result c.in-Some.value c.digits_of-stage.result false c.requires.ready.roles
     c.requires.part c.requires.none c.requires.signed c.requires.free c.in-Some.ensures c.push-one.ensures other (sym c.digits_of-stage.ensures)
     c.groups.ensures.run
 

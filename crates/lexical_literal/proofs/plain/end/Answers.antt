@@ -7,7 +7,8 @@ use Rattle.lexical_literal.specs.Additions.Summary.{cuts_of}
 use Rattle.lexical_literal.specs.Notation.{notation_of}
 use Rattle.lexical_literal.specs.declared.plain.At.{At}
 use Rattle.lexical_literal.proofs.JoinLemmas.{suffix_at}
-use Rattle.lexical_literal.proofs.PlainLemmas.{complete_at, stopped_at}
+use Rattle.lexical_literal.proofs.LongestLemmas.{complete_at}
+use Rattle.lexical_literal.proofs.PlainLemmas.{stopped_at}
 use Rattle.lexical_literal.proofs.plain.end.Goals as goal
 
 pub returns-then-takes : goal.returns-then-takes
@@ -15,7 +16,7 @@ returns-then-takes c =
     let m = notation_of c.args.grammar in
     let text = c.args.text.now in
     let at = c.args.at in
-    complete_at m text _ (suffix_at m text c.requires.roles c.args.sizes _ _ _ at c.if-size-text.true
+    complete_at m c.requires.ready text _ (suffix_at m text c.requires.ready.roles c.args.sizes _ _ _ at c.if-size-text.true
     (subst (λ w. suffix (raw w) (get_or text at.size 0) ≡ true) c.view.ensures (sym c.is_base_suffix.ensures ∙ c.if-is_base_suffix.true))
     c.requires.going (sym c.takes.ensures ∙ c.if-takes.true) c.requires.free c.requires.at) c.is_complete.ensures
 
@@ -27,3 +28,6 @@ returns-then-size-text-2 c =
     let counts = cuts_of (counts_of c.args.sizes (get_or scale 0 0) (get_or scale 1 0) (get_or scale 2 0) 0) in
     stopped_at m text c.stopped.result counts (subst (λ (at : At). IsAt m text at counts) (sym c.stopped.ensures.at) c.requires.at)
     c.stopped.ensures.complete
+
+pub returns : goal.returns
+returns c = complete_at _ c.requires.ready _ _ c.requires.at c.is_complete-2.ensures

@@ -6,7 +6,7 @@ use Rattle.lexical_literal.proofs.JoinLemmas.{sign_only, zero_only}
 use Rattle.lexical_literal.proofs.plain.without_prefix.Goals as goal
 
 pub returns-then-text-sign-eq48 : goal.returns-then-text-sign-eq48
-returns-then-text-sign-eq48 c = zero_only (notation_of c.args._grammar) c.args.text.now c.requires.roles c.args.sign c.requires.sign c.if-sign-text.true
+returns-then-text-sign-eq48 c = zero_only (notation_of c.args._grammar) c.args.text.now c.requires.ready.roles c.args.sign c.requires.sign c.if-sign-text.true
     c.if-text-sign-eq48.true c.stopped.result (c.stopped.ensures.at ∙ c.at_stage.ensures) c.stopped.ensures.complete
 
 pub returns-else-sign-text : goal.returns-else-sign-text
