@@ -13,9 +13,9 @@ use Rattle.lexical_util.specs.declared.format_flags.Part.TheVariants as parts
 use Rattle.lexical_literal.specs.Notation.{Notation}
 use Rattle.lexical_literal.specs.Additions.Longest.{HasFound}
 use Rattle.lexical_literal.specs.Additions.Plain.{HasRoles, IsAt, IsReadOn, fresh, is_free, at_stage}
-use Rattle.lexical_literal.specs.Additions.Summary.{Cuts, add, add_more, admits, after, after_digit, after_mark, cuts_of, digits_piece, forbids_plus}
+use Rattle.lexical_literal.specs.Additions.Summary.{Cuts, add, add_more, admits, after, after_digit, after_mark, digits_piece, forbids_plus}
 use Rattle.lexical_literal.specs.Additions.Summary.{leads_to_prefix}
-use Rattle.lexical_literal.specs.Additions.Summary.{has_digit, awaits_integer, is_complete, is_negative, is_run, is_signed, may_follow, gap_fits, is_open}
+use Rattle.lexical_literal.specs.Additions.Summary.{has_digit, awaits_integer, is_negative, is_run, is_signed, may_follow, gap_fits, is_open}
 use Rattle.lexical_literal.specs.Additions.Summary.{no_cuts, piece_of, start, takes, role_at, part_of, takes_in, digits_of, is_fresh, needs_sign, implies}
 use Rattle.lexical_literal.specs.declared.plain.At.{At}
 use Rattle.lexical_literal.specs.declared.plain.Counted.{Counted}

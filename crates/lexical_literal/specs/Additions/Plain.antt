@@ -11,10 +11,9 @@ use Rattle.lexical_util.specs.declared.feature_format.roles.Role.TheVariants as 
 use Rattle.lexical_util.specs.declared.format_flags.Part.{Part}
 use Rattle.lexical_util.specs.declared.format_flags.Part.TheVariants as parts
 use Rattle.lexical_literal.specs.Notation.{Notation, set_of_role}
-use Rattle.lexical_literal.specs.Additions.Summary.{Cuts, add_more, after_mark, cuts_of, digits_piece, awaits_integer, has_digit, is_complete, is_signed}
+use Rattle.lexical_literal.specs.Additions.Summary.{Cuts, add_more, after_mark, cuts_of, digits_piece, has_digit, is_signed}
 use Rattle.lexical_literal.specs.Additions.Summary.{lacks_prefix, no_cuts, part_of, piece_of, scan, start, tally}
 use Rattle.lexical_literal.specs.declared.plain.At.{At}
-use Rattle.lexical_literal.specs.declared.plain.Counted.{Counted}
 use Rattle.lexical_literal.specs.declared.plain.Opening.{Opening}
 use Rattle.lexical_literal.specs.declared.plain.Run.{Run}
 use Rattle.lexical_literal.specs.declared.plain.Sizes.{Sizes}

@@ -13,7 +13,8 @@ use Rattle.lexical_literal.proofs.PlainLemmas.{read_first}
 use Rattle.lexical_literal.proofs.StepLemmas.{awaited_part}
 use Rattle.lexical_literal.proofs.SumLemmas.{behind_digit, is_digit, pushed, same_run}
 use Rattle.lexical_literal.proofs.plain.digits.Goals as goal
-use Rattle.lexical_literal.proofs.plain.digits.Goals.{else-text-from-eq48-via-then-text-from-eq48+else-awaits_integer, else-text-from-eq48-via-else-text-from-eq48}
+use Rattle.lexical_literal.proofs.plain.digits.Goals.{else-text-from-eq48-via-then-text-from-eq48+else-awaits_integer}
+use Rattle.lexical_literal.proofs.plain.digits.Goals.{else-text-from-eq48-via-else-text-from-eq48}
 
 first_digit : (g : Grammar) (text : List ℕ) (part : Part) (none one last : Run) (v : ℕ) (stage : Stage) (leads : Bool) → HasRoles (notation_of g)
     → part_of none.stage ≡ part → has_digit none.stage ≡ false → is_signed (notation_of g) part none.stage ≡ true → is_free (notation_of g) none.stage ≡ true

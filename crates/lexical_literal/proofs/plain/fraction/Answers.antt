@@ -1,18 +1,16 @@
 -- The fraction, and what follows it.
-use Rattle.std.proofs.Common.{◌≡◌, ◌+◌, ◌-◌, sym, subst, ◌∙◌, true, false}
+use Rattle.std.proofs.Common.{◌≡◌, ◌+◌, sym, subst, true, false}
 use Rattle.lexical_literal.specs.Notation.{notation_of}
-use Rattle.lexical_literal.specs.Additions.Plain.{IsAt, IsReadOn, counts_of, is_free, at_stage}
-use Rattle.lexical_literal.specs.Additions.Summary.{after_point, cuts_of, has_digit, is_signed, takes, part_of}
-use Rattle.lexical_literal.specs.declared.plain.At.{At}
-use Rattle.lexical_literal.specs.declared.plain.Sizes.{Sizes}
+use Rattle.lexical_literal.specs.Additions.Plain.{IsReadOn, is_free, at_stage}
+use Rattle.lexical_literal.specs.Additions.Summary.{after_point, has_digit, is_signed, part_of}
 use Rattle.lexical_literal.specs.declared.steps.Piece.TheVariants as pieces
-use Rattle.lexical_util.specs.declared.feature_format.roles.Role.TheVariants as roles
 use Rattle.lexical_util.specs.declared.format_flags.Part.TheVariants as parts
 use Rattle.lexical_literal.proofs.JoinLemmas.{fraction_at, behind_point}
 use Rattle.lexical_literal.proofs.plain.fraction.Goals as goal
 
 pub digits-run-requires-clause-none : goal.digits-run-requires-clause-none
-digits-run-requires-clause-none c = subst (λ stage. has_digit stage ≡ false) (sym c.after_point-stage.ensures) (behind_point (notation_of c.args.grammar) (has_digit c.args.integer.stage)).0
+digits-run-requires-clause-none c =
+    subst (λ stage. has_digit stage ≡ false) (sym c.after_point-stage.ensures) (behind_point (notation_of c.args.grammar) (has_digit c.args.integer.stage)).0
 
 pub digits-run-requires-clause-signed : goal.digits-run-requires-clause-signed
 digits-run-requires-clause-signed c = subst (λ stage. is_signed (notation_of c.args.grammar) parts.Fraction stage ≡ true) (sym c.after_point-stage.ensures)

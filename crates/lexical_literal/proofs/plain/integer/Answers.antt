@@ -1,8 +1,7 @@
 -- The integer, and what follows it.
 use Rattle.std.proofs.Common.{◌≡◌, ◌-◌, sym, subst, ◌∙◌, refl, true, false}
 use Rattle.lexical_literal.specs.Notation.{notation_of}
-use Rattle.lexical_literal.specs.Additions.Plain.{IsAt, counts_of}
-use Rattle.lexical_literal.specs.Additions.Summary.{cuts_of, takes}
+use Rattle.lexical_literal.specs.Additions.Summary.{takes}
 use Rattle.lexical_literal.specs.declared.plain.At.{At}
 use Rattle.lexical_literal.specs.declared.plain.Sizes.{Sizes}
 use Rattle.lexical_util.specs.declared.feature_format.roles.Role.TheVariants as roles
