@@ -1,6 +1,5 @@
 -- The lengths of parts.
-use Rattle.std.proofs.Common.{ℕ, zero, suc, ◌≡◌, ◌<◌, ◌≤◌, ◌+◌, List, [], ◌∷◌, length, get_or, set}
-use Rattle.std.proofs.Common.{refl, arith, get_or-set_other, get_or-set_same, replicate}
+use Rattle.std.proofs.Common.{ℕ, zero, suc, ◌≡◌, ◌<◌, ◌≤◌, ◌+◌, List, [], ◌∷◌, length, get_or, set, refl, arith, get_or-set_other, get_or-set_same, replicate}
 use Rattle.std.proofs.lemmas.Bool.Decides.{nat_tests}
 use Rattle.lexical_literal.specs.Additions.Summary.{add_more, cuts_of, no_cuts, piece_number}
 use Rattle.lexical_literal.specs.declared.steps.Piece.{Piece}

@@ -1,14 +1,13 @@
 -- What has been read where one part ends and the next one begins.
 use Rattle.lexical_literal.proofs.StepLemmas.{awaited_part}
-use Rattle.std.proofs.Common.{ℕ, ◌≡◌, ◌<◌, ◌+◌, ◌-◌, ◌==◌, Bool, true, false, List, [], ◌∷◌, if◌then◌else◌}
-use Rattle.std.proofs.Common.{get_or, length, refl, sym, ap, subst, ◌∙◌, arith, replicate}
+use Rattle.std.proofs.Common.{ℕ, ◌≡◌, ◌<◌, ◌+◌, ◌-◌, ◌==◌, Bool, true, false, List, [], ◌∷◌, if◌then◌else◌, get_or, length, refl, sym, ap, subst, ◌∙◌, arith}
+use Rattle.std.proofs.Common.{replicate}
 use Rattle.lexical_util.specs.declared.feature_format.roles.Role.TheVariants as roles
 use Rattle.lexical_util.specs.declared.format_flags.Part.{Part}
 use Rattle.lexical_util.specs.declared.format_flags.Part.TheVariants as parts
 use Rattle.lexical_literal.specs.Notation.{Notation}
 use Rattle.lexical_literal.specs.Additions.Longest.{HasFound}
-use Rattle.lexical_literal.specs.Additions.Plain.{HasRoles, IsAt, IsOpened, IsReadOn, IsSign, behind_sign, counts_of, fresh, is_free}
-use Rattle.lexical_literal.specs.Additions.Plain.{at_stage}
+use Rattle.lexical_literal.specs.Additions.Plain.{HasRoles, IsAt, IsBegun, IsOpened, IsReadOn, IsSign, behind_sign, counts_of, fresh, is_free, at_stage}
 use Rattle.lexical_literal.specs.Additions.Summary.{Cuts, add, add_more, after_mark, after_point, cuts_of, has_digit, awaits_integer, is_signed, no_cuts, takes}
 use Rattle.lexical_literal.specs.Additions.Summary.{part_of}
 use Rattle.lexical_literal.specs.declared.plain.At.{At}
@@ -21,7 +20,7 @@ use Rattle.lexical_literal.specs.declared.steps.Stage.{Stage}
 use Rattle.lexical_literal.specs.declared.steps.Stage.TheVariants as stages
 use Rattle.lexical_literal.specs.declared.syntax.Condition.TheVariants as conditions
 use Rattle.lexical_literal.proofs.CountLemmas.{count_more, no_counts}
-use Rattle.lexical_literal.proofs.PlainLemmas.{none_begun, one_read, read_free, read_zero, stopped_at}
+use Rattle.lexical_literal.proofs.PlainLemmas.{none_begun, one_read, read_free, read_zero}
 use Rattle.lexical_literal.proofs.ScanLemmas.{is_role}
 
 -- Stages behind a sign.
@@ -50,7 +49,7 @@ module _ (m : Notation) (text : List ℕ) where
       → add_more c p (next.size - at.size) ≡ cuts_of counts → IsAt m text next (cuts_of counts)
   at_more at next p c counts on is same = subst (IsAt m text next) same (on.reads c is)
 
-  begun : IsAt m text (at_stage 0 stages.Start) no_cuts
+  pub begun : IsAt m text (at_stage 0 stages.Start) no_cuts
   begun = record { begun = record { within = omega arith; read = refl }; counted = refl }
 
   -- The sign of the mantissa.
@@ -96,22 +95,9 @@ module _ (m : Notation) (text : List ℕ) where
 
   -- A required base prefix is missing, and its zero may be there.
   pub zero_only : HasRoles m → (sign : ℕ) → IsSign m text parts.Integer 0 sign → sign < length text → get_or text sign 0 ≡ 48
-      → (counted : Counted) → counted.at ≡ at_stage (sign + 1) stages.Bare → counted.complete ≡ false → HasFound m text counted
-  zero_only h sign is inside naught counted at incomplete =
-      let zero_at = at_stage (sign + 1) stages.Bare in
-      let counts = cuts_of (sign ∷ 0 ∷ 0 ∷ 0 ∷ 0 ∷ 0 ∷ 0 ∷ 0 ∷ 0 ∷ []) in
-      let all = add_more counts pieces.Integer (zero_at.size - sign) in
-      stopped_at m text counted all (subst (λ at. IsAt m text at all) (sym at)
-      ((read_zero m text h sign (behind_sign parts.Integer sign) inside naught (begun_behind sign) is.signed).reads counts (sign_at sign is))) incomplete
-
-  pub sign_only : (sign : ℕ) → IsSign m text parts.Integer 0 sign
-      → (counted : Counted) → counted.at ≡ at_stage sign (behind_sign parts.Integer sign) → counted.complete ≡ false → HasFound m text counted
-  sign_only sign is counted at incomplete =
-      let counts = cuts_of (sign ∷ 0 ∷ 0 ∷ 0 ∷ 0 ∷ 0 ∷ 0 ∷ 0 ∷ 0 ∷ []) in
-      stopped_at m text counted counts (subst (λ at. IsAt m text at counts) (sym at) (sign_at sign is)) incomplete
-
-  pub nothing_at : (counted : Counted) → counted.at ≡ at_stage 0 stages.Start → counted.complete ≡ false → HasFound m text counted
-  nothing_at counted at incomplete = stopped_at m text counted no_cuts (subst (λ at. IsAt m text at no_cuts) (sym at) begun) incomplete
+      → IsBegun m text (at_stage (sign + 1) stages.Bare)
+  zero_only h sign is inside naught =
+      ((read_zero m text h sign (behind_sign parts.Integer sign) inside naught (begun_behind sign) is.signed).reads _ (sign_at sign is)).begun
 
   -- The digits of the integer.
   pub integer_at : (o : Opening) → IsOpened m text o → (size : ℕ) (stage : Stage) → IsReadOn m text (at_stage o.size o.stage) pieces.Integer

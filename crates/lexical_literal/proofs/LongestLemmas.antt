@@ -1,15 +1,14 @@
 -- Fronts of a text, and where the loop is left.
-use Rattle.std.proofs.Common.{ℕ, Bool, IsNone, Option, if◌then◌else◌, ◌≡◌, ◌<◌, ◌≤◌, ◌+◌, inl, inr, true, false, List, [], ◌∷◌, ◌++◌}
-use Rattle.std.proofs.Common.{length, length-set, get_or, replicate, set, take, drop, Some, None, refl, sym, ap, subst, append_assoc, append-nil}
-use Rattle.std.proofs.Common.{take-append-drop, ◌∙◌, arith}
+use Rattle.std.proofs.Common.{ℕ, Bool, IsNone, Option, if◌then◌else◌, ◌≡◌, ◌<◌, ◌≤◌, ◌+◌, inl, inr, true, false, List, [], ◌∷◌, ◌++◌, length, length-set}
+use Rattle.std.proofs.Common.{get_or, replicate, set, take, drop, Some, None, refl, sym, ap, subst, append_assoc, append-nil, take-append-drop, ◌∙◌, arith}
 use Rattle.std.specs.Prelude.{is_some, slice_get}
 use Rattle.std.proofs.lemmas.Bool.{false≢true, cases_lt}
 use Rattle.std.proofs.lemmas.Option.{slice_get-get_or, slice_get_past}
 use Rattle.std.proofs.lemmas.List.{take-take, take_more, take_all}
 use Rattle.lexical_literal.specs.Notation.{Notation, notation_of}
 use Rattle.lexical_literal.specs.Literal.{Literal, IsLiteral, Reads}
-use Rattle.lexical_literal.specs.Additions.Summary.{cuts_of, role_at, scan, step, is_accepted, is_complete, part_of}
-use Rattle.lexical_literal.specs.Additions.Summary.{tally, start, no_cuts, HasLengths, move_by, piece_number, piece_of}
+use Rattle.lexical_literal.specs.Additions.Summary.{cuts_of, role_at, scan, step, is_accepted, is_complete, part_of, tally, start, no_cuts, HasLengths, move_by}
+use Rattle.lexical_literal.specs.Additions.Summary.{piece_number, piece_of}
 use Rattle.lexical_literal.specs.Front.{IsFront, IsValidUpTo, NoLiteral, ReadsFront}
 use Rattle.lexical_literal.specs.Takes.{NoFront}
 use Rattle.lexical_literal.specs.Additions.Longest.{HasFound, IsCountedFront, IsFronted, IsLongest, IsStopped}

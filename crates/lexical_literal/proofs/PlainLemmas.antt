@@ -1,8 +1,8 @@
 -- What is read of a text part after part.
 use Rattle.lexical_literal.proofs.StepLemmas.{awaited_part}
 use Rattle.lexical_literal.specs.Run.{is_place}
-use Rattle.std.proofs.Common.{ℕ, ◌≡◌, ◌<◌, ◌≤◌, ◌+◌, ◌-◌, ◌==◌, ◌&&◌, ◌||◌, Bool, true, false, not, IsTrue, if◌then◌else◌, List, [], ◌∷◌, Some}
-use Rattle.std.proofs.Common.{get_or, length, take, refl, sym, ap, subst, ◌∙◌, arith}
+use Rattle.std.proofs.Common.{ℕ, ◌≡◌, ◌<◌, ◌≤◌, ◌+◌, ◌-◌, ◌==◌, ◌&&◌, ◌||◌, Bool, true, false, not, IsTrue, if◌then◌else◌, List, [], ◌∷◌, Some, get_or, length}
+use Rattle.std.proofs.Common.{take, refl, sym, ap, subst, ◌∙◌, arith}
 use Rattle.std.proofs.lemmas.Bool.{false≢true, and_from}
 use Rattle.std.proofs.lemmas.List.{take_more}
 use Rattle.lexical_util.specs.Layout.{separators_in}
@@ -13,10 +13,9 @@ use Rattle.lexical_util.specs.declared.format_flags.Part.TheVariants as parts
 use Rattle.lexical_literal.specs.Notation.{Notation}
 use Rattle.lexical_literal.specs.Additions.Longest.{HasFound}
 use Rattle.lexical_literal.specs.Additions.Plain.{HasRoles, IsAt, IsReadOn, fresh, is_free, at_stage}
-use Rattle.lexical_literal.specs.Additions.Summary.{Cuts, add, add_more, admits, after, after_digit, after_mark, digits_piece, forbids_plus}
-use Rattle.lexical_literal.specs.Additions.Summary.{leads_to_prefix}
-use Rattle.lexical_literal.specs.Additions.Summary.{has_digit, awaits_integer, is_negative, is_run, is_signed, may_follow, gap_fits, is_open}
-use Rattle.lexical_literal.specs.Additions.Summary.{no_cuts, piece_of, start, takes, role_at, part_of, takes_in, digits_of, is_fresh, needs_sign, implies}
+use Rattle.lexical_literal.specs.Additions.Summary.{Cuts, add, add_more, admits, after, after_digit, after_mark, digits_piece, forbids_plus, leads_to_prefix}
+use Rattle.lexical_literal.specs.Additions.Summary.{has_digit, awaits_integer, is_negative, is_run, is_signed, may_follow, gap_fits, is_open, no_cuts, piece_of}
+use Rattle.lexical_literal.specs.Additions.Summary.{start, takes, role_at, part_of, takes_in, digits_of, is_fresh, needs_sign, implies}
 use Rattle.lexical_literal.specs.declared.plain.At.{At}
 use Rattle.lexical_literal.specs.declared.plain.Counted.{Counted}
 use Rattle.lexical_literal.specs.declared.steps.Piece.{Piece}
@@ -270,11 +269,3 @@ module _ (m : Notation) (text : List ℕ) where
         (one_read (at_stage size stage) zero_at pieces.Integer zero refl c begun)) where
           prefix_admitted : (plus z : Bool) → admits m.condition (at_stage 0 stages.Bare).read plus z roles.Prefix ≡ true
           prefix_admitted plus z = grind arith
-
--- Where reading stops before a literal has been found.
-pub stopped_at : (m : Notation) (text : List ℕ) (counted : Counted) (c : Cuts) → IsAt m text counted.at c → counted.complete ≡ false → HasFound m text counted
-stopped_at m text counted c is incomplete = record {
-  begun = is.begun;
-  literal = λ yes. absurd (false≢true (sym incomplete ∙ yes));
-  lengths = λ yes. absurd (false≢true (sym incomplete ∙ yes));
-}

@@ -6,7 +6,7 @@ ghost use Rattle.std.specs.Prelude.{◌≡◌, ◌<◌, ◌≤◌, ◌+◌, ◌-
 ghost use Rattle.lexical_util.specs.Record.{raw};
 ghost use Rattle.lexical_literal.specs.Notation.{Notation, notation_of, radix_of};
 ghost use Rattle.lexical_literal.specs.Additions.Longest.{HasFound};
-ghost use Rattle.lexical_literal.specs.Additions.Plain.{IsAt, IsDigitAt, IsOpened, IsReadOn, IsReady, IsRunOn, IsSeparated, IsSign};
+ghost use Rattle.lexical_literal.specs.Additions.Plain.{IsAt, IsBegun, IsDigitAt, IsOpened, IsReadOn, IsReady, IsRunOn, IsSeparated, IsSign};
 ghost use Rattle.lexical_literal.specs.Additions.Plain.{behind_sign, counts_of, fresh, is_free, at_stage};
 ghost use Rattle.lexical_literal.specs.Additions.Summary.{Cuts, add, after_mark, after_point, awaits_integer, cuts_of, has_digit, is_run, is_signed, part_of, piece_of};
 ghost use Rattle.lexical_literal.specs.declared.steps.Piece.TheVariants as pieces;
@@ -87,9 +87,9 @@ const fn at_stage(size: usize, stage: Stage) -> At
 
 // Returns that reading stops at `at`, where no literal has been found.
 #[inline(always)]
-const fn stopped(at: At) -> Counted
-    ensures at { result.at ≡ at }
-    ensures complete { result.complete ≡ false }
+const fn stopped(_grammar: Grammar, _text: &[u8], at: At) -> Counted
+    requires { IsBegun (notation_of _grammar) _text.now at }
+    ensures { HasFound (notation_of _grammar) _text.now result }
 {
     Counted {
         at,
@@ -318,7 +318,7 @@ pub(crate) const fn plain(grammar: Grammar, text: &[u8], fronts: bool) -> Counte
     ensures { HasFound (notation_of grammar) text.now result }
 {
     let Some(sign) = sign(grammar, text, Part::Integer, 0) else {
-        return stopped(BEGIN);
+        return stopped(grammar, text, BEGIN);
     };
     let Some(opening) = open(grammar, text, sign) else {
         return without_prefix(grammar, text, sign);
@@ -353,16 +353,21 @@ const fn open(grammar: Grammar, text: &[u8], sign: usize) -> Option<Opening>
 }
 
 // Reads the zero with which a required base prefix begins, if it follows.
+#[tactic(auto, using(crate::proofs::JoinLemmas::zero_only))]
 #[inline(always)]
-const fn without_prefix(_grammar: Grammar, text: &[u8], sign: usize) -> Counted
-    requires ready { IsReady (notation_of _grammar) }
-    requires sign { IsSign (notation_of _grammar) text.now Part.Integer 0 sign }
-    ensures { HasFound (notation_of _grammar) text.now result }
+const fn without_prefix(grammar: Grammar, text: &[u8], sign: usize) -> Counted
+    requires ready { IsReady (notation_of grammar) }
+    requires sign { IsSign (notation_of grammar) text.now Part.Integer 0 sign }
+    ensures { HasFound (notation_of grammar) text.now result }
 {
     if sign < text.len() && text[sign] == b'0' {
-        stopped(at_stage(sign + 1, Stage::Bare))
+        stopped(grammar, text, at_stage(sign + 1, Stage::Bare))
     } else {
-        stopped(at_stage(sign, behind_sign(Part::Integer, sign)))
+        stopped(
+            grammar,
+            text,
+            at_stage(sign, behind_sign(Part::Integer, sign)),
+        )
     }
 }
 
@@ -381,7 +386,7 @@ const fn integer(grammar: Grammar, text: &[u8], fronts: bool, opening: Opening) 
     } = opening;
     let run = digits(grammar, text, Part::Integer, size, stage, 0);
     if run.size == size {
-        return stopped(at_stage(size, stage));
+        return stopped(grammar, text, at_stage(size, stage));
     }
     let integer = run.size - sign - prefix;
     let sizes = Sizes {
@@ -421,7 +426,7 @@ const fn fraction(
     let stage = after_point(integer.stage);
     let run = digits(grammar, text, Part::Fraction, from, stage, integer.sum);
     if run.size == from {
-        return stopped(at_stage(from, stage));
+        return stopped(grammar, text, at_stage(from, stage));
     }
     let sizes = Sizes {
         point: 1,
@@ -465,7 +470,7 @@ const fn exponent(grammar: Grammar, text: &[u8], fronts: bool, sizes: Sizes, siz
     ensures { HasFound (notation_of grammar) text.now result }
 {
     let Some(sign) = sign(grammar, text, Part::Exponent, size) else {
-        return stopped(at_stage(size, Stage::Mark));
+        return stopped(grammar, text, at_stage(size, Stage::Mark));
     };
     let from = size + sign;
     let run = digits(
@@ -524,7 +529,7 @@ const fn end(
         };
     }
     if !fronts && size < text.len() {
-        return stopped(at);
+        return stopped(grammar, text, at);
     }
     Counted {
         at,

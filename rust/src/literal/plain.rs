@@ -67,7 +67,7 @@ const fn at_stage(size: usize, stage: Stage) -> At {
 
 // Returns that reading stops at `at`, where no literal has been found.
 #[inline(always)]
-const fn stopped(at: At) -> Counted {
+const fn stopped(_grammar: Grammar, _text: &[u8], at: At) -> Counted {
     Counted { at, counts: [0; 9], complete: false }
 }
 
@@ -199,7 +199,7 @@ const fn behind_zero(grammar: Grammar, text: &[u8], zero: Run) -> Run {
 #[inline(always)]
 pub(crate) const fn plain(grammar: Grammar, text: &[u8], fronts: bool) -> Counted {
     let Some(sign) = sign(grammar, text, Part::Integer, 0) else {
-        return stopped(BEGIN);
+        return stopped(grammar, text, BEGIN);
     };
     let Some(opening) = open(grammar, text, sign) else {
         return without_prefix(grammar, text, sign);
@@ -221,11 +221,11 @@ const fn open(grammar: Grammar, text: &[u8], sign: usize) -> Option<Opening> {
 
 // Reads the zero with which a required base prefix begins, if it follows.
 #[inline(always)]
-const fn without_prefix(_grammar: Grammar, text: &[u8], sign: usize) -> Counted {
+const fn without_prefix(grammar: Grammar, text: &[u8], sign: usize) -> Counted {
     if sign < text.len() && text[sign] == b'0' {
-        stopped(at_stage(sign + 1, Stage::Bare))
+        stopped(grammar, text, at_stage(sign + 1, Stage::Bare))
     } else {
-        stopped(at_stage(sign, behind_sign(Part::Integer, sign)))
+        stopped(grammar, text, at_stage(sign, behind_sign(Part::Integer, sign)))
     }
 }
 
@@ -235,7 +235,7 @@ const fn integer(grammar: Grammar, text: &[u8], fronts: bool, opening: Opening) 
     let Opening { sign, prefix, size, stage } = opening;
     let run = digits(grammar, text, Part::Integer, size, stage, 0);
     if run.size == size {
-        return stopped(at_stage(size, stage));
+        return stopped(grammar, text, at_stage(size, stage));
     }
     let integer = run.size - sign - prefix;
     let sizes = Sizes { sign, prefix, integer, point: 0, fraction: 0 };
@@ -253,7 +253,7 @@ const fn fraction(grammar: Grammar, text: &[u8], fronts: bool, sizes: Sizes, int
     let stage = after_point(integer.stage);
     let run = digits(grammar, text, Part::Fraction, from, stage, integer.sum);
     if run.size == from {
-        return stopped(at_stage(from, stage));
+        return stopped(grammar, text, at_stage(from, stage));
     }
     let sizes = Sizes { point: 1, fraction: run.size - from, ..sizes };
     behind_mantissa(grammar, text, fronts, sizes, run)
@@ -277,7 +277,7 @@ const fn behind_mantissa(grammar: Grammar, text: &[u8], fronts: bool, sizes: Siz
 #[inline(always)]
 const fn exponent(grammar: Grammar, text: &[u8], fronts: bool, sizes: Sizes, size: usize) -> Counted {
     let Some(sign) = sign(grammar, text, Part::Exponent, size) else {
-        return stopped(at_stage(size, Stage::Mark));
+        return stopped(grammar, text, at_stage(size, Stage::Mark));
     };
     let from = size + sign;
     let run = digits(grammar, text, Part::Exponent, from, behind_sign(Part::Exponent, sign), 0);
@@ -299,7 +299,7 @@ const fn end(grammar: Grammar, text: &[u8], fronts: bool, at: At, sizes: Sizes, 
         };
     }
     if !fronts && size < text.len() {
-        return stopped(at);
+        return stopped(grammar, text, at);
     }
     Counted {
         at,

@@ -8,7 +8,6 @@ use Rattle.lexical_literal.specs.Notation.{notation_of}
 use Rattle.lexical_literal.specs.declared.plain.At.{At}
 use Rattle.lexical_literal.proofs.JoinLemmas.{suffix_at}
 use Rattle.lexical_literal.proofs.LongestLemmas.{complete_at}
-use Rattle.lexical_literal.proofs.PlainLemmas.{stopped_at}
 use Rattle.lexical_literal.proofs.plain.end.Goals as goal
 
 pub returns-then-takes : goal.returns-then-takes
@@ -19,15 +18,6 @@ returns-then-takes c =
     complete_at m c.requires.ready text _ (suffix_at m text c.requires.ready.roles c.args.sizes _ _ _ at c.if-size-text.true
     (subst (λ w. suffix (raw w) (get_or text at.size 0) ≡ true) c.view.ensures (sym c.is_base_suffix.ensures ∙ c.if-is_base_suffix.true))
     c.requires.going (sym c.takes.ensures ∙ c.if-takes.true) c.requires.free c.requires.at) c.is_complete.ensures
-
-pub returns-then-size-text-2 : goal.returns-then-size-text-2
-returns-then-size-text-2 c =
-    let m = notation_of c.args.grammar in
-    let text = c.args.text.now in
-    let scale = c.args.scale in
-    let counts = cuts_of (counts_of c.args.sizes (get_or scale 0 0) (get_or scale 1 0) (get_or scale 2 0) 0) in
-    stopped_at m text c.stopped.result counts (subst (λ (at : At). IsAt m text at counts) (sym c.stopped.ensures.at) c.requires.at)
-    c.stopped.ensures.complete
 
 pub returns : goal.returns
 returns c = complete_at _ c.requires.ready _ _ c.requires.at c.is_complete-2.ensures
