@@ -10,9 +10,8 @@ use Rattle.lexical_util.specs.declared.format_flags.Part.TheVariants as parts
 use Rattle.lexical_literal.specs.Notation.{Notation}
 use Rattle.lexical_literal.specs.Literal.{Literal, is_none_or_one}
 use Rattle.lexical_literal.specs.Additions.Summary.{implies, has_digit, is_fresh, is_bare, after_digit, after_mark, after_point, is_open, may_follow, part_of}
-use Rattle.lexical_literal.specs.Additions.Summary.{takes_in}
-use Rattle.lexical_literal.specs.Additions.Summary.{is_signed, forbids_plus, gap_fits, digits_suffice, ends, continues, may_float, takes, after, role_at}
-use Rattle.lexical_literal.specs.Additions.Summary.{awaits_integer}
+use Rattle.lexical_literal.specs.Additions.Summary.{takes_in, is_signed, forbids_plus, gap_fits, digits_suffice, ends, continues, may_float, takes, after}
+use Rattle.lexical_literal.specs.Additions.Summary.{role_at, awaits_integer}
 use Rattle.lexical_literal.specs.declared.steps.Stage.{Stage}
 use Rattle.lexical_literal.specs.declared.steps.Stage.TheVariants as stages
 use Rattle.lexical_literal.specs.declared.steps.Summary.{Summary}

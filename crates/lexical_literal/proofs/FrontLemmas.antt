@@ -137,7 +137,7 @@ module _ (m : Notation) where
           (digit_completed (after_mark stage) gap (grind arith) (grind arith)
           (record {
             closes = let closes = can.closes in subst (λ part. implies gap (is_open m part (has_digit (after_mark stage)) (may_follow m
-            (after_mark stage))) ≡ true)
+                (after_mark stage))) ≡ true)
                 (sym (mark_part stage)) (grind arith);
             led = grind arith;
             prefixed = grind arith;

@@ -9,7 +9,7 @@ use Rattle.lexical_literal.specs.Additions.Summary.{cuts_of, takes}
 use Rattle.lexical_literal.specs.Notation.{notation_of}
 use Rattle.lexical_literal.specs.declared.plain.At.{At}
 use Rattle.lexical_literal.proofs.JoinLemmas.{suffix_at}
-use Rattle.lexical_literal.proofs.PlainLemmas.{complete_at}
+use Rattle.lexical_literal.proofs.LongestLemmas.{complete_at, stops_at}
 use Rattle.lexical_literal.proofs.PassedLemmas.{passed}
 use Rattle.lexical_literal.proofs.plain.end.Goals as goal
 use Rattle.lexical_literal.proofs.plain.end.Goals.{else-size-text-via-then-size-text+then-is_base_suffix+else-takes, else-size-text-via-then-size-text+else-is_base_suffix}
@@ -20,7 +20,7 @@ returns-then-takes c =
     let m = notation_of c.args.grammar in
     let text = c.args.text.now in
     let at = c.args.at in
-    complete_at m text _ (suffix_at m text c.requires.roles c.args.sizes _ _ _ at c.if-size-text.true
+    complete_at m c.requires.ready text _ (suffix_at m text c.requires.ready.roles c.args.sizes _ _ _ at c.if-size-text.true
     (subst (λ w. suffix (raw w) (get_or text at.size 0) ≡ true) c.view.ensures (sym c.is_base_suffix.ensures ∙ c.if-is_base_suffix.true))
     c.requires.going (sym c.takes.ensures ∙ c.if-takes.true) c.requires.free c.requires.at) c.is_complete.ensures refl
 
@@ -39,13 +39,17 @@ returns-then-size-text-2 c =
     ] in
     record {
       begun = c.requires.at.begun;
-      complete = λ yes. absurd (false≢true yes);
+      literal = λ yes. absurd (false≢true yes);
       lengths = λ yes. absurd (false≢true yes);
       exact = λ yes. elim c.if-is_run.branch [
         | then-is_run w ↦
             let run = sym c.is_run.ensures ∙ w.if-is_run.true in
             let separator : m.separator b ≡ false = let a = w.is_separator.ensures in let r = w.result-is in grind arith in
-            (inside, passed m at.read b run (c.requires.over run inside) separator (c.requires.point inside) (c.requires.exponent inside) suffix_passed)
+            (inside, stops_at m c.requires.ready text at c.requires.at.begun
+            (λ _. passed m at.read b run (c.requires.over run inside) separator (c.requires.point inside) (c.requires.exponent inside) suffix_passed))
         | else-is_run w ↦ absurd (false≢true (sym w.if-is_run.false ∙ (sym w.result-is ∙ yes)))
       ];
     }
+
+pub returns : goal.returns
+returns c = complete_at _ c.requires.ready _ _ c.requires.at c.is_complete-2.ensures refl
