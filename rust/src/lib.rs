@@ -88,8 +88,10 @@ mod number {
     pub(crate) mod float;
     pub(crate) mod integer;
     pub(crate) mod leading;
+    pub(crate) mod nearest;
     pub(crate) mod numeral;
     pub(crate) mod parts;
+    pub(crate) mod powers;
 }
 mod numeral;
 #[doc(hidden)]
