@@ -113,9 +113,9 @@ significand_at f h j d k b fits full =
     let e : 2 ^ (j + 1) ≡ 2 * 2 ^ j = pow-add 2 j 1 ∙ omega arith in
     significand_of f j h 0 d k b.0 (omega (arith, b.1)) (sym (div-eq_of_lt (omega (arith, b.1)))) (omega arith) (λ K. omega (arith, full K))
 
--- A number by its highest bit, which becomes bit 63.
-pub to_top : (a j s : ℕ) → 2 ^ j ≤ a → a < 2 ^ suc j → j + s ≡ 63 → (2 ^ 63 ≤ a * 2 ^ s) × (a * 2 ^ s < 2 ^ 64)
-to_top a j s from below is =
-    let least : 2 ^ 63 ≡ 2 ^ j * 2 ^ s = ap (λ k. 2 ^ k) {x = 63} {y = j + s} (omega arith) ∙ pow-add 2 j s in
-    let most : 2 ^ (suc j + s) ≡ 2 ^ 64 = ap (λ k. 2 ^ k) {x = suc j + s} {y = 64} (omega arith) in
+-- A number by its highest bit, which becomes bit `k`.
+pub to_top : (a j s k : ℕ) → 2 ^ j ≤ a → a < 2 ^ suc j → j + s ≡ k → (2 ^ k ≤ a * 2 ^ s) × (a * 2 ^ s < 2 ^ suc k)
+to_top a j s k from below is =
+    let least : 2 ^ k ≡ 2 ^ j * 2 ^ s = ap (λ k. 2 ^ k) {x = k} {y = j + s} (omega arith) ∙ pow-add 2 j s in
+    let most : 2 ^ (suc j + s) ≡ 2 ^ suc k = ap (λ k. 2 ^ k) {x = suc j + s} {y = suc k} (omega arith) in
     (omega (arith, least, mul-le-mul_right (2 ^ s) from), omega (arith, most, shl_lt (suc j) s below))

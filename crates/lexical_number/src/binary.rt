@@ -103,29 +103,30 @@ pub(crate) const fn nearest_to_word(
     up: u128,
     down: u128,
 ) -> u64
-    requires top { 2 ^ 63 ≤ word }
+    requires top { 2 ^ 62 ≤ word }
     requires scale { (up < 2 ^ 125) × (down < 2 ^ 125) }
     ensures { (num den : ℕ) → 0 < den → IsCutTo (num * 2 ^ down) word more (den * 2 ^ up) → IsNearestBits (format_of double) num den result }
 {
-    let (dropped, exponent) = dropped(64 - precision(double), up + lowest(double) as u128, down);
+    let least = 63 + (word >> 63) - precision(double);
+    let (dropped, exponent) = dropped(least, up + lowest(double) as u128, down);
     settle(double, word, more, dropped, exponent)
 }
 
-// Returns the leading 64 bits of a number, whether some of the others are not 0, and the exponents of two above and below
+// Returns the leading 63 bits of a number, whether some of the others are not 0, and the exponents of two above and below
 // the line by which the number is more or less than these bits.
 #[inline(always)]
 const fn leading_word(digits: u128, more: bool) -> (u64, bool, u64, u64)
     requires digits { 0 < digits }
-    requires more { more ≡ true → 2 ^ 63 ≤ digits }
-    ensures top { 2 ^ 63 ≤ result.0 }
+    requires more { more ≡ true → 2 ^ 62 ≤ digits }
+    ensures top { 2 ^ 62 ≤ result.0 }
     ensures value { (n unit : ℕ) → 0 < unit → IsCutTo n digits more unit → IsCutTo (n * 2 ^ result.3) result.0 result.1 (unit * 2 ^ result.2) }
-    ensures range { (result.2 ≤ 64) × (result.3 ≤ 64) }
+    ensures range { (result.2 ≤ 65) × (result.3 ≤ 65) }
 {
     let zeros = digits.leading_zeros() as u64;
-    if zeros >= 64 {
-        return ((digits << (zeros - 64)) as u64, more, 0, zeros - 64);
+    if zeros >= 65 {
+        return ((digits << (zeros - 65)) as u64, more, 0, zeros - 65);
     }
-    let up = 64 - zeros;
+    let up = 65 - zeros;
     let word = (digits >> up) as u64;
     (word, more | ((word as u128) << up != digits), up, 0)
 }
@@ -134,7 +135,7 @@ const fn leading_word(digits: u128, more: bool) -> (u64, bool, u64, u64)
 /// true, and below the same with `digits + 1`.
 #[must_use]
 pub const fn nearest_bits(double: bool, digits: u128, more: bool, up: u128, down: u128) -> u64
-    requires more { more ≡ true → 2 ^ 63 ≤ digits }
+    requires more { more ≡ true → 2 ^ 62 ≤ digits }
     requires scale { (up < 2 ^ 120) × (down < 2 ^ 120) }
     ensures { (num den : ℕ) → 0 < den → IsCutTo (num * 2 ^ down) digits more (den * 2 ^ up) → IsNearestBits (format_of double) num den result }
 {

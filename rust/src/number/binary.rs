@@ -86,19 +86,20 @@ const fn dropped(least: u64, above: u128, below: u128) -> (u128, u128) {
 // and below the same with `word + 1`.
 #[inline(always)]
 pub(crate) const fn nearest_to_word(double: bool, word: u64, more: bool, up: u128, down: u128) -> u64 {
-    let (dropped, exponent) = dropped(64 - precision(double), up + lowest(double) as u128, down);
+    let least = 63 + (word >> 63) - precision(double);
+    let (dropped, exponent) = dropped(least, up + lowest(double) as u128, down);
     settle(double, word, more, dropped, exponent)
 }
 
-// Returns the leading 64 bits of a number, whether some of the others are not 0, and the exponents of two above and below
+// Returns the leading 63 bits of a number, whether some of the others are not 0, and the exponents of two above and below
 // the line by which the number is more or less than these bits.
 #[inline(always)]
 const fn leading_word(digits: u128, more: bool) -> (u64, bool, u64, u64) {
     let zeros = digits.leading_zeros() as u64;
-    if zeros >= 64 {
-        return ((digits << (zeros - 64)) as u64, more, 0, zeros - 64);
+    if zeros >= 65 {
+        return ((digits << (zeros - 65)) as u64, more, 0, zeros - 65);
     }
-    let up = 64 - zeros;
+    let up = 65 - zeros;
     let word = (digits >> up) as u64;
     (word, more | ((word as u128) << up != digits), up, 0)
 }
