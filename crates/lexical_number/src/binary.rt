@@ -51,7 +51,7 @@ const fn scaled_bits(double: bool, significand: u64, exponent: u128) -> u64
     if bits < infinity { bits } else { infinity }
 }
 
-// Returns what is kept of a word when the lower `dropped` bits are cut off, what is cut off, and half of the lowest kept bit.
+// Returns what is kept of a word without the lower `dropped` bits, what is cut off, and half of the lowest kept bit.
 #[inline(always)]
 const fn cut(word: u64, dropped: u64) -> (u64, u64, u64)
     requires { (0 < dropped) × (dropped ≤ 64) }
@@ -61,7 +61,8 @@ const fn cut(word: u64, dropped: u64) -> (u64, u64, u64)
     (word >> (dropped - 1) >> 1, word & (half + (half - 1)), half)
 }
 
-// Returns the bits of the float nearest to a number, if `word` counts parts of `2 ^ dropped` of `2 ^ exponent` least floats.
+// Returns the bits of the float nearest to a number of which `word` counts units of `2 ^ exponent / 2 ^ dropped` least
+// floats.
 #[inline(always)]
 const fn settle(double: bool, word: u64, more: bool, dropped: u128, exponent: u128) -> u64
     requires dropped { 2 ≤ dropped }
@@ -93,8 +94,8 @@ const fn dropped(least: u64, above: u128, below: u128) -> (u128, u128)
     }
 }
 
-// Returns the bits of the float nearest to `word * 2 ^ up / 2 ^ down`, or to a number that is above this, if `more` is true,
-// and below the same with `word + 1`.
+// Returns the bits of the float nearest to `word * 2 ^ up / 2 ^ down`, or to a number that is above this, if `more` is
+// true, and below the same with `word + 1`.
 #[inline(always)]
 pub(crate) const fn nearest_to_word(
     double: bool,
