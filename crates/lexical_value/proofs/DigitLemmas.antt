@@ -1,5 +1,5 @@
 -- Digits without separators, and the numbers that they represent.
-use Rattle.std.proofs.Common.{◌≡◌, ◌≢◌, ℕ, suc, ◌+◌, ◌-◌, ◌*◌, ◌%◌, ◌^◌, ◌<◌, ◌≤◌, ◌++◌, true, cond, IsTrue, List, [], ◌∷◌, length, take, refl, sym}
+use Rattle.std.proofs.Common.{◌≡◌, ◌≢◌, ℕ, suc, ◌+◌, ◌-◌, ◌*◌, ◌%◌, ◌^◌, ◌<◌, ◌++◌, true, cond, IsTrue, List, [], ◌∷◌, length, take, refl, sym}
 use Rattle.std.proofs.Common.{ap, ◌∙◌, arith, Some, None, nat_lt}
 use Rattle.std.proofs.lemmas.Bool.{agree_below_at, eqb-true}
 use Rattle.std.specs.Prelude.{◌==◌}
