@@ -4,7 +4,8 @@ use mathlib.Core.Path.{refl, sym, ap, ◌∙◌, subst}
 use mathlib.Core.Logic.{inl, inr}
 use mir.Val.{bool_byte}
 use native.Mathlib.Omega.{arith}
-use native.Mathlib.Nat.{eq-zero-or-pos, mul-pos, mod-eq_of_lt, mod-lt, lt_of_mul-lt-mul_right, mul-le-mul_right, eq_of_mul-eq-mul_right, div-add-mod', div-eq_of_lt}
+use native.Mathlib.Nat.{eq-zero-or-pos, mul-pos, mod-eq_of_lt, mod-lt, lt_of_mul-lt-mul_right, mul-le-mul_right, eq_of_mul-eq-mul_right}
+use native.Mathlib.Nat.{div-add-mod', div-eq_of_lt}
 use lib.Pow.{pow_pos, pow-add, shl_lt}
 use lib.Ieee.{Format, hid, prec, low}
 use Rattle.core.specs.Dec2flt.Rounding.{scaled_bits, IsNearestBits, IsCut, IsJustAbove, IsSignificand, IsWithin}
@@ -72,7 +73,8 @@ module _ (f : Format) (num den d k : ℕ) {h : ℕ} {more : Bool} (near : IsCutT
 
   -- What is cut off decides how the kept bits are rounded.
   module _ {kept rest half : ℕ} (fits : IsSignificand f (h / 2 ^ d) k) (cut : IsCut h d kept rest half) (D : 0 < den) (least : 1 ≤ half) where
-    pub rounded : (up : Bool) → up ≡ (nat_lt half rest || ((rest == half) && (more || (kept % 2 == 1)))) → IsNearestBits f num den (scaled_bits f (kept + bool_byte up) k)
+    pub rounded : (up : Bool) → up ≡ (nat_lt half rest || ((rest == half) && (more || (kept % 2 == 1))))
+        → IsNearestBits f num den (scaled_bits f (kept + bool_byte up) k)
     rounded up is = elim (eq-zero-or-pos (rest - half)) [
       | inr over ↦ by (kept + 1) true (is ∙ grind (arith, nat_tests)) refl (rounds_up fits cut D within_one (omega arith) least)
       | inl z ↦ elim (eq-zero-or-pos (half - rest)) [

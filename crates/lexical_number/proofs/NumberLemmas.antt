@@ -73,11 +73,13 @@ pub number_short : (xs ys : List ℕ) → number_after 10 0 (xs ++ ys) < 2 ^ 64
 number_short xs ys small =
     let whole = number_after-append 10 0 xs ys in
     let ten : 0 < 10 = omega arith in
-    let first : number_after 10 0 xs % 2 ^ 64 ≡ number_after 10 0 xs = omega (arith, whole, small, number_after_ge 10 (number_after 10 0 xs) (digits_in 10 ys) ten) in
+    let first : number_after 10 0 xs % 2 ^ 64 ≡ number_after 10 0 xs =
+    omega (arith, whole, small, number_after_ge 10 (number_after 10 0 xs) (digits_in 10 ys) ten) in
     ap (λ n. number_after 10 n ys % 2 ^ 64) first ∙ ap (λ n. n % 2 ^ 64) (sym whole) ∙ omega (arith, small)
 
 -- Zeros at the beginning do not change the number.
-pub zeros_skipped : (i : ℕ) (bytes : List ℕ) → i < length bytes → get_or bytes i 0 ≡ 48 → number_after 10 0 (drop i bytes) ≡ number_after 10 0 (drop (i + 1) bytes)
+pub zeros_skipped : (i : ℕ) (bytes : List ℕ) → i < length bytes → get_or bytes i 0 ≡ 48
+    → number_after 10 0 (drop i bytes) ≡ number_after 10 0 (drop (i + 1) bytes)
 unfolding byte_value
 zeros_skipped i bytes inside zero = at 10 0 i bytes inside (Some 0) (ap (λ byte. digit_of byte 10) zero)
 
