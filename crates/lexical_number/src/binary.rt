@@ -113,23 +113,23 @@ pub(crate) const fn nearest_to_word(
     settle(double, word, more, dropped, exponent)
 }
 
-// Returns the leading 63 bits of a number, whether some of the others are not 0, and the exponents of two above and below
-// the line by which the number is more or less than these bits.
+// Returns the leading 63 bits of a number, whether some of the others are not 0, and by how many bits the number was
+// shifted before 65 were dropped.
 #[inline(always)]
-const fn leading_word(digits: u128, more: bool) -> (u64, bool, u64, u64)
+const fn leading_word(digits: u128, more: bool) -> (u64, bool, u64)
     requires digits { 0 < digits }
     requires more { more ≡ true → 2 ^ 62 ≤ digits }
     ensures top { 2 ^ 62 ≤ result.0 }
-    ensures value { (n unit : ℕ) → 0 < unit → IsCutTo n digits more unit → IsCutTo (n * 2 ^ result.3) result.0 result.1 (unit * 2 ^ result.2) }
-    ensures range { (result.2 ≤ 65) × (result.3 ≤ 65) }
+    ensures value { (n unit : ℕ) → 0 < unit → IsCutTo n digits more unit → IsCutTo (n * 2 ^ result.2) result.0 result.1 (unit * 2 ^ 65) }
+    ensures range { result.2 < 128 }
 {
     let zeros = digits.leading_zeros() as u64;
-    if zeros >= 65 {
-        return ((digits << (zeros - 65)) as u64, more, 0, zeros - 65);
-    }
-    let up = 65 - zeros;
-    let word = (digits >> up) as u64;
-    (word, more | ((word as u128) << up != digits), up, 0)
+    let lifted = digits << zeros;
+    (
+        (lifted >> 65) as u64,
+        more | (lifted % (1 << 65) != 0),
+        zeros,
+    )
 }
 
 /// Returns the bits of the float nearest to `digits * 2 ^ up / 2 ^ down`, or to a number that is above this, if `more` is
@@ -143,12 +143,6 @@ pub const fn nearest_bits(double: bool, digits: u128, more: bool, up: u128, down
     if digits == 0 {
         return 0;
     }
-    let (word, more, raised, lowered) = leading_word(digits, more);
-    nearest_to_word(
-        double,
-        word,
-        more,
-        up + raised as u128,
-        down + lowered as u128,
-    )
+    let (word, more, zeros) = leading_word(digits, more);
+    nearest_to_word(double, word, more, up + 65, down + zeros as u128)
 }

@@ -92,17 +92,13 @@ pub(crate) const fn nearest_to_word(double: bool, word: u64, more: bool, up: u12
     settle(double, word, more, dropped, exponent)
 }
 
-// Returns the leading 63 bits of a number, whether some of the others are not 0, and the exponents of two above and below
-// the line by which the number is more or less than these bits.
+// Returns the leading 63 bits of a number, whether some of the others are not 0, and by how many bits the number was
+// shifted before 65 were dropped.
 #[inline(always)]
-const fn leading_word(digits: u128, more: bool) -> (u64, bool, u64, u64) {
+const fn leading_word(digits: u128, more: bool) -> (u64, bool, u64) {
     let zeros = digits.leading_zeros() as u64;
-    if zeros >= 65 {
-        return ((digits << (zeros - 65)) as u64, more, 0, zeros - 65);
-    }
-    let up = 65 - zeros;
-    let word = (digits >> up) as u64;
-    (word, more | ((word as u128) << up != digits), up, 0)
+    let lifted = digits << zeros;
+    ((lifted >> 65) as u64, more | (lifted % (1 << 65) != 0), zeros)
 }
 
 /// Returns the bits of the float nearest to `digits * 2 ^ up / 2 ^ down`, or to a number that is above this, if `more` is
@@ -112,6 +108,6 @@ pub const fn nearest_bits(double: bool, digits: u128, more: bool, up: u128, down
     if digits == 0 {
         return 0;
     }
-    let (word, more, raised, lowered) = leading_word(digits, more);
-    nearest_to_word(double, word, more, up + raised as u128, down + lowered as u128)
+    let (word, more, zeros) = leading_word(digits, more);
+    nearest_to_word(double, word, more, up + 65, down + zeros as u128)
 }
