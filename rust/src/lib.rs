@@ -88,8 +88,11 @@ mod number {
     pub(crate) mod float;
     pub(crate) mod integer;
     pub(crate) mod leading;
+    #[allow(clippy::manual_range_contains, reason = "as it is proved")]
+    pub(crate) mod nearest;
     pub(crate) mod numeral;
     pub(crate) mod parts;
+    pub(crate) mod powers;
 }
 mod numeral;
 #[doc(hidden)]

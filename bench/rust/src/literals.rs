@@ -175,6 +175,7 @@ pub fn rows() -> Vec<Row> {
     });
     let exponents = of_form(Language::JSON, 0, || format!("1.{}e{}", fixed(random, 16), random.below(600) as i64 - 300));
     let fractions = of_form(Language::JSON, 0, || format!("0.{}", fixed(random, 17)));
+    let long = of_form(Language::JSON, 0, || format!("1.{}", fixed(random, 99)));
     let hexadecimal = of_form(Language::C, 4, || format!("0x1.{}p{}", fixed(random, 13), random.below(100)));
     let form = |form| Group::new((Language::C, form), 20_000, || of_c(random, form), |_, _| true);
     let forms = Vec::from([0, 1, 2, 3, 4].map(form)).leak();
@@ -210,6 +211,7 @@ pub fn rows() -> Vec<Row> {
         "Syntax::parse::<f64>, money, over parse", money.float, money.parse;
         "Syntax::parse::<f64>, 17 digits, over parse", exponents.float, exponents.parse;
         "Syntax::parse::<f64>, fractions, over parse", fractions.float, fractions.parse;
+        "Syntax::parse::<f64>, 100 digits, over parse", long.float, long.parse;
         "Syntax::parse::<f64>, hexadecimal, over Syntax::read", hexadecimal.float, hexadecimal.reader;
     };
     rows.push(written(random));

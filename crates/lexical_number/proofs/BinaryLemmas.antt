@@ -1,36 +1,39 @@
 -- From a number by its leading bits to units of least floats, and to the nearest float.
-use Rattle.core.specs.Prelude.{◌≡◌, ℕ, ◌+◌, ◌*◌, ◌/◌, ◌%◌, ◌^◌, ◌<◌, ◌≤◌, Bool, true, false}
-use mathlib.Core.Path.{sym, ap, ◌∙◌, subst}
+use Rattle.core.specs.Prelude.{◌≡◌, ℕ, suc, ◌+◌, ◌-◌, ◌*◌, ◌/◌, ◌%◌, ◌^◌, ◌<◌, ◌≤◌, ◌==◌, ◌||◌, ◌&&◌, nat_lt, Bool, true, false}
+use mathlib.Core.Path.{refl, sym, ap, ◌∙◌, subst}
+use mathlib.Core.Logic.{inl, inr}
+use mir.Val.{bool_byte}
 use native.Mathlib.Omega.{arith}
-use native.Mathlib.Nat.{mul-pos, lt_of_mul-lt-mul_right, eq_of_mul-eq-mul_right, div-add-mod', div-eq_of_lt}
-use lib.Pow.{pow_pos, pow-add}
-use lib.Ieee.{Format, prec, low}
+use native.Mathlib.Nat.{eq-zero-or-pos, mul-pos, mod-eq_of_lt, mod-lt, lt_of_mul-lt-mul_right, mul-le-mul_right, eq_of_mul-eq-mul_right}
+use native.Mathlib.Nat.{div-add-mod', div-eq_of_lt}
+use lib.Pow.{pow_pos, pow-add, shl_lt}
+use lib.Ieee.{Format, hid, prec, low}
 use Rattle.core.specs.Dec2flt.Rounding.{scaled_bits, IsNearestBits, IsCut, IsJustAbove, IsSignificand, IsWithin}
+use Rattle.core.proofs.dec2flt.Patterns.{shape}
 use Rattle.core.proofs.dec2flt.RoundingLemmas.{nearest_tie, nearest_above}
-use Rattle.core.proofs.dec2flt.Settle.{lies_above, significand_of}
+use Rattle.core.proofs.dec2flt.Settle.{lies_above, rounds_down, rounds_up, significand_of}
+use Rattle.std.proofs.lemmas.Bool.Decides.{nat_tests}
 use Rattle.lexical_number.specs.Leading.{IsCutTo}
-use Rattle.lexical_number.proofs.LeadingLemmas.{beyond, exact, scaled, unscaled, longer_digits}
+use Rattle.lexical_number.proofs.LeadingLemmas.{beyond, exact, scaled, unscaled}
 
-powers : (den up l d down lift e : ℕ) → up + l + d ≡ down + lift + e → den * 2 ^ up * (2 ^ l * 2 ^ d) ≡ 2 ^ lift * (den * 2 ^ e) * 2 ^ down
-powers den up l d down lift e is =
-    let same : 2 ^ up * (2 ^ l * 2 ^ d) ≡ 2 ^ down * (2 ^ lift * 2 ^ e) =
-    ap (λ t. 2 ^ up * t) (sym (pow-add 2 l d)) ∙ sym (pow-add 2 up (l + d)) ∙ ap (λ t. 2 ^ t) {x = up + (l + d)} {y = down + (lift + e)} (omega arith)
-    ∙ pow-add 2 down (lift + e) ∙ ap (λ t. 2 ^ down * t) (pow-add 2 lift e) in
+powers : (den up l d down e : ℕ) → up + l + d ≡ down + e → den * 2 ^ up * (2 ^ l * 2 ^ d) ≡ den * 2 ^ e * 2 ^ down
+powers den up l d down e is =
+    let same : 2 ^ up * (2 ^ l * 2 ^ d) ≡ 2 ^ e * 2 ^ down =
+    ap (λ t. 2 ^ up * t) (sym (pow-add 2 l d)) ∙ sym (pow-add 2 up (l + d)) ∙ ap (λ t. 2 ^ t) {x = up + (l + d)} {y = e + down} (omega arith)
+    ∙ pow-add 2 e down in
     let left : den * 2 ^ up * (2 ^ l * 2 ^ d) ≡ den * (2 ^ up * (2 ^ l * 2 ^ d)) = grind arith in
-    let right : den * (2 ^ down * (2 ^ lift * 2 ^ e)) ≡ 2 ^ lift * (den * 2 ^ e) * 2 ^ down = grind arith in
+    let right : den * (2 ^ e * 2 ^ down) ≡ den * 2 ^ e * 2 ^ down = grind arith in
     left ∙ ap (λ t. den * t) same ∙ right
 
--- The digits may be longer by `lift` bits, if no more digits follow.
-pub cut_at : {digits : ℕ} {more : Bool} (num den up down l d lift e h : ℕ) → h ≡ digits * 2 ^ lift → (more ≡ true → lift ≡ 0) → 0 < den
-    → up + l + d ≡ down + lift + e → IsCutTo (num * 2 ^ down) digits more (den * 2 ^ up) → IsCutTo (num * 2 ^ l * 2 ^ d) h more (den * 2 ^ e)
-cut_at {digits = digits} {more = more} num den up down l d lift e h is none D places cut =
+-- Units of a power of two are parts of units of least floats.
+pub cut_at : {digits : ℕ} {more : Bool} (num den up down l d e : ℕ) → up + l + d ≡ down + e → IsCutTo (num * 2 ^ down) digits more (den * 2 ^ up)
+    → IsCutTo (num * 2 ^ l * 2 ^ d) digits more (den * 2 ^ e)
+cut_at {digits = digits} {more = more} num den up down l d e places cut =
     let moved : num * 2 ^ down * (2 ^ l * 2 ^ d) ≡ num * 2 ^ l * 2 ^ d * 2 ^ down = grind arith in
-    let at = scaled cut (2 ^ l * 2 ^ d) (mul-pos (pow_pos l) (pow_pos d)) in
-    subst (λ h. IsCutTo (num * 2 ^ l * 2 ^ d) h more (den * 2 ^ e)) (sym is)
-    (longer_digits (2 ^ lift) (mul-pos D (pow_pos e)) (λ m. ap (λ t. 2 ^ t) (none m))
-    (unscaled (2 ^ down) (pow_pos down)
-    (subst (λ m. IsCutTo m digits more (2 ^ lift * (den * 2 ^ e) * 2 ^ down)) moved
-    (subst (IsCutTo (num * 2 ^ down * (2 ^ l * 2 ^ d)) digits more) (powers den up l d down lift e places) at))))
+    unscaled (2 ^ down) (pow_pos down)
+    (subst (λ m. IsCutTo m digits more (den * 2 ^ e * 2 ^ down)) moved
+    (subst (IsCutTo (num * 2 ^ down * (2 ^ l * 2 ^ d)) digits more) (powers den up l d down e places)
+    (scaled cut (2 ^ l * 2 ^ d) (mul-pos (pow_pos l) (pow_pos d)))))
 
 -- Powers of two can be on either side.
 pub raised : {n digits : ℕ} {more : Bool} (k p up down : ℕ) → k + p ≡ up → IsCutTo n digits more (2 ^ k)
@@ -68,8 +71,53 @@ module _ (f : Format) (num den d k : ℕ) {h : ℕ} {more : Bool} (near : IsCutT
     pub passes : more ≡ true → IsNearestBits f num den (scaled_bits f (kept + 1) k)
     passes e = nearest_above f num den kept k D above (lt_of_mul-lt-mul_right (2 ^ d) (omega (arith, number, halfway, beyond near e)))
 
+  -- What is cut off decides how the kept bits are rounded.
+  module _ {kept rest half : ℕ} (fits : IsSignificand f (h / 2 ^ d) k) (cut : IsCut h d kept rest half) (D : 0 < den) (least : 1 ≤ half) where
+    pub rounded : (up : Bool) → up ≡ (nat_lt half rest || ((rest == half) && (more || (kept % 2 == 1))))
+        → IsNearestBits f num den (scaled_bits f (kept + bool_byte up) k)
+    rounded up is = elim (eq-zero-or-pos (rest - half)) [
+      | inr over ↦ by (kept + 1) true (is ∙ grind (arith, nat_tests)) refl (rounds_up fits cut D within_one (omega arith) least)
+      | inl z ↦ elim (eq-zero-or-pos (half - rest)) [
+        | inr under ↦ by kept false (is ∙ grind (arith, nat_tests)) (omega arith) (rounds_down fits cut D within_one (omega arith))
+        | inl y ↦ halfway (omega arith) more refl
+      ]
+    ]
+      where
+        by : (n : ℕ) (b : Bool) → up ≡ b → n ≡ kept + bool_byte b → IsNearestBits f num den (scaled_bits f n k)
+            → IsNearestBits f num den (scaled_bits f (kept + bool_byte up) k)
+        by n b e same = subst (λ n. IsNearestBits f num den (scaled_bits f n k)) (same ∙ ap (λ b. kept + bool_byte b) (sym e))
+
+        two : 0 < 2
+        two = omega arith
+
+        halfway : rest ≡ half → (b : Bool) → more ≡ b → IsNearestBits f num den (scaled_bits f (kept + bool_byte up) k)
+        halfway same true m = by (kept + 1) true (is ∙ grind (arith, nat_tests)) refl (passes fits cut D same least m)
+        halfway same false m = elim (eq-zero-or-pos (kept % 2)) [
+          | inl even ↦ by (kept + kept % 2) false (is ∙ grind (arith, nat_tests)) (omega arith) (ties fits cut D same least m)
+          | inr odd ↦ by (kept + kept % 2) true (is ∙ grind (arith, nat_tests)) (let bit = mod-lt kept two in omega arith) (ties fits cut D same least m)
+        ]
+
+  -- A number below half of the least float.
+  pub vanishes : IsSignificand f (h / 2 ^ d) k → 0 < den → 2 * (h + 1) ≤ 2 ^ d → IsNearestBits f num den 0
+  vanishes fits D small =
+      let none : h / 2 ^ d ≡ 0 = div-eq_of_lt (omega arith) in
+      let shape = shape f in
+      let least : k ≡ 0 = elim (eq-zero-or-pos k) [ inl z ↦ z | inr K ↦ absurd (omega (arith, fits.normal K)) ] in
+      let s : suc (d - 1) ≡ d = elim (eq-zero-or-pos d) [ inl z ↦ absurd (omega (arith, ap (λ d. 2 ^ d) z)) | inr D ↦ omega arith ] in
+      let twice : 2 * 2 ^ (d - 1) ≡ 2 ^ d = omega (arith, ap (λ d. 2 ^ d) s) in
+      let bits : scaled_bits f 0 k ≡ 0 = omega (arith, ap (λ k. k * hid f) least) in
+      subst (IsNearestBits f num den) bits
+      (rounds_down fits (record { above = sym none; below = sym (mod-eq_of_lt (omega arith)); twice = twice }) D within_one (omega arith))
+
 pub significand_at : (f : Format) (h j d k : ℕ) → (2 ^ j ≤ h) × (h < 2 ^ (j + 1)) → j + 1 ≤ prec f + d → (0 < k → j + 1 ≡ prec f + d)
     → IsSignificand f (h / 2 ^ d) k
 significand_at f h j d k b fits full =
     let e : 2 ^ (j + 1) ≡ 2 * 2 ^ j = pow-add 2 j 1 ∙ omega arith in
     significand_of f j h 0 d k b.0 (omega (arith, b.1)) (sym (div-eq_of_lt (omega (arith, b.1)))) (omega arith) (λ K. omega (arith, full K))
+
+-- A number by its highest bit, which becomes bit `k`.
+pub to_top : (a j s k : ℕ) → 2 ^ j ≤ a → a < 2 ^ suc j → j + s ≡ k → (2 ^ k ≤ a * 2 ^ s) × (a * 2 ^ s < 2 ^ suc k)
+to_top a j s k from below is =
+    let least : 2 ^ k ≡ 2 ^ j * 2 ^ s = ap (λ k. 2 ^ k) {x = k} {y = j + s} (omega arith) ∙ pow-add 2 j s in
+    let most : 2 ^ (suc j + s) ≡ 2 ^ suc k = ap (λ k. 2 ^ k) {x = suc j + s} {y = suc k} (omega arith) in
+    (omega (arith, least, mul-le-mul_right (2 ^ s) from), omega (arith, most, shl_lt (suc j) s below))

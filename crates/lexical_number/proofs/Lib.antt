@@ -6,3 +6,4 @@ mod PartsLemmas
 mod ScaledLemmas
 mod StickyLemmas
 mod TakenLemmas
+mod PowersLemmas

@@ -62,11 +62,28 @@ below n (byte ∷ bytes) = go (λ m. below m bytes) (nat_lt (byte_value byte) 10
         omega (arith, rest n, least, ap (λ x. (n + 1) * x) (pow-suc 10 (length bytes)))
 
 -- Up to 19 digits are below `2 ^ 64`.
-pub number_short : (xs ys : List ℕ) → length xs + length ys ≤ 19
-    → number_after 10 (number_after 10 0 xs % 2 ^ 64) ys % 2 ^ 64 ≡ number_after 10 0 (xs ++ ys)
-number_short xs ys short =
-    let most : 10 ^ length xs ≤ 10 ^ 19 = pow-le-pow_right {n = 10} (omega arith) {i = length xs} {j = 19} (omega arith) in
+pub short_below : (xs ys : List ℕ) → length xs + length ys ≤ 19 → number_after 10 0 (xs ++ ys) < 2 ^ 64
+short_below xs ys short =
     let all : 10 ^ length (xs ++ ys) ≤ 10 ^ 19 = pow-le-pow_right {n = 10} (omega arith) {i = length (xs ++ ys)} {j = 19}
     (omega (arith, length-append xs ys)) in
-    let first : number_after 10 0 xs % 2 ^ 64 ≡ number_after 10 0 xs = omega (arith, below 0 xs, most) in
-    ap (λ n. number_after 10 n ys % 2 ^ 64) first ∙ ap (λ n. n % 2 ^ 64) (sym (number_after-append 10 0 xs ys)) ∙ omega (arith, below 0 (xs ++ ys), all)
+    omega (arith, below 0 (xs ++ ys), all)
+
+pub number_short : (xs ys : List ℕ) → number_after 10 0 (xs ++ ys) < 2 ^ 64
+    → number_after 10 (number_after 10 0 xs % 2 ^ 64) ys % 2 ^ 64 ≡ number_after 10 0 (xs ++ ys)
+number_short xs ys small =
+    let whole = number_after-append 10 0 xs ys in
+    let ten : 0 < 10 = omega arith in
+    let first : number_after 10 0 xs % 2 ^ 64 ≡ number_after 10 0 xs =
+    omega (arith, whole, small, number_after_ge 10 (number_after 10 0 xs) (digits_in 10 ys) ten) in
+    ap (λ n. number_after 10 n ys % 2 ^ 64) first ∙ ap (λ n. n % 2 ^ 64) (sym whole) ∙ omega (arith, small)
+
+-- Zeros at the beginning do not change the number.
+pub zeros_skipped : (i : ℕ) (bytes : List ℕ) → i < length bytes → get_or bytes i 0 ≡ 48
+    → number_after 10 0 (drop i bytes) ≡ number_after 10 0 (drop (i + 1) bytes)
+unfolding byte_value
+zeros_skipped i bytes inside zero = at 10 0 i bytes inside (Some 0) (ap (λ byte. digit_of byte 10) zero)
+
+-- Digits that represent the same number can be exchanged before others.
+pub same_before : (xs zs ys : List ℕ) → number_after 10 0 zs ≡ number_after 10 0 xs → number_after 10 0 (xs ++ ys) ≡ number_after 10 0 (zs ++ ys)
+same_before xs zs ys same =
+    number_after-append 10 0 xs ys ∙ ap (λ n. number_after 10 n ys) (sym same) ∙ sym (number_after-append 10 0 zs ys)

@@ -51,56 +51,31 @@ const fn scaled_bits(double: bool, significand: u64, exponent: u128) -> u64
     if bits < infinity { bits } else { infinity }
 }
 
-// Returns what is kept when the lower `dropped` bits are cut off, what is cut off, and half of the lowest kept bit.
+// Returns what is kept of a word without the lower `dropped` bits, what is cut off, and half of the lowest kept bit.
 #[inline(always)]
-const fn cut(digits: u128, dropped: u64) -> (u128, u128, u128)
-    requires { (0 < dropped) × (dropped < 128) }
-    ensures { IsCut digits dropped result.0 result.1 result.2 }
+const fn cut(word: u64, dropped: u64) -> (u64, u64, u64)
+    requires { (0 < dropped) × (dropped ≤ 64) }
+    ensures { IsCut word dropped result.0 result.1 result.2 }
 {
-    (
-        digits >> dropped,
-        digits & ((1 << dropped) - 1),
-        1 << (dropped - 1),
-    )
+    let half = 1 << (dropped - 1);
+    (word >> (dropped - 1) >> 1, word & (half + (half - 1)), half)
 }
 
-// Returns the bits of the float nearest to a number, if `digits` count parts of `2 ^ dropped` of `2 ^ exponent` least floats.
+// Returns the bits of the float nearest to a number of which `word` counts units of `2 ^ exponent / 2 ^ dropped` least
+// floats.
 #[inline(always)]
-const fn settle(double: bool, digits: u128, more: bool, dropped: u128, exponent: u128) -> u64
-    requires digits { (2 ≤ dropped) × (digits < 2 ^ 120) }
-    requires kept { IsSignificand (format_of double) (digits / 2 ^ dropped) exponent }
-    ensures { (num den : ℕ) → 0 < den → IsCutTo (num * 2 ^ low (format_of double) * 2 ^ dropped) digits more (den * 2 ^ exponent)
+const fn settle(double: bool, word: u64, more: bool, dropped: u128, exponent: u128) -> u64
+    requires dropped { 2 ≤ dropped }
+    requires kept { IsSignificand (format_of double) (word / 2 ^ dropped) exponent }
+    ensures { (num den : ℕ) → 0 < den → IsCutTo (num * 2 ^ low (format_of double) * 2 ^ dropped) word more (den * 2 ^ exponent)
         → IsNearestBits (format_of double) num den result }
 {
-    if dropped > 121 {
+    if dropped > 64 {
         return 0;
     }
-    let (kept, rest, half) = cut(digits, dropped as u64);
-    let significand = kept as u64;
-    if rest > half {
-        scaled_bits(double, significand + 1, exponent)
-    } else if rest < half {
-        scaled_bits(double, significand, exponent)
-    } else if more {
-        scaled_bits(double, significand + 1, exponent)
-    } else {
-        scaled_bits(double, significand + significand % 2, exponent)
-    }
-}
-
-// Returns digits with the same value that are at least `2 ^ 64`, by how many bits they are longer, and their highest bit.
-#[inline(always)]
-const fn lifted(digits: u128) -> (u128, u64, u64)
-    requires { (0 < digits) × (digits < 2 ^ 120) }
-    ensures value { result.0 ≡ digits * 2 ^ result.1 }
-    ensures lift { result.1 ≤ 64 }
-    ensures none { 2 ^ 64 ≤ digits → result.1 ≡ 0 }
-    ensures top { (2 ^ result.2 ≤ result.0) × (result.0 < 2 ^ (result.2 + 1)) }
-    ensures range { (64 ≤ result.2) × (result.2 < 120) }
-{
-    let zeros = digits.leading_zeros() as u64;
-    let lift = zeros.saturating_sub(63);
-    (digits << lift, lift, 127 - zeros + lift)
+    let (kept, rest, half) = cut(word, dropped as u64);
+    let rounds_up = (rest > half) | ((rest == half) & (more | (kept % 2 == 1)));
+    scaled_bits(double, kept + rounds_up as u64, exponent)
 }
 
 // Returns how many bits to drop, and the exponent.
@@ -119,23 +94,55 @@ const fn dropped(least: u64, above: u128, below: u128) -> (u128, u128)
     }
 }
 
+// Returns the bits of the float nearest to `word * 2 ^ up / 2 ^ down`, or to a number that is above this, if `more` is
+// true, and below the same with `word + 1`.
+#[inline(always)]
+pub(crate) const fn nearest_to_word(
+    double: bool,
+    word: u64,
+    more: bool,
+    up: u128,
+    down: u128,
+) -> u64
+    requires top { 2 ^ 62 ≤ word }
+    requires scale { (up < 2 ^ 125) × (down < 2 ^ 125) }
+    ensures { (num den : ℕ) → 0 < den → IsCutTo (num * 2 ^ down) word more (den * 2 ^ up) → IsNearestBits (format_of double) num den result }
+{
+    let least = 63 + (word >> 63) - precision(double);
+    let (dropped, exponent) = dropped(least, up + lowest(double) as u128, down);
+    settle(double, word, more, dropped, exponent)
+}
+
+// Returns the leading 63 bits of a number, whether some of the others are not 0, and by how many bits the number was
+// shifted before 65 were dropped.
+#[inline(always)]
+const fn leading_word(digits: u128, more: bool) -> (u64, bool, u64)
+    requires digits { 0 < digits }
+    requires more { more ≡ true → 2 ^ 62 ≤ digits }
+    ensures top { 2 ^ 62 ≤ result.0 }
+    ensures value { (n unit : ℕ) → 0 < unit → IsCutTo n digits more unit → IsCutTo (n * 2 ^ result.2) result.0 result.1 (unit * 2 ^ 65) }
+    ensures range { result.2 < 128 }
+{
+    let zeros = digits.leading_zeros() as u64;
+    let lifted = digits << zeros;
+    (
+        (lifted >> 65) as u64,
+        more | (lifted % (1 << 65) != 0),
+        zeros,
+    )
+}
+
 /// Returns the bits of the float nearest to `digits * 2 ^ up / 2 ^ down`, or to a number that is above this, if `more` is
 /// true, and below the same with `digits + 1`.
 #[must_use]
 pub const fn nearest_bits(double: bool, digits: u128, more: bool, up: u128, down: u128) -> u64
-    requires size { digits < 2 ^ 120 }
-    requires more { more ≡ true → 2 ^ 64 ≤ digits }
+    requires more { more ≡ true → 2 ^ 62 ≤ digits }
     requires scale { (up < 2 ^ 120) × (down < 2 ^ 120) }
     ensures { (num den : ℕ) → 0 < den → IsCutTo (num * 2 ^ down) digits more (den * 2 ^ up) → IsNearestBits (format_of double) num den result }
 {
     if digits == 0 {
         return 0;
     }
-    let (lifted, lift, top) = lifted(digits);
-    let (dropped, exponent) = dropped(
-        top + 1 - precision(double),
-        up + lowest(double) as u128,
-        down + lift as u128,
-    );
-    settle(double, lifted, more, dropped, exponent)
+    let (word, more, zeros) = leading_word(digits, more);
+    nearest_to_word(double, word, more, up + 65, down + zeros as u128)
 }

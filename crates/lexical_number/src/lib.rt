@@ -9,5 +9,7 @@ pub mod float;
 pub mod integer;
 pub mod laws;
 pub mod leading;
+pub mod nearest;
 pub mod numeral;
 pub mod parts;
+mod powers;

@@ -1,5 +1,5 @@
 -- Digits without separators, and the numbers that they represent.
-use Rattle.std.proofs.Common.{◌≡◌, ◌≢◌, ℕ, suc, ◌+◌, ◌-◌, ◌*◌, ◌%◌, ◌^◌, ◌<◌, ◌≤◌, ◌++◌, true, cond, IsTrue, List, [], ◌∷◌, length, take, refl, sym}
+use Rattle.std.proofs.Common.{◌≡◌, ◌≢◌, ℕ, suc, ◌+◌, ◌-◌, ◌*◌, ◌%◌, ◌^◌, ◌<◌, ◌++◌, true, cond, IsTrue, List, [], ◌∷◌, length, take, refl, sym}
 use Rattle.std.proofs.Common.{ap, ◌∙◌, arith, Some, None, nat_lt}
 use Rattle.std.proofs.lemmas.Bool.{agree_below_at, eqb-true}
 use Rattle.std.specs.Prelude.{◌==◌}
@@ -53,8 +53,8 @@ pub are_digits : (radix : ℕ) (bytes : List ℕ) → radix ≡ 10 → AllDigits
 are_digits radix [] ten all = tt
 are_digits radix (c ∷ cs) ten all = (ap (λ r. nat_lt (byte_value c) r) ten ∙ (same_value c all.0).1, are_digits radix cs ten all.1)
 
--- Up to 19 digits represent the same number modulo `2 ^ 64`.
-pub short_numbers : (xs ys : List ℕ) → AllDigits 10 xs → AllDigits 10 ys → length xs + length ys ≤ 19
+-- Digits of a number below `2 ^ 64` represent the same number modulo `2 ^ 64`.
+pub short_numbers : (xs ys : List ℕ) → AllDigits 10 xs → AllDigits 10 ys → number 10 (xs ++ ys) < 2 ^ 64
     → digits_value_after 10 (digits_value 10 xs % 2 ^ 64) ys % 2 ^ 64 ≡ number 10 (xs ++ ys)
 short_numbers xs ys a b short =
     ap (λ n. n % 2 ^ 64) (ap (λ n. digits_value_after 10 (n % 2 ^ 64) ys) (sym (numbers 0 xs a)) ∙ sym (numbers _ ys b)) ∙ number_short xs ys short

@@ -19,7 +19,7 @@ use crate::integer::is_minus;
 use crate::plain::{allow_plain, is_spelled, split_sign};
 use lexical_literal::read::Parts;
 use lexical_literal::syntax::{Options, Syntax};
-use lexical_number::decimal::exact;
+use lexical_number::decimal::{digits_to_float, is_short};
 use lexical_number::float::Float;
 use lexical_util::format::NumberFormat;
 
@@ -214,12 +214,11 @@ fn size_of<F: Float>(plain: &Plain) -> Option<F>
         ≡ round (format_of F.DOUBLE) false (numerator r (literal_of plain.now.parts)) (denominator r (literal_of plain.now.parts))) }
 {
     let parts = &plain.parts;
-    if parts.integer.len() <= 19
-        && parts.fraction.len() <= 19 - parts.integer.len()
-        && parts.exponent.len() <= 19
+    if parts.exponent.len() <= 19
         && plain.exponent <= 9999
+        && is_short(parts.integer, parts.fraction)
     {
-        if let Some(size) = exact(
+        if let Some(size) = digits_to_float(
             plain.mantissa,
             parts.fraction.len() as u64,
             is_minus(parts.exponent_sign),

@@ -27,8 +27,9 @@ use plain_float::{plain_float, text_to_float};
 /// Each of these types is also [made][TryFrom] from a [`Literal`] or a [`Number`], as in `u16::try_from(literal)`.
 ///
 /// A float is the value of the literal, rounded once to the nearest float, or to the even one if two are as near. Values
-/// from halfway above the largest float on are infinite, and `-0` is `-0.0`. A decimal number with few digits takes one
-/// multiplication or division. With more than 20 bytes before or after the point, it takes 1.5 kB of the stack.
+/// from halfway above the largest float on are infinite, and `-0` is `-0.0`. A decimal number of up to 19 digits takes one
+/// or two multiplications, or a division. One with more than 20 bytes before or after the point can take 1.5 kB of the
+/// stack.
 pub trait FromLiteral: Sealed {}
 
 /// The conversions of a type, which only this crate calls.

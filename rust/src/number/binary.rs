@@ -53,37 +53,23 @@ const fn scaled_bits(double: bool, significand: u64, exponent: u128) -> u64 {
     }
 }
 
-// Returns what is kept when the lower `dropped` bits are cut off, what is cut off, and half of the lowest kept bit.
+// Returns what is kept of a word without the lower `dropped` bits, what is cut off, and half of the lowest kept bit.
 #[inline(always)]
-const fn cut(digits: u128, dropped: u64) -> (u128, u128, u128) {
-    (digits >> dropped, digits & ((1 << dropped) - 1), 1 << (dropped - 1))
+const fn cut(word: u64, dropped: u64) -> (u64, u64, u64) {
+    let half = 1 << (dropped - 1);
+    (word >> (dropped - 1) >> 1, word & (half + (half - 1)), half)
 }
 
-// Returns the bits of the float nearest to a number, if `digits` count parts of `2 ^ dropped` of `2 ^ exponent` least floats.
+// Returns the bits of the float nearest to a number of which `word` counts units of `2 ^ exponent / 2 ^ dropped` least
+// floats.
 #[inline(always)]
-const fn settle(double: bool, digits: u128, more: bool, dropped: u128, exponent: u128) -> u64 {
-    if dropped > 121 {
+const fn settle(double: bool, word: u64, more: bool, dropped: u128, exponent: u128) -> u64 {
+    if dropped > 64 {
         return 0;
     }
-    let (kept, rest, half) = cut(digits, dropped as u64);
-    let significand = kept as u64;
-    if rest > half {
-        scaled_bits(double, significand + 1, exponent)
-    } else if rest < half {
-        scaled_bits(double, significand, exponent)
-    } else if more {
-        scaled_bits(double, significand + 1, exponent)
-    } else {
-        scaled_bits(double, significand + significand % 2, exponent)
-    }
-}
-
-// Returns digits with the same value that are at least `2 ^ 64`, by how many bits they are longer, and their highest bit.
-#[inline(always)]
-const fn lifted(digits: u128) -> (u128, u64, u64) {
-    let zeros = digits.leading_zeros() as u64;
-    let lift = zeros.saturating_sub(63);
-    (digits << lift, lift, 127 - zeros + lift)
+    let (kept, rest, half) = cut(word, dropped as u64);
+    let rounds_up = (rest > half) | ((rest == half) & (more | (kept % 2 == 1)));
+    scaled_bits(double, kept + rounds_up as u64, exponent)
 }
 
 // Returns how many bits to drop, and the exponent.
@@ -97,6 +83,24 @@ const fn dropped(least: u64, above: u128, below: u128) -> (u128, u128) {
     }
 }
 
+// Returns the bits of the float nearest to `word * 2 ^ up / 2 ^ down`, or to a number that is above this, if `more` is
+// true, and below the same with `word + 1`.
+#[inline(always)]
+pub(crate) const fn nearest_to_word(double: bool, word: u64, more: bool, up: u128, down: u128) -> u64 {
+    let least = 63 + (word >> 63) - precision(double);
+    let (dropped, exponent) = dropped(least, up + lowest(double) as u128, down);
+    settle(double, word, more, dropped, exponent)
+}
+
+// Returns the leading 63 bits of a number, whether some of the others are not 0, and by how many bits the number was
+// shifted before 65 were dropped.
+#[inline(always)]
+const fn leading_word(digits: u128, more: bool) -> (u64, bool, u64) {
+    let zeros = digits.leading_zeros() as u64;
+    let lifted = digits << zeros;
+    ((lifted >> 65) as u64, more | (lifted % (1 << 65) != 0), zeros)
+}
+
 /// Returns the bits of the float nearest to `digits * 2 ^ up / 2 ^ down`, or to a number that is above this, if `more` is
 /// true, and below the same with `digits + 1`.
 #[must_use]
@@ -104,7 +108,6 @@ pub const fn nearest_bits(double: bool, digits: u128, more: bool, up: u128, down
     if digits == 0 {
         return 0;
     }
-    let (lifted, lift, top) = lifted(digits);
-    let (dropped, exponent) = dropped(top + 1 - precision(double), up + lowest(double) as u128, down + lift as u128);
-    settle(double, lifted, more, dropped, exponent)
+    let (word, more, zeros) = leading_word(digits, more);
+    nearest_to_word(double, word, more, up + 65, down + zeros as u128)
 }

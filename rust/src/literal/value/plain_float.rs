@@ -7,7 +7,7 @@ use crate::literal::syntax::{Options, Syntax};
 use crate::literal::value::float::signed;
 use crate::literal::value::integer::is_minus;
 use crate::literal::value::plain::{allow_plain, is_spelled, split_sign};
-use crate::number::decimal::exact;
+use crate::number::decimal::{digits_to_float, is_short};
 use crate::number::float::Float;
 use crate::word::FormatView;
 
@@ -144,13 +144,9 @@ fn split_exponent_character(format: FormatView, exponent: u8, bytes: &[u8]) -> (
 #[inline(always)]
 fn size_of<F: Float>(plain: &Plain) -> Option<F> {
     let parts = &plain.parts;
-    if parts.integer.len() <= 19
-        && parts.fraction.len() <= 19 - parts.integer.len()
-        && parts.exponent.len() <= 19
-        && plain.exponent <= 9999
-    {
+    if parts.exponent.len() <= 19 && plain.exponent <= 9999 && is_short(parts.integer, parts.fraction) {
         if let Some(size) =
-            exact(plain.mantissa, parts.fraction.len() as u64, is_minus(parts.exponent_sign), plain.exponent)
+            digits_to_float(plain.mantissa, parts.fraction.len() as u64, is_minus(parts.exponent_sign), plain.exponent)
         {
             return Some(size);
         }

@@ -1,21 +1,20 @@
 -- The lower bits are cut off.
-use Rattle.core.specs.Prelude.{◌≡◌, suc, ◌-◌, ◌^◌}
-use mathlib.Core.Path.{refl, ap}
+use Rattle.core.specs.Prelude.{◌≡◌, ◌+◌, ◌-◌, ◌*◌, ◌/◌, ◌^◌, bit_and}
+use mathlib.Core.Path.{ap, ◌∙◌}
 use native.Mathlib.Omega.{arith}
 use lib.Bits.{and_mask}
 use Rattle.core.proofs.num.Products.{one_shl}
-use lib.Pow.{pow_pos}
+use lib.Pow.{pow-add, pow_pos, shr-shr}
 use Rattle.lexical_number.proofs.binary.cut.Goals as goal
 
 pub returns : goal.returns
 returns c =
     let d = c.args.dropped in
-    let e : suc (d - 1) ≡ d = omega arith in
+    let e : d - 1 + 1 ≡ d = omega arith in
+    let half = one_shl (d - 1) 64 (omega arith) in
+    let twice : 2 ^ (d - 1) * 2 ≡ 2 ^ d = omega (arith, pow-add 2 (d - 1) 1, ap (λ k. 2 ^ k) e) in
     record {
-      above = refl;
-      below = rw (one_shl d 128 c.requires.1) (and_mask c.args.digits d);
-      twice = omega (arith, one_shl (d - 1) 128 (omega arith), ap (λ k. 2 ^ k) e);
+      above = shr-shr c.args.word (d - 1) 1 ∙ ap (λ k. c.args.word / 2 ^ k) e;
+      below = ap (bit_and c.args.word) (omega (arith, half, twice, pow_pos (d - 1))) ∙ and_mask c.args.word d;
+      twice = omega (arith, half, twice);
     }
-
-pub overflow_sub-result : goal.overflow_sub-result
-overflow_sub-result c = omega (arith, one_shl c.args.dropped 128 c.requires.1, pow_pos c.args.dropped)

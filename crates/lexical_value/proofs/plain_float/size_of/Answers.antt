@@ -1,9 +1,10 @@
 -- Short digits are the numbers that they represent, and std reads the others.
-use Rattle.std.proofs.Common.{[], ◌≡◌, ◌∙◌, ap, arith, false, sym}
+use Rattle.std.proofs.Common.{[], ◌≡◌, ◌∙◌, ap, arith, false, refl, sym}
 use Rattle.std.specs.Float.Ieee.{round}
 use Rattle.std.specs.Float.Parse.{parse_float}
 use Rattle.lexical_literal.specs.Parts.{literal_of}
 use Rattle.lexical_number.specs.Binary.{format_of}
+use Rattle.lexical_number.proofs.NumberLemmas.{short_below}
 use Rattle.lexical_value.proofs.FloatLemmas.{of_decimal}
 use Rattle.lexical_value.proofs.DigitLemmas.{short_numbers}
 use Rattle.lexical_value.proofs.TextLemmas.{as_written}
@@ -14,8 +15,8 @@ returns-in-Some g c r decimal =
     let l = literal_of c.args.plain.now.parts in
     let plain = c.requires in
     of_decimal (λ num den. g.F.Float.value c.in-Some.size ≡ round (format_of g.F.Float.DOUBLE) false num den) r l _ _ _ decimal plain.fraction
-    (plain.mantissa ∙ short_numbers l.integer l.fraction plain.integer plain.fraction (omega arith))
-    (plain.exponent_value ∙ short_numbers [] l.exponent tt plain.exponent (omega arith)) c.is_minus.ensures c.in-Some.ensures
+    (plain.mantissa ∙ short_numbers l.integer l.fraction plain.integer plain.fraction (c.if-is_short.ensures refl))
+    (plain.exponent_value ∙ short_numbers [] l.exponent tt plain.exponent (short_below [] l.exponent (omega arith))) c.is_minus.ensures c.in-Some.ensures
 
 pub returns-in-Ok : goal.returns-in-Ok
 returns-in-Ok g c r decimal =
