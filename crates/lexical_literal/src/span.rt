@@ -66,6 +66,7 @@ const fn first(grammar: Grammar, kind: Kind, text: &[u8]) -> usize
 }
 
 // Returns what spans and errors of a text are made of, the right bytes of which are `front`.
+#[tactic(auto, using(crate::proofs::SpanLemmas::behind_within))]
 #[inline(always)]
 pub(crate) fn marks(grammar: Grammar, front: &[u8]) -> Marks
     ensures { result ≡ marks_of (notation_of grammar) front.now }

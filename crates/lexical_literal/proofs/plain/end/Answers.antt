@@ -2,10 +2,7 @@
 use Rattle.std.proofs.Common.{◌≡◌, true, get_or, sym, subst, ◌∙◌}
 use Rattle.lexical_util.specs.Record.{raw}
 use Rattle.lexical_util.specs.Roles.{suffix}
-use Rattle.lexical_literal.specs.Additions.Plain.{IsAt, counts_of}
-use Rattle.lexical_literal.specs.Additions.Summary.{cuts_of}
 use Rattle.lexical_literal.specs.Notation.{notation_of}
-use Rattle.lexical_literal.specs.declared.plain.At.{At}
 use Rattle.lexical_literal.proofs.JoinLemmas.{suffix_at}
 use Rattle.lexical_literal.proofs.LongestLemmas.{complete_at}
 use Rattle.lexical_literal.proofs.plain.end.Goals as goal
