@@ -84,6 +84,7 @@ pub(crate) fn marks(grammar: Grammar, front: &[u8]) -> Marks
 }
 
 // Returns the same for any front.
+#[tactic(auto, using(crate::proofs::SpanLemmas::behind_within))]
 #[cold]
 fn marks_before(grammar: Grammar, front: &[u8]) -> Marks
     ensures { result ≡ marks_of (notation_of grammar) front.now }
