@@ -4,10 +4,8 @@ use Rattle.std.proofs.lemmas.Bool.{false≢true}
 use Rattle.lexical_util.specs.Record.{raw}
 use Rattle.lexical_util.specs.declared.feature_format.roles.Role.TheVariants as roles
 use Rattle.lexical_util.specs.Roles.{suffix}
-use Rattle.lexical_literal.specs.Additions.Plain.{IsAt, counts_of}
-use Rattle.lexical_literal.specs.Additions.Summary.{cuts_of, takes}
+use Rattle.lexical_literal.specs.Additions.Summary.{takes}
 use Rattle.lexical_literal.specs.Notation.{notation_of}
-use Rattle.lexical_literal.specs.declared.plain.At.{At}
 use Rattle.lexical_literal.proofs.JoinLemmas.{suffix_at}
 use Rattle.lexical_literal.proofs.PlainLemmas.{complete_at}
 use Rattle.lexical_literal.proofs.PassedLemmas.{passed}

@@ -2,7 +2,6 @@
 use Rattle.std.proofs.Common.{◌∙◌, ap}
 use Rattle.lexical_literal.specs.Notation.{notation_of}
 use Rattle.lexical_literal.specs.Additions.Plain.{at_stage}
-use Rattle.lexical_util.specs.declared.format_flags.Part.TheVariants as parts
 use Rattle.lexical_literal.proofs.JoinLemmas.{sign_only, zero_only}
 use Rattle.lexical_literal.proofs.plain.without_prefix.Goals as goal
 
