@@ -7,12 +7,12 @@ ghost use Rattle.lexical_util.specs.Record.{raw};
 ghost use Rattle.lexical_literal.specs.Notation.{Notation, notation_of, radix_of};
 ghost use Rattle.lexical_literal.specs.Additions.Plain.{HasRoles, IsAt, IsCounted, IsDigitAt, IsFirst, IsOpened, IsOver, IsPassed, IsReadOn, IsRunOn, IsSeparated, IsSign};
 ghost use Rattle.lexical_literal.specs.Additions.Plain.{behind_sign, counts_of, fresh, is_free, at_stage};
-ghost use Rattle.lexical_literal.specs.Additions.Summary.{Cuts, add, after_mark, after_point, cuts_of, has_digit, is_run, is_signed, part_of, piece_of};
+ghost use Rattle.lexical_literal.specs.Additions.Summary.{Cuts, add, after_mark, after_point, cuts_of, has_digit, is_bare, is_fresh, is_run, is_signed, part_of, piece_of};
 ghost use Rattle.lexical_literal.specs.declared.steps.Piece.TheVariants as pieces;
 
 use crate::steps::{
     START, Stage, Summary, after_point, allows_minus, allows_plus, awaits_integer, digit_value,
-    digits_of, is_complete, is_exponent_character, is_point, is_run, is_separator, is_signed,
+    digits_of, is_complete, is_digit, is_exponent_character, is_point, is_run, is_separator, is_signed,
     may_follow, radix_of, takes,
 };
 use crate::syntax::Grammar;
@@ -501,6 +501,26 @@ const fn exponent(grammar: Grammar, text: &[u8], fronts: bool, sizes: Sizes, siz
     end(grammar, text, fronts, at, sizes, [1, sign, run.size - from])
 }
 
+// Returns whether `byte` is neither a digit nor a separator, and no base prefix, and follows digits.
+#[inline(always)]
+const fn is_passed(grammar: Grammar, stage: Stage, byte: u8) -> bool
+    requires { is_run stage ≡ true → (notation_of grammar).digit (part_of stage) byte ≡ false }
+    ensures digit { IsTrue result → (notation_of grammar).digit (part_of stage) byte ≡ false }
+    ensures separator { IsTrue result → (notation_of grammar).separator byte ≡ false }
+    ensures fresh { IsTrue result → is_fresh stage ≡ false }
+    ensures prefix { IsTrue result → is_bare stage ≡ true → (notation_of grammar).prefix byte ≡ false }
+{
+    if is_separator(grammar, byte) {
+        return false;
+    }
+    match stage {
+        Stage::Bare => {
+            !is_digit(grammar, Part::Integer, byte) && !grammar.view().is_base_prefix(byte)
+        }
+        _ => is_run(stage),
+    }
+}
+
 // Reads the suffix, if it follows.
 #[inline(always)]
 const fn end(
@@ -556,7 +576,7 @@ const fn end(
             at,
             counts: [0; 9],
             complete: false,
-            exact: is_run(read.stage) && !is_separator(grammar, text[size]),
+            exact: is_passed(grammar, read.stage, text[size]),
         };
     }
     Counted {
