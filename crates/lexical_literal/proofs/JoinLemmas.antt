@@ -97,14 +97,11 @@ module _ (m : Notation) (text : List ℕ) where
   }
 
   -- A required base prefix is missing, and its zero may be there.
-  pub zero_only : HasRoles m → (sign : ℕ) → IsSign m text parts.Integer 0 sign → sign < length text → get_or text sign 0 ≡ 48
-      → (counted : Counted) → counted.at ≡ at_stage (sign + 1) stages.Bare → counted.complete ≡ false → counted.exact ≡ false → IsCounted m text counted
-  zero_only h sign is inside naught counted at incomplete inexact =
-      let zero_at = at_stage (sign + 1) stages.Bare in
-      let counts = cuts_of (sign ∷ 0 ∷ 0 ∷ 0 ∷ 0 ∷ 0 ∷ 0 ∷ 0 ∷ 0 ∷ []) in
-      let all = add_more counts pieces.Integer (zero_at.size - sign) in
-      stopped_at m text counted all (subst (λ at. IsAt m text at all) (sym at)
-      ((read_zero m text h sign (behind_sign parts.Integer sign) inside naught (first_behind sign is)).reads counts (sign_at sign is))) incomplete inexact
+  pub zero_at : HasRoles m → (sign : ℕ) → IsSign m text parts.Integer 0 sign → sign < length text → get_or text sign 0 ≡ 48
+      → IsAt m text (at_stage (sign + 1) stages.Bare)
+      (add_more (cuts_of (sign ∷ 0 ∷ 0 ∷ 0 ∷ 0 ∷ 0 ∷ 0 ∷ 0 ∷ 0 ∷ [])) pieces.Integer (sign + 1 - sign))
+  zero_at h sign is inside naught = (read_zero m text h sign (behind_sign parts.Integer sign) inside naught (first_behind sign is)).reads
+      (cuts_of (sign ∷ 0 ∷ 0 ∷ 0 ∷ 0 ∷ 0 ∷ 0 ∷ 0 ∷ 0 ∷ [])) (sign_at sign is)
 
   pub sign_only : (sign : ℕ) → IsSign m text parts.Integer 0 sign
       → (counted : Counted) → counted.at ≡ at_stage sign (behind_sign parts.Integer sign) → counted.complete ≡ false → counted.exact ≡ false → IsCounted m text counted

@@ -9,6 +9,7 @@ ghost use Rattle.lexical_literal.specs.Additions.Plain.{HasRoles, IsAt, IsCounte
 ghost use Rattle.lexical_literal.specs.Additions.Plain.{behind_sign, counts_of, fresh, is_free, at_stage};
 ghost use Rattle.lexical_literal.specs.Additions.Summary.{Cuts, add, after_mark, after_point, cuts_of, has_digit, is_bare, is_fresh, is_run, is_signed, part_of, piece_of};
 ghost use Rattle.lexical_literal.specs.declared.steps.Piece.TheVariants as pieces;
+ghost use Rattle.lexical_literal.specs.declared.syntax.Condition.TheVariants as conditions;
 
 use crate::steps::{
     START, Stage, Summary, after_point, allows_minus, allows_plus, awaits_integer, digit_value,
@@ -377,15 +378,31 @@ const fn open(grammar: Grammar, text: &[u8], sign: usize) -> Option<Opening>
     }
 }
 
+// Returns whether a byte follows that is no base prefix, and one is required.
+#[inline(always)]
+const fn misses_prefix(grammar: Grammar, text: &[u8], size: usize) -> bool
+    ensures { IsTrue result → (size < length text.now) × ((notation_of grammar).condition conditions.BasePrefix ≡ true)
+        × ((notation_of grammar).prefix (get_or text.now size 0) ≡ false) }
+{
+    size < text.len()
+        && grammar.conditions.required_base_prefix
+        && !grammar.view().is_base_prefix(text[size])
+}
+
 // Reads the zero with which a required base prefix begins, if it follows.
 #[inline(always)]
-const fn without_prefix(_grammar: Grammar, text: &[u8], sign: usize) -> Counted
-    requires roles { HasRoles (notation_of _grammar) }
-    requires sign { IsSign (notation_of _grammar) text.now Part.Integer 0 sign }
-    ensures { IsCounted (notation_of _grammar) text.now result }
+const fn without_prefix(grammar: Grammar, text: &[u8], sign: usize) -> Counted
+    requires roles { HasRoles (notation_of grammar) }
+    requires sign { IsSign (notation_of grammar) text.now Part.Integer 0 sign }
+    ensures { IsCounted (notation_of grammar) text.now result }
 {
     if sign < text.len() && text[sign] == b'0' {
-        stopped(at_stage(sign + 1, Stage::Bare))
+        Counted {
+            at: at_stage(sign + 1, Stage::Bare),
+            counts: [0; 9],
+            complete: false,
+            exact: misses_prefix(grammar, text, sign + 1),
+        }
     } else {
         stopped(at_stage(sign, behind_sign(Part::Integer, sign)))
     }

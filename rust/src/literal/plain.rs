@@ -228,11 +228,22 @@ const fn open(grammar: Grammar, text: &[u8], sign: usize) -> Option<Opening> {
     }
 }
 
+// Returns whether a byte follows that is no base prefix, and one is required.
+#[inline(always)]
+const fn misses_prefix(grammar: Grammar, text: &[u8], size: usize) -> bool {
+    size < text.len() && grammar.conditions.required_base_prefix && !grammar.view().is_base_prefix(text[size])
+}
+
 // Reads the zero with which a required base prefix begins, if it follows.
 #[inline(always)]
-const fn without_prefix(_grammar: Grammar, text: &[u8], sign: usize) -> Counted {
+const fn without_prefix(grammar: Grammar, text: &[u8], sign: usize) -> Counted {
     if sign < text.len() && text[sign] == b'0' {
-        stopped(at_stage(sign + 1, Stage::Bare))
+        Counted {
+            at: at_stage(sign + 1, Stage::Bare),
+            counts: [0; 9],
+            complete: false,
+            exact: misses_prefix(grammar, text, sign + 1),
+        }
     } else {
         stopped(at_stage(sign, behind_sign(Part::Integer, sign)))
     }
