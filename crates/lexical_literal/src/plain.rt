@@ -13,8 +13,8 @@ ghost use Rattle.lexical_literal.specs.declared.syntax.Condition.TheVariants as 
 
 use crate::steps::{
     START, Stage, Summary, after_point, allows_minus, allows_plus, awaits_integer, digit_value,
-    digits_of, is_complete, is_digit, is_exponent_character, is_point, is_run, is_separator, is_signed,
-    may_follow, radix_of, takes,
+    digits_of, is_complete, is_digit, is_exponent_character, is_point, is_run, is_separator,
+    is_signed, may_follow, radix_of, takes,
 };
 use crate::syntax::Grammar;
 use lexical_util::format::{Part, Role};
