@@ -73,7 +73,7 @@ impl<'a> SyntaxList<'a> {
                 let counts = counted.counts;
                 return Ok((form, counts));
             }
-            let stop = syntax.stop(text, counted.at);
+            let stop = syntax.reach(text, counted);
             match syntax.lengths(text, stop) {
                 Some(counts) => return Ok((form, counts)),
                 None => furthest = further(furthest, form, stop),

@@ -8,13 +8,14 @@ ghost use Rattle.lexical_literal.specs.Notation.{Notation, notation_of, radix_of
 ghost use Rattle.lexical_literal.specs.Additions.Longest.{HasFound};
 ghost use Rattle.lexical_literal.specs.Additions.Plain.{IsAt, IsBegun, IsDigitAt, IsOpened, IsOver, IsPassed, IsReadOn, IsReady, IsRunOn, IsSeparated, IsSign};
 ghost use Rattle.lexical_literal.specs.Additions.Plain.{behind_sign, counts_of, fresh, is_free, at_stage};
-ghost use Rattle.lexical_literal.specs.Additions.Summary.{Cuts, add, after_mark, after_point, awaits_integer, cuts_of, has_digit, is_run, is_signed, part_of, piece_of};
+ghost use Rattle.lexical_literal.specs.Additions.Summary.{Cuts, add, after_mark, after_point, awaits_integer, cuts_of, has_digit, is_bare, is_fresh, is_run, is_signed, part_of, piece_of};
 ghost use Rattle.lexical_literal.specs.declared.steps.Piece.TheVariants as pieces;
+ghost use Rattle.lexical_literal.specs.declared.syntax.Condition.TheVariants as conditions;
 
 use crate::steps::{
     START, Stage, Summary, after_point, allows_minus, allows_plus, awaits_integer, digit_value,
-    digits_of, is_complete, is_exponent_character, is_point, is_run, is_separator, is_signed,
-    may_follow, radix_of, takes,
+    digits_of, is_complete, is_digit, is_exponent_character, is_point, is_run, is_separator,
+    is_signed, may_follow, radix_of, takes,
 };
 use crate::syntax::{Condition, Grammar};
 use lexical_util::format::{Part, Role};
@@ -362,6 +363,17 @@ const fn open(grammar: Grammar, text: &[u8], sign: usize) -> Option<Opening>
     }
 }
 
+// Returns whether a byte follows that is no base prefix, and one is required.
+#[inline(always)]
+const fn misses_prefix(grammar: Grammar, text: &[u8], size: usize) -> bool
+    ensures { IsTrue result → (size < length text.now) × ((notation_of grammar).condition conditions.BasePrefix ≡ true)
+        × ((notation_of grammar).prefix (get_or text.now size 0) ≡ false) }
+{
+    size < text.len()
+        && grammar.conditions.has(Condition::BasePrefix)
+        && !grammar.view().is_base_prefix(text[size])
+}
+
 // Reads the zero with which a required base prefix begins, if it follows.
 #[tactic(auto, using(crate::proofs::JoinLemmas::zero_only))]
 #[inline(always)]
@@ -371,7 +383,12 @@ const fn without_prefix(grammar: Grammar, text: &[u8], sign: usize) -> Counted
     ensures { HasFound (notation_of grammar) text.now result }
 {
     if sign < text.len() && text[sign] == b'0' {
-        stopped(grammar, text, at_stage(sign + 1, Stage::Bare))
+        Counted {
+            at: at_stage(sign + 1, Stage::Bare),
+            counts: [0; 9],
+            complete: false,
+            exact: misses_prefix(grammar, text, sign + 1),
+        }
     } else {
         stopped(
             grammar,
@@ -497,6 +514,26 @@ const fn exponent(grammar: Grammar, text: &[u8], fronts: bool, sizes: Sizes, siz
     end(grammar, text, fronts, at, sizes, [1, sign, run.size - from])
 }
 
+// Returns whether `byte` is neither a digit nor a separator, and no base prefix, and follows digits.
+#[inline(always)]
+const fn is_passed(grammar: Grammar, stage: Stage, byte: u8) -> bool
+    requires { is_run stage ≡ true → (notation_of grammar).digit (part_of stage) byte ≡ false }
+    ensures digit { IsTrue result → (notation_of grammar).digit (part_of stage) byte ≡ false }
+    ensures separator { IsTrue result → (notation_of grammar).separator byte ≡ false }
+    ensures fresh { IsTrue result → is_fresh stage ≡ false }
+    ensures prefix { IsTrue result → is_bare stage ≡ true → (notation_of grammar).prefix byte ≡ false }
+{
+    if is_separator(grammar, byte) {
+        return false;
+    }
+    match stage {
+        Stage::Bare => {
+            !is_digit(grammar, Part::Integer, byte) && !grammar.view().is_base_prefix(byte)
+        }
+        _ => is_run(stage),
+    }
+}
+
 // Reads the suffix, if it follows.
 #[inline(always)]
 const fn end(
@@ -550,7 +587,7 @@ const fn end(
             at,
             counts: [0; 9],
             complete: false,
-            exact: is_run(read.stage) && !is_separator(grammar, text[size]),
+            exact: is_passed(grammar, read.stage, text[size]),
         };
     }
     Counted {

@@ -138,6 +138,19 @@ impl Syntax {
         None
     }
 
+    // Returns where reading `text` stops, of which a front has been read.
+    #[inline(always)]
+    pub(crate) const fn reach(&self, text: &[u8], counted: Counted) -> At
+        requires { HasFound (notation_of self.now) text.now counted }
+        ensures { IsStopped (notation_of self.now) text.now result }
+    {
+        if counted.exact {
+            counted.at
+        } else {
+            self.stop(text, counted.at)
+        }
+    }
+
     // Returns where reading `text` stops, if it goes on at `at`.
     #[inline(always)]
     pub(crate) const fn stop(&self, text: &[u8], at: At) -> At

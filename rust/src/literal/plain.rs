@@ -5,8 +5,9 @@
 //! Reading may stop anywhere here: where it stops, one step decides whether it goes on.
 
 use crate::literal::steps::{
-    after_point, allows_minus, allows_plus, awaits_integer, digit_value, digits_of, is_complete, is_exponent_character,
-    is_point, is_run, is_separator, is_signed, may_follow, radix_of, takes, Stage, Summary, START,
+    after_point, allows_minus, allows_plus, awaits_integer, digit_value, digits_of, is_complete, is_digit,
+    is_exponent_character, is_point, is_run, is_separator, is_signed, may_follow, radix_of, takes, Stage, Summary,
+    START,
 };
 use crate::literal::syntax::{Condition, Grammar};
 use crate::word::{Part, Role};
@@ -221,11 +222,22 @@ const fn open(grammar: Grammar, text: &[u8], sign: usize) -> Option<Opening> {
     }
 }
 
+// Returns whether a byte follows that is no base prefix, and one is required.
+#[inline(always)]
+const fn misses_prefix(grammar: Grammar, text: &[u8], size: usize) -> bool {
+    size < text.len() && grammar.conditions.has(Condition::BasePrefix) && !grammar.view().is_base_prefix(text[size])
+}
+
 // Reads the zero with which a required base prefix begins, if it follows.
 #[inline(always)]
 const fn without_prefix(grammar: Grammar, text: &[u8], sign: usize) -> Counted {
     if sign < text.len() && text[sign] == b'0' {
-        stopped(grammar, text, at_stage(sign + 1, Stage::Bare))
+        Counted {
+            at: at_stage(sign + 1, Stage::Bare),
+            counts: [0; 9],
+            complete: false,
+            exact: misses_prefix(grammar, text, sign + 1),
+        }
     } else {
         stopped(grammar, text, at_stage(sign, behind_sign(Part::Integer, sign)))
     }
@@ -287,6 +299,18 @@ const fn exponent(grammar: Grammar, text: &[u8], fronts: bool, sizes: Sizes, siz
     end(grammar, text, fronts, at, sizes, [1, sign, run.size - from])
 }
 
+// Returns whether `byte` is neither a digit nor a separator, and no base prefix, and follows digits.
+#[inline(always)]
+const fn is_passed(grammar: Grammar, stage: Stage, byte: u8) -> bool {
+    if is_separator(grammar, byte) {
+        return false;
+    }
+    match stage {
+        Stage::Bare => !is_digit(grammar, Part::Integer, byte) && !grammar.view().is_base_prefix(byte),
+        _ => is_run(stage),
+    }
+}
+
 // Reads the suffix, if it follows.
 #[inline(always)]
 const fn end(grammar: Grammar, text: &[u8], fronts: bool, at: At, sizes: Sizes, scale: [usize; 3]) -> Counted {
@@ -302,12 +326,7 @@ const fn end(grammar: Grammar, text: &[u8], fronts: bool, at: At, sizes: Sizes, 
         };
     }
     if !fronts && size < text.len() {
-        return Counted {
-            at,
-            counts: [0; 9],
-            complete: false,
-            exact: is_run(read.stage) && !is_separator(grammar, text[size]),
-        };
+        return Counted { at, counts: [0; 9], complete: false, exact: is_passed(grammar, read.stage, text[size]) };
     }
     Counted {
         at,

@@ -11,7 +11,7 @@ use Rattle.lexical_literal.proofs.LongestLemmas.{complete_at, stops_at}
 use Rattle.lexical_literal.proofs.PassedLemmas.{passed}
 use Rattle.lexical_literal.proofs.plain.end.Goals as goal
 use Rattle.lexical_literal.proofs.plain.end.Goals.{else-size-text-via-then-size-text+then-is_base_suffix+else-takes, else-size-text-via-then-size-text+else-is_base_suffix}
-use Rattle.lexical_literal.proofs.plain.end.Goals.{else-size-text-via-else-size-text, then-is_run, else-is_run}
+use Rattle.lexical_literal.proofs.plain.end.Goals.{else-size-text-via-else-size-text}
 
 pub returns-then-takes : goal.returns-then-takes
 returns-then-takes c =
@@ -39,14 +39,10 @@ returns-then-size-text-2 c =
       begun = c.requires.at.begun;
       literal = λ yes. absurd (false≢true yes);
       lengths = λ yes. absurd (false≢true yes);
-      exact = λ yes. elim c.if-is_run.branch [
-        | then-is_run w ↦
-            let run = sym c.is_run.ensures ∙ w.if-is_run.true in
-            let separator : m.separator b ≡ false = let a = w.is_separator.ensures in let r = w.result-is in grind arith in
-            (inside, stops_at m c.requires.ready text at c.requires.at.begun
-            (λ _. passed m at.read b run (c.requires.over run inside) separator (c.requires.point inside) (c.requires.exponent inside) suffix_passed))
-        | else-is_run w ↦ absurd (false≢true (sym w.if-is_run.false ∙ (sym w.result-is ∙ yes)))
-      ];
+      exact = λ yes.
+          let is = c.is_passed.ensures in
+          (inside, stops_at m c.requires.ready text at c.requires.at.begun (λ _.
+          passed m at.read b (is.digit yes) (is.separator yes) (is.fresh yes) (is.prefix yes) (c.requires.point inside) (c.requires.exponent inside) suffix_passed));
     }
 
 pub returns : goal.returns

@@ -47,8 +47,8 @@ loop-form-preserved c =
       none = All-more (λ g. Refuses g c.args.text.now) forms i c.index-self-form.result c.loop-form-test.true c.loop-form.invariant.none
           (c.in-None.ensures.none refl);
       furthest = subst (IsBest (goes c.args.text.now) forms (i + 1)) (sym c.further-furthest.ensures)
-          (best_more (goes c.args.text.now) forms i c.index-self-form.result c.loop-form-test.true c.stop-stop.result
-          c.stop-stop.ensures c.loop-form.furthest c.loop-form.invariant.furthest);
+          (best_more (goes c.args.text.now) forms i c.index-self-form.result c.loop-form-test.true c.reach-stop.result
+          c.reach-stop.ensures c.loop-form.furthest c.loop-form.invariant.furthest);
     }
 
 pub refuse-requires-clause-furthest : goal.refuse-requires-clause-furthest
