@@ -97,7 +97,7 @@ def wrong_ratios(text, bench):
     wanted = [f"{statistics.median(own):.2f}", f"{len(own) // 2}", f"{max(own):.2f}"]
     for call in ("read, mixed", "parse::<f64>, mixed", "read, one shape", "parse::<f64>, one shape",
                  "parse::<f64>, (17 digits|fractions)"):
-        ratios = [float(it) for name, *two in rows if re.fullmatch(f"Reader::{call}, over parse", name) for it in two]
+        ratios = [float(it) for name, *two in rows if re.fullmatch(f"Syntax::{call}, over parse", name) for it in two]
         wanted.append(f"{max(ratios):.1f}")
     found = re.findall(r"\d\.\d+|\d+(?= rows)", text.partition("\nChecks and edits")[2].partition("\n\n")[0])
     if found != wanted:

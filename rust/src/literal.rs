@@ -59,13 +59,7 @@ mod language;
 mod list;
 mod number;
 mod plain;
-#[allow(
-    clippy::manual_unwrap_or,
-    clippy::needless_lifetimes,
-    clippy::redundant_pattern_matching,
-    dead_code,
-    reason = "as it is proved"
-)]
+#[allow(clippy::needless_lifetimes, dead_code, reason = "as it is proved")]
 mod read;
 mod readers;
 mod sentence;

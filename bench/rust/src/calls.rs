@@ -3,10 +3,14 @@
 //! changes, write it for both.
 
 use crate::literals::{calls, Group};
-use peltzivar::literal::{Language, Reader, Style};
+#[cfg(old)]
+use peltzivar::literal::Reader as Syntax;
+#[cfg(not(old))]
+use peltzivar::literal::Syntax;
+use peltzivar::literal::{Language, Style};
 use std::hint::black_box;
 
-fn of(group: &Group) -> &'static Reader {
+fn of(group: &Group) -> &'static Syntax {
     &group.language.readers().as_slice()[group.form]
 }
 
@@ -19,11 +23,6 @@ calls! {
     prints: |group| {
         let it = of(group);
         move |text| it.read(text.as_bytes()).is_err_and(|error| !black_box(error.text()).as_str().is_empty())
-    };
-    // Makes a reader, which reads no text.
-    new: |group| {
-        let it = Reader::new(black_box(of(group).syntax()));
-        move |_| black_box(&it).syntax().point().is_some()
     };
 }
 

@@ -1,4 +1,4 @@
-//! The rows of literals: the reader and the writer of the library beside other calls over the same texts or numbers. A
+//! The rows of literals: calls of the library that read and write beside other calls over the same texts or numbers. A
 //! loop counts the texts that a call accepts, or in one loop those that it refuses.
 
 use crate::calls::*;
@@ -176,8 +176,6 @@ pub fn rows() -> Vec<Row> {
     let exponents = of_form(Language::JSON, 0, || format!("1.{}e{}", fixed(random, 16), random.below(600) as i64 - 300));
     let fractions = of_form(Language::JSON, 0, || format!("0.{}", fixed(random, 17)));
     let hexadecimal = of_form(Language::C, 4, || format!("0x1.{}p{}", fixed(random, 13), random.below(100)));
-    let toml = || literal(random, Language::TOML);
-    let hundred = vec![Group::new((Language::TOML, 0), 100, toml, |_, _| true)].leak();
     let form = |form| Group::new((Language::C, form), 20_000, || of_c(random, form), |_, _| true);
     let forms = Vec::from([0, 1, 2, 3, 4].map(form)).leak();
     macro_rules! rows {
@@ -194,23 +192,25 @@ pub fn rows() -> Vec<Row> {
         };
     }
     let mut rows = rows! {
-        "Reader::read, mixed, over parse", mixed.reader, mixed.parse;
-        "Reader::read, one shape, over parse", shape.reader, shape.parse;
-        "Reader::read, money, over parse", money.reader, money.parse;
-        "Reader::new, over 100 Reader::read", hundred.new, hundred.reader;
-        "Readers::read, 5 forms of C, over Reader::read", forms.listed, forms.reader;
-        "Reader::read, byte inserted, over accepted", inserted.refuses, accepted.reader;
-        "Reader::read, byte appended, over accepted", appended.refuses, accepted.reader;
-        "Reader::read and text, inserted, over accepted", inserted.prints, accepted.reader;
-        "Reader::parse, 1 to 9 digits, over parse", integers.value, integers.parse_integer;
-        "Reader::parse, grouped, over Reader::read", grouped.value, grouped.reader;
-        "Reader::parse, prefixed, over Reader::read", prefixed.value, prefixed.reader;
-        "Reader::parse::<f64>, mixed, over parse", mixed.float, mixed.parse;
-        "Reader::parse::<f64>, one shape, over parse", shape.float, shape.parse;
-        "Reader::parse::<f64>, money, over parse", money.float, money.parse;
-        "Reader::parse::<f64>, 17 digits, over parse", exponents.float, exponents.parse;
-        "Reader::parse::<f64>, fractions, over parse", fractions.float, fractions.parse;
-        "Reader::parse::<f64>, hexadecimal, over Reader::read", hexadecimal.float, hexadecimal.reader;
+        "Syntax::read, mixed, over parse", mixed.reader, mixed.parse;
+        "Syntax::read, one shape, over parse", shape.reader, shape.parse;
+        "Syntax::read, money, over parse", money.reader, money.parse;
+        "Syntax::read, 17 digits, over parse", exponents.reader, exponents.parse;
+        "Syntax::read, grouped, over 17 digits", grouped.reader, exponents.reader;
+        "Syntax::read, prefixed, over 17 digits", prefixed.reader, exponents.reader;
+        "Readers::read, 5 forms of C, over Syntax::read", forms.listed, forms.reader;
+        "Syntax::read, byte inserted, over accepted", inserted.refuses, accepted.reader;
+        "Syntax::read, byte appended, over accepted", appended.refuses, accepted.reader;
+        "Syntax::read and text, inserted, over accepted", inserted.prints, accepted.reader;
+        "Syntax::parse, 1 to 9 digits, over parse", integers.value, integers.parse_integer;
+        "Syntax::parse, grouped, over Syntax::read", grouped.value, grouped.reader;
+        "Syntax::parse, prefixed, over Syntax::read", prefixed.value, prefixed.reader;
+        "Syntax::parse::<f64>, mixed, over parse", mixed.float, mixed.parse;
+        "Syntax::parse::<f64>, one shape, over parse", shape.float, shape.parse;
+        "Syntax::parse::<f64>, money, over parse", money.float, money.parse;
+        "Syntax::parse::<f64>, 17 digits, over parse", exponents.float, exponents.parse;
+        "Syntax::parse::<f64>, fractions, over parse", fractions.float, fractions.parse;
+        "Syntax::parse::<f64>, hexadecimal, over Syntax::read", hexadecimal.float, hexadecimal.reader;
     };
     rows.push(written(random));
     rows

@@ -1,6 +1,6 @@
 -- The flags of masks, and the bytes to show.
-use Rattle.std.proofs.Common.{ℕ, ◌≡◌, ◌<◌, ◌+◌, ◌^◌, ◌==◌, ◌&&◌, ◌||◌, not, Bool, true, false, if◌then◌else◌}
-use Rattle.std.proofs.Common.{bit_and, bit_or, inl, inr, List, [], ◌∷◌, ◌++◌, length, sum_by, refl, sym, ap, ◌∙◌, arith}
+use Rattle.std.proofs.Common.{ℕ, ◌≡◌, ◌<◌, ◌+◌, ◌^◌, ◌==◌, ◌&&◌, ◌||◌, not, Bool, true, false, if◌then◌else◌, bit_and, bit_or, inl, inr, List, [], ◌∷◌, ◌++◌}
+use Rattle.std.proofs.Common.{length, sum_by, refl, sym, ap, ◌∙◌, arith}
 use Rattle.std.proofs.lemmas.Bool.Decides.{nat_tests}
 use Rattle.std.proofs.lemmas.List.Folds.{list_any-append}
 use Rattle.std.proofs.lemmas.Nat.Bits.{bit_at_and, bit_at_or, bit_at_not, bit_at-zero, bit_at-pow_same, bit_at-pow_other}
@@ -12,9 +12,8 @@ use Rattle.lexical_util.specs.Ascii.{ByteSet}
 use Rattle.lexical_util.specs.Groups.{bits_of}
 use Rattle.lexical_util.specs.Layout as layout
 use Rattle.lexical_util.specs.Layout.{Flag, bit, part}
-use Rattle.lexical_util.specs.Record.{raw}
+use Rattle.lexical_util.specs.Record.{raw, Record, word_of}
 use Rattle.lexical_util.proofs.ViewLemmas.{bits_by_mask}
-use Rattle.lexical_util.specs.Record.{Record, word_of}
 use Rattle.lexical_flags.proofs.Packing.{raw-word_of}
 use Rattle.std.specs.List.{list_any}
 use Rattle.lexical_literal.specs.Additions.Explained.{mask_of}

@@ -1,8 +1,7 @@
 -- The lengths of parts.
-use Rattle.std.proofs.Common.{ℕ, zero, suc, ◌≡◌, ◌<◌, ◌≤◌, ◌+◌, List, [], ◌∷◌, length, get_or, set}
-use Rattle.std.proofs.Common.{refl, arith, get_or-set_other, get_or-set_same, replicate}
+use Rattle.std.proofs.Common.{ℕ, zero, suc, ◌≡◌, ◌<◌, ◌≤◌, ◌+◌, List, [], ◌∷◌, length, get_or, set, refl, arith, get_or-set_other, get_or-set_same, replicate}
 use Rattle.std.proofs.lemmas.Bool.Decides.{nat_tests}
-use Rattle.lexical_literal.specs.Additions.Summary.{add, add_more, cuts_of, no_cuts, piece_number}
+use Rattle.lexical_literal.specs.Additions.Summary.{add_more, cuts_of, no_cuts, piece_number}
 use Rattle.lexical_literal.specs.declared.steps.Piece.{Piece}
 use Rattle.lexical_literal.specs.declared.steps.Piece.TheVariants as pieces
 
@@ -19,18 +18,6 @@ small_at_first k = go 9 k where
   go zero k = omega arith
   go (suc n) zero = omega arith
   go (suc n) (suc k) = go n k
-
--- One more byte of a piece.
-pub count_one : (counts : List ℕ) → length counts ≡ 9 → (piece : Piece)
-    → add (cuts_of counts) piece ≡ cuts_of (set counts (piece_number piece) (get_or counts (piece_number piece) 0 + 1))
-count_one (a ∷ b ∷ c ∷ d ∷ e ∷ f ∷ g ∷ h ∷ i ∷ []) nine piece = λ j other. each piece other j where
-  each : (piece other : Piece) → let counts = a ∷ b ∷ c ∷ d ∷ e ∷ f ∷ g ∷ h ∷ i ∷ [] in
-      add (cuts_of counts) piece other ≡ cuts_of (set counts (piece_number piece) (get_or counts (piece_number piece) 0 + 1)) other
-  each pieces.Sign pieces.Sign = refl
-  each pieces.Sign _ = refl
-  each _ pieces.Sign = refl
-  each _ _ = refl
-count_one counts nine piece = absurd (omega (arith, nine))
 
 -- More bytes of a piece.
 pub count_more : (counts : List ℕ) → length counts ≡ 9 → (piece : Piece) (n : ℕ)

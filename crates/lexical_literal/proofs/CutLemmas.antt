@@ -10,9 +10,8 @@ use Rattle.lexical_util.specs.declared.format_flags.Part.TheVariants as parts
 use Rattle.lexical_literal.specs.Notation.{Notation}
 use Rattle.lexical_literal.specs.Literal.{Literal, is_none_or_one}
 use Rattle.lexical_literal.specs.Additions.Summary.{implies, has_digit, is_fresh, is_bare, after_digit, after_mark, after_point, is_open, may_follow, part_of}
-use Rattle.lexical_literal.specs.Additions.Summary.{takes_in}
-use Rattle.lexical_literal.specs.Additions.Summary.{is_signed, forbids_plus, gap_fits, digits_suffice, ends, continues, may_float, takes, after, role_at}
-use Rattle.lexical_literal.specs.Additions.Summary.{awaits_integer}
+use Rattle.lexical_literal.specs.Additions.Summary.{is_signed, forbids_plus, gap_fits, digits_suffice, ends, continues, may_float, takes, after}
+use Rattle.lexical_literal.specs.Additions.Summary.{role_at, awaits_integer}
 use Rattle.lexical_literal.specs.declared.steps.Stage.{Stage}
 use Rattle.lexical_literal.specs.declared.steps.Stage.TheVariants as stages
 use Rattle.lexical_literal.specs.declared.steps.Summary.{Summary}
@@ -139,16 +138,6 @@ module _ (m : Notation) where
       ended_by part stage gap (b ∷ text) more (ap (λ t. b ∷ t) found.whole) both.0
       (λ digits. let scale = both.1 in let signed = found.signed in let run = found.run in let end = found.end in grind arith)
 
-  -- What is taken.
-  digit_taken : (part : Part) (stage : Stage) (gap plus : Bool) → takes_in m part stage gap plus roles.Digit ≡ true
-      → (is_signed m part stage ≡ true) × (gap_fits m part (has_digit stage) gap true ≡ true)
-  digit_taken part stage gap plus is = let both = and_parts (is_signed m part stage) _ is in
-      (both.0, (and_parts (gap_fits m part (has_digit stage) gap true) _ both.1).0)
-
-  separator_taken : (part : Part) (stage : Stage) (gap plus : Bool) → takes_in m part stage gap plus roles.Separator ≡ true → (is_signed m part stage ≡ true)
-      × (((not gap || m.flag (separators_in part).consecutive) && is_open m part (has_digit stage) (may_follow m stage)) ≡ true)
-  separator_taken part stage gap plus is = and_parts (is_signed m part stage) _ is
-
   module _ (C : Condition → Bool) where
     -- Nothing follows the suffix.
     ended : (s : Summary) (text : List ℕ) → s.ended ≡ true → Accepts C m (Some s) text → text ≡ []
@@ -169,11 +158,12 @@ module _ (m : Notation) where
               → Accepts C m (Some (after (reading stage gap) (b == 48) r)) text
               → ((stage : Stage) (gap : Bool) → Accepts C m (Some (reading stage gap)) text → Cut m (part_of stage) stage gap text)
               → Cut m part stage gap (b ∷ text)
-          go roles.Digit role taken is cut = let all = digit_taken part stage gap (b == 43) taken in
-              digit_first part stage gap b text (as_digit m part b role) all.0 all.1
+          go roles.Digit role taken is cut = let all = and_parts (is_signed m part stage) _ taken in
+              digit_first part stage gap b text (as_digit m part b role) all.0
+              (and_parts (gap_fits m part (has_digit stage) gap true) _ all.1).0
               (subst (λ part. Cut m part (after_digit stage gap (b == 48)) false text) (digit_part stage gap (b == 48)) (cut (after_digit stage gap
               (b == 48)) false is))
-          go roles.Separator role taken is cut = let all = separator_taken part stage gap (b == 43) taken in
+          go roles.Separator role taken is cut = let all = and_parts (is_signed m part stage) _ taken in
               separator_first part stage gap b text (no_digit m part b role) (as_role m part b _ role) all.0 all.1
               (subst (λ part. Cut m part (after_mark stage) true text) (mark_part stage) (cut (after_mark stage) true is))
           go roles.Sign role taken is cut = sign_first part stage gap b text (as_role m part b _ role) taken

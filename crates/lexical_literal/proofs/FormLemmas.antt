@@ -1,8 +1,7 @@
 -- Several forms: what has been found in the first of them, and what one form more adds.
 use Rattle.std.proofs.Common.{ℕ, ◌≡◌, ◌*◌, Bool, true, false, if◌then◌else◌, ◌<◌, ◌≤◌, ◌+◌, inl, inr, List, append-nil, Option, Some, None, All, IsSomeAnd}
-use Rattle.std.proofs.Common.{length, take, get_or, slice_get}
+use Rattle.std.proofs.Common.{length, take, get_or, slice_get, [], IsNone, refl, sym, ap, subst, ◌∙◌, arith}
 use Rattle.std.specs.Option.{ForSome}
-use Rattle.std.proofs.Common.{[], IsNone, refl, sym, ap, subst, ◌∙◌, arith}
 use Rattle.std.proofs.lemmas.Bool.Decides.{nat_tests}
 use Rattle.std.proofs.lemmas.Bool.{cases_lt}
 use Rattle.std.proofs.lemmas.List.{take_all}

@@ -55,15 +55,8 @@ module _ (m : Notation) where
   enough parts.Fraction stage digit = grind arith
   enough _ stage digit = grind arith
 
-  may_more : (stage : Stage) → implies (has_digit stage) (may_follow m stage) ≡ true → may_follow m stage ≡ true
-  may_more stage may = grind arith
-
   behind_digit : (stage : Stage) (gap : Bool) → is_signed m (part_of stage) (after_digit stage gap true) ≡ true
   behind_digit stage gap = grind arith
-
-  led_on : (stage : Stage) (gap : Bool) → implies (has_digit stage) (may_follow m stage) ≡ true → implies (is_led stage) (may_lead m) ≡ true
-      → implies (is_led (after_digit stage gap true)) (may_lead m) ≡ true
-  led_on stage gap may led = grind arith
 
   abbrev Completed : Summary → Type 0
   Completed s = (more : List ℕ) × Accepts C m (Some s) more
@@ -103,10 +96,10 @@ module _ (m : Notation) where
             (and_from _ _ signed (and_from _ _ here.1 (enough (part_of stage) stage here.0))) can.led
         | inr more ↦
             then_byte (reading stage gap) 48 roles.Digit refl (digit_role m (part_of stage) 48 (ready.roles.zero_is_digit (part_of stage)))
-            (and_from _ _ signed (and_from _ _ more.0 (may_more stage more.1))) (grind arith)
+            (and_from _ _ signed (and_from _ _ more.0 (let may = more.1 in grind arith))) (grind arith)
             (finishes (after_digit stage gap true) false (digit_part stage gap true) (grind arith) (digit_seen stage gap true)
             (and_from _ _ (behind_digit stage gap) (and_from _ _ refl (enough (part_of stage) (after_digit stage gap true) (digit_seen stage gap true))))
-            (led_on stage gap more.1 can.led))
+            (let may = more.1 in let led = can.led in grind arith))
       ]
 
       -- A sign first, or none where none is needed.
@@ -137,7 +130,7 @@ module _ (m : Notation) where
           (digit_completed (after_mark stage) gap (grind arith) (grind arith)
           (record {
             closes = let closes = can.closes in subst (λ part. implies gap (is_open m part (has_digit (after_mark stage)) (may_follow m
-            (after_mark stage))) ≡ true)
+                (after_mark stage))) ≡ true)
                 (sym (mark_part stage)) (grind arith);
             led = grind arith;
             prefixed = grind arith;

@@ -1,17 +1,15 @@
 -- What has been read where one part ends and the next one begins.
 use Rattle.lexical_literal.proofs.StepLemmas.{awaited_part}
-use Rattle.std.proofs.Common.{ℕ, ◌≡◌, ◌<◌, ◌+◌, ◌-◌, ◌==◌, Bool, true, false, List, [], ◌∷◌, if◌then◌else◌}
-use Rattle.std.proofs.Common.{get_or, length, refl, sym, ap, subst, ◌∙◌, arith, replicate}
+use Rattle.std.proofs.Common.{ℕ, ◌≡◌, ◌<◌, ◌+◌, ◌-◌, ◌==◌, Bool, true, false, List, [], ◌∷◌, if◌then◌else◌, get_or, length, refl, ap, subst, ◌∙◌, arith}
+use Rattle.std.proofs.Common.{replicate}
 use Rattle.lexical_util.specs.declared.feature_format.roles.Role.TheVariants as roles
 use Rattle.lexical_util.specs.declared.format_flags.Part.{Part}
 use Rattle.lexical_util.specs.declared.format_flags.Part.TheVariants as parts
 use Rattle.lexical_literal.specs.Notation.{Notation}
-use Rattle.lexical_literal.specs.Additions.Plain.{HasRoles, IsAt, IsCounted, IsFirst, IsOpened, IsReadOn, IsSign, behind_sign, counts_of, fresh, is_free}
-use Rattle.lexical_literal.specs.Additions.Plain.{at_stage}
+use Rattle.lexical_literal.specs.Additions.Plain.{HasRoles, IsAt, IsBegun, IsOpened, IsReadOn, IsSign, behind_sign, counts_of, fresh, is_free, at_stage}
 use Rattle.lexical_literal.specs.Additions.Summary.{Cuts, add, add_more, after_mark, after_point, cuts_of, has_digit, awaits_integer, is_signed, no_cuts, takes}
 use Rattle.lexical_literal.specs.Additions.Summary.{part_of}
 use Rattle.lexical_literal.specs.declared.plain.At.{At}
-use Rattle.lexical_literal.specs.declared.plain.Counted.{Counted}
 use Rattle.lexical_literal.specs.declared.plain.Opening.{Opening}
 use Rattle.lexical_literal.specs.declared.plain.Sizes.{Sizes}
 use Rattle.lexical_literal.specs.declared.steps.Piece.{Piece}
@@ -19,8 +17,8 @@ use Rattle.lexical_literal.specs.declared.steps.Piece.TheVariants as pieces
 use Rattle.lexical_literal.specs.declared.steps.Stage.{Stage}
 use Rattle.lexical_literal.specs.declared.steps.Stage.TheVariants as stages
 use Rattle.lexical_literal.specs.declared.syntax.Condition.TheVariants as conditions
-use Rattle.lexical_literal.proofs.CountLemmas.{count_more, count_one, no_counts}
-use Rattle.lexical_literal.proofs.PlainLemmas.{none_begun, one_read, read_free, read_zero, stopped_at}
+use Rattle.lexical_literal.proofs.CountLemmas.{count_more, no_counts}
+use Rattle.lexical_literal.proofs.PlainLemmas.{none_begun, one_read, read_free, read_zero}
 use Rattle.lexical_literal.proofs.ScanLemmas.{is_role}
 
 -- Stages behind a sign.
@@ -49,7 +47,7 @@ module _ (m : Notation) (text : List ℕ) where
       → add_more c p (next.size - at.size) ≡ cuts_of counts → IsAt m text next (cuts_of counts)
   at_more at next p c counts on is same = subst (IsAt m text next) same (on.reads c is)
 
-  begun : IsAt m text (at_stage 0 stages.Start) no_cuts
+  pub begun : IsAt m text (at_stage 0 stages.Start) no_cuts
   begun = record { begun = record { within = omega arith; read = refl }; counted = refl }
 
   -- The sign of the mantissa.
@@ -63,9 +61,6 @@ module _ (m : Notation) (text : List ℕ) where
       ∷ 0 ∷ 0 ∷ 0 ∷ 0 ∷ 0 ∷ []) is.on begun
       (ap (λ n. add_more no_cuts pieces.Sign n) none ∙ ap (λ c. add_more c pieces.Sign sign) no_counts
       ∙ count_more (replicate 9 0) refl pieces.Sign sign ∙ ap (λ n. cuts_of (n ∷ 0 ∷ 0 ∷ 0 ∷ 0 ∷ 0 ∷ 0 ∷ 0 ∷ 0 ∷ [])) same))
-
-  first_behind : (sign : ℕ) → IsSign m text parts.Integer 0 sign → IsFirst m (behind_sign parts.Integer sign)
-  first_behind sign is = record { begun = begun_behind sign; signed = is.signed }
 
   -- Without a base prefix.
   pub opened : (sign : ℕ) → IsSign m text parts.Integer 0 sign → m.condition conditions.BasePrefix ≡ false
@@ -81,14 +76,14 @@ module _ (m : Notation) (text : List ℕ) where
 
   -- Behind a base prefix.
   pub opened_prefix : HasRoles m → (sign : ℕ) → IsSign m text parts.Integer 0 sign
-      → ((stage : Stage) (c : Cuts) → IsFirst m stage → IsAt m text (at_stage sign stage) c
+      → ((stage : Stage) (c : Cuts) → awaits_integer stage ≡ true → is_signed m parts.Integer stage ≡ true → IsAt m text (at_stage sign stage) c
       → IsAt m text (at_stage (sign + 2) stages.Prefixed) (add (add c pieces.Integer) pieces.Prefix))
       → IsOpened m text (record { sign = sign; prefix = 1; size = sign + 2; stage = stages.Prefixed })
   opened_prefix h sign is prefix = record {
     at = subst (IsAt m text (at_stage (sign + 2) stages.Prefixed))
-        (ap (λ c. add c pieces.Prefix) (count_one (sign ∷ 0 ∷ 0 ∷ 0 ∷ 0 ∷ 0 ∷ 0 ∷ 0 ∷ 0 ∷ []) refl pieces.Integer)
-        ∙ count_one (sign ∷ 0 ∷ 1 ∷ 0 ∷ 0 ∷ 0 ∷ 0 ∷ 0 ∷ 0 ∷ []) refl pieces.Prefix)
-        (prefix (behind_sign parts.Integer sign) (cuts_of (sign ∷ 0 ∷ 0 ∷ 0 ∷ 0 ∷ 0 ∷ 0 ∷ 0 ∷ 0 ∷ [])) (first_behind sign is) (sign_at sign is));
+        (ap (λ c. add c pieces.Prefix) (count_more (sign ∷ 0 ∷ 0 ∷ 0 ∷ 0 ∷ 0 ∷ 0 ∷ 0 ∷ 0 ∷ []) refl pieces.Integer 1)
+        ∙ count_more (sign ∷ 0 ∷ 1 ∷ 0 ∷ 0 ∷ 0 ∷ 0 ∷ 0 ∷ 0 ∷ []) refl pieces.Prefix 1)
+        (prefix (behind_sign parts.Integer sign) (cuts_of (sign ∷ 0 ∷ 0 ∷ 0 ∷ 0 ∷ 0 ∷ 0 ∷ 0 ∷ 0 ∷ [])) (begun_behind sign) is.signed (sign_at sign is));
     size = omega arith;
     signed = refl;
     free = grind arith;
@@ -97,21 +92,10 @@ module _ (m : Notation) (text : List ℕ) where
   }
 
   -- A required base prefix is missing, and its zero may be there.
-  pub zero_at : HasRoles m → (sign : ℕ) → IsSign m text parts.Integer 0 sign → sign < length text → get_or text sign 0 ≡ 48
-      → IsAt m text (at_stage (sign + 1) stages.Bare)
-      (add_more (cuts_of (sign ∷ 0 ∷ 0 ∷ 0 ∷ 0 ∷ 0 ∷ 0 ∷ 0 ∷ 0 ∷ [])) pieces.Integer (sign + 1 - sign))
-  zero_at h sign is inside naught = (read_zero m text h sign (behind_sign parts.Integer sign) inside naught (first_behind sign is)).reads
-      (cuts_of (sign ∷ 0 ∷ 0 ∷ 0 ∷ 0 ∷ 0 ∷ 0 ∷ 0 ∷ 0 ∷ [])) (sign_at sign is)
-
-  pub sign_only : (sign : ℕ) → IsSign m text parts.Integer 0 sign
-      → (counted : Counted) → counted.at ≡ at_stage sign (behind_sign parts.Integer sign) → counted.complete ≡ false → counted.exact ≡ false → IsCounted m text counted
-  sign_only sign is counted at incomplete inexact =
-      let counts = cuts_of (sign ∷ 0 ∷ 0 ∷ 0 ∷ 0 ∷ 0 ∷ 0 ∷ 0 ∷ 0 ∷ []) in
-      stopped_at m text counted counts (subst (λ at. IsAt m text at counts) (sym at) (sign_at sign is)) incomplete inexact
-
-  pub nothing_at : (counted : Counted) → counted.at ≡ at_stage 0 stages.Start → counted.complete ≡ false → counted.exact ≡ false → IsCounted m text counted
-  nothing_at counted at incomplete inexact =
-      stopped_at m text counted no_cuts (subst (λ at. IsAt m text at no_cuts) (sym at) begun) incomplete inexact
+  pub zero_only : HasRoles m → (sign : ℕ) → IsSign m text parts.Integer 0 sign → sign < length text → get_or text sign 0 ≡ 48
+      → IsBegun m text (at_stage (sign + 1) stages.Bare)
+  zero_only h sign is inside naught =
+      ((read_zero m text h sign (behind_sign parts.Integer sign) inside naught (begun_behind sign) is.signed).reads _ (sign_at sign is)).begun
 
   -- The digits of the integer.
   pub integer_at : (o : Opening) → IsOpened m text o → (size : ℕ) (stage : Stage) → IsReadOn m text (at_stage o.size o.stage) pieces.Integer
@@ -162,7 +146,7 @@ module _ (m : Notation) (text : List ℕ) where
         → IsAt m text (at_stage (size + 1) (after_point (has_digit stage))) (cuts_of (counts_of (record s { point = 1 }) 0 0 0 0))
     point_at s size stage none inside point taken free is = let b = get_or text size 0 in
         subst (IsAt m text (at_stage (size + 1) (after_point (has_digit stage))))
-        (count_one (counts_of s 0 0 0 0) refl pieces.Point ∙ ap (λ n. cuts_of (counts_of (record s { point = n + 1 }) 0 0 0 0)) none)
+        (count_more (counts_of s 0 0 0 0) refl pieces.Point 1 ∙ ap (λ n. cuts_of (counts_of (record s { point = n + 1 }) 0 0 0 0)) none)
         (one_read m text (at_stage size stage) (at_stage (size + 1) (after_point (has_digit stage))) pieces.Point
         (read_free m text h (part_of stage) (at_stage size stage) roles.Point refl (λ same. cc) inside
         (is_role m (part_of stage) b h roles.Point (λ same. cc) point) refl taken free) refl _ is)
@@ -173,7 +157,7 @@ module _ (m : Notation) (text : List ℕ) where
         → IsAt m text (at_stage size stage) (cuts_of (counts_of s 0 0 0 0))
         → IsAt m text (at_stage (size + 1) stages.Mark) (cuts_of (counts_of s 1 0 0 0))
     mark_at s size stage inside mark taken free is = let b = get_or text size 0 in
-        subst (IsAt m text (at_stage (size + 1) stages.Mark)) (count_one (counts_of s 0 0 0 0) refl pieces.ExponentCharacter)
+        subst (IsAt m text (at_stage (size + 1) stages.Mark)) (count_more (counts_of s 0 0 0 0) refl pieces.ExponentCharacter 1)
         (one_read m text (at_stage size stage) (at_stage (size + 1) stages.Mark) pieces.ExponentCharacter
         (read_free m text h (part_of stage) (at_stage size stage) roles.Exponent refl (λ same. cc) inside
         (is_role m (part_of stage) b h roles.Exponent (λ same. cc) mark) refl taken free) refl _ is)
@@ -184,7 +168,7 @@ module _ (m : Notation) (text : List ℕ) where
         → IsAt m text at (cuts_of (counts_of s a b c 0))
         → IsAt m text (record { size = at.size + 1; read = record at.read { ended = true } }) (cuts_of (counts_of s a b c 1))
     suffix_at s a b c at inside suffix going taken free is = let byte = get_or text at.size 0 in
-        subst (IsAt m text (record { size = at.size + 1; read = record at.read { ended = true } })) (count_one (counts_of s a b c 0) refl pieces.Suffix)
+        subst (IsAt m text (record { size = at.size + 1; read = record at.read { ended = true } })) (count_more (counts_of s a b c 0) refl pieces.Suffix 1)
         (one_read m text at (record { size = at.size + 1; read = record at.read { ended = true } }) pieces.Suffix
         (read_free m text h (part_of at.read.stage) at roles.Suffix refl (λ same. cc) inside
         (is_role m (part_of at.read.stage) byte h roles.Suffix (λ same. cc) suffix) going taken free) refl _ is)

@@ -70,8 +70,8 @@ module _ (m : Notation) where
   split A D s None =
       both (s.ended || (ends (with_rules m A D) (part_of s.stage) s.stage s.gap && continues (with_rules m A D) (part_of s.stage) s.stage roles.Suffix))
       (finishes D s) where
-    both : (x f : Bool) → (x && f) ≡ ((x && true) && f)
-    both x f = grind arith
+        both : (x f : Bool) → (x && f) ≡ ((x && true) && f)
+        both x f = grind arith
   split A D s (Some byte) = split_role (with_rules m A D) s (byte == 43) (byte == 48) (role_at m (part_of s.stage) byte)
 
   passes_free : (s : Summary) (next : Option ℕ) → passes no_condition s next ≡ true

@@ -1,20 +1,19 @@
 -- Fronts of a text, and where the loop is left.
-use Rattle.std.proofs.Common.{ℕ, Bool, IsNone, Option, if◌then◌else◌, ◌≡◌, ◌<◌, ◌≤◌, ◌+◌, inl, inr, true, false, List, [], ◌∷◌, ◌++◌}
-use Rattle.std.proofs.Common.{length, length-set, get_or, replicate, set, take, drop, Some, None, refl, sym, ap, subst, append_assoc, append-nil}
-use Rattle.std.proofs.Common.{take-append-drop, ◌∙◌, arith}
+use Rattle.std.proofs.Common.{ℕ, Bool, IsNone, Option, if◌then◌else◌, ◌≡◌, ◌<◌, ◌≤◌, ◌+◌, inl, inr, true, false, List, [], ◌∷◌, ◌++◌, length, length-set}
+use Rattle.std.proofs.Common.{get_or, replicate, set, take, drop, Some, None, refl, sym, ap, subst, append_assoc, append-nil, take-append-drop, ◌∙◌, arith}
 use Rattle.std.specs.Prelude.{is_some, slice_get}
 use Rattle.std.proofs.lemmas.Bool.{false≢true, cases_lt}
 use Rattle.std.proofs.lemmas.Option.{slice_get-get_or, slice_get_past}
 use Rattle.std.proofs.lemmas.List.{take-take, take_more, take_all}
 use Rattle.lexical_literal.specs.Notation.{Notation, notation_of}
 use Rattle.lexical_literal.specs.Literal.{Literal, IsLiteral, Reads}
-use Rattle.lexical_literal.specs.Additions.Summary.{cuts_of, role_at, scan, step, is_accepted, is_complete, part_of}
-use Rattle.lexical_literal.specs.Additions.Summary.{tally, start, no_cuts, HasLengths, move_by, piece_number, piece_of}
+use Rattle.lexical_literal.specs.Additions.Summary.{cuts_of, role_at, scan, step, is_accepted, is_complete, part_of, tally, start, no_cuts, HasLengths, move_by}
+use Rattle.lexical_literal.specs.Additions.Summary.{piece_number, piece_of}
 use Rattle.lexical_literal.specs.Front.{IsFront, IsValidUpTo, NoLiteral, ReadsFront}
 use Rattle.lexical_literal.specs.Takes.{NoFront}
 use Rattle.lexical_literal.specs.Additions.Longest.{HasFound, IsCountedFront, IsFronted, IsLongest, IsStopped}
 use Rattle.lexical_literal.specs.Additions.Causes.{lets}
-use Rattle.lexical_literal.specs.Additions.Plain.{IsReady, IsAt, IsBegun, IsCounted}
+use Rattle.lexical_literal.specs.Additions.Plain.{IsReady, IsAt, IsBegun}
 use Rattle.lexical_literal.specs.declared.read.Found.{Found}
 use Rattle.lexical_literal.specs.declared.plain.At.{At}
 use Rattle.lexical_literal.specs.declared.plain.Counted.{Counted}
@@ -23,7 +22,7 @@ use Rattle.lexical_literal.specs.declared.steps.Summary.{Summary}
 use Rattle.lexical_literal.proofs.ScanLemmas.{scan_append, tally_append}
 use Rattle.lexical_literal.proofs.ConditionLemmas.{has_lengths, literal_from, literal_arrives}
 use Rattle.lexical_literal.proofs.LiteralLemmas.{all_cuts}
-use Rattle.lexical_literal.proofs.CountLemmas.{count_one, no_counts, small_at_first, small_more}
+use Rattle.lexical_literal.proofs.CountLemmas.{count_more, no_counts, small_at_first, small_more}
 use Rattle.lexical_util.specs.declared.feature_format.roles.Role.{Role}
 use Rattle.lexical_literal.proofs.FrontLemmas.{front_from, front_is_read}
 
@@ -247,20 +246,21 @@ module _ (m : Notation) (ready : IsReady m) (text : List ℕ) where
           has.read.counted,
           plays,
         )
-        (count_one counts has.nine (piece_of (part_of at.read.stage) r) ∙ ap (λ k. cuts_of (set counts k (get_or counts k 0 + 1))) (sym same)) in record {
+        (count_more counts has.nine (piece_of (part_of at.read.stage) r) 1 ∙ ap (λ k. cuts_of (set counts k (get_or counts k 0 + 1))) (sym same)) in record {
           nine = length-set counts k (get_or counts k 0 + 1) ∙ has.nine;
           small = λ j. let one = small_more counts at.size k (omega (arith, small, has.nine)) has.small j in omega (arith, one, size);
           read = record { begun = begun; counted = counted };
           longest = longer more counted complete is;
         }
 
-  -- What has been found at first.
-  pub has_found : (counted : Counted) → IsCounted m text counted → HasFound m text counted
-  has_found counted is = record {
+  -- Where a literal may have been found.
+  pub complete_at : (counted : Counted) → IsAt m text counted.at (cuts_of counted.counts) → counted.complete ≡ is_complete m counted.at.read → counted.exact ≡ false
+      → HasFound m text counted
+  complete_at counted is complete inexact = record {
     begun = is.begun;
-    literal = λ yes. literal_from m ready.roles (take counted.at.size text) (ap (is_accepted m) is.begun.read ∙ is.complete yes);
-    lengths = λ yes. has_counted counted.at.size counted.counts (is.lengths yes);
-    exact = λ yes. let next = is.exact yes in (next.0, stops_at counted.at is.begun (λ _. next.1));
+    literal = λ yes. literal_from m ready.roles (take counted.at.size text) (ap (is_accepted m) is.begun.read ∙ sym complete ∙ yes);
+    lengths = λ yes. has_counted counted.at.size counted.counts is.counted;
+    exact = λ yes. absurd (false≢true (sym inexact ∙ yes));
   }
 
   -- A text has one reading.

@@ -1,8 +1,8 @@
 -- What is read of a text part after part.
 use Rattle.lexical_literal.proofs.StepLemmas.{awaited_part}
 use Rattle.lexical_literal.specs.Run.{is_place}
-use Rattle.std.proofs.Common.{ℕ, ◌≡◌, ◌<◌, ◌≤◌, ◌+◌, ◌-◌, ◌==◌, ◌&&◌, ◌||◌, Bool, true, false, not, IsTrue, if◌then◌else◌, List, [], ◌∷◌, Some}
-use Rattle.std.proofs.Common.{get_or, length, take, refl, sym, ap, subst, ◌∙◌, arith}
+use Rattle.std.proofs.Common.{ℕ, ◌≡◌, ◌<◌, ◌≤◌, ◌+◌, ◌-◌, ◌==◌, ◌&&◌, ◌||◌, Bool, true, false, not, IsTrue, if◌then◌else◌, List, [], ◌∷◌, Some, get_or, length}
+use Rattle.std.proofs.Common.{take, refl, sym, ap, subst, ◌∙◌, arith}
 use Rattle.std.proofs.lemmas.Bool.{false≢true, and_from}
 use Rattle.std.proofs.lemmas.List.{take_more}
 use Rattle.lexical_util.specs.Layout.{separators_in}
@@ -11,13 +11,11 @@ use Rattle.lexical_util.specs.declared.feature_format.roles.Role.TheVariants as 
 use Rattle.lexical_util.specs.declared.format_flags.Part.{Part}
 use Rattle.lexical_util.specs.declared.format_flags.Part.TheVariants as parts
 use Rattle.lexical_literal.specs.Notation.{Notation}
-use Rattle.lexical_literal.specs.Additions.Plain.{HasRoles, IsAt, IsCounted, IsFirst, IsReadOn, fresh, is_free, at_stage}
-use Rattle.lexical_literal.specs.Additions.Summary.{Cuts, add, add_more, admits, after, after_digit, after_mark, cuts_of, digits_piece, forbids_plus}
-use Rattle.lexical_literal.specs.Additions.Summary.{leads_to_prefix}
-use Rattle.lexical_literal.specs.Additions.Summary.{has_digit, awaits_integer, is_complete, is_negative, is_run, is_signed, may_follow, gap_fits, is_open}
-use Rattle.lexical_literal.specs.Additions.Summary.{no_cuts, piece_of, start, takes, role_at, part_of, takes_in, digits_of, is_fresh, needs_sign, implies}
+use Rattle.lexical_literal.specs.Additions.Plain.{HasRoles, IsAt, IsReadOn, fresh, is_free, at_stage}
+use Rattle.lexical_literal.specs.Additions.Summary.{Cuts, add, add_more, admits, after, after_digit, after_mark, digits_piece, forbids_plus, leads_to_prefix}
+use Rattle.lexical_literal.specs.Additions.Summary.{has_digit, awaits_integer, is_negative, is_run, is_signed, may_follow, gap_fits, is_open, no_cuts, piece_of}
+use Rattle.lexical_literal.specs.Additions.Summary.{start, takes, role_at, part_of, takes_in, digits_of, is_fresh, needs_sign, implies}
 use Rattle.lexical_literal.specs.declared.plain.At.{At}
-use Rattle.lexical_literal.specs.declared.plain.Counted.{Counted}
 use Rattle.lexical_literal.specs.declared.steps.Piece.{Piece}
 use Rattle.lexical_literal.specs.declared.steps.Piece.TheVariants as pieces
 use Rattle.lexical_literal.specs.declared.steps.Stage.{Stage}
@@ -83,13 +81,13 @@ module _ (m : Notation) (stage : Stage) (run : is_run stage ≡ true) where
       → takes_in m part stage gap plus roles.Digit ≡ true
   takes_more part plus gap allowed =
       and_from _ _ (signed (is_fresh stage) run_facts.0) (and_from _ _ (fits gap (has_digit stage) run_facts.1 allowed) run_facts.2) where
-    signed : (fresh : Bool) → fresh ≡ false → (not fresh || not (needs_sign m part)) ≡ true
-    signed fresh is = grind arith
+        signed : (fresh : Bool) → fresh ≡ false → (not fresh || not (needs_sign m part)) ≡ true
+        signed fresh is = grind arith
 
-    fits : (gap digit : Bool) → digit ≡ true → (gap ≡ true → m.flag (separators_in part).internal ≡ true) → gap_fits m part digit gap true ≡ true
-    fits false digit is allowed = refl
-    fits true true is allowed = allowed refl
-    fits true false is allowed = absurd (false≢true is)
+        fits : (gap digit : Bool) → digit ≡ true → (gap ≡ true → m.flag (separators_in part).internal ≡ true) → gap_fits m part digit gap true ≡ true
+        fits false digit is allowed = refl
+        fits true true is allowed = allowed refl
+        fits true false is allowed = absurd (false≢true is)
 
   takes_separator : (part : Part) (plus : Bool) → m.flag (separators_in part).internal ≡ true → takes_in m part stage false plus roles.Separator ≡ true
   takes_separator part plus allowed = go (is_fresh stage) (has_digit stage) (may_follow m stage) run_facts.0 run_facts.1 run_facts.2 where
@@ -130,8 +128,14 @@ module _ (m : Notation) (text : List ℕ) where
           read = rw (take_more text at.size 0 inside, scan_append m.condition m (Some start) (take at.size text) (b ∷ []), is.begun.read)
               (moved m.condition m at.read b r plays going taken admitted);
         };
-        counted = rw (take_more text at.size 0 inside, tally_append m.condition m (Some start) no_cuts (take at.size text)
-        (b ∷ []), is.begun.read, is.counted, plays)
+        counted = rw (
+          take_more text at.size 0 inside,
+          tally_append m.condition m (Some start) no_cuts (take at.size text)
+              (b ∷ []),
+          is.begun.read,
+          is.counted,
+          plays,
+        )
             (sym (λ j other. one_more c (piece_of (part_of at.read.stage) r) other at.size j));
       };
     }
@@ -221,20 +225,21 @@ module _ (m : Notation) (text : List ℕ) where
         read_free parts.Integer (at_stage size stages.Bare) roles.Digit refl (λ same. cc) inside (digit_role m parts.Integer b digit) refl may free
 
     -- The zero that begins the integer.
-    pub read_zero : (size : ℕ) (stage : Stage) → size < length text → get_or text size 0 ≡ 48 → IsFirst m stage
+    pub read_zero : (size : ℕ) (stage : Stage) → size < length text → get_or text size 0 ≡ 48 → awaits_integer stage ≡ true
+        → is_signed m parts.Integer stage ≡ true
         → IsReadOn m text (at_stage size stage) pieces.Integer (at_stage (size + 1) stages.Bare)
-    read_zero size stage inside naught is =
+    read_zero size stage inside naught begun signed =
         let b = get_or text size 0 in
         let is_zero : (b == 48) ≡ true = grind arith in
-        let in_part = awaited_part stage is.begun in
+        let in_part = awaited_part stage begun in
         subst (λ piece. IsReadOn m text (at_stage size stage) piece (at_stage (size + 1) stages.Bare)) (ap digits_piece in_part)
         (subst (λ after. IsReadOn m text (at_stage size stage) (digits_piece (part_of stage)) (at_stage (size + 1) after))
-        (ap (after_digit stage false) is_zero ∙ bare stage is.begun)
+        (ap (after_digit stage false) is_zero ∙ bare stage begun)
         (read_one (at_stage size stage) roles.Digit inside
         (digit_role m (part_of stage) b (ap (m.digit (part_of stage)) naught ∙ h.zero_is_digit (part_of stage))) refl
         (subst (λ part. takes_in m part stage false (b == 43) roles.Digit ≡ true) (sym in_part)
-        (and_from _ _ is.signed (and_from _ _ refl (first_follows m stage (none_begun stage is.begun)))))
-        (ap (λ z. admits m.condition (at_stage size stage).read (b == 43) z roles.Digit) is_zero ∙ admitted stage (b == 43) is.begun))) where
+        (and_from _ _ signed (and_from _ _ refl (first_follows m stage (none_begun stage begun)))))
+        (ap (λ z. admits m.condition (at_stage size stage).read (b == 43) z roles.Digit) is_zero ∙ admitted stage (b == 43) begun))) where
           bare : (stage : Stage) → awaits_integer stage ≡ true → after_digit stage false true ≡ stages.Bare
           bare stages.Start is = refl
           bare stages.Empty is = refl
@@ -247,39 +252,18 @@ module _ (m : Notation) (text : List ℕ) where
 
     -- The base prefix, with its zero.
     pub read_prefix : (size : ℕ) (stage : Stage) → size + 1 < length text → get_or text size 0 ≡ 48 → m.prefix (get_or text (size + 1) 0) ≡ true
-        → IsFirst m stage
+        → awaits_integer stage ≡ true → is_signed m parts.Integer stage ≡ true
         → (c : Cuts) → IsAt m text (at_stage size stage) c → IsAt m text (at_stage (size + 2) stages.Prefixed) (add (add c pieces.Integer)
         pieces.Prefix)
-    read_prefix size stage inside naught prefix is c begun =
+    read_prefix size stage inside naught prefix first signed c begun =
         let b = get_or text (size + 1) 0 in
         let zero_at : At = at_stage (size + 1) stages.Bare in
         let two : size + 1 + 1 ≡ size + 2 = omega arith in
-        let first = read_zero size stage (omega (arith, inside)) naught is in
+        let zero = read_zero size stage (omega (arith, inside)) naught first signed in
         let second : IsReadOn m text zero_at pieces.Prefix (at_stage (size + 1 + 1) stages.Prefixed) =
         read_one zero_at roles.Prefix inside (is_role m parts.Integer b h roles.Prefix (λ same. cc) prefix) refl refl (prefix_admitted (b == 43) (b == 48)) in
         subst (λ n. IsAt m text (at_stage n stages.Prefixed) (add (add c pieces.Integer) pieces.Prefix)) two
         (one_read zero_at (at_stage (size + 1 + 1) stages.Prefixed) pieces.Prefix second refl (add c pieces.Integer)
-        (one_read (at_stage size stage) zero_at pieces.Integer first refl c begun)) where
+        (one_read (at_stage size stage) zero_at pieces.Integer zero refl c begun)) where
           prefix_admitted : (plus z : Bool) → admits m.condition (at_stage 0 stages.Bare).read plus z roles.Prefix ≡ true
           prefix_admitted plus z = grind arith
-
--- Where reading stops before a literal has been found.
-pub stopped_at : (m : Notation) (text : List ℕ) (counted : Counted) (c : Cuts) → IsAt m text counted.at c → counted.complete ≡ false → counted.exact ≡ false
-    → IsCounted m text counted
-stopped_at m text counted c is incomplete inexact = record {
-  begun = is.begun;
-  complete = λ yes. absurd (false≢true (sym incomplete ∙ yes));
-  lengths = λ yes. absurd (false≢true (sym incomplete ∙ yes));
-  exact = λ yes. absurd (false≢true (sym inexact ∙ yes));
-}
-
--- Where a literal may have been found.
-pub complete_at : (m : Notation) (text : List ℕ) (counted : Counted) → IsAt m text counted.at (cuts_of counted.counts)
-    → counted.complete ≡ is_complete m counted.at.read → counted.exact ≡ false
-    → IsCounted m text counted
-complete_at m text counted is complete inexact = record {
-  begun = is.begun;
-  complete = λ yes. sym complete ∙ yes;
-  lengths = λ yes. is.counted;
-  exact = λ yes. absurd (false≢true (sym inexact ∙ yes));
-}

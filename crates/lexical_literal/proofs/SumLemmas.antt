@@ -1,6 +1,6 @@
 -- The digits of a run, their number, and the number that they represent, modulo `2 ^ 64`.
 use Rattle.std.proofs.Common.{ℕ, ◌≡◌, ◌<◌, ◌≤◌, ◌+◌, ◌-◌, ◌*◌, ◌%◌, ◌^◌, ◌∙◌, Bool, true, false, List, [], ◌∷◌, ◌++◌, Option, Some, None, nat_lt, cond}
-use Rattle.std.proofs.Common.{get_or, length, take, drop, refl, sym, ap, arith}
+use Rattle.std.proofs.Common.{get_or, length, take, drop, refl, sym, ap, subst, arith}
 use Rattle.std.proofs.lemmas.Int.Digits.{number_after_append}
 use Rattle.std.proofs.lemmas.List.Elements.{filter_map-append}
 use Rattle.std.proofs.lemmas.List.{drop-drop, get_or-drop, length-drop, take_more}
@@ -119,7 +119,7 @@ pushed_sum : (radix s v : ℕ) → (s * radix % 2 ^ 64 + v) % 2 ^ 64 % 2 ^ 64 �
 pushed_sum radix s v = mod-mod (s * radix % 2 ^ 64 + v) (2 ^ 64) ∙ mod-add-mod (s * radix) (2 ^ 64) v
 
 -- One digit, wherever it leads.
-pub one_digit : (m : Notation) (radix : ℕ) (text : List ℕ) (part : Part) (run : Run) (stage : Stage) (v : ℕ) → IsDigitAt radix text run.size v
+one_digit : (m : Notation) (radix : ℕ) (text : List ℕ) (part : Part) (run : Run) (stage : Stage) (v : ℕ) → IsDigitAt radix text run.size v
     → IsReadOn m text (at_stage run.size run.stage) (digits_piece part) (at_stage (run.size + 1) stage)
     → IsRunOn m radix text part run (record (pushed radix run v 1) { stage = stage })
 one_digit m radix text part run stage v digit on = let one = byte_between radix text run.size (Some v) digit.0 digit.1 in record {
@@ -128,6 +128,14 @@ one_digit m radix text part run stage v digit on = let one = byte_between radix 
   digits = sym (ap (λ ds. run.digits + length ds) one);
   sum = pushed_sum radix run.sum v ∙ sym (ap (λ ds. number_from_digits_after radix run.sum ds % 2 ^ 64) one);
 }
+
+-- One digit, and those behind it.
+pub behind_digit : (m : Notation) (radix : ℕ) (text : List ℕ) (part : Part) (run : Run) (stage : Stage) (v : ℕ) (one last : Run)
+    → IsDigitAt radix text run.size v → one ≡ pushed radix run v 1
+    → IsReadOn m text (at_stage run.size run.stage) (digits_piece part) (at_stage (run.size + 1) stage)
+    → IsRunOn m radix text part (record one { stage = stage }) last → IsRunOn m radix text part run last
+behind_digit m radix text part run stage v one last digit same on = both_runs m radix text part run (record one { stage = stage }) last
+    (subst (λ (one : Run). IsRunOn m radix text part run (record one { stage = stage })) (sym same) (one_digit m radix text part run stage v digit on))
 
 module _ (g : Grammar) (text : List ℕ) (part : Part) (run : Run) (v : ℕ) (h : HasRoles (notation_of g)) (is : is_run run.stage ≡ true)
     (in_part : part_of run.stage ≡ part) where

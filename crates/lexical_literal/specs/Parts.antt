@@ -1,4 +1,4 @@
--- What a reader returns: the parts of a literal, or an error.
+-- What reading returns: the parts of a literal, or an error.
 use Rattle.std.specs.Prelude.{ℕ, ◌≡◌, IfErr, IfOk, IsOkAnd, List, Result}
 use Rattle.lexical_literal.specs.Cause.{Explained}
 use Rattle.lexical_literal.specs.Front.{ReadsFront}

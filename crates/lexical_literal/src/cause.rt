@@ -394,6 +394,7 @@ impl Stop {
     }
 
     // Returns the flags that are set and require something.
+    #[tactic(auto, using(crate::proofs::CauseLemmas::flag_and, crate::proofs::CauseLemmas::float_mask, crate::proofs::CauseLemmas::requirement_mask))]
     const fn binding(self) -> u128
         ensures { (f : Flag) → (raw result).flag f ≡ binds (notation_of self.grammar) f }
     {
@@ -412,6 +413,7 @@ impl Stop {
     }
 
     // Returns the flags on leading zeros that require something.
+    #[tactic(auto, using(crate::proofs::CauseLemmas::flag_and, crate::proofs::CauseLemmas::masked_by, crate::proofs::CauseLemmas::zeros_mask))]
     const fn zeros(self) -> u128
         ensures { result ≡ mask_of (zeros (notation_of self.grammar)) }
     {

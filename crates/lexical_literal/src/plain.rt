@@ -5,9 +5,10 @@
 ghost use Rattle.std.specs.Prelude.{◌≡◌, ◌<◌, ◌≤◌, ◌+◌, ◌-◌, ◌*◌, ◌%◌, ◌^◌, ◌∷◌, [], false, true, IfSome, IsNone, IsTrue, get_or, length};
 ghost use Rattle.lexical_util.specs.Record.{raw};
 ghost use Rattle.lexical_literal.specs.Notation.{Notation, notation_of, radix_of};
-ghost use Rattle.lexical_literal.specs.Additions.Plain.{HasRoles, IsAt, IsCounted, IsDigitAt, IsFirst, IsOpened, IsOver, IsPassed, IsReadOn, IsRunOn, IsSeparated, IsSign};
+ghost use Rattle.lexical_literal.specs.Additions.Longest.{HasFound, IsStopped};
+ghost use Rattle.lexical_literal.specs.Additions.Plain.{IsAt, IsBegun, IsDigitAt, IsOpened, IsOver, IsPassed, IsReadOn, IsReady, IsRunOn, IsSeparated, IsSign};
 ghost use Rattle.lexical_literal.specs.Additions.Plain.{behind_sign, counts_of, fresh, is_free, at_stage};
-ghost use Rattle.lexical_literal.specs.Additions.Summary.{Cuts, add, after_mark, after_point, cuts_of, has_digit, is_bare, is_fresh, is_run, is_signed, part_of, piece_of};
+ghost use Rattle.lexical_literal.specs.Additions.Summary.{Cuts, add, after_mark, after_point, awaits_integer, cuts_of, has_digit, is_bare, is_fresh, is_run, is_signed, part_of, piece_of};
 ghost use Rattle.lexical_literal.specs.declared.steps.Piece.TheVariants as pieces;
 ghost use Rattle.lexical_literal.specs.declared.syntax.Condition.TheVariants as conditions;
 
@@ -89,23 +90,23 @@ const fn at_stage(size: usize, stage: Stage) -> At
 
 // Returns that reading stops at `at`, where no literal has been found.
 #[inline(always)]
-const fn stopped(at: At) -> Counted
-    ensures at { result.at ≡ at }
-    ensures complete { result.complete ≡ false }
-    ensures exact { result.exact ≡ false }
+const fn stopped(_grammar: Grammar, _text: &[u8], at: At, exact: bool) -> Counted
+    requires begun { IsBegun (notation_of _grammar) _text.now at }
+    requires exact { IsTrue exact → (at.size < length _text.now) × IsStopped (notation_of _grammar) _text.now at }
+    ensures { HasFound (notation_of _grammar) _text.now result }
 {
     Counted {
         at,
         counts: [0; 9],
         complete: false,
-        exact: false,
+        exact,
     }
 }
 
 // Returns whether a sign of the mantissa, or of the exponent, follows and is read.
 #[inline(always)]
 const fn reads_sign(grammar: Grammar, text: &[u8], part: Part, size: usize) -> bool
-    requires roles { HasRoles (notation_of grammar) }
+    requires ready { IsReady (notation_of grammar) }
     ensures inside { IsTrue result → size < length text.now }
     ensures on { IsTrue result → IsReadOn (notation_of grammar) text.now (at_stage size (fresh part)) (piece_of part Role.Sign)
         (at_stage (size + 1) (after_mark (fresh part))) }
@@ -121,7 +122,7 @@ const fn reads_sign(grammar: Grammar, text: &[u8], part: Part, size: usize) -> b
 // Returns the length of the sign of the mantissa, or of the exponent, or `None` if one is required that does not follow.
 #[inline(always)]
 const fn sign(grammar: Grammar, text: &[u8], part: Part, size: usize) -> Option<usize>
-    requires roles { HasRoles (notation_of grammar) }
+    requires ready { IsReady (notation_of grammar) }
     requires within { size ≤ length text.now }
     ensures { IfSome result (λ sign. IsSign (notation_of grammar) text.now part size sign) }
 {
@@ -150,10 +151,11 @@ const fn behind_sign(part: Part, sign: usize) -> Stage
 // Returns whether a base prefix follows, with its zero, and is read.
 #[inline(always)]
 const fn reads_prefix(grammar: Grammar, text: &[u8], size: usize) -> bool
-    requires roles { HasRoles (notation_of grammar) }
+    requires ready { IsReady (notation_of grammar) }
     requires within { size ≤ length text.now }
     ensures inside { IsTrue result → size + 1 < length text.now }
-    ensures on { IsTrue result → (stage : Stage) (c : Cuts) → IsFirst (notation_of grammar) stage
+    ensures on { IsTrue result → (stage : Stage) (c : Cuts) → awaits_integer stage ≡ true
+        → is_signed (notation_of grammar) Part.Integer stage ≡ true
         → IsAt (notation_of grammar) text.now (at_stage size stage) c
         → IsAt (notation_of grammar) text.now (at_stage (size + 2) Stage.Prefixed) (add (add c pieces.Integer) pieces.Prefix) }
 {
@@ -188,14 +190,12 @@ const fn push(grammar: Grammar, part: Part, run: Run, value: u32, bytes: usize) 
       sum = (run.sum * radix_of (raw grammar.word) part % 2 ^ 64 + value) % 2 ^ 64;
     } }
 {
+    let sum = run.sum.wrapping_mul(radix_of(grammar, part));
     Run {
         size: run.size + bytes,
-        stage: run.stage,
         digits: run.digits + 1,
-        sum: run
-            .sum
-            .wrapping_mul(radix_of(grammar, part))
-            .wrapping_add(value as u64),
+        sum: sum.wrapping_add(value as u64),
+        ..run
     }
 }
 
@@ -218,7 +218,7 @@ const fn separated(grammar: Grammar, text: &[u8], part: Part, index: usize) -> O
 // Reads the digits that follow others. They do not change the stage.
 #[inline(always)]
 const fn more_digits(grammar: Grammar, text: &[u8], part: Part, begun: Run) -> Run
-    requires roles { HasRoles (notation_of grammar) }
+    requires ready { IsReady (notation_of grammar) }
     requires within { begun.size ≤ length text.now }
     requires digits { begun.digits ≤ begun.size }
     requires run { is_run begun.stage ≡ true }
@@ -239,7 +239,7 @@ const fn more_digits(grammar: Grammar, text: &[u8], part: Part, begun: Run) -> R
 // Reads the digits that follow others, and separators between them. They do not change the stage.
 #[inline(always)]
 const fn groups(grammar: Grammar, text: &[u8], part: Part, begun: Run) -> Run
-    requires roles { HasRoles (notation_of grammar) }
+    requires ready { IsReady (notation_of grammar) }
     requires within { begun.size ≤ length text.now }
     requires digits { begun.digits ≤ begun.size }
     requires run { is_run begun.stage ≡ true }
@@ -268,7 +268,7 @@ const fn digits(
     stage: Stage,
     before: u64,
 ) -> Run
-    requires roles { HasRoles (notation_of grammar) }
+    requires ready { IsReady (notation_of grammar) }
     requires within { from ≤ length text.now }
     requires none { has_digit stage ≡ false }
     requires signed { is_signed (notation_of grammar) part stage ≡ true }
@@ -291,29 +291,18 @@ const fn digits(
     };
     let one = push(grammar, part, none, value, 1);
     if text[from] == b'0' && awaits_integer(stage) {
-        behind_zero(grammar, text, staged(one, Stage::Bare))
+        let stage = Stage::Bare;
+        behind_zero(grammar, text, Run { stage, ..one })
     } else {
-        groups(grammar, text, part, staged(one, digits_of(part)))
-    }
-}
-
-// Returns the run with another stage.
-#[inline(always)]
-const fn staged(run: Run, stage: Stage) -> Run
-    ensures { result ≡ record run { stage = stage } }
-{
-    Run {
-        size: run.size,
-        stage,
-        digits: run.digits,
-        sum: run.sum,
+        let stage = digits_of(part);
+        groups(grammar, text, part, Run { stage, ..one })
     }
 }
 
 // Reads the digits behind the zero that begins the integer.
 #[inline(always)]
 const fn behind_zero(grammar: Grammar, text: &[u8], zero: Run) -> Run
-    requires roles { HasRoles (notation_of grammar) }
+    requires ready { IsReady (notation_of grammar) }
     requires within { zero.size ≤ length text.now }
     requires digits { zero.digits ≤ zero.size }
     requires bare { zero.stage ≡ Stage.Bare }
@@ -325,12 +314,9 @@ const fn behind_zero(grammar: Grammar, text: &[u8], zero: Run) -> Run
 {
     match value_at(grammar, text, Part::Integer, zero.size) {
         Some(value) if may_follow(grammar, Stage::Bare) => {
-            groups(
-                grammar,
-                text,
-                Part::Integer,
-                staged(push(grammar, Part::Integer, zero, value, 1), Stage::Led),
-            )
+            let one = push(grammar, Part::Integer, zero, value, 1);
+            let stage = Stage::Led;
+            groups(grammar, text, Part::Integer, Run { stage, ..one })
         }
         _ => zero,
     }
@@ -340,11 +326,11 @@ const fn behind_zero(grammar: Grammar, text: &[u8], zero: Run) -> Run
 // `text`, may not be said to be one, which takes less time.
 #[inline(always)]
 pub(crate) const fn plain(grammar: Grammar, text: &[u8], fronts: bool) -> Counted
-    requires roles { HasRoles (notation_of grammar) }
-    ensures { IsCounted (notation_of grammar) text.now result }
+    requires ready { IsReady (notation_of grammar) }
+    ensures { HasFound (notation_of grammar) text.now result }
 {
     let Some(sign) = sign(grammar, text, Part::Integer, 0) else {
-        return stopped(BEGIN);
+        return stopped(grammar, text, BEGIN, false);
     };
     let Some(opening) = open(grammar, text, sign) else {
         return without_prefix(grammar, text, sign);
@@ -355,7 +341,7 @@ pub(crate) const fn plain(grammar: Grammar, text: &[u8], fronts: bool) -> Counte
 // Returns what comes before the digits of the integer, or `None` if a base prefix is required that does not follow.
 #[inline(always)]
 const fn open(grammar: Grammar, text: &[u8], sign: usize) -> Option<Opening>
-    requires roles { HasRoles (notation_of grammar) }
+    requires ready { IsReady (notation_of grammar) }
     requires sign { IsSign (notation_of grammar) text.now Part.Integer 0 sign }
     ensures { IfSome result (IsOpened (notation_of grammar) text.now) }
 {
@@ -390,30 +376,36 @@ const fn misses_prefix(grammar: Grammar, text: &[u8], size: usize) -> bool
 }
 
 // Reads the zero with which a required base prefix begins, if it follows.
+#[tactic(auto, using(crate::proofs::JoinLemmas::zero_only))]
 #[inline(always)]
 const fn without_prefix(grammar: Grammar, text: &[u8], sign: usize) -> Counted
-    requires roles { HasRoles (notation_of grammar) }
+    requires ready { IsReady (notation_of grammar) }
     requires sign { IsSign (notation_of grammar) text.now Part.Integer 0 sign }
-    ensures { IsCounted (notation_of grammar) text.now result }
+    ensures { HasFound (notation_of grammar) text.now result }
 {
     if sign < text.len() && text[sign] == b'0' {
-        Counted {
-            at: at_stage(sign + 1, Stage::Bare),
-            counts: [0; 9],
-            complete: false,
-            exact: misses_prefix(grammar, text, sign + 1),
-        }
+        stopped(
+            grammar,
+            text,
+            at_stage(sign + 1, Stage::Bare),
+            misses_prefix(grammar, text, sign + 1),
+        )
     } else {
-        stopped(at_stage(sign, behind_sign(Part::Integer, sign)))
+        stopped(
+            grammar,
+            text,
+            at_stage(sign, behind_sign(Part::Integer, sign)),
+            false,
+        )
     }
 }
 
 // Reads the integer, and what follows it.
 #[inline(always)]
 const fn integer(grammar: Grammar, text: &[u8], fronts: bool, opening: Opening) -> Counted
-    requires roles { HasRoles (notation_of grammar) }
+    requires ready { IsReady (notation_of grammar) }
     requires opened { IsOpened (notation_of grammar) text.now opening }
-    ensures { IsCounted (notation_of grammar) text.now result }
+    ensures { HasFound (notation_of grammar) text.now result }
 {
     let Opening {
         sign,
@@ -423,7 +415,7 @@ const fn integer(grammar: Grammar, text: &[u8], fronts: bool, opening: Opening) 
     } = opening;
     let run = digits(grammar, text, Part::Integer, size, stage, 0);
     if run.size == size {
-        return stopped(at_stage(size, stage));
+        return stopped(grammar, text, at_stage(size, stage), false);
     }
     let integer = run.size - sign - prefix;
     let sizes = Sizes {
@@ -440,13 +432,7 @@ const fn integer(grammar: Grammar, text: &[u8], fronts: bool, opening: Opening) 
     {
         return fraction(grammar, text, fronts, sizes, run);
     }
-    if run.size < text.len()
-        && is_exponent_character(grammar, text[run.size])
-        && takes(grammar, at.read, false, Role::Exponent)
-    {
-        return exponent(grammar, text, fronts, sizes, run.size + 1);
-    }
-    end(grammar, text, fronts, at, sizes, [0; 3])
+    behind_mantissa(grammar, text, fronts, sizes, run)
 }
 
 // Reads the fraction behind its decimal point, and what follows it.
@@ -458,52 +444,64 @@ const fn fraction(
     sizes: Sizes,
     integer: Run,
 ) -> Counted
-    requires roles { HasRoles (notation_of grammar) }
+    requires ready { IsReady (notation_of grammar) }
     requires inside { integer.size < length text.now }
     requires at { IsAt (notation_of grammar) text.now (at_stage (integer.size + 1) (after_point (has_digit integer.stage)))
         (cuts_of (counts_of (record sizes { point = 1 }) 0 0 0 0)) }
     requires none { sizes.fraction ≡ 0 }
-    ensures { IsCounted (notation_of grammar) text.now result }
+    ensures { HasFound (notation_of grammar) text.now result }
 {
     let from = integer.size + 1;
     let stage = after_point(integer.stage);
     let run = digits(grammar, text, Part::Fraction, from, stage, integer.sum);
     if run.size == from {
-        return stopped(at_stage(from, stage));
+        return stopped(grammar, text, at_stage(from, stage), false);
     }
-    let Sizes {
-        sign,
-        prefix,
-        integer,
-        ..
-    } = sizes;
     let sizes = Sizes {
-        sign,
-        prefix,
-        integer,
         point: 1,
         fraction: run.size - from,
+        ..sizes
     };
+    behind_mantissa(grammar, text, fronts, sizes, run)
+}
+
+// Reads what follows the digits of the mantissa, an exponent or the suffix.
+#[inline(always)]
+const fn behind_mantissa(
+    grammar: Grammar,
+    text: &[u8],
+    fronts: bool,
+    sizes: Sizes,
+    run: Run,
+) -> Counted
+    requires ready { IsReady (notation_of grammar) }
+    requires at { IsAt (notation_of grammar) text.now (at_stage run.size run.stage) (cuts_of (counts_of sizes 0 0 0 0)) }
+    requires free { is_free (notation_of grammar) run.stage ≡ true }
+    requires over { IsOver (notation_of grammar) text.now (part_of run.stage) run }
+    requires point { IsPassed (notation_of grammar) text.now (at_stage run.size run.stage) Role.Point }
+    ensures { HasFound (notation_of grammar) text.now result }
+{
     let at = at_stage(run.size, run.stage);
     if run.size < text.len()
         && is_exponent_character(grammar, text[run.size])
         && takes(grammar, at.read, false, Role::Exponent)
     {
-        return exponent(grammar, text, fronts, sizes, run.size + 1);
+        exponent(grammar, text, fronts, sizes, run.size + 1)
+    } else {
+        end(grammar, text, fronts, at, sizes, [0; 3])
     }
-    end(grammar, text, fronts, at, sizes, [0; 3])
 }
 
 // Reads the exponent behind its character, and what follows it.
 #[inline(always)]
 const fn exponent(grammar: Grammar, text: &[u8], fronts: bool, sizes: Sizes, size: usize) -> Counted
-    requires roles { HasRoles (notation_of grammar) }
+    requires ready { IsReady (notation_of grammar) }
     requires within { size ≤ length text.now }
     requires at { IsAt (notation_of grammar) text.now (at_stage size Stage.Mark) (cuts_of (counts_of sizes 1 0 0 0)) }
-    ensures { IsCounted (notation_of grammar) text.now result }
+    ensures { HasFound (notation_of grammar) text.now result }
 {
     let Some(sign) = sign(grammar, text, Part::Exponent, size) else {
-        return stopped(at_stage(size, Stage::Mark));
+        return stopped(grammar, text, at_stage(size, Stage::Mark), false);
     };
     let from = size + sign;
     let run = digits(
@@ -548,7 +546,7 @@ const fn end(
     sizes: Sizes,
     scale: [usize; 3],
 ) -> Counted
-    requires roles { HasRoles (notation_of grammar) }
+    requires ready { IsReady (notation_of grammar) }
     requires at { IsAt (notation_of grammar) text.now at (cuts_of (counts_of sizes (get_or scale 0 0) (get_or scale 1 0) (get_or scale 2 0) 0)) }
     requires going { at.read.ended ≡ false }
     requires free { is_free (notation_of grammar) at.read.stage ≡ true }
@@ -556,7 +554,7 @@ const fn end(
         → (notation_of grammar).digit (part_of at.read.stage) (get_or text.now at.size 0) ≡ false }
     requires point { IsPassed (notation_of grammar) text.now at Role.Point }
     requires exponent { IsPassed (notation_of grammar) text.now at Role.Exponent }
-    ensures { IsCounted (notation_of grammar) text.now result }
+    ensures { HasFound (notation_of grammar) text.now result }
 {
     let Sizes {
         sign,
@@ -570,11 +568,9 @@ const fn end(
         && grammar.view().is_base_suffix(text[size])
         && takes(grammar, read, false, Role::Suffix)
     {
-        let Summary { stage, gap, .. } = read;
         let read = Summary {
-            stage,
-            gap,
             ended: true,
+            ..read
         };
         return Counted {
             at: At {
@@ -589,12 +585,8 @@ const fn end(
         };
     }
     if !fronts && size < text.len() {
-        return Counted {
-            at,
-            counts: [0; 9],
-            complete: false,
-            exact: is_passed(grammar, read.stage, text[size]),
-        };
+        let exact = is_passed(grammar, read.stage, text[size]);
+        return stopped(grammar, text, at, exact);
     }
     Counted {
         at,

@@ -122,6 +122,7 @@ impl Syntax {
     }
 
     // Returns the lengths of the parts of `text`, of which reading stops at `stop`, if it is a literal.
+    #[tactic(auto, using(crate::proofs::LongestLemmas::none_whole, crate::proofs::LongestLemmas::whole_literal))]
     #[inline(always)]
     pub(crate) fn lengths(&self, text: &[u8], stop: At) -> Option<[usize; 9]>
         requires { IsStopped (notation_of self.now) text.now stop }

@@ -92,10 +92,7 @@ pub(crate) const fn digits_of(part: Part) -> Stage
 pub(crate) const fn is_digit(grammar: Grammar, part: Part, byte: u8) -> bool
     ensures { result ≡ nat_lt (byte_value byte) (radix_of (raw grammar.word) part) }
 {
-    match part {
-        Part::Exponent => matches!(grammar.view().exponent_digit(byte), Some(_)),
-        _ => matches!(grammar.view().mantissa_digit(byte), Some(_)),
-    }
+    matches!(digit_value(grammar, part, byte), Some(_))
 }
 
 // Returns the value of `byte` as a digit of `part`, or `None` if it is none.
@@ -373,10 +370,7 @@ pub(crate) const fn admits(
 ) -> bool
     ensures { result ≡ admits (has conditions) read plus zero role }
 {
-    if conditions.are_free() {
-        return true;
-    }
-    some_admit(conditions, read, plus, zero, role)
+    conditions.are_free() || some_admit(conditions, read, plus, zero, role)
 }
 
 // Returns the same. It is not inlined, so that steps without conditions take no longer.
@@ -475,14 +469,6 @@ pub(crate) const fn after(read: Summary, zero: bool, role: Role) -> Summary
     }
 }
 
-// Returns whether `byte` is a sign.
-#[inline(always)]
-const fn is_sign(byte: u8) -> bool
-    ensures { result ≡ signs byte }
-{
-    matches!(byte, b'+' | b'-')
-}
-
 // Returns the role of `byte` after a front that ends in `part`, where digits are those of the radix of `part`.
 #[inline(always)]
 pub(crate) const fn role_at(grammar: Grammar, part: Part, byte: u8) -> Option<Role>
@@ -498,7 +484,7 @@ pub(crate) const fn role_at(grammar: Grammar, part: Part, byte: u8) -> Option<Ro
         Some(Role::Exponent)
     } else if grammar.view().is_base_suffix(byte) {
         Some(Role::Suffix)
-    } else if is_sign(byte) {
+    } else if matches!(byte, b'+' | b'-') {
         Some(Role::Sign)
     } else if grammar.view().is_base_prefix(byte) {
         Some(Role::Prefix)

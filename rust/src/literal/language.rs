@@ -34,7 +34,6 @@ struct Definition {
     name: &'static str,
     forms: &'static [Form],
     readers: Readers<'static>,
-    specials: Specials<'static>,
 }
 
 /// A form of the literals of a [`Language`].
@@ -69,7 +68,7 @@ impl Language {
     /// Returns the spellings of NaN and infinity. A language in which they are names, or do not exist, has none.
     #[must_use]
     pub const fn specials(&self) -> Specials<'static> {
-        self.0.specials
+        self.readers().specials()
     }
 
     /// Returns the number that `text` is, as [`Readers::read`] does.
@@ -82,10 +81,6 @@ impl Language {
     }
 
     /// Returns what [`read`][Self::read] returns, also in a constant.
-    ///
-    /// # Errors
-    ///
-    /// Those of `read`.
     pub const fn read_bytes<'t>(&self, text: &'t [u8]) -> Result<Number<'t>, FormError> {
         self.readers().read_bytes(text)
     }
@@ -100,10 +95,6 @@ impl Language {
     }
 
     /// Returns what [`read_prefix`][Self::read_prefix] returns, also in a constant.
-    ///
-    /// # Errors
-    ///
-    /// Those of `read_prefix`.
     pub const fn read_prefix_bytes<'t>(&self, text: &'t [u8]) -> Result<(Number<'t>, &'t [u8]), FormError> {
         self.readers().read_prefix_bytes(text)
     }
@@ -157,13 +148,11 @@ macro_rules! languages {
 
             $($(#[$about])+
             pub const $name: Language = {
-                const SPECIALS: Specials<'static> = [$($specials,)? Specials { nan: None, inf: None, infinity: None }][0];
                 $(assert!($syntax.supports_floats());)+
                 Language(&Definition {
                     name: stringify!($name),
                     forms: &[$(Form { name: $form, syntax: $syntax }),+],
-                    readers: Readers::new_or_panic(const { &[$($syntax),+] }).with_specials(SPECIALS),
-                    specials: SPECIALS,
+                    readers: Readers::new_or_panic(const { &[$($syntax),+] })$(.with_specials($specials))?,
                 })
             };)+
         }

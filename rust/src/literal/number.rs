@@ -31,15 +31,6 @@ impl Syntax {
 
     /// Returns `text` as a literal.
     ///
-    /// ```
-    /// use peltzivar::literal::Language;
-    ///
-    /// let syntax = Language::JSON.forms()[0].syntax;
-    /// assert_eq!(syntax.read("-1.5")?.fraction(), b"5");
-    /// assert_eq!(syntax.read(b"-1.").unwrap_err().valid_up_to(), 3);
-    /// # Ok::<(), peltzivar::literal::ReadError>(())
-    /// ```
-    ///
     /// # Errors
     ///
     /// If `text` is not a literal, returns why, and how far it is right.
@@ -48,10 +39,6 @@ impl Syntax {
     }
 
     /// Returns what [`read`][Self::read] returns, also in a constant.
-    ///
-    /// # Errors
-    ///
-    /// Those of `read`.
     pub const fn read_bytes<'t>(&self, text: &'t [u8]) -> Result<Literal<'t>, ReadError> {
         let counted = self.begin(text, false);
         if self.is_whole(text, counted) {
@@ -102,10 +89,6 @@ impl Syntax {
     }
 
     /// Returns what [`read_prefix`][Self::read_prefix] returns, also in a constant.
-    ///
-    /// # Errors
-    ///
-    /// Those of `read_prefix`.
     pub const fn read_prefix_bytes<'t>(&self, text: &'t [u8]) -> Result<(Literal<'t>, &'t [u8]), ReadError> {
         match self.front(text) {
             (stop, None) => self.refuse(text, stop),

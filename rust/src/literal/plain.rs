@@ -70,8 +70,8 @@ const fn at_stage(size: usize, stage: Stage) -> At {
 
 // Returns that reading stops at `at`, where no literal has been found.
 #[inline(always)]
-const fn stopped(at: At) -> Counted {
-    Counted { at, counts: [0; 9], complete: false, exact: false }
+const fn stopped(_grammar: Grammar, _text: &[u8], at: At, exact: bool) -> Counted {
+    Counted { at, counts: [0; 9], complete: false, exact }
 }
 
 // Returns whether a sign of the mantissa, or of the exponent, follows and is read.
@@ -130,12 +130,8 @@ const fn value_at(grammar: Grammar, text: &[u8], part: Part, index: usize) -> Op
 // Returns the run with one more digit, whose byte is the last of `bytes` more.
 #[inline(always)]
 const fn push(grammar: Grammar, part: Part, run: Run, value: u32, bytes: usize) -> Run {
-    Run {
-        size: run.size + bytes,
-        stage: run.stage,
-        digits: run.digits + 1,
-        sum: run.sum.wrapping_mul(radix_of(grammar, part)).wrapping_add(value as u64),
-    }
+    let sum = run.sum.wrapping_mul(radix_of(grammar, part));
+    Run { size: run.size + bytes, digits: run.digits + 1, sum: sum.wrapping_add(value as u64), ..run }
 }
 
 // Returns the value of the digit behind a separator at `index`, if a separator may be there.
@@ -180,16 +176,12 @@ const fn digits(grammar: Grammar, text: &[u8], part: Part, from: usize, stage: S
     };
     let one = push(grammar, part, none, value, 1);
     if text[from] == b'0' && awaits_integer(stage) {
-        behind_zero(grammar, text, staged(one, Stage::Bare))
+        let stage = Stage::Bare;
+        behind_zero(grammar, text, Run { stage, ..one })
     } else {
-        groups(grammar, text, part, staged(one, digits_of(part)))
+        let stage = digits_of(part);
+        groups(grammar, text, part, Run { stage, ..one })
     }
-}
-
-// Returns the run with another stage.
-#[inline(always)]
-const fn staged(run: Run, stage: Stage) -> Run {
-    Run { size: run.size, stage, digits: run.digits, sum: run.sum }
 }
 
 // Reads the digits behind the zero that begins the integer.
@@ -197,7 +189,9 @@ const fn staged(run: Run, stage: Stage) -> Run {
 const fn behind_zero(grammar: Grammar, text: &[u8], zero: Run) -> Run {
     match value_at(grammar, text, Part::Integer, zero.size) {
         Some(value) if may_follow(grammar, Stage::Bare) => {
-            groups(grammar, text, Part::Integer, staged(push(grammar, Part::Integer, zero, value, 1), Stage::Led))
+            let one = push(grammar, Part::Integer, zero, value, 1);
+            let stage = Stage::Led;
+            groups(grammar, text, Part::Integer, Run { stage, ..one })
         }
         _ => zero,
     }
@@ -208,7 +202,7 @@ const fn behind_zero(grammar: Grammar, text: &[u8], zero: Run) -> Run {
 #[inline(always)]
 pub(crate) const fn plain(grammar: Grammar, text: &[u8], fronts: bool) -> Counted {
     let Some(sign) = sign(grammar, text, Part::Integer, 0) else {
-        return stopped(BEGIN);
+        return stopped(grammar, text, BEGIN, false);
     };
     let Some(opening) = open(grammar, text, sign) else {
         return without_prefix(grammar, text, sign);
@@ -238,14 +232,9 @@ const fn misses_prefix(grammar: Grammar, text: &[u8], size: usize) -> bool {
 #[inline(always)]
 const fn without_prefix(grammar: Grammar, text: &[u8], sign: usize) -> Counted {
     if sign < text.len() && text[sign] == b'0' {
-        Counted {
-            at: at_stage(sign + 1, Stage::Bare),
-            counts: [0; 9],
-            complete: false,
-            exact: misses_prefix(grammar, text, sign + 1),
-        }
+        stopped(grammar, text, at_stage(sign + 1, Stage::Bare), misses_prefix(grammar, text, sign + 1))
     } else {
-        stopped(at_stage(sign, behind_sign(Part::Integer, sign)))
+        stopped(grammar, text, at_stage(sign, behind_sign(Part::Integer, sign)), false)
     }
 }
 
@@ -255,7 +244,7 @@ const fn integer(grammar: Grammar, text: &[u8], fronts: bool, opening: Opening) 
     let Opening { sign, prefix, size, stage } = opening;
     let run = digits(grammar, text, Part::Integer, size, stage, 0);
     if run.size == size {
-        return stopped(at_stage(size, stage));
+        return stopped(grammar, text, at_stage(size, stage), false);
     }
     let integer = run.size - sign - prefix;
     let sizes = Sizes { sign, prefix, integer, point: 0, fraction: 0 };
@@ -263,13 +252,7 @@ const fn integer(grammar: Grammar, text: &[u8], fronts: bool, opening: Opening) 
     if run.size < text.len() && is_point(grammar, text[run.size]) && takes(grammar, at.read, false, Role::Point) {
         return fraction(grammar, text, fronts, sizes, run);
     }
-    if run.size < text.len()
-        && is_exponent_character(grammar, text[run.size])
-        && takes(grammar, at.read, false, Role::Exponent)
-    {
-        return exponent(grammar, text, fronts, sizes, run.size + 1);
-    }
-    end(grammar, text, fronts, at, sizes, [0; 3])
+    behind_mantissa(grammar, text, fronts, sizes, run)
 }
 
 // Reads the fraction behind its decimal point, and what follows it.
@@ -279,25 +262,31 @@ const fn fraction(grammar: Grammar, text: &[u8], fronts: bool, sizes: Sizes, int
     let stage = after_point(integer.stage);
     let run = digits(grammar, text, Part::Fraction, from, stage, integer.sum);
     if run.size == from {
-        return stopped(at_stage(from, stage));
+        return stopped(grammar, text, at_stage(from, stage), false);
     }
-    let Sizes { sign, prefix, integer, .. } = sizes;
-    let sizes = Sizes { sign, prefix, integer, point: 1, fraction: run.size - from };
+    let sizes = Sizes { point: 1, fraction: run.size - from, ..sizes };
+    behind_mantissa(grammar, text, fronts, sizes, run)
+}
+
+// Reads what follows the digits of the mantissa, an exponent or the suffix.
+#[inline(always)]
+const fn behind_mantissa(grammar: Grammar, text: &[u8], fronts: bool, sizes: Sizes, run: Run) -> Counted {
     let at = at_stage(run.size, run.stage);
     if run.size < text.len()
         && is_exponent_character(grammar, text[run.size])
         && takes(grammar, at.read, false, Role::Exponent)
     {
-        return exponent(grammar, text, fronts, sizes, run.size + 1);
+        exponent(grammar, text, fronts, sizes, run.size + 1)
+    } else {
+        end(grammar, text, fronts, at, sizes, [0; 3])
     }
-    end(grammar, text, fronts, at, sizes, [0; 3])
 }
 
 // Reads the exponent behind its character, and what follows it.
 #[inline(always)]
 const fn exponent(grammar: Grammar, text: &[u8], fronts: bool, sizes: Sizes, size: usize) -> Counted {
     let Some(sign) = sign(grammar, text, Part::Exponent, size) else {
-        return stopped(at_stage(size, Stage::Mark));
+        return stopped(grammar, text, at_stage(size, Stage::Mark), false);
     };
     let from = size + sign;
     let run = digits(grammar, text, Part::Exponent, from, behind_sign(Part::Exponent, sign), 0);
@@ -323,8 +312,7 @@ const fn end(grammar: Grammar, text: &[u8], fronts: bool, at: At, sizes: Sizes, 
     let Sizes { sign, prefix, integer, point, fraction } = sizes;
     let At { size, read } = at;
     if size < text.len() && grammar.view().is_base_suffix(text[size]) && takes(grammar, read, false, Role::Suffix) {
-        let Summary { stage, gap, .. } = read;
-        let read = Summary { stage, gap, ended: true };
+        let read = Summary { ended: true, ..read };
         return Counted {
             at: At { size: size + 1, read },
             counts: [sign, prefix, integer, point, fraction, scale[0], scale[1], scale[2], 1],
@@ -333,7 +321,8 @@ const fn end(grammar: Grammar, text: &[u8], fronts: bool, at: At, sizes: Sizes, 
         };
     }
     if !fronts && size < text.len() {
-        return Counted { at, counts: [0; 9], complete: false, exact: is_passed(grammar, read.stage, text[size]) };
+        let exact = is_passed(grammar, read.stage, text[size]);
+        return stopped(grammar, text, at, exact);
     }
     Counted {
         at,

@@ -123,10 +123,6 @@ impl<'a> Readers<'a> {
     }
 
     /// Returns what [`read`][Self::read] returns, also in a constant.
-    ///
-    /// # Errors
-    ///
-    /// Those of `read`.
     pub const fn read_bytes<'t>(&self, text: &'t [u8]) -> Result<Number<'t>, FormError> {
         match self.list.find(text) {
             Ok((form, counts)) => Ok(self.number(form, text, counts)),
@@ -149,10 +145,6 @@ impl<'a> Readers<'a> {
     }
 
     /// Returns what [`read_prefix`][Self::read_prefix] returns, also in a constant.
-    ///
-    /// # Errors
-    ///
-    /// Those of `read_prefix`.
     pub const fn read_prefix_bytes<'t>(&self, text: &'t [u8]) -> Result<(Number<'t>, &'t [u8]), FormError> {
         match self.list.find_front(text) {
             Ok((form, Found { size, counts })) => {

@@ -1,4 +1,4 @@
--- What a reader finds in one pass over a text.
+-- What a syntax finds in one pass over a text.
 use Rattle.std.specs.Prelude.{ℕ, ◌≡◌, ◌<◌, ◌≤◌, ⊤, Bool, IfErr, IsFalse, IsNone, IsOk, IsTrue, List, Option, Result, Some, false, true, length, slice_get, take}
 use Rattle.std.specs.Option.{ForSome}
 use Rattle.lexical_literal.specs.Notation.{Notation, notation_of}

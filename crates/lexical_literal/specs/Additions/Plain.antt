@@ -1,5 +1,5 @@
 -- What is read of a text part after part.
-use Rattle.std.specs.Prelude.{ℕ, ◌≡◌, ◌<◌, ◌≤◌, ◌+◌, ◌-◌, ◌%◌, ◌^◌, ◌==◌, ◌&&◌, if◌then◌else◌, Bool, not, IsTrue, List, [], ◌∷◌, None, Some, true, false, drop}
+use Rattle.std.specs.Prelude.{ℕ, ◌≡◌, ◌<◌, ◌≤◌, ◌+◌, ◌-◌, ◌%◌, ◌^◌, ◌==◌, ◌&&◌, if◌then◌else◌, Bool, not, IsTrue, List, [], ◌∷◌, Some, true, false, drop}
 use Rattle.std.specs.Prelude.{get_or, length, take}
 use Rattle.std.specs.Int.Digits.{number_from_digits_after}
 use Rattle.std.specs.List.{filter_map}
@@ -11,10 +11,9 @@ use Rattle.lexical_util.specs.declared.feature_format.roles.Role.TheVariants as 
 use Rattle.lexical_util.specs.declared.format_flags.Part.{Part}
 use Rattle.lexical_util.specs.declared.format_flags.Part.TheVariants as parts
 use Rattle.lexical_literal.specs.Notation.{Notation, set_of_role}
-use Rattle.lexical_literal.specs.Additions.Summary.{Cuts, add_more, after_mark, cuts_of, digits_piece, awaits_integer, has_digit, is_complete, is_run, is_signed}
-use Rattle.lexical_literal.specs.Additions.Summary.{lacks_prefix, no_cuts, part_of, piece_of, scan, start, step, takes, tally}
+use Rattle.lexical_literal.specs.Additions.Summary.{Cuts, add_more, after_mark, cuts_of, digits_piece, has_digit, is_run, is_signed}
+use Rattle.lexical_literal.specs.Additions.Summary.{lacks_prefix, no_cuts, part_of, piece_of, scan, start, takes, tally}
 use Rattle.lexical_literal.specs.declared.plain.At.{At}
-use Rattle.lexical_literal.specs.declared.plain.Counted.{Counted}
 use Rattle.lexical_literal.specs.declared.plain.Opening.{Opening}
 use Rattle.lexical_literal.specs.declared.plain.Run.{Run}
 use Rattle.lexical_literal.specs.declared.plain.Sizes.{Sizes}
@@ -84,11 +83,6 @@ pub record IsSign (m : Notation) (text : List ℕ) (part : Part) (size sign : �
 abbrev pub is_free : Notation → Stage → Bool
 is_free m stage = not (m.condition conditions.BasePrefix && lacks_prefix stage)
 
--- `IsFirst m stage` holds if the first digit of the integer may follow, and if a zero is then a leading one, or that of a prefix.
-pub record IsFirst (m : Notation) (stage : Stage) : Type 0 where
-  pub begun : awaits_integer stage ≡ true
-  pub signed : is_signed m parts.Integer stage ≡ true
-
 -- `between text from end` has the bytes of `text` from the index `from` to `end`.
 abbrev pub between : List ℕ → ℕ → ℕ → List ℕ
 between text from end = take (end - from) (drop from text)
@@ -136,11 +130,3 @@ pub record IsOpened (m : Notation) (text : List ℕ) (opening : Opening) : Type 
   pub free : is_free m opening.stage ≡ true
   pub none : has_digit opening.stage ≡ false
   pub inside : part_of opening.stage ≡ parts.Integer
-
--- `IsCounted m text counted` holds if `counted` has what has been read of `text` and, if it says that this is a literal, the
--- lengths of its parts, and if the next byte is refused if it says so.
-pub record IsCounted (m : Notation) (text : List ℕ) (counted : Counted) : Type 0 where
-  pub begun : IsBegun m text counted.at
-  pub complete : IsTrue counted.complete → is_complete m counted.at.read ≡ true
-  pub lengths : IsTrue counted.complete → tally m (Some start) no_cuts (take counted.at.size text) ≡ cuts_of counted.counts
-  pub exact : IsTrue counted.exact → (counted.at.size < length text) × (step m counted.at.read (get_or text counted.at.size 0) ≡ None)

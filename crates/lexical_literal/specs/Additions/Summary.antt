@@ -1,6 +1,5 @@
 -- What has been read of a number, changed by one byte.
-use Rattle.std.specs.Prelude.{ℕ, Bool, true, false, not, ◌==◌, ◌&&◌, ◌||◌, if◌then◌else◌, ◌+◌, ◌≡◌, length, slice_index}
-use Rattle.std.specs.Prelude.{List, [], ◌∷◌, Option, Some, None}
+use Rattle.std.specs.Prelude.{ℕ, Bool, true, false, not, ◌==◌, ◌&&◌, ◌||◌, if◌then◌else◌, ◌+◌, ◌≡◌, length, slice_index, List, [], ◌∷◌, Option, Some, None}
 use Rattle.lexical_util.specs.Layout as layout
 use Rattle.lexical_util.specs.Layout.{separators_in}
 use Rattle.lexical_util.specs.Roles.{signs}
@@ -291,13 +290,12 @@ piece_number pieces.Suffix = 8
 abbrev pub Cuts : Type 0
 Cuts = Piece → ℕ
 
--- `add c piece` counts one more byte of `piece`.
-abbrev pub add : Cuts → Piece → Cuts
-add c piece other = if piece_number other == piece_number piece then c other + 1 else c other
-
--- `add_more c piece n` counts `n` more bytes of `piece`.
+-- `add_more c piece n` counts `n` more bytes of `piece`, and `add c piece` one.
 abbrev pub add_more : Cuts → Piece → ℕ → Cuts
 add_more c piece n other = if piece_number other == piece_number piece then c other + n else c other
+
+abbrev pub add : Cuts → Piece → Cuts
+add c piece = add_more c piece 1
 
 -- `cuts_of counts` has the lengths in the list `counts`.
 abbrev pub cuts_of : List ℕ → Cuts

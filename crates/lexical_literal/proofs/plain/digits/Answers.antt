@@ -1,67 +1,63 @@
 -- The first digit, and those behind it.
-use Rattle.lexical_literal.proofs.StepLemmas.{awaited_part}
-use Rattle.std.proofs.Common.{◌≡◌, ◌+◌, ◌==◌, ◌&&◌, true, false, get_or, if◌then◌else◌, sym, ap, subst, ◌∙◌, arith}
+use Rattle.std.proofs.Common.{ℕ, ◌≡◌, ◌+◌, ◌==◌, ◌&&◌, Bool, List, true, false, get_or, if◌then◌else◌, refl, sym, ap, subst, ◌∙◌, arith}
 use Rattle.lexical_util.specs.Record.{raw}
+use Rattle.lexical_util.specs.declared.format_flags.Part.{Part}
 use Rattle.lexical_literal.specs.Notation.{notation_of, radix_of}
-use Rattle.lexical_literal.specs.Additions.Plain.{IsReadOn, IsRunOn, at_stage}
-use Rattle.lexical_literal.specs.Additions.Summary.{digits_piece, awaits_integer, digits_of}
+use Rattle.lexical_literal.specs.Additions.Plain.{HasRoles, IsDigitAt, IsReadOn, IsRunOn, at_stage, is_free}
+use Rattle.lexical_literal.specs.Additions.Summary.{awaits_integer, digits_of, digits_piece, has_digit, is_signed, part_of}
 use Rattle.lexical_literal.specs.declared.plain.Run.{Run}
+use Rattle.lexical_literal.specs.declared.steps.Stage.{Stage}
 use Rattle.lexical_literal.specs.declared.steps.Stage.TheVariants as stages
+use Rattle.lexical_literal.specs.declared.syntax.Grammar.{Grammar}
 use Rattle.lexical_literal.proofs.PlainLemmas.{read_first}
-use Rattle.lexical_literal.proofs.SumLemmas.{both_runs, is_digit, one_digit, pushed, same_run}
+use Rattle.lexical_literal.proofs.StepLemmas.{awaited_part}
+use Rattle.lexical_literal.proofs.SumLemmas.{behind_digit, is_digit, pushed, same_run}
 use Rattle.lexical_literal.proofs.plain.digits.Goals as goal
 use Rattle.lexical_literal.proofs.plain.digits.Goals.{else-text-from-eq48-via-then-text-from-eq48+else-awaits_integer}
 use Rattle.lexical_literal.proofs.plain.digits.Goals.{else-text-from-eq48-via-else-text-from-eq48}
 
+first_digit : (g : Grammar) (text : List ℕ) (part : Part) (none one last : Run) (v : ℕ) (stage : Stage) (leads : Bool) → HasRoles (notation_of g)
+    → part_of none.stage ≡ part → has_digit none.stage ≡ false → is_signed (notation_of g) part none.stage ≡ true → is_free (notation_of g) none.stage ≡ true
+    → IsDigitAt (radix_of (raw g.word) part) text none.size v → one ≡ pushed (radix_of (raw g.word) part) none v 1
+    → ((get_or text none.size 0 == 48) && awaits_integer none.stage) ≡ leads → (if leads then stages.Bare else digits_of part) ≡ stage
+    → IsRunOn (notation_of g) (radix_of (raw g.word) part) text part (record one { stage = stage }) last
+    → IsRunOn (notation_of g) (radix_of (raw g.word) part) text part none last
+first_digit g text part none one last v stage leads h in_part lacks signed free digit same first is =
+    let radix = radix_of (raw g.word) part in
+    behind_digit (notation_of g) radix text part none stage v one last digit same
+    (subst (λ stage. IsReadOn (notation_of g) text (at_stage none.size none.stage) (digits_piece part) (at_stage (none.size + 1) stage))
+    (ap (λ leads. if leads then stages.Bare else digits_of part) first ∙ is)
+    (read_first (notation_of g) text h part none.size none.stage in_part digit.0 (is_digit radix (get_or text none.size 0) v digit.1) lacks signed free))
+
+begun_later : (zero awaits : Bool) → awaits ≡ false → (zero && awaits) ≡ false
+begun_later zero awaits is = grind arith
+
+no_zero : (b : ℕ) (awaits : Bool) → (b ≡ 48 → ⊥) → ((b == 48) && awaits) ≡ false
+no_zero b awaits is = grind arith
+
 pub returns-then-awaits_integer-clause-run : goal.returns-then-awaits_integer-clause-run
 returns-then-awaits_integer-clause-run c =
     let g = c.args.grammar in
-    let m = notation_of g in
     let text = c.args.text.now in
     let part = c.args.part in
-    let radix = radix_of (raw g.word) part in
-    let run : Run = record { size = c.args.from; stage = c.args.stage; digits = 0; sum = c.args.before } in
-    let v = c.in-Some.value in
-    let digit = c.in-Some.ensures.some in
-    let next : Run = record (pushed radix run v 1) { stage = stages.Bare } in
-    let same : c.staged.result ≡ next = c.staged.ensures ∙ ap (λ (r : Run). record r { stage = stages.Bare }) c.push-one.ensures in
-    let naught : (get_or text run.size 0 == 48) ≡ true = let is = c.if-text-from-eq48.true in grind arith in
-    let begun : awaits_integer run.stage ≡ true = sym c.awaits_integer.ensures ∙ c.if-awaits_integer.true in
-    let on : IsReadOn m text (at_stage run.size run.stage) (digits_piece part) (at_stage (run.size + 1) stages.Bare) =
-    subst (λ stage. IsReadOn m text (at_stage run.size run.stage) (digits_piece part) (at_stage (run.size + 1) stage))
-    (λ j. if naught j && begun j then stages.Bare else (digits_of part))
-    (read_first m text c.requires.roles part run.size run.stage c.requires.part digit.0 (is_digit radix (get_or text run.size 0) v digit.1)
-    c.requires.none c.requires.signed c.requires.free) in
-    both_runs m radix text part run c.staged.result c.behind_zero.result
-    (subst (IsRunOn m radix text part run) (sym same) (one_digit m radix text part run stages.Bare v digit on))
-    (subst (λ part. IsRunOn m (radix_of (raw g.word) part) text part c.staged.result c.behind_zero.result)
-    (sym (awaited_part run.stage begun) ∙ c.requires.part) c.behind_zero.ensures.run)
+    let naught : (get_or text c.args.from 0 == 48) ≡ true = ap (λ b. b == 48) c.if-text-from-eq48.true in
+    let begun : awaits_integer c.args.stage ≡ true = sym c.awaits_integer.ensures ∙ c.if-awaits_integer.true in
+    first_digit g text part _ c.push-one.result c.behind_zero.result c.in-Some.value stages.Bare true c.requires.ready.roles c.requires.part c.requires.none
+    c.requires.signed c.requires.free c.in-Some.ensures.some c.push-one.ensures (λ j. naught j && begun j) refl
+    (subst (λ part. IsRunOn (notation_of g) (radix_of (raw g.word) part) text part (record c.push-one.result { stage = stages.Bare }) c.behind_zero.result)
+    (sym (awaited_part c.args.stage begun) ∙ c.requires.part) c.behind_zero.ensures.run)
 
 pub returns-else-text-from-eq48-clause-run : goal.returns-else-text-from-eq48-clause-run
 returns-else-text-from-eq48-clause-run c =
-    let g = c.args.grammar in
-    let m = notation_of g in
     let text = c.args.text.now in
-    let part = c.args.part in
-    let radix = radix_of (raw g.word) part in
-    let run : Run = record { size = c.args.from; stage = c.args.stage; digits = 0; sum = c.args.before } in
-    let v = c.in-Some.value in
-    let digit = c.in-Some.ensures.some in
-    let next : Run = record (pushed radix run v 1) { stage = (digits_of part) } in
-    let same : c.staged-else-text-from-eq48.result ≡ next =
-    c.staged-else-text-from-eq48.ensures ∙ (λ j. record (c.push-one.ensures j) { stage = c.digits_of.ensures j }) in
-    let other : ((get_or text run.size 0 == 48) && awaits_integer run.stage) ≡ false = elim c.else-text-from-eq48.branch [
+    let other : ((get_or text c.args.from 0 == 48) && awaits_integer c.args.stage) ≡ false = elim c.else-text-from-eq48.branch [
       | else-text-from-eq48-via-then-text-from-eq48+else-awaits_integer w ↦
-          let begun : awaits_integer run.stage ≡ false = sym w.awaits_integer.ensures ∙ w.if-awaits_integer.false in grind arith
-      | else-text-from-eq48-via-else-text-from-eq48 w ↦ let is = w.if-text-from-eq48.false in grind arith
+          begun_later (get_or text c.args.from 0 == 48) _ (sym w.awaits_integer.ensures ∙ w.if-awaits_integer.false)
+      | else-text-from-eq48-via-else-text-from-eq48 w ↦ no_zero (get_or text c.args.from 0) _ w.if-text-from-eq48.false
     ] in
-    let on : IsReadOn m text (at_stage run.size run.stage) (digits_piece part) (at_stage (run.size + 1) (digits_of part)) =
-    subst (λ stage. IsReadOn m text (at_stage run.size run.stage) (digits_piece part) (at_stage (run.size + 1) stage))
-    (λ j. if other j then stages.Bare else (digits_of part))
-    (read_first m text c.requires.roles part run.size run.stage c.requires.part digit.0 (is_digit radix (get_or text run.size 0) v digit.1)
-    c.requires.none c.requires.signed c.requires.free) in
-    both_runs m radix text part run c.staged-else-text-from-eq48.result c.groups.result
-    (subst (IsRunOn m radix text part run) (sym same) (one_digit m radix text part run (digits_of part) v digit on)) c.groups.ensures.run
+    first_digit c.args.grammar text c.args.part _ c.push-one.result c.groups.result c.in-Some.value c.digits_of-stage.result false c.requires.ready.roles
+    c.requires.part c.requires.none c.requires.signed c.requires.free c.in-Some.ensures.some c.push-one.ensures other (sym c.digits_of-stage.ensures)
+    c.groups.ensures.run
 
 pub returns-in_default-clause-run : goal.returns-in_default-clause-run
 returns-in_default-clause-run c = same_run (notation_of c.args.grammar) (radix_of (raw c.args.grammar.word) c.args.part) c.args.text.now c.args.part

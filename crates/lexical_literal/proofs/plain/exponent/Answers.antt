@@ -10,7 +10,8 @@ use Rattle.lexical_literal.proofs.JoinLemmas.{exponent_at, exponent_behind}
 use Rattle.lexical_literal.proofs.plain.exponent.Goals as goal
 
 pub digits-run-requires-clause-none : goal.digits-run-requires-clause-none
-digits-run-requires-clause-none c = subst (λ stage. has_digit stage ≡ false) (sym c.behind_sign.ensures) (exponent_behind (notation_of c.args.grammar) c.in-Some.sign).0
+digits-run-requires-clause-none c =
+    subst (λ stage. has_digit stage ≡ false) (sym c.behind_sign.ensures) (exponent_behind (notation_of c.args.grammar) c.in-Some.sign).0
 
 pub digits-run-requires-clause-signed : goal.digits-run-requires-clause-signed
 digits-run-requires-clause-signed c = subst (λ stage. is_signed (notation_of c.args.grammar) parts.Exponent stage ≡ true) (sym c.behind_sign.ensures)
@@ -21,7 +22,7 @@ digits-run-requires-clause-free c = subst (λ stage. is_free (notation_of c.args
     (exponent_behind (notation_of c.args.grammar) c.in-Some.sign).2
 
 pub digits-run-requires-clause-part : goal.digits-run-requires-clause-part
-digits-run-requires-clause-part c = subst (λ stage. part_of stage ≡ parts.Exponent) (sym c.behind_sign.ensures) 
+digits-run-requires-clause-part c = subst (λ stage. part_of stage ≡ parts.Exponent) (sym c.behind_sign.ensures)
     (exponent_behind (notation_of c.args.grammar) c.in-Some.sign).1
 
 pub end-requires-clause-at : goal.end-requires-clause-at

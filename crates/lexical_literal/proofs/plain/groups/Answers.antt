@@ -34,6 +34,6 @@ loop-value-preserved c =
       on = subst (IsRunOn m radix text c.args.part c.args.begun) (sym same)
           (both_runs m radix text c.args.part c.args.begun more next
           (both_runs m radix text c.args.part c.args.begun run more now.on is.run)
-          (more_separated g text c.args.part more v c.requires.roles (ap is_run stage ∙ c.requires.run) (ap part_of stage
+          (more_separated g text c.args.part more v c.requires.ready.roles (ap is_run stage ∙ c.requires.run) (ap part_of stage
           ∙ c.requires.part) c.in-Some.ensures));
     }

@@ -26,7 +26,7 @@ loop-value-preserved c =
       stage = ap (λ (r : Run). r.stage) same ∙ now.stage;
       on = subst (IsRunOn (notation_of g) radix text c.args.part c.args.begun) (sym same)
           (both_runs (notation_of g) radix text c.args.part c.args.begun run next now.on
-          (more_digit g text c.args.part run v c.requires.roles is_run_now (ap part_of now.stage ∙ c.requires.part) c.in-Some.ensures.some));
+          (more_digit g text c.args.part run v c.requires.ready.roles is_run_now (ap part_of now.stage ∙ c.requires.part) c.in-Some.ensures.some));
     }
 
 pub returns-clause-over : goal.returns-clause-over

@@ -6,7 +6,7 @@ use Rattle.lexical_literal.proofs.JoinLemmas.{opened, opened_prefix}
 use Rattle.lexical_literal.proofs.plain.open.Goals as goal
 
 pub returns-then-reads_prefix : goal.returns-then-reads_prefix
-returns-then-reads_prefix c = opened_prefix (notation_of c.args.grammar) c.args.text.now c.requires.roles c.args.sign c.requires.sign
+returns-then-reads_prefix c = opened_prefix (notation_of c.args.grammar) c.args.text.now c.requires.ready.roles c.args.sign c.requires.sign
     (c.reads_prefix.ensures.on c.if-reads_prefix.true)
 
 pub returns-else-grammar : goal.returns-else-grammar

@@ -9,6 +9,6 @@ pub returns-clause-on : goal.returns-clause-on
 returns-clause-on c is =
     let b = get_or c.args.text.now c.args.size 0 in
     let allowed : Bool → Bool → Bool = λ plus minus. ((b == 43) && plus) || ((b == 45) && minus) in
-    read_sign (notation_of c.args.grammar) c.args.text.now c.requires.roles c.args.part c.args.size (omega (arith, c.if-size-text.false))
+    read_sign (notation_of c.args.grammar) c.args.text.now c.requires.ready.roles c.args.part c.args.size (omega (arith, c.if-size-text.false))
     (subst (λ minus. IsTrue (allowed (not (forbids_plus (notation_of c.args.grammar) c.args.part)) minus)) c.allows_minus.ensures
     (subst (λ plus. IsTrue (allowed plus c.allows_minus.result)) c.allows_plus.ensures is))

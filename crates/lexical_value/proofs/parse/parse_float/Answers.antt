@@ -1,8 +1,6 @@
 -- The word is that of the syntax.
 use Rattle.std.proofs.Common.{◌≡◌, ◌||◌, ◌∙◌, subst, false}
 use Rattle.lexical_util.specs.Record.{raw}
-use Rattle.lexical_literal.specs.Literal.{Literal}
-use Rattle.lexical_literal.specs.Takes.{Takes}
 use Rattle.lexical_literal.specs.Parts.{literal_of}
 use Rattle.lexical_number.specs.Binary.{format_of}
 use Rattle.lexical_value.specs.Float.{is_binary, is_decimal, nearest}
