@@ -5,7 +5,7 @@
 ghost use Rattle.std.specs.Prelude.{◌≡◌, ◌<◌, ◌≤◌, ◌+◌, ◌-◌, ◌*◌, ◌%◌, ◌^◌, ◌∷◌, [], false, true, IfSome, IsNone, IsTrue, get_or, length};
 ghost use Rattle.lexical_util.specs.Record.{raw};
 ghost use Rattle.lexical_literal.specs.Notation.{Notation, notation_of, radix_of};
-ghost use Rattle.lexical_literal.specs.Additions.Longest.{HasFound};
+ghost use Rattle.lexical_literal.specs.Additions.Longest.{HasFound, IsStopped};
 ghost use Rattle.lexical_literal.specs.Additions.Plain.{IsAt, IsBegun, IsDigitAt, IsOpened, IsOver, IsPassed, IsReadOn, IsReady, IsRunOn, IsSeparated, IsSign};
 ghost use Rattle.lexical_literal.specs.Additions.Plain.{behind_sign, counts_of, fresh, is_free, at_stage};
 ghost use Rattle.lexical_literal.specs.Additions.Summary.{Cuts, add, after_mark, after_point, awaits_integer, cuts_of, has_digit, is_bare, is_fresh, is_run, is_signed, part_of, piece_of};
@@ -90,15 +90,16 @@ const fn at_stage(size: usize, stage: Stage) -> At
 
 // Returns that reading stops at `at`, where no literal has been found.
 #[inline(always)]
-const fn stopped(_grammar: Grammar, _text: &[u8], at: At) -> Counted
-    requires { IsBegun (notation_of _grammar) _text.now at }
+const fn stopped(_grammar: Grammar, _text: &[u8], at: At, exact: bool) -> Counted
+    requires begun { IsBegun (notation_of _grammar) _text.now at }
+    requires exact { IsTrue exact → (at.size < length _text.now) × IsStopped (notation_of _grammar) _text.now at }
     ensures { HasFound (notation_of _grammar) _text.now result }
 {
     Counted {
         at,
         counts: [0; 9],
         complete: false,
-        exact: false,
+        exact,
     }
 }
 
@@ -329,7 +330,7 @@ pub(crate) const fn plain(grammar: Grammar, text: &[u8], fronts: bool) -> Counte
     ensures { HasFound (notation_of grammar) text.now result }
 {
     let Some(sign) = sign(grammar, text, Part::Integer, 0) else {
-        return stopped(grammar, text, BEGIN);
+        return stopped(grammar, text, BEGIN, false);
     };
     let Some(opening) = open(grammar, text, sign) else {
         return without_prefix(grammar, text, sign);
@@ -383,17 +384,18 @@ const fn without_prefix(grammar: Grammar, text: &[u8], sign: usize) -> Counted
     ensures { HasFound (notation_of grammar) text.now result }
 {
     if sign < text.len() && text[sign] == b'0' {
-        Counted {
-            at: at_stage(sign + 1, Stage::Bare),
-            counts: [0; 9],
-            complete: false,
-            exact: misses_prefix(grammar, text, sign + 1),
-        }
+        stopped(
+            grammar,
+            text,
+            at_stage(sign + 1, Stage::Bare),
+            misses_prefix(grammar, text, sign + 1),
+        )
     } else {
         stopped(
             grammar,
             text,
             at_stage(sign, behind_sign(Part::Integer, sign)),
+            false,
         )
     }
 }
@@ -413,7 +415,7 @@ const fn integer(grammar: Grammar, text: &[u8], fronts: bool, opening: Opening) 
     } = opening;
     let run = digits(grammar, text, Part::Integer, size, stage, 0);
     if run.size == size {
-        return stopped(grammar, text, at_stage(size, stage));
+        return stopped(grammar, text, at_stage(size, stage), false);
     }
     let integer = run.size - sign - prefix;
     let sizes = Sizes {
@@ -453,7 +455,7 @@ const fn fraction(
     let stage = after_point(integer.stage);
     let run = digits(grammar, text, Part::Fraction, from, stage, integer.sum);
     if run.size == from {
-        return stopped(grammar, text, at_stage(from, stage));
+        return stopped(grammar, text, at_stage(from, stage), false);
     }
     let sizes = Sizes {
         point: 1,
@@ -499,7 +501,7 @@ const fn exponent(grammar: Grammar, text: &[u8], fronts: bool, sizes: Sizes, siz
     ensures { HasFound (notation_of grammar) text.now result }
 {
     let Some(sign) = sign(grammar, text, Part::Exponent, size) else {
-        return stopped(grammar, text, at_stage(size, Stage::Mark));
+        return stopped(grammar, text, at_stage(size, Stage::Mark), false);
     };
     let from = size + sign;
     let run = digits(
@@ -583,12 +585,8 @@ const fn end(
         };
     }
     if !fronts && size < text.len() {
-        return Counted {
-            at,
-            counts: [0; 9],
-            complete: false,
-            exact: is_passed(grammar, read.stage, text[size]),
-        };
+        let exact = is_passed(grammar, read.stage, text[size]);
+        return stopped(grammar, text, at, exact);
     }
     Counted {
         at,

@@ -70,8 +70,8 @@ const fn at_stage(size: usize, stage: Stage) -> At {
 
 // Returns that reading stops at `at`, where no literal has been found.
 #[inline(always)]
-const fn stopped(_grammar: Grammar, _text: &[u8], at: At) -> Counted {
-    Counted { at, counts: [0; 9], complete: false, exact: false }
+const fn stopped(_grammar: Grammar, _text: &[u8], at: At, exact: bool) -> Counted {
+    Counted { at, counts: [0; 9], complete: false, exact }
 }
 
 // Returns whether a sign of the mantissa, or of the exponent, follows and is read.
@@ -202,7 +202,7 @@ const fn behind_zero(grammar: Grammar, text: &[u8], zero: Run) -> Run {
 #[inline(always)]
 pub(crate) const fn plain(grammar: Grammar, text: &[u8], fronts: bool) -> Counted {
     let Some(sign) = sign(grammar, text, Part::Integer, 0) else {
-        return stopped(grammar, text, BEGIN);
+        return stopped(grammar, text, BEGIN, false);
     };
     let Some(opening) = open(grammar, text, sign) else {
         return without_prefix(grammar, text, sign);
@@ -232,14 +232,9 @@ const fn misses_prefix(grammar: Grammar, text: &[u8], size: usize) -> bool {
 #[inline(always)]
 const fn without_prefix(grammar: Grammar, text: &[u8], sign: usize) -> Counted {
     if sign < text.len() && text[sign] == b'0' {
-        Counted {
-            at: at_stage(sign + 1, Stage::Bare),
-            counts: [0; 9],
-            complete: false,
-            exact: misses_prefix(grammar, text, sign + 1),
-        }
+        stopped(grammar, text, at_stage(sign + 1, Stage::Bare), misses_prefix(grammar, text, sign + 1))
     } else {
-        stopped(grammar, text, at_stage(sign, behind_sign(Part::Integer, sign)))
+        stopped(grammar, text, at_stage(sign, behind_sign(Part::Integer, sign)), false)
     }
 }
 
@@ -249,7 +244,7 @@ const fn integer(grammar: Grammar, text: &[u8], fronts: bool, opening: Opening) 
     let Opening { sign, prefix, size, stage } = opening;
     let run = digits(grammar, text, Part::Integer, size, stage, 0);
     if run.size == size {
-        return stopped(grammar, text, at_stage(size, stage));
+        return stopped(grammar, text, at_stage(size, stage), false);
     }
     let integer = run.size - sign - prefix;
     let sizes = Sizes { sign, prefix, integer, point: 0, fraction: 0 };
@@ -267,7 +262,7 @@ const fn fraction(grammar: Grammar, text: &[u8], fronts: bool, sizes: Sizes, int
     let stage = after_point(integer.stage);
     let run = digits(grammar, text, Part::Fraction, from, stage, integer.sum);
     if run.size == from {
-        return stopped(grammar, text, at_stage(from, stage));
+        return stopped(grammar, text, at_stage(from, stage), false);
     }
     let sizes = Sizes { point: 1, fraction: run.size - from, ..sizes };
     behind_mantissa(grammar, text, fronts, sizes, run)
@@ -291,7 +286,7 @@ const fn behind_mantissa(grammar: Grammar, text: &[u8], fronts: bool, sizes: Siz
 #[inline(always)]
 const fn exponent(grammar: Grammar, text: &[u8], fronts: bool, sizes: Sizes, size: usize) -> Counted {
     let Some(sign) = sign(grammar, text, Part::Exponent, size) else {
-        return stopped(grammar, text, at_stage(size, Stage::Mark));
+        return stopped(grammar, text, at_stage(size, Stage::Mark), false);
     };
     let from = size + sign;
     let run = digits(grammar, text, Part::Exponent, from, behind_sign(Part::Exponent, sign), 0);
@@ -326,7 +321,8 @@ const fn end(grammar: Grammar, text: &[u8], fronts: bool, at: At, sizes: Sizes, 
         };
     }
     if !fronts && size < text.len() {
-        return Counted { at, counts: [0; 9], complete: false, exact: is_passed(grammar, read.stage, text[size]) };
+        let exact = is_passed(grammar, read.stage, text[size]);
+        return stopped(grammar, text, at, exact);
     }
     Counted {
         at,

@@ -2,10 +2,10 @@
 use Rattle.std.proofs.Common.{◌≡◌, true, false, get_or, refl, sym, subst, ◌∙◌, arith}
 use Rattle.std.proofs.lemmas.Bool.{false≢true}
 use Rattle.lexical_util.specs.Record.{raw}
-use Rattle.lexical_util.specs.declared.feature_format.roles.Role.TheVariants as roles
 use Rattle.lexical_util.specs.Roles.{suffix}
-use Rattle.lexical_literal.specs.Additions.Summary.{takes}
+use Rattle.lexical_util.specs.declared.feature_format.roles.Role.TheVariants as roles
 use Rattle.lexical_literal.specs.Notation.{notation_of}
+use Rattle.lexical_literal.specs.Additions.Summary.{takes}
 use Rattle.lexical_literal.proofs.JoinLemmas.{suffix_at}
 use Rattle.lexical_literal.proofs.LongestLemmas.{complete_at, stops_at}
 use Rattle.lexical_literal.proofs.PassedLemmas.{passed}
@@ -22,12 +22,14 @@ returns-then-takes c =
     (subst (λ w. suffix (raw w) (get_or text at.size 0) ≡ true) c.view.ensures (sym c.is_base_suffix.ensures ∙ c.if-is_base_suffix.true))
     c.requires.going (sym c.takes.ensures ∙ c.if-takes.true) c.requires.free c.requires.at) c.is_complete.ensures refl
 
-pub returns-then-size-text-2 : goal.returns-then-size-text-2
-returns-then-size-text-2 c =
+pub returns : goal.returns
+returns c = complete_at _ c.requires.ready _ _ c.requires.at c.is_complete-2.ensures refl
+
+pub stopped-requires-clause-exact : goal.stopped-requires-clause-exact
+stopped-requires-clause-exact c holds =
     let m = notation_of c.args.grammar in
-    let text = c.args.text.now in
     let at = c.args.at in
-    let b = get_or text at.size 0 in
+    let b = get_or c.args.text.now at.size 0 in
     let inside = c.if-size-text-2.true in
     let suffix_passed : m.suffix b ≡ true → takes m at.read false roles.Suffix ≡ false = λ is. elim c.else-size-text.branch [
       | else-size-text-via-then-size-text+then-is_base_suffix+else-takes w ↦ sym w.takes.ensures ∙ w.if-takes.false
@@ -35,15 +37,7 @@ returns-then-size-text-2 c =
           (sym (subst (λ v. suffix (raw v) b ≡ false) w.view.ensures (sym w.is_base_suffix.ensures ∙ w.if-is_base_suffix.false)) ∙ is))
       | else-size-text-via-else-size-text w ↦ absurd (omega (arith, w.if-size-text.false, inside))
     ] in
-    record {
-      begun = c.requires.at.begun;
-      literal = λ yes. absurd (false≢true yes);
-      lengths = λ yes. absurd (false≢true yes);
-      exact = λ yes.
-          let is = c.is_passed.ensures in
-          (inside, stops_at m c.requires.ready text at c.requires.at.begun (λ _.
-          passed m at.read b (is.digit yes) (is.separator yes) (is.fresh yes) (is.prefix yes) (c.requires.point inside) (c.requires.exponent inside) suffix_passed));
-    }
-
-pub returns : goal.returns
-returns c = complete_at _ c.requires.ready _ _ c.requires.at c.is_complete-2.ensures refl
+    let is = c.is_passed-exact.ensures in
+    let none = passed m at.read b (is.digit holds) (is.separator holds) (is.fresh holds) (is.prefix holds) (c.requires.point inside) (c.requires.exponent inside)
+    suffix_passed in
+    (inside, stops_at m c.requires.ready c.args.text.now at c.requires.at.begun (λ _. none))
