@@ -386,7 +386,8 @@ const fn some_admit(
 {
     let needs_prefix = conditions.has(Condition::BasePrefix) && lacks_prefix(read.stage);
     (!needs_prefix || leads_to_prefix(read.stage, zero, role))
-        && !(conditions.has(Condition::NegativeSign) && is_negative(part_of(read.stage), plus, role))
+        && !(conditions.has(Condition::NegativeSign)
+            && is_negative(part_of(read.stage), plus, role))
 }
 
 // Returns whether the conditions let a literal end.
