@@ -8,7 +8,7 @@ use Rattle.std.proofs.lemmas.List.{take-take, take_more, take_all}
 use Rattle.lexical_literal.specs.Notation.{Notation, notation_of}
 use Rattle.lexical_literal.specs.Literal.{Literal, IsLiteral, Reads}
 use Rattle.lexical_literal.specs.Additions.Summary.{cuts_of, role_at, scan, step, is_accepted, is_complete, part_of, tally, start, no_cuts, HasLengths, move_by}
-use Rattle.lexical_literal.specs.Additions.Summary.{piece_number, piece_of}
+use Rattle.lexical_literal.specs.Additions.Summary.{count}
 use Rattle.lexical_literal.specs.Front.{IsFront, IsValidUpTo, NoLiteral, ReadsFront}
 use Rattle.lexical_literal.specs.Takes.{NoFront}
 use Rattle.lexical_literal.specs.Additions.Longest.{HasFound, IsCountedFront, IsFronted, IsLongest, IsStopped}
@@ -22,7 +22,7 @@ use Rattle.lexical_literal.specs.declared.steps.Summary.{Summary}
 use Rattle.lexical_literal.proofs.ScanLemmas.{scan_append, tally_append}
 use Rattle.lexical_literal.proofs.ConditionLemmas.{has_lengths, literal_from, literal_arrives}
 use Rattle.lexical_literal.proofs.LiteralLemmas.{all_cuts}
-use Rattle.lexical_literal.proofs.CountLemmas.{count_more, no_counts, small_at_first, small_more}
+use Rattle.lexical_literal.proofs.CountLemmas.{no_counts, small_at_first}
 use Rattle.lexical_util.specs.declared.feature_format.roles.Role.{Role}
 use Rattle.lexical_literal.proofs.FrontLemmas.{front_from, front_is_read}
 
@@ -40,7 +40,7 @@ front_shorter m text k n below is = record {
 -- `found` the longest front that is a literal.
 pub record HasCounted (m : Notation) (text : List ℕ) (at : At) (counts : List ℕ) (found : Option Found) : Type 0 where
   pub nine : length counts ≡ 9
-  pub small : (k : ℕ) → get_or counts k 0 ≤ at.size
+  pub small : (k : ℕ) → get_or counts k 0 ≤ at.size + 1
   pub read : IsAt m text at (cuts_of counts)
   pub longest : IsLongest m text at.size found
 
@@ -182,7 +182,7 @@ module _ (m : Notation) (ready : IsReady m) (text : List ℕ) where
   pub has_counted : (n : ℕ) (counts : List ℕ) → tally m (Some start) no_cuts (take n text) ≡ cuts_of counts → (l : Literal) → Reads m l (take n text)
       → HasLengths l (cuts_of counts)
   has_counted n counts lengths l reads =
-      rw (← lengths, reads.whole, (literal_arrives m ready.roles l reads.literal).1) (has_lengths m l reads.literal.spelled)
+      rw (← lengths, reads.whole, (literal_arrives m ready.roles l reads.literal).1) (has_lengths l)
 
   -- Nothing is the longest front of nothing.
   pub first_counted : HasCounted m text (record { size = 0; read = start }) (replicate 9 0) None
@@ -232,12 +232,11 @@ module _ (m : Notation) (ready : IsReady m) (text : List ℕ) where
     }
 
     -- One more byte is counted.
-    pub more_counted : (r : Role) (k : ℕ) → role_at m (part_of at.read.stage) (get_or text at.size 0) ≡ Some r
-        → k ≡ piece_number (piece_of (part_of at.read.stage) r) → k < 9
-        → (complete : Bool) → complete ≡ is_complete m next.read → let more = set counts k (get_or counts k 0 + 1) in
-        HasCounted m text next more (if complete then Some (record { size = next.size; counts = more }) else found)
-    more_counted r k plays same small complete is =
-        let more = set counts k (get_or counts k 0 + 1) in
+    pub more_counted : (r : Role) (more : List ℕ) → role_at m (part_of at.read.stage) (get_or text at.size 0) ≡ Some r → length more ≡ 9
+        → cuts_of more ≡ count (part_of at.read.stage) (Some r) (cuts_of counts) → ((k : ℕ) → get_or more k 0 ≤ at.size + 1 + 1)
+        → (complete : Bool) → complete ≡ is_complete m next.read
+        → HasCounted m text next more (if complete then Some (record { size = next.size; counts = more }) else found)
+    more_counted r more plays nine same small complete is =
         let counted : tally m (Some start) no_cuts (take next.size text) ≡ cuts_of more = ap (λ n. tally m (Some start) no_cuts (take n text)) size
         ∙ rw (
           take_more text at.size 0 inside,
@@ -246,9 +245,9 @@ module _ (m : Notation) (ready : IsReady m) (text : List ℕ) where
           has.read.counted,
           plays,
         )
-        (count_more counts has.nine (piece_of (part_of at.read.stage) r) 1 ∙ ap (λ k. cuts_of (set counts k (get_or counts k 0 + 1))) (sym same)) in record {
-          nine = length-set counts k (get_or counts k 0 + 1) ∙ has.nine;
-          small = λ j. let one = small_more counts at.size k (omega (arith, small, has.nine)) has.small j in omega (arith, one, size);
+        (sym same) in record {
+          nine = nine;
+          small = λ k. let one = small k in omega (arith, one, size);
           read = record { begun = begun; counted = counted };
           longest = longer more counted complete is;
         }
@@ -266,13 +265,13 @@ module _ (m : Notation) (ready : IsReady m) (text : List ℕ) where
   -- A text has one reading.
   pub one_reading : (l k : Literal) → Reads m l text → Reads m k text → l ≡ k
   one_reading l k first second =
-      let a = has_lengths m l first.literal.spelled in
+      let a = has_lengths l in
       let counts = λ (l : Literal) (is : IsLiteral m l). (literal_arrives m ready.roles l is).1 in
       let b : HasLengths k (all_cuts l) =
-      rw (← counts l first.literal, ← first.whole, second.whole, counts k second.literal) (has_lengths m k second.literal.spelled) in
+      rw (← counts l first.literal, ← first.whole, second.whole, counts k second.literal) (has_lengths k) in
       let sign = same_part l.sign k.sign _ _ (a.sign ∙ sym b.sign) (sym first.whole ∙ second.whole) in
       let prefix = same_part l.prefix k.prefix _ _ (a.prefix ∙ sym b.prefix) sign.1 in
-      let integer = same_part l.integer k.integer _ _ (omega (arith, a.integer, b.integer)) prefix.1 in
+      let integer = same_part l.integer k.integer _ _ (a.integer ∙ sym b.integer) prefix.1 in
       let point = same_part l.point k.point _ _ (a.point ∙ sym b.point) integer.1 in
       let fraction = same_part l.fraction k.fraction _ _ (a.fraction ∙ sym b.fraction) point.1 in
       let exponent_character = same_part l.exponent_character k.exponent_character _ _ (a.exponent_character ∙ sym b.exponent_character) fraction.1 in

@@ -1,10 +1,10 @@
 //! How literals are found, and the lengths of their parts.
 
-ghost use Rattle.std.specs.Prelude.{◌≡◌, ◌+◌, ◌++◌, ◌∷◌, ◌<◌, ◌≤◌, Bool, IfSome, IsErrAnd, IsNone, IsTrue, None, ℕ, List, [], false, true, length, slice_get, take};
+ghost use Rattle.std.specs.Prelude.{◌≡◌, ◌+◌, ◌++◌, ◌∷◌, ◌<◌, ◌≤◌, ◌^◌, Bool, IfSome, IsErrAnd, IsNone, IsTrue, None, ℕ, List, [], false, get_or, true, length, slice_get, take};
 ghost use Rattle.lexical_literal.specs.Additions.Explained.{tail_byte};
 ghost use Rattle.lexical_literal.specs.Additions.Longest.{HasFound, IsCountedFront, IsFronted, IsGrouped, IsLongest, IsMeasured, IsStopped};
 ghost use Rattle.lexical_literal.specs.Additions.Plain.{IsBegun};
-ghost use Rattle.lexical_literal.specs.Additions.Summary.{HasLengths, cuts_of, is_complete};
+ghost use Rattle.lexical_literal.specs.Additions.Summary.{HasLengths, count, cuts_of, is_complete};
 ghost use Rattle.lexical_literal.specs.Additions.Causes.{lets};
 ghost use Rattle.lexical_literal.specs.Cause.{IsRefusal, tail_of, tail_size};
 ghost use Rattle.lexical_literal.specs.Literal.{Literal, Reads, text_of};
@@ -16,8 +16,9 @@ use crate::cause::{Marks, ReadError, Spot};
 use crate::groups::{is_grouped, wrong_group};
 use crate::plain::{At, BEGIN, Counted, plain};
 use crate::span::marks;
-use crate::steps::{Summary, is_complete, part_of, piece_number, piece_of, role_at, step};
+use crate::steps::{Piece, Summary, is_complete, part_of, piece_number, piece_of, role_at, step};
 use crate::syntax::{Condition, Syntax};
+use lexical_util::format::{Part, Role};
 
 /// The parts of a literal, in the order of the text. An absent part has no bytes.
 #[derive(Debug, Clone, Copy, PartialEq, Eq, Hash)]
@@ -222,7 +223,8 @@ impl Syntax {
             let Some(role) = role_at(grammar, part, text[at.size]) else {
                 return found;
             };
-            counts[piece_number(piece_of(part, role))] += 1;
+            let more = count_byte(counts, part, role);
+            counts = more;
             at = next;
             if is_complete(grammar, at.read) {
                 let size = at.size;
@@ -309,6 +311,24 @@ impl Syntax {
     }
 }
 
+// Counts one more byte with the role `role` in `part`. Before that of a prefix, its zero has been counted for the integer.
+#[inline(always)]
+const fn count_byte(counts: [usize; 9], part: Part, role: Role) -> [usize; 9]
+    requires { (k : ℕ) → get_or counts k 0 + 1 < 2 ^ 64 }
+    ensures nine { length result ≡ 9 }
+    ensures counted { cuts_of result ≡ count part (Some role) (cuts_of counts) }
+    ensures small { (n : ℕ) → 0 < n → ((k : ℕ) → get_or counts k 0 ≤ n) → (k : ℕ) → get_or result k 0 ≤ n + 1 }
+{
+    let mut more = counts;
+    if matches!(role, Role::Prefix) {
+        more[piece_number(Piece::Prefix)] = 2;
+        more[piece_number(Piece::Integer)] = 0;
+    } else {
+        more[piece_number(piece_of(part, role))] += 1;
+    }
+    more
+}
+
 // Returns the byte behind the first `size`, if there is one.
 const fn byte_at(text: &[u8], size: usize) -> Option<u8>
     ensures { result ≡ slice_get text.now size }
@@ -389,15 +409,15 @@ fn split_front<'a>(text: &'a [u8], size: usize) -> (&'a [u8], &'a [u8])
     text.split_at(size)
 }
 
-// Splits `text` into parts with the lengths `counts`. The zero of a prefix is counted as a digit of the integer.
+// Splits `text` into parts with the lengths `counts`.
 #[inline(always)]
 pub(crate) fn cut<'a>(text: &'a [u8], counts: [usize; 9]) -> Parts<'a>
     requires { (l : Literal) × (text.now ≡ text_of l) × HasLengths l (cuts_of counts) }
     ensures { (l : Literal) → text.now ≡ text_of l → HasLengths l (cuts_of counts) → literal_of result ≡ l }
 {
     let (sign, after_sign) = split_front(text, counts[0]);
-    let (prefix, after_prefix) = split_front(after_sign, counts[1] + counts[1]);
-    let (integer, after_integer) = split_front(after_prefix, counts[2] - counts[1]);
+    let (prefix, after_prefix) = split_front(after_sign, counts[1]);
+    let (integer, after_integer) = split_front(after_prefix, counts[2]);
     let (point, after_point) = split_front(after_integer, counts[3]);
     let (fraction, after_fraction) = split_front(after_point, counts[4]);
     let (exponent_character, after_character) = split_front(after_fraction, counts[5]);

@@ -6,8 +6,9 @@ use crate::literal::cause::{Marks, ReadError, Spot};
 use crate::literal::groups::{is_grouped, wrong_group};
 use crate::literal::plain::{plain, At, Counted, BEGIN};
 use crate::literal::span::marks;
-use crate::literal::steps::{is_complete, part_of, piece_number, piece_of, role_at, step, Summary};
+use crate::literal::steps::{is_complete, part_of, piece_number, piece_of, role_at, step, Piece, Summary};
 use crate::literal::syntax::{Condition, Syntax};
+use crate::word::{Part, Role};
 
 /// The parts of a literal, in the order of the text. An absent part has no bytes.
 #[derive(Debug, Clone, Copy, PartialEq, Eq, Hash)]
@@ -168,7 +169,8 @@ impl Syntax {
             let Some(role) = role_at(grammar, part, text[at.size]) else {
                 return found;
             };
-            counts[piece_number(piece_of(part, role))] += 1;
+            let more = count_byte(counts, part, role);
+            counts = more;
             at = next;
             if is_complete(grammar, at.read) {
                 let size = at.size;
@@ -233,6 +235,19 @@ impl Syntax {
     }
 }
 
+// Counts one more byte with the role `role` in `part`. Before that of a prefix, its zero has been counted for the integer.
+#[inline(always)]
+const fn count_byte(counts: [usize; 9], part: Part, role: Role) -> [usize; 9] {
+    let mut more = counts;
+    if matches!(role, Role::Prefix) {
+        more[piece_number(Piece::Prefix)] = 2;
+        more[piece_number(Piece::Integer)] = 0;
+    } else {
+        more[piece_number(piece_of(part, role))] += 1;
+    }
+    more
+}
+
 // Returns the byte behind the first `size`, if there is one.
 const fn byte_at(text: &[u8], size: usize) -> Option<u8> {
     if size < text.len() {
@@ -288,12 +303,12 @@ const fn split_front<'a>(text: &'a [u8], size: usize) -> (&'a [u8], &'a [u8]) {
     text.split_at(size)
 }
 
-// Splits `text` into parts with the lengths `counts`. The zero of a prefix is counted as a digit of the integer.
+// Splits `text` into parts with the lengths `counts`.
 #[inline(always)]
 pub(crate) const fn cut<'a>(text: &'a [u8], counts: [usize; 9]) -> Parts<'a> {
     let (sign, after_sign) = split_front(text, counts[0]);
-    let (prefix, after_prefix) = split_front(after_sign, counts[1] + counts[1]);
-    let (integer, after_integer) = split_front(after_prefix, counts[2] - counts[1]);
+    let (prefix, after_prefix) = split_front(after_sign, counts[1]);
+    let (integer, after_integer) = split_front(after_prefix, counts[2]);
     let (point, after_point) = split_front(after_integer, counts[3]);
     let (fraction, after_fraction) = split_front(after_point, counts[4]);
     let (exponent_character, after_character) = split_front(after_fraction, counts[5]);
