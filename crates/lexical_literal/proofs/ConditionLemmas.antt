@@ -1,5 +1,5 @@
 -- The texts that are accepted with the conditions of a notation are its literals.
-use Rattle.std.proofs.Common.{ℕ, ◌≡◌, Bool, true, false, not, ◌==◌, ◌&&◌, ◌||◌, ◌+◌, inl, inr, if◌then◌else◌, nat_lt, List, [], ◌∷◌, ◌++◌, length, Option, Some}
+use Rattle.std.proofs.Common.{ℕ, ◌≡◌, Bool, true, false, not, ◌==◌, ◌&&◌, ◌||◌, inl, inr, if◌then◌else◌, nat_lt, List, [], ◌∷◌, ◌++◌, length, Option, Some}
 use Rattle.std.proofs.Common.{None, refl, sym, ap, subst, ◌∙◌, arith}
 use Rattle.std.proofs.lemmas.Bool.{false≢true, and_parts, cases_Bool, eqb-true}
 use Rattle.std.proofs.lemmas.Bool.Decides.{nat_tests}
@@ -13,7 +13,7 @@ use Rattle.lexical_literal.specs.Notation.{Notation}
 use Rattle.lexical_literal.specs.Literal.{Literal, IsLiteral, IsSpelled, Reads, condition, is_absent, is_none_or_one, is_none_or_prefix, is_plus, is_present}
 use Rattle.lexical_literal.specs.Literal.{text_of}
 use Rattle.lexical_literal.specs.Additions.Summary.{Cuts, HasLengths, add, admits, after, count, finishes, is_fresh, is_negative, role_at, part_of}
-use Rattle.lexical_literal.specs.Additions.Summary.{digits_piece, lacks_prefix, no_condition, no_cuts, piece_number, piece_of, start, step_by, takes, tally_by}
+use Rattle.lexical_literal.specs.Additions.Summary.{digits_piece, lacks_prefix, no_condition, no_cuts, piece_of, start, step_by, takes, tally_by}
 use Rattle.lexical_literal.specs.Additions.Summary.{awaits_integer}
 use Rattle.lexical_literal.specs.declared.steps.Piece.{Piece}
 use Rattle.lexical_literal.specs.declared.steps.Piece.TheVariants as pieces

@@ -1,7 +1,6 @@
 -- The lengths of parts.
-use Rattle.std.proofs.Common.{ℕ, zero, suc, ◌≡◌, ◌<◌, ◌≤◌, ◌+◌, List, [], ◌∷◌, length, get_or, set, refl, arith, get_or-set_other, get_or-set_same, replicate}
-use Rattle.std.proofs.lemmas.Bool.Decides.{nat_tests}
-use Rattle.lexical_literal.specs.Additions.Summary.{add_more, count, cuts_of, no_cuts, piece_number, piece_of, with_prefix}
+use Rattle.std.proofs.Common.{ℕ, zero, suc, ◌≡◌, ◌≤◌, ◌+◌, List, [], ◌∷◌, length, get_or, set, refl, arith, replicate}
+use Rattle.lexical_literal.specs.Additions.Summary.{add_more, cuts_of, no_cuts, piece_number, with_prefix}
 use Rattle.lexical_literal.specs.declared.steps.Piece.{Piece}
 use Rattle.lexical_literal.specs.declared.steps.Piece.TheVariants as pieces
 
@@ -31,11 +30,8 @@ count_more (a ∷ b ∷ c ∷ d ∷ e ∷ f ∷ g ∷ h ∷ i ∷ []) nine piece
   each _ _ = refl
 count_more counts nine piece n = absurd (omega (arith, nine))
 
--- A base prefix.
-pub count_prefix : (counts : List ℕ) → length counts ≡ 9 → with_prefix (cuts_of counts) ≡ cuts_of (set (set counts 1 2) 2 0)
-count_prefix (a ∷ b ∷ c ∷ d ∷ e ∷ f ∷ g ∷ h ∷ i ∷ []) nine = λ j other. each other j where
-  each : (other : Piece) → let counts = a ∷ b ∷ c ∷ d ∷ e ∷ f ∷ g ∷ h ∷ i ∷ [] in
-      with_prefix (cuts_of counts) other ≡ cuts_of (set (set counts 1 2) 2 0) other
-  each pieces.Sign = refl
-  each _ = refl
-count_prefix counts nine = absurd (omega (arith, nine))
+-- A base prefix behind a sign.
+pub count_prefix : (sign : ℕ) (other : Piece) → with_prefix (cuts_of (sign ∷ 0 ∷ 0 ∷ 0 ∷ 0 ∷ 0 ∷ 0 ∷ 0 ∷ 0 ∷ [])) other
+    ≡ cuts_of (sign ∷ 2 ∷ 0 ∷ 0 ∷ 0 ∷ 0 ∷ 0 ∷ 0 ∷ 0 ∷ []) other
+count_prefix sign pieces.Sign = refl
+count_prefix sign _ = refl

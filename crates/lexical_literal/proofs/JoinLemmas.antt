@@ -80,7 +80,7 @@ module _ (m : Notation) (text : List ℕ) where
       → IsOpened m text (record { sign = sign; prefix = 2; size = sign + 2; stage = stages.Prefixed })
   opened_prefix h sign is prefix = record {
     at = subst (IsAt m text (at_stage (sign + 2) stages.Prefixed))
-        (count_prefix (sign ∷ 0 ∷ 0 ∷ 0 ∷ 0 ∷ 0 ∷ 0 ∷ 0 ∷ 0 ∷ []) refl)
+        (λ j other. count_prefix sign other j)
         (prefix (behind_sign parts.Integer sign) (cuts_of (sign ∷ 0 ∷ 0 ∷ 0 ∷ 0 ∷ 0 ∷ 0 ∷ 0 ∷ 0 ∷ [])) (begun_behind sign) is.signed (sign_at sign is));
     signed = refl;
     free = grind arith;

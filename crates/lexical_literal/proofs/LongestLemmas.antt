@@ -1,17 +1,16 @@
 -- Fronts of a text, and where the loop is left.
-use Rattle.std.proofs.Common.{ℕ, Bool, IsNone, Option, if◌then◌else◌, ◌≡◌, ◌<◌, ◌≤◌, ◌+◌, inl, inr, true, false, List, [], ◌∷◌, ◌++◌, length, length-set}
-use Rattle.std.proofs.Common.{get_or, replicate, set, take, drop, Some, None, refl, sym, ap, subst, append_assoc, append-nil, take-append-drop, ◌∙◌, arith}
+use Rattle.std.proofs.Common.{ℕ, Bool, IsNone, Option, if◌then◌else◌, ◌≡◌, ◌<◌, ◌≤◌, ◌+◌, inl, inr, true, false, List, [], ◌∷◌, ◌++◌, length}
+use Rattle.std.proofs.Common.{get_or, replicate, take, drop, Some, None, refl, sym, ap, subst, append_assoc, append-nil, take-append-drop, ◌∙◌, arith}
 use Rattle.std.specs.Prelude.{is_some, slice_get}
 use Rattle.std.proofs.lemmas.Bool.{false≢true, cases_lt}
 use Rattle.std.proofs.lemmas.Option.{slice_get-get_or, slice_get_past}
 use Rattle.std.proofs.lemmas.List.{take-take, take_more, take_all}
 use Rattle.lexical_literal.specs.Notation.{Notation, notation_of}
 use Rattle.lexical_literal.specs.Literal.{Literal, IsLiteral, Reads}
-use Rattle.lexical_literal.specs.Additions.Summary.{cuts_of, role_at, scan, step, is_accepted, is_complete, part_of, tally, start, no_cuts, HasLengths, move_by}
-use Rattle.lexical_literal.specs.Additions.Summary.{count}
+use Rattle.lexical_literal.specs.Additions.Summary.{count, cuts_of, scan, step, is_accepted, is_complete, part_of, tally, start, no_cuts, HasLengths}
 use Rattle.lexical_literal.specs.Front.{IsFront, IsValidUpTo, NoLiteral, ReadsFront}
 use Rattle.lexical_literal.specs.Takes.{NoFront}
-use Rattle.lexical_literal.specs.Additions.Longest.{HasFound, IsCountedFront, IsFronted, IsLongest, IsStopped}
+use Rattle.lexical_literal.specs.Additions.Longest.{HasFound, IsCountedFront, IsFronted, IsLongest, IsNext, IsStopped}
 use Rattle.lexical_literal.specs.Additions.Causes.{lets}
 use Rattle.lexical_literal.specs.Additions.Plain.{IsReady, IsAt, IsBegun}
 use Rattle.lexical_literal.specs.declared.read.Found.{Found}
@@ -200,15 +199,10 @@ module _ (m : Notation) (ready : IsReady m) (text : List ℕ) where
     incomplete : is_complete m start ≡ false
     incomplete = grind arith
 
-  module _ (at next : At) (counts : List ℕ) (found : Option Found) (has : HasCounted m text at counts found) (begun : IsBegun m text next)
-      (size : next.size ≡ at.size + 1) where
+  module _ (at next : At) (counts : List ℕ) (found : Option Found) (has : HasCounted m text at counts found) (role : Role)
+      (follows : IsNext m text at (role, next)) where
     inside : at.size < length text
-    inside = omega (arith, begun.within, size)
-
-    -- A byte that is read has a role.
-    pub has_role : role_at m (part_of at.read.stage) (get_or text at.size 0) ≡ None → ⊥
-    has_role none = let is : None ≡ Some next.read = sym (next_scan at has.read.begun inside ∙ ap (move_by m.condition m at.read _ _) none)
-        ∙ ap (λ n. scan m (Some start) (take n text)) (sym size) ∙ begun.read in cc
+    inside = omega (arith, follows.begun.within, follows.size)
 
     -- A longer front that is a literal, or none.
     longer : (counts : List ℕ) → tally m (Some start) no_cuts (take next.size text) ≡ cuts_of counts → (complete : Bool) → complete ≡ is_complete m next.read
@@ -216,39 +210,38 @@ module _ (m : Notation) (ready : IsReady m) (text : List ℕ) where
     longer counts counted true complete = record {
       found = λ found is. let same : record { size = next.size; counts = counts } ≡ found = cc in
           subst (λ (f : Found). (f.size ≤ next.size) × (l : Literal) × Reads m l (take f.size text)) same
-          (let l = literal_from m ready.roles (take next.size text) (ap (is_accepted m) begun.read ∙ sym complete) in (omega arith, l.0, l.1));
+          (let l = literal_from m ready.roles (take next.size text) (ap (is_accepted m) follows.begun.read ∙ sym complete) in (omega arith, l.0, l.1));
       counted = λ found is. let same : record { size = next.size; counts = counts } ≡ found = cc in
           subst (λ (f : Found). (l : Literal) → Reads m l (take f.size text) → HasLengths l (cuts_of f.counts)) same (has_counted next.size counts counted);
       no_longer = λ more over past. absurd (let low : next.size < more = past _ refl in omega (arith, over, low));
     }
     longer counts counted false incomplete = record {
-      found = λ found is. let before = has.longest.found found is in (omega (arith, size, before.0), before.1, before.2);
+      found = λ found is. let before = has.longest.found found is in (omega (arith, follows.size, before.0), before.1, before.2);
       counted = has.longest.counted;
       no_longer = λ more over past l reads. elim (cases_lt at.size more) [
-        | inl new ↦ let same : more ≡ next.size = omega (arith, over, new, size) in
-            false≢true (incomplete ∙ ap (is_accepted m) (sym begun.read) ∙ accepted next.size l (subst (λ n. Reads m l (take n text)) same reads))
+        | inl new ↦ let same : more ≡ next.size = omega (arith, over, new, follows.size) in
+            false≢true (incomplete ∙ ap (is_accepted m) (sym follows.begun.read) ∙ accepted next.size l (subst (λ n. Reads m l (take n text)) same reads))
         | inr before ↦ has.longest.no_longer more before past l reads
       ];
     }
 
     -- One more byte is counted.
-    pub more_counted : (r : Role) (more : List ℕ) → role_at m (part_of at.read.stage) (get_or text at.size 0) ≡ Some r → length more ≡ 9
-        → cuts_of more ≡ count (part_of at.read.stage) (Some r) (cuts_of counts) → ((k : ℕ) → get_or more k 0 ≤ at.size + 1 + 1)
-        → (complete : Bool) → complete ≡ is_complete m next.read
+    pub more_counted : (more : List ℕ) → length more ≡ 9 → cuts_of more ≡ count (part_of at.read.stage) (Some role) (cuts_of counts)
+        → ((k : ℕ) → get_or more k 0 ≤ at.size + 1 + 1) → (complete : Bool) → complete ≡ is_complete m next.read
         → HasCounted m text next more (if complete then Some (record { size = next.size; counts = more }) else found)
-    more_counted r more plays nine same small complete is =
-        let counted : tally m (Some start) no_cuts (take next.size text) ≡ cuts_of more = ap (λ n. tally m (Some start) no_cuts (take n text)) size
+    more_counted more nine same small complete is =
+        let counted : tally m (Some start) no_cuts (take next.size text) ≡ cuts_of more = ap (λ n. tally m (Some start) no_cuts (take n text)) follows.size
         ∙ rw (
           take_more text at.size 0 inside,
           tally_append m.condition m (Some start) no_cuts (take at.size text) (get_or text at.size 0 ∷ []),
           has.read.begun.read,
           has.read.counted,
-          plays,
+          follows.plays,
         )
         (sym same) in record {
           nine = nine;
-          small = λ k. let one = small k in omega (arith, one, size);
-          read = record { begun = begun; counted = counted };
+          small = λ k. let one = small k in omega (arith, one, follows.size);
+          read = record { begun = follows.begun; counted = counted };
           longest = longer more counted complete is;
         }
 

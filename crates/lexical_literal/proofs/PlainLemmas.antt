@@ -12,9 +12,9 @@ use Rattle.lexical_util.specs.declared.format_flags.Part.{Part}
 use Rattle.lexical_util.specs.declared.format_flags.Part.TheVariants as parts
 use Rattle.lexical_literal.specs.Notation.{Notation}
 use Rattle.lexical_literal.specs.Additions.Plain.{HasRoles, IsAt, IsReadOn, fresh, is_free, at_stage}
-use Rattle.lexical_literal.specs.Additions.Summary.{Cuts, add, add_more, admits, after, after_digit, after_mark, count, digits_piece, forbids_plus, leads_to_prefix}
-use Rattle.lexical_literal.specs.Additions.Summary.{has_digit, awaits_integer, is_negative, is_run, is_signed, may_follow, gap_fits, is_open, no_cuts, piece_of, with_prefix}
-use Rattle.lexical_literal.specs.Additions.Summary.{start, takes, role_at, part_of, takes_in, digits_of, is_fresh, needs_sign, implies}
+use Rattle.lexical_literal.specs.Additions.Summary.{Cuts, add, add_more, admits, after, after_digit, after_mark, digits_piece, forbids_plus, leads_to_prefix}
+use Rattle.lexical_literal.specs.Additions.Summary.{has_digit, awaits_integer, is_negative, is_run, is_signed, may_follow, gap_fits, is_open, no_cuts, piece_of}
+use Rattle.lexical_literal.specs.Additions.Summary.{start, takes, role_at, part_of, takes_in, digits_of, is_fresh, needs_sign, implies, count, with_prefix}
 use Rattle.lexical_literal.specs.declared.plain.At.{At}
 use Rattle.lexical_literal.specs.declared.steps.Piece.{Piece}
 use Rattle.lexical_literal.specs.declared.steps.Piece.TheVariants as pieces
@@ -27,9 +27,6 @@ use Rattle.lexical_literal.proofs.ScanLemmas.{digit_role, is_role, moved, scan_a
 -- Sums of lengths.
 none_more : (c : Cuts) (p other : Piece) (n : ℕ) → add_more c p (n - n) other ≡ c other
 none_more c p other n = let same : n - n ≡ 0 = omega arith in grind arith
-
-one_more : (c : Cuts) (p other : Piece) (n : ℕ) → add_more c p (n + 1 - n) other ≡ add c p other
-one_more c p other n = let same : n + 1 - n ≡ 1 = omega arith in grind arith
 
 sum_more : (c : Cuts) (p other : Piece) (k n l : ℕ) → k ≤ n → n ≤ l → add_more (add_more c p (n - k)) p (l - n) other ≡ add_more c p (l - k) other
 sum_more c p other k n l low high = let same : n - k + (l - n) ≡ l - k = omega arith in grind arith
@@ -111,10 +108,9 @@ module _ (m : Notation) (text : List ℕ) where
 
   -- One more byte of a piece is a byte of it.
   one_on : (at next : At) (p : Piece) → next.size ≡ at.size + 1 → ((c : Cuts) → IsAt m text at c → IsAt m text next (add c p)) → IsReadOn m text at p next
-  one_on at next p one is = record {
+  one_on at next p one is = let same : 1 ≡ next.size - at.size = omega (arith, one) in record {
     more = omega (arith, one);
-    reads = λ c begun. subst (IsAt m text next)
-        (λ j other. sym (ap (λ n. add_more c p (n - at.size) other) one ∙ one_more c p other at.size) j) (is c begun);
+    reads = λ c begun. subst (λ n. IsAt m text next (add_more c p n)) same (is c begun);
   }
 
   module _ (h : HasRoles m) where
@@ -145,7 +141,8 @@ module _ (m : Notation) (text : List ℕ) where
         → takes_in m part at.read.stage at.read.gap (get_or text at.size 0 == 43) r ≡ true → is_free m at.read.stage ≡ true → (c : Cuts) → IsAt m text at c
         → IsAt m text (record { size = at.size + 1; read = after at.read (get_or text at.size 0 == 48) r }) (count part (Some r) c)
     read_free part at r in_part other inside plays going taken free = let b = get_or text at.size 0 in
-        subst (λ part. (c : Cuts) → IsAt m text at c → IsAt m text (record { size = at.size + 1; read = after at.read (b == 48) r }) (count part (Some r) c)) in_part
+        let next : At = record { size = at.size + 1; read = after at.read (b == 48) r } in
+        subst (λ part. (c : Cuts) → IsAt m text at c → IsAt m text next (count part (Some r) c)) in_part
         (read_one at r inside (subst (λ part. role_at m part b ≡ Some r) (sym in_part) plays) going
         (subst (λ part. takes_in m part at.read.stage at.read.gap (b == 43) r ≡ true) (sym in_part) taken)
         (admits_free m at.read (b == 43) (b == 48) r other free))

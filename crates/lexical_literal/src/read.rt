@@ -2,7 +2,7 @@
 
 ghost use Rattle.std.specs.Prelude.{◌≡◌, ◌+◌, ◌++◌, ◌∷◌, ◌<◌, ◌≤◌, ◌^◌, Bool, IfSome, IsErrAnd, IsNone, IsTrue, None, ℕ, List, [], false, get_or, true, length, slice_get, take};
 ghost use Rattle.lexical_literal.specs.Additions.Explained.{tail_byte};
-ghost use Rattle.lexical_literal.specs.Additions.Longest.{HasFound, IsCountedFront, IsFronted, IsGrouped, IsLongest, IsMeasured, IsStopped};
+ghost use Rattle.lexical_literal.specs.Additions.Longest.{HasFound, IsCountedFront, IsFronted, IsGrouped, IsLongest, IsMeasured, IsNext, IsStopped};
 ghost use Rattle.lexical_literal.specs.Additions.Plain.{IsBegun};
 ghost use Rattle.lexical_literal.specs.Additions.Summary.{HasLengths, count, cuts_of, is_complete};
 ghost use Rattle.lexical_literal.specs.Additions.Causes.{lets};
@@ -16,7 +16,7 @@ use crate::cause::{Marks, ReadError, Spot};
 use crate::groups::{is_grouped, wrong_group};
 use crate::plain::{At, BEGIN, Counted, plain};
 use crate::span::marks;
-use crate::steps::{Piece, Summary, is_complete, part_of, piece_number, piece_of, role_at, step};
+use crate::steps::{Piece, Summary, is_complete, moved, part_of, piece_number, piece_of, role_at};
 use crate::syntax::{Condition, Syntax};
 use lexical_util::format::{Part, Role};
 
@@ -160,15 +160,15 @@ impl Syntax {
     {
         match self.step(text, at) {
             None => at,
-            Some(next) => self.walk(text, next),
+            Some((_, next)) => self.walk(text, next),
         }
     }
 
-    // Returns what has been read with one more byte, or `None` if reading stops at `at`.
+    // Returns the role of the byte that follows, and what has been read with it, or `None` if reading stops at `at`.
     #[inline(always)]
-    const fn step(&self, text: &[u8], at: At) -> Option<At>
+    const fn step(&self, text: &[u8], at: At) -> Option<(Role, At)>
         requires { IsBegun (notation_of self.now) text.now at }
-        ensures next { IfSome result (λ next. IsBegun (notation_of self.now) text.now next × (next.size ≡ at.size + 1)) }
+        ensures next { IfSome result (IsNext (notation_of self.now) text.now at) }
         ensures stop { IsNone result → IsStopped (notation_of self.now) text.now at }
     {
         let grammar = self.grammar();
@@ -176,13 +176,15 @@ impl Syntax {
         if size == text.len() {
             return None;
         }
-        match step(grammar, read, text[size]) {
-            None => None,
-            Some(read) => Some(At {
-                size: size + 1,
-                read,
-            }),
-        }
+        let byte = text[size];
+        let Some(role) = role_at(grammar, part_of(read.stage), byte) else {
+            return None;
+        };
+        let Some(read) = moved(grammar, read, byte, role) else {
+            return None;
+        };
+        let size = size + 1;
+        Some((role, At { size, read }))
     }
 
     // Returns where reading stops, step by step.
@@ -192,7 +194,7 @@ impl Syntax {
         ensures { IsStopped (notation_of self.now) text.now result }
     {
         let mut stop = at;
-        while let Some(next) = self.step(text, stop) {
+        while let Some((_, next)) = self.step(text, stop) {
             stop = next;
         }
         stop
@@ -218,12 +220,8 @@ impl Syntax {
         let mut at = BEGIN;
         let mut counts = [0; 9];
         let mut found = None;
-        while let Some(next) = self.step(text, at) {
-            let part = part_of(at.read.stage);
-            let Some(role) = role_at(grammar, part, text[at.size]) else {
-                return found;
-            };
-            let more = count_byte(counts, part, role);
+        while let Some((role, next)) = self.step(text, at) {
+            let more = count_byte(counts, part_of(at.read.stage), role);
             counts = more;
             at = next;
             if is_complete(grammar, at.read) {

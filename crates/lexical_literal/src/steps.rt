@@ -10,7 +10,7 @@ ghost use Rattle.lexical_literal.specs.declared.syntax.Condition.TheVariants as 
 ghost use Rattle.lexical_literal.specs.Additions.Summary.{after_point, digits_of, part_of, role_at, piece_number, piece_of, has_digit, may_follow};
 ghost use Rattle.lexical_literal.specs.Additions.Summary.{admits, finishes, forbids_plus, gap_fits, awaits_integer, is_negative, is_signed, lacks_prefix};
 ghost use Rattle.lexical_literal.specs.Additions.Summary.{is_run, leads_to_prefix, needs_exponent};
-ghost use Rattle.lexical_literal.specs.Additions.Summary.{continues, ends, is_complete, move_by, step, takes, after};
+ghost use Rattle.lexical_literal.specs.Additions.Summary.{continues, ends, is_complete, move_by, takes, after};
 
 use crate::syntax::{Condition, Conditions, Grammar};
 use lexical_util::format::{Part, Role};
@@ -386,7 +386,8 @@ const fn some_admit(
 {
     let needs_prefix = conditions.has(Condition::BasePrefix) && lacks_prefix(read.stage);
     (!needs_prefix || leads_to_prefix(read.stage, zero, role))
-        && !(conditions.has(Condition::NegativeSign) && is_negative(part_of(read.stage), plus, role))
+        && !(conditions.has(Condition::NegativeSign)
+            && is_negative(part_of(read.stage), plus, role))
 }
 
 // Returns whether the conditions let a literal end.
@@ -490,17 +491,6 @@ pub(crate) const fn role_at(grammar: Grammar, part: Part, byte: u8) -> Option<Ro
         Some(Role::Prefix)
     } else {
         None
-    }
-}
-
-// Returns what `byte` makes of what has been read, or `None` if no literal begins so.
-#[inline(always)]
-pub(crate) const fn step(grammar: Grammar, read: Summary, byte: u8) -> Option<Summary>
-    ensures { result ≡ step (notation_of grammar) read byte }
-{
-    match role_at(grammar, part_of(read.stage), byte) {
-        None => None,
-        Some(role) => moved(grammar, read, byte, role),
     }
 }
 

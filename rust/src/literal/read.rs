@@ -6,7 +6,7 @@ use crate::literal::cause::{Marks, ReadError, Spot};
 use crate::literal::groups::{is_grouped, wrong_group};
 use crate::literal::plain::{plain, At, Counted, BEGIN};
 use crate::literal::span::marks;
-use crate::literal::steps::{is_complete, part_of, piece_number, piece_of, role_at, step, Piece, Summary};
+use crate::literal::steps::{is_complete, moved, part_of, piece_number, piece_of, role_at, Piece, Summary};
 use crate::literal::syntax::{Condition, Syntax};
 use crate::word::{Part, Role};
 
@@ -120,29 +120,34 @@ impl Syntax {
     pub(crate) const fn stop(&self, text: &[u8], at: At) -> At {
         match self.step(text, at) {
             None => at,
-            Some(next) => self.walk(text, next),
+            Some((_, next)) => self.walk(text, next),
         }
     }
 
-    // Returns what has been read with one more byte, or `None` if reading stops at `at`.
+    // Returns the role of the byte that follows, and what has been read with it, or `None` if reading stops at `at`.
     #[inline(always)]
-    const fn step(&self, text: &[u8], at: At) -> Option<At> {
+    const fn step(&self, text: &[u8], at: At) -> Option<(Role, At)> {
         let grammar = self.grammar();
         let At { size, read } = at;
         if size == text.len() {
             return None;
         }
-        match step(grammar, read, text[size]) {
-            None => None,
-            Some(read) => Some(At { size: size + 1, read }),
-        }
+        let byte = text[size];
+        let Some(role) = role_at(grammar, part_of(read.stage), byte) else {
+            return None;
+        };
+        let Some(read) = moved(grammar, read, byte, role) else {
+            return None;
+        };
+        let size = size + 1;
+        Some((role, At { size, read }))
     }
 
     // Returns where reading stops, step by step.
     #[cold]
     pub(crate) const fn walk(&self, text: &[u8], at: At) -> At {
         let mut stop = at;
-        while let Some(next) = self.step(text, stop) {
+        while let Some((_, next)) = self.step(text, stop) {
             stop = next;
         }
         stop
@@ -164,12 +169,8 @@ impl Syntax {
         let mut at = BEGIN;
         let mut counts = [0; 9];
         let mut found = None;
-        while let Some(next) = self.step(text, at) {
-            let part = part_of(at.read.stage);
-            let Some(role) = role_at(grammar, part, text[at.size]) else {
-                return found;
-            };
-            let more = count_byte(counts, part, role);
+        while let Some((role, next)) = self.step(text, at) {
+            let more = count_byte(counts, part_of(at.read.stage), role);
             counts = more;
             at = next;
             if is_complete(grammar, at.read) {

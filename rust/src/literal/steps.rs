@@ -384,15 +384,6 @@ pub(crate) const fn role_at(grammar: Grammar, part: Part, byte: u8) -> Option<Ro
     }
 }
 
-// Returns what `byte` makes of what has been read, or `None` if no literal begins so.
-#[inline(always)]
-pub(crate) const fn step(grammar: Grammar, read: Summary, byte: u8) -> Option<Summary> {
-    match role_at(grammar, part_of(read.stage), byte) {
-        None => None,
-        Some(role) => moved(grammar, read, byte, role),
-    }
-}
-
 // Returns what `byte` makes of what has been read if it has the role `role`, or `None` if no literal begins so.
 #[inline(always)]
 pub(crate) const fn moved(grammar: Grammar, read: Summary, byte: u8, role: Role) -> Option<Summary> {
