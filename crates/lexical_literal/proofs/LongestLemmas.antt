@@ -7,10 +7,10 @@ use Rattle.std.proofs.lemmas.Option.{slice_get-get_or, slice_get_past}
 use Rattle.std.proofs.lemmas.List.{take-take, take_more, take_all}
 use Rattle.lexical_literal.specs.Notation.{Notation, notation_of}
 use Rattle.lexical_literal.specs.Literal.{Literal, IsLiteral, Reads}
-use Rattle.lexical_literal.specs.Additions.Summary.{count, cuts_of, scan, step, is_accepted, is_complete, part_of, tally, start, no_cuts, HasLengths}
+use Rattle.lexical_literal.specs.Additions.Summary.{count, cuts_of, role_at, scan, step, is_accepted, is_complete, part_of, tally, start, no_cuts, HasLengths}
 use Rattle.lexical_literal.specs.Front.{IsFront, IsValidUpTo, NoLiteral, ReadsFront}
 use Rattle.lexical_literal.specs.Takes.{NoFront}
-use Rattle.lexical_literal.specs.Additions.Longest.{HasFound, IsCountedFront, IsFronted, IsLongest, IsNext, IsStopped}
+use Rattle.lexical_literal.specs.Additions.Longest.{HasFound, IsCountedFront, IsFronted, IsLongest, IsStopped}
 use Rattle.lexical_literal.specs.Additions.Causes.{lets}
 use Rattle.lexical_literal.specs.Additions.Plain.{IsReady, IsAt, IsBegun}
 use Rattle.lexical_literal.specs.declared.read.Found.{Found}
@@ -200,9 +200,9 @@ module _ (m : Notation) (ready : IsReady m) (text : List ℕ) where
     incomplete = grind arith
 
   module _ (at next : At) (counts : List ℕ) (found : Option Found) (has : HasCounted m text at counts found) (role : Role)
-      (follows : IsNext m text at (role, next)) where
+      (follows : (role_at m (part_of at.read.stage) (get_or text at.size 0) ≡ Some role) × IsBegun m text next × (next.size ≡ at.size + 1)) where
     inside : at.size < length text
-    inside = omega (arith, follows.begun.within, follows.size)
+    inside = omega (arith, follows.1.within, follows.2)
 
     -- A longer front that is a literal, or none.
     longer : (counts : List ℕ) → tally m (Some start) no_cuts (take next.size text) ≡ cuts_of counts → (complete : Bool) → complete ≡ is_complete m next.read
@@ -210,17 +210,17 @@ module _ (m : Notation) (ready : IsReady m) (text : List ℕ) where
     longer counts counted true complete = record {
       found = λ found is. let same : record { size = next.size; counts = counts } ≡ found = cc in
           subst (λ (f : Found). (f.size ≤ next.size) × (l : Literal) × Reads m l (take f.size text)) same
-          (let l = literal_from m ready.roles (take next.size text) (ap (is_accepted m) follows.begun.read ∙ sym complete) in (omega arith, l.0, l.1));
+          (let l = literal_from m ready.roles (take next.size text) (ap (is_accepted m) follows.1.read ∙ sym complete) in (omega arith, l.0, l.1));
       counted = λ found is. let same : record { size = next.size; counts = counts } ≡ found = cc in
           subst (λ (f : Found). (l : Literal) → Reads m l (take f.size text) → HasLengths l (cuts_of f.counts)) same (has_counted next.size counts counted);
       no_longer = λ more over past. absurd (let low : next.size < more = past _ refl in omega (arith, over, low));
     }
     longer counts counted false incomplete = record {
-      found = λ found is. let before = has.longest.found found is in (omega (arith, follows.size, before.0), before.1, before.2);
+      found = λ found is. let before = has.longest.found found is in (omega (arith, follows.2, before.0), before.1, before.2);
       counted = has.longest.counted;
       no_longer = λ more over past l reads. elim (cases_lt at.size more) [
-        | inl new ↦ let same : more ≡ next.size = omega (arith, over, new, follows.size) in
-            false≢true (incomplete ∙ ap (is_accepted m) (sym follows.begun.read) ∙ accepted next.size l (subst (λ n. Reads m l (take n text)) same reads))
+        | inl new ↦ let same : more ≡ next.size = omega (arith, over, new, follows.2) in
+            false≢true (incomplete ∙ ap (is_accepted m) (sym follows.1.read) ∙ accepted next.size l (subst (λ n. Reads m l (take n text)) same reads))
         | inr before ↦ has.longest.no_longer more before past l reads
       ];
     }
@@ -230,18 +230,18 @@ module _ (m : Notation) (ready : IsReady m) (text : List ℕ) where
         → ((k : ℕ) → get_or more k 0 ≤ at.size + 1 + 1) → (complete : Bool) → complete ≡ is_complete m next.read
         → HasCounted m text next more (if complete then Some (record { size = next.size; counts = more }) else found)
     more_counted more nine same small complete is =
-        let counted : tally m (Some start) no_cuts (take next.size text) ≡ cuts_of more = ap (λ n. tally m (Some start) no_cuts (take n text)) follows.size
+        let counted : tally m (Some start) no_cuts (take next.size text) ≡ cuts_of more = ap (λ n. tally m (Some start) no_cuts (take n text)) follows.2
         ∙ rw (
           take_more text at.size 0 inside,
           tally_append m.condition m (Some start) no_cuts (take at.size text) (get_or text at.size 0 ∷ []),
           has.read.begun.read,
           has.read.counted,
-          follows.plays,
+          follows.0,
         )
         (sym same) in record {
           nine = nine;
-          small = λ k. let one = small k in omega (arith, one, follows.size);
-          read = record { begun = follows.begun; counted = counted };
+          small = λ k. let one = small k in omega (arith, one, follows.2);
+          read = record { begun = follows.1; counted = counted };
           longest = longer more counted complete is;
         }
 

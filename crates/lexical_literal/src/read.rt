@@ -1,10 +1,10 @@
 //! How literals are found, and the lengths of their parts.
 
-ghost use Rattle.std.specs.Prelude.{◌≡◌, ◌+◌, ◌++◌, ◌∷◌, ◌<◌, ◌≤◌, ◌^◌, Bool, IfSome, IsErrAnd, IsNone, IsTrue, None, ℕ, List, [], false, get_or, true, length, slice_get, take};
+ghost use Rattle.std.specs.Prelude.{◌≡◌, ◌+◌, ◌++◌, ◌∷◌, ◌<◌, ◌≤◌, ◌^◌, Bool, IfSome, Some, IsErrAnd, IsNone, IsTrue, None, ℕ, List, [], false, get_or, true, length, slice_get, take};
 ghost use Rattle.lexical_literal.specs.Additions.Explained.{tail_byte};
-ghost use Rattle.lexical_literal.specs.Additions.Longest.{HasFound, IsCountedFront, IsFronted, IsGrouped, IsLongest, IsMeasured, IsNext, IsStopped};
+ghost use Rattle.lexical_literal.specs.Additions.Longest.{HasFound, IsCountedFront, IsFronted, IsGrouped, IsLongest, IsMeasured, IsStopped};
 ghost use Rattle.lexical_literal.specs.Additions.Plain.{IsBegun};
-ghost use Rattle.lexical_literal.specs.Additions.Summary.{HasLengths, count, cuts_of, is_complete};
+ghost use Rattle.lexical_literal.specs.Additions.Summary.{HasLengths, count, cuts_of, is_complete, part_of, role_at};
 ghost use Rattle.lexical_literal.specs.Additions.Causes.{lets};
 ghost use Rattle.lexical_literal.specs.Cause.{IsRefusal, tail_of, tail_size};
 ghost use Rattle.lexical_literal.specs.Literal.{Literal, Reads, text_of};
@@ -16,7 +16,7 @@ use crate::cause::{Marks, ReadError, Spot};
 use crate::groups::{is_grouped, wrong_group};
 use crate::plain::{At, BEGIN, Counted, plain};
 use crate::span::marks;
-use crate::steps::{Piece, Summary, is_complete, moved, part_of, piece_number, piece_of, role_at};
+use crate::steps::{Piece, Summary, is_complete, part_of, piece_number, piece_of, step};
 use crate::syntax::{Condition, Syntax};
 use lexical_util::format::{Part, Role};
 
@@ -168,7 +168,8 @@ impl Syntax {
     #[inline(always)]
     const fn step(&self, text: &[u8], at: At) -> Option<(Role, At)>
         requires { IsBegun (notation_of self.now) text.now at }
-        ensures next { IfSome result (IsNext (notation_of self.now) text.now at) }
+        ensures next { IfSome result (λ next. (role_at (notation_of self.now) (part_of at.read.stage) (get_or text.now at.size 0) ≡ Some next.0)
+            × IsBegun (notation_of self.now) text.now next.1 × (next.1.size ≡ at.size + 1)) }
         ensures stop { IsNone result → IsStopped (notation_of self.now) text.now at }
     {
         let grammar = self.grammar();
@@ -176,11 +177,7 @@ impl Syntax {
         if size == text.len() {
             return None;
         }
-        let byte = text[size];
-        let Some(role) = role_at(grammar, part_of(read.stage), byte) else {
-            return None;
-        };
-        let Some(read) = moved(grammar, read, byte, role) else {
+        let Some((role, read)) = step(grammar, read, text[size]) else {
             return None;
         };
         let size = size + 1;

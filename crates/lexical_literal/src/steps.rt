@@ -1,6 +1,6 @@
 //! The steps of reading: what has been read of a number, changed by one byte.
 
-ghost use Rattle.std.specs.Prelude.{◌≡◌, ◌<◌, ◌==◌, ◌&&◌, Some, false, not, nat_lt};
+ghost use Rattle.std.specs.Prelude.{◌≡◌, ◌<◌, ◌==◌, ◌&&◌, IfSome, IsNone, None, Some, false, not, nat_lt};
 ghost use Rattle.lexical_util.specs.Digits.{byte_value, digit_of};
 ghost use Rattle.lexical_util.specs.Record.{raw};
 ghost use Rattle.lexical_util.specs.Roles.{signs};
@@ -10,7 +10,7 @@ ghost use Rattle.lexical_literal.specs.declared.syntax.Condition.TheVariants as 
 ghost use Rattle.lexical_literal.specs.Additions.Summary.{after_point, digits_of, part_of, role_at, piece_number, piece_of, has_digit, may_follow};
 ghost use Rattle.lexical_literal.specs.Additions.Summary.{admits, finishes, forbids_plus, gap_fits, awaits_integer, is_negative, is_signed, lacks_prefix};
 ghost use Rattle.lexical_literal.specs.Additions.Summary.{is_run, leads_to_prefix, needs_exponent};
-ghost use Rattle.lexical_literal.specs.Additions.Summary.{continues, ends, is_complete, move_by, takes, after};
+ghost use Rattle.lexical_literal.specs.Additions.Summary.{continues, ends, is_complete, move_by, step, takes, after};
 
 use crate::syntax::{Condition, Conditions, Grammar};
 use lexical_util::format::{Part, Role};
@@ -491,6 +491,22 @@ pub(crate) const fn role_at(grammar: Grammar, part: Part, byte: u8) -> Option<Ro
         Some(Role::Prefix)
     } else {
         None
+    }
+}
+
+// Returns the role of `byte`, and what it makes of what has been read, or `None` if no literal begins so.
+#[inline(always)]
+pub(crate) const fn step(grammar: Grammar, read: Summary, byte: u8) -> Option<(Role, Summary)>
+    ensures none { IsNone result → step (notation_of grammar) read byte ≡ None }
+    ensures some { IfSome result (λ next. (role_at (notation_of grammar) (part_of read.stage) byte ≡ Some next.0)
+        × (step (notation_of grammar) read byte ≡ Some next.1)) }
+{
+    let Some(role) = role_at(grammar, part_of(read.stage), byte) else {
+        return None;
+    };
+    match moved(grammar, read, byte, role) {
+        None => None,
+        Some(read) => Some((role, read)),
     }
 }
 

@@ -6,7 +6,7 @@ use crate::literal::cause::{Marks, ReadError, Spot};
 use crate::literal::groups::{is_grouped, wrong_group};
 use crate::literal::plain::{plain, At, Counted, BEGIN};
 use crate::literal::span::marks;
-use crate::literal::steps::{is_complete, moved, part_of, piece_number, piece_of, role_at, Piece, Summary};
+use crate::literal::steps::{is_complete, part_of, piece_number, piece_of, step, Piece, Summary};
 use crate::literal::syntax::{Condition, Syntax};
 use crate::word::{Part, Role};
 
@@ -132,11 +132,7 @@ impl Syntax {
         if size == text.len() {
             return None;
         }
-        let byte = text[size];
-        let Some(role) = role_at(grammar, part_of(read.stage), byte) else {
-            return None;
-        };
-        let Some(read) = moved(grammar, read, byte, role) else {
+        let Some((role, read)) = step(grammar, read, text[size]) else {
             return None;
         };
         let size = size + 1;

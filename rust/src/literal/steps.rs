@@ -384,6 +384,18 @@ pub(crate) const fn role_at(grammar: Grammar, part: Part, byte: u8) -> Option<Ro
     }
 }
 
+// Returns the role of `byte`, and what it makes of what has been read, or `None` if no literal begins so.
+#[inline(always)]
+pub(crate) const fn step(grammar: Grammar, read: Summary, byte: u8) -> Option<(Role, Summary)> {
+    let Some(role) = role_at(grammar, part_of(read.stage), byte) else {
+        return None;
+    };
+    match moved(grammar, read, byte, role) {
+        None => None,
+        Some(read) => Some((role, read)),
+    }
+}
+
 // Returns what `byte` makes of what has been read if it has the role `role`, or `None` if no literal begins so.
 #[inline(always)]
 pub(crate) const fn moved(grammar: Grammar, read: Summary, byte: u8, role: Role) -> Option<Summary> {

@@ -1,8 +1,6 @@
 -- What a syntax finds in one pass over a text.
-use Rattle.std.specs.Prelude.{ℕ, ◌≡◌, ◌<◌, ◌≤◌, ⊤, Bool, IfErr, IsFalse, IsNone, IsOk, IsTrue, List, Option, Result, Some, false, true}
-use Rattle.std.specs.Prelude.{◌+◌, get_or, length, slice_get, take}
+use Rattle.std.specs.Prelude.{ℕ, ◌≡◌, ◌<◌, ◌≤◌, ⊤, Bool, IfErr, IsFalse, IsNone, IsOk, IsTrue, List, Option, Result, Some, false, true, length, slice_get, take}
 use Rattle.std.specs.Option.{ForSome}
-use Rattle.lexical_util.specs.declared.feature_format.roles.Role.{Role}
 use Rattle.lexical_literal.specs.Notation.{Notation, notation_of}
 use Rattle.lexical_literal.specs.Takes.{AreGroups, IsUngroupedFront, NoFront, Refuses, Takes}
 use Rattle.lexical_literal.specs.declared.syntax.Grammar.{Grammar}
@@ -10,7 +8,7 @@ use Rattle.lexical_literal.specs.Literal.{Literal, Reads}
 use Rattle.lexical_literal.specs.Cause.{Explained}
 use Rattle.lexical_literal.specs.Front.{IsValidUpTo, NoLiteral, ReadsFront}
 use Rattle.lexical_literal.specs.Additions.Causes.{lets}
-use Rattle.lexical_literal.specs.Additions.Summary.{HasLengths, cuts_of, is_complete, part_of, role_at, scan, start}
+use Rattle.lexical_literal.specs.Additions.Summary.{HasLengths, cuts_of, is_complete, scan, start}
 use Rattle.lexical_literal.specs.declared.read.Found.{Found}
 use Rattle.lexical_literal.specs.Additions.Plain.{IsBegun}
 use Rattle.lexical_literal.specs.declared.plain.At.{At}
@@ -31,12 +29,6 @@ pub record IsStopped (m : Notation) (text : List ℕ) (stop : At) : Type 0 where
   pub refused : stop.size < length text → lets m stop.read (slice_get text stop.size) ≡ false
   pub complete : is_complete m stop.read ≡ true → (l : Literal) × Reads m l (take stop.size text)
   pub incomplete : is_complete m stop.read ≡ false → NoLiteral m (take stop.size text)
-
--- `IsNext m text at next` holds if the byte behind `at` has the role `next.0`, and `next.1` has what has been read with it.
-pub record IsNext (m : Notation) (text : List ℕ) (at : At) (next : Role × At) : Type 0 where
-  pub plays : role_at m (part_of at.read.stage) (get_or text at.size 0) ≡ Some next.0
-  pub begun : IsBegun m text next.1
-  pub size : next.1.size ≡ at.size + 1
 
 -- `HasFound m text counted` holds if `counted` has what has been read of `text` and, if it says that this is a literal, the
 -- lengths of its parts, and if reading stops there, before the end, if it says so.
