@@ -1,18 +1,19 @@
 -- The texts that are accepted with the conditions of a notation are its literals.
-use Rattle.std.proofs.Common.{ℕ, ◌≡◌, Bool, true, false, not, ◌==◌, ◌&&◌, ◌||◌, ◌+◌, inl, inr, if◌then◌else◌, nat_lt, List, [], ◌∷◌, ◌++◌, length, Option, Some}
+use Rattle.std.proofs.Common.{ℕ, ◌≡◌, Bool, true, false, not, ◌==◌, ◌&&◌, ◌||◌, inl, inr, if◌then◌else◌, nat_lt, List, [], ◌∷◌, ◌++◌, length, Option, Some}
 use Rattle.std.proofs.Common.{None, refl, sym, ap, subst, ◌∙◌, arith}
 use Rattle.std.proofs.lemmas.Bool.{false≢true, and_parts, cases_Bool, eqb-true}
 use Rattle.std.proofs.lemmas.Bool.Decides.{nat_tests}
 use Rattle.lexical_util.specs.Roles.{signs}
 use Rattle.lexical_util.specs.declared.feature_format.roles.Role.{Role}
 use Rattle.lexical_util.specs.declared.feature_format.roles.Role.TheVariants as roles
+use Rattle.lexical_util.specs.declared.format_flags.Part.{Part}
 use Rattle.lexical_util.specs.declared.format_flags.Part.TheVariants as parts
 use Rattle.lexical_literal.specs.Additions.Plain.{HasRoles}
 use Rattle.lexical_literal.specs.Notation.{Notation}
 use Rattle.lexical_literal.specs.Literal.{Literal, IsLiteral, IsSpelled, Reads, condition, is_absent, is_none_or_one, is_none_or_prefix, is_plus, is_present}
 use Rattle.lexical_literal.specs.Literal.{text_of}
 use Rattle.lexical_literal.specs.Additions.Summary.{Cuts, HasLengths, add, admits, after, count, finishes, is_fresh, is_negative, role_at, part_of}
-use Rattle.lexical_literal.specs.Additions.Summary.{digits_piece, lacks_prefix, no_condition, no_cuts, piece_number, piece_of, start, step_by, takes, tally_by}
+use Rattle.lexical_literal.specs.Additions.Summary.{digits_piece, lacks_prefix, no_condition, no_cuts, piece_of, start, step_by, takes, tally_by}
 use Rattle.lexical_literal.specs.Additions.Summary.{awaits_integer}
 use Rattle.lexical_literal.specs.declared.steps.Piece.{Piece}
 use Rattle.lexical_literal.specs.declared.steps.Piece.TheVariants as pieces
@@ -21,20 +22,15 @@ use Rattle.lexical_literal.specs.declared.steps.Stage.TheVariants as stages
 use Rattle.lexical_literal.specs.declared.steps.Summary.{Summary}
 use Rattle.lexical_literal.specs.declared.syntax.Condition.{Condition}
 use Rattle.lexical_literal.specs.declared.syntax.Condition.TheVariants as conditions
-use Rattle.lexical_literal.proofs.LiteralLemmas.{all_cuts, is_tail, spelled_arrives, spelled_from}
-use Rattle.lexical_literal.proofs.ScanLemmas.{Accepts, Arrives, Took, add_all, arrives_byte, digit_role, is_role, moved, none_accepts, took}
+use Rattle.lexical_literal.proofs.LiteralLemmas.{all_cuts, spelled_arrives, spelled_from}
+use Rattle.lexical_literal.proofs.ScanLemmas.{Accepts, Arrives, Took, added, arrives_byte, digit_role, is_role, moved, none_accepts, took}
 use Rattle.lexical_literal.proofs.StepLemmas.{awaited_part, reading}
 
 -- LENGTHS
 
-added : (c : Cuts) (piece other : Piece) (bytes : List ℕ)
-    → add_all c piece bytes other ≡ (if piece_number other == piece_number piece then c other + length bytes else c other)
-added c piece other [] = grind (arith, nat_tests)
-added c piece other (b ∷ bytes) = let rest = added (add c piece) piece other bytes in grind (arith, nat_tests)
-
 -- The lengths that are counted are those of the parts.
-pub has_lengths : (m : Notation) (l : Literal) → IsSpelled m l → HasLengths l (all_cuts l)
-has_lengths m l is = let twice = prefix l.prefix is.prefix in record {
+pub has_lengths : (l : Literal) → HasLengths l (all_cuts l)
+has_lengths l = record {
   sign = simp added (omega arith);
   prefix = simp added (omega arith);
   integer = simp added (omega arith);
@@ -43,9 +39,7 @@ has_lengths m l is = let twice = prefix l.prefix is.prefix in record {
   exponent_character = simp added (omega arith);
   exponent_sign = simp added (omega arith);
   exponent = simp added (omega arith);
-} where
-  prefix : (x : List ℕ) → is_none_or_prefix m.prefix x ≡ true → length x ≡ length (is_tail x) + length (is_tail x)
-  prefix x one = grind arith
+}
 
 suffix_length : (l : Literal) → all_cuts l pieces.Suffix ≡ length l.suffix
 suffix_length l = simp added (omega arith)
@@ -55,12 +49,12 @@ some_bytes : (x : List ℕ) → nat_lt 0 (length x) ≡ is_present x
 some_bytes [] = refl
 some_bytes (b ∷ x) = grind (arith, nat_tests)
 
-some_twice : (x : List ℕ) (n : ℕ) → length x ≡ n + n → nat_lt 0 n ≡ is_present x
-some_twice [] n is = grind (arith, nat_tests)
-some_twice (b ∷ x) n is = grind (arith, nat_tests)
-
-still : (c : Cuts) (p q : Piece) → nat_lt 0 (c q) ≡ true → nat_lt 0 (add c p q) ≡ true
-still c p q some = grind (arith, nat_tests)
+-- But for the zero of a prefix, no piece gets shorter.
+still : (c : Cuts) (part : Part) (r : Role) (q : Piece) → (q ≡ pieces.Integer → ⊥) → nat_lt 0 (c q) ≡ true → nat_lt 0 (count part (Some r) c q) ≡ true
+still c part roles.Prefix pieces.Prefix other some = refl
+still c part roles.Prefix pieces.Integer other some = absurd (other refl)
+still c part roles.Prefix _ other some = some
+still c part _ q other some = grind (arith, nat_tests)
 
 module _ (m : Notation) (h : HasRoles m) where
   abbrev C : Condition → Bool
@@ -69,15 +63,15 @@ module _ (m : Notation) (h : HasRoles m) where
   abbrev O : Condition → Bool
   O = no_condition
 
-  -- No piece gets shorter.
-  stays : (o : Option Summary) (c : Cuts) (text : List ℕ) (q : Piece) → nat_lt 0 (c q) ≡ true → nat_lt 0 (tally_by O m o c text q) ≡ true
-  stays o c [] q some = some
-  stays None c (b ∷ text) q some = some
-  stays (Some s) c (b ∷ text) q some = go (role_at m (part_of s.stage) b) (λ c. stays (step_by O m s b) c text q) where
+  stays : (o : Option Summary) (c : Cuts) (text : List ℕ) (q : Piece) → (q ≡ pieces.Integer → ⊥) → nat_lt 0 (c q) ≡ true
+      → nat_lt 0 (tally_by O m o c text q) ≡ true
+  stays o c [] q other some = some
+  stays None c (b ∷ text) q other some = some
+  stays (Some s) c (b ∷ text) q other some = go (role_at m (part_of s.stage) b) (λ c. stays (step_by O m s b) c text q other) where
     go : (r : Option Role) → ((c : Cuts) → nat_lt 0 (c q) ≡ true → nat_lt 0 (tally_by O m (step_by O m s b) c text q) ≡ true)
         → nat_lt 0 (tally_by O m (step_by O m s b) (count (part_of s.stage) r c) text q) ≡ true
     go None more = more c some
-    go (Some r) more = more (add c (piece_of (part_of s.stage) r)) (still c (piece_of (part_of s.stage) r) q some)
+    go (Some r) more = more (count (part_of s.stage) (Some r) c) (still c (part_of s.stage) r q other some)
 
   -- WHAT IS ACCEPTED IS AS THE CONDITIONS REQUIRE
 
@@ -87,15 +81,15 @@ module _ (m : Notation) (h : HasRoles m) where
     suffix : nat_lt 0 (c pieces.Suffix) ≡ s.ended
 
   shows_after : (s : Summary) (c : Cuts) (plus zero : Bool) (r : Role) → s.ended ≡ false → admits C s plus zero r ≡ true → Shows s c
-      → Shows (after s zero r) (add c (piece_of (part_of s.stage) r))
+      → Shows (after s zero r) (count (part_of s.stage) (Some r) c)
   shows_after s c plus zero r going admitted shows = record {
     prefix = λ set.
-        let some = still c (piece_of (part_of s.stage) r) pieces.Prefix in let before = shows.prefix set in grind (arith, nat_tests);
+        let some = still c (part_of s.stage) r pieces.Prefix (λ e. cc) in let before = shows.prefix set in grind (arith, nat_tests);
     suffix = let before = shows.suffix in grind (arith, nat_tests);
   }
 
   counted : {P : Option Summary → Type 0} (s : Summary) (b : ℕ) (c : Cuts) (text : List ℕ) (t : Took C m s b P)
-      → tally_by O m (Some s) c (b ∷ text) ≡ tally_by O m (Some (after s (b == 48) t.role)) (add c (piece_of (part_of s.stage) t.role)) text
+      → tally_by O m (Some s) c (b ∷ text) ≡ tally_by O m (Some (after s (b == 48) t.role)) (count (part_of s.stage) (Some t.role) c) text
   counted s b c text t = λ j. tally_by O m (is j) (count (part_of s.stage) (t.plays j) c) text where
     is : step_by O m s b ≡ Some (after s (b == 48) t.role)
     is = moved O m s b t.role t.plays t.going t.taken refl
@@ -113,7 +107,7 @@ module _ (m : Notation) (h : HasRoles m) where
   meets s c (b ∷ text) shows is =
       let t = took C m s b (λ o. Accepts C m o text) (none_accepts C m text) is in
       subst Meets (sym (counted s b c text t))
-      (meets (after s (b == 48) t.role) (add c (piece_of (part_of s.stage) t.role)) text (shows_after s c (b == 43)
+      (meets (after s (b == 48) t.role) (count (part_of s.stage) (Some t.role) c) text (shows_after s c (b == 43)
       (b == 48) t.role t.going t.admitted shows) t.rest)
 
   positive : (sign rest : List ℕ) → is_none_or_one signs sign ≡ true → C conditions.NegativeSign ≡ true → Accepts C m (Some start) (sign ++ rest)
@@ -131,7 +125,7 @@ module _ (m : Notation) (h : HasRoles m) where
       let found = spelled_from m h C text is in
       let l = found.0 in
       let spelled = found.2 in
-      let lengths = has_lengths m l spelled in
+      let lengths = has_lengths l in
       let tallied : tally_by O m (Some start) no_cuts text ≡ all_cuts l =
       ap (tally_by O m (Some start) no_cuts) found.1 ∙ (spelled_arrives m h l spelled).1 in
       let met = subst Meets tallied (meets start no_cuts text (record { prefix = λ set. refl; suffix = refl }) is) in
@@ -139,7 +133,7 @@ module _ (m : Notation) (h : HasRoles m) where
         each : (l : Literal) (text : List ℕ) → text ≡ text_of l → IsSpelled m l → Accepts C m (Some start) text → HasLengths l (all_cuts l)
             → Meets (all_cuts l) → (c : Condition) → C c ≡ true → condition c l ≡ true
         each l text whole spelled is lengths met conditions.BasePrefix set =
-            sym (some_twice l.prefix (all_cuts l pieces.Prefix) lengths.prefix) ∙ met.0 set
+            sym (some_bytes l.prefix) ∙ ap (nat_lt 0) lengths.prefix ∙ met.0 set
         each l text whole spelled is lengths met conditions.BaseSuffix set =
             sym (some_bytes l.suffix) ∙ ap (nat_lt 0) (sym (suffix_length l)) ∙ met.1 set
         each l text whole spelled is lengths met conditions.NegativeSign set =
@@ -173,7 +167,7 @@ module _ (m : Notation) (h : HasRoles m) where
         (let done = is.0 in let need = has_suffix in grind arith, is.1)
 
     shown : (s : Summary) (c : Cuts) (zero : Bool) (r : Role) → s.ended ≡ false → nat_lt 0 (c pieces.Suffix) ≡ s.ended
-        → nat_lt 0 (add c (piece_of (part_of s.stage) r) pieces.Suffix) ≡ (after s zero r).ended
+        → nat_lt 0 (count (part_of s.stage) (Some r) c pieces.Suffix) ≡ (after s zero r).ended
     shown s c zero r going suffix = grind (arith, nat_tests)
 
     -- What arrives without conditions arrives with them, where they refuse nothing.
@@ -184,23 +178,23 @@ module _ (m : Notation) (h : HasRoles m) where
         let t = peel s b c text d is in
         let more = subst (λ o. Arrives O m (Some (after s (b == 48) t.role)) (count (part_of s.stage) o c) text d) t.plays t.rest in
         arrives_byte C m s b t.role c text d t.going t.plays t.taken (calm_admits s (b == 43) (b == 48) t.role calm t.taken)
-        (lift (after s (b == 48) t.role) (add c (piece_of (part_of s.stage) t.role)) text (calm_after s (b == 48) t.role calm)
+        (lift (after s (b == 48) t.role) (count (part_of s.stage) (Some t.role) c) text (calm_after s (b == 48) t.role calm)
         (shown s c (b == 48) t.role t.going suffix) more)
 
     -- One byte whose role is known, and what follows it.
-    one_byte : (s : Summary) (b : ℕ) (r : Role) (p : Piece) (c : Cuts) (text : List ℕ) → piece_of (part_of s.stage) r ≡ p
+    one_byte : (s : Summary) (b : ℕ) (r : Role) (c e : Cuts) (text : List ℕ) → count (part_of s.stage) (Some r) c ≡ e
         → role_at m (part_of s.stage) b ≡ Some r
         → admits C s (b == 43) (b == 48) r ≡ true
-        → (Arrives O m (Some (after s (b == 48) r)) (add c p) text d → Arrives C m (Some (after s (b == 48) r)) (add c p) text d)
+        → (Arrives O m (Some (after s (b == 48) r)) e text d → Arrives C m (Some (after s (b == 48) r)) e text d)
         → Arrives O m (Some s) c (b ∷ text) d → Arrives C m (Some s) c (b ∷ text) d
-    one_byte s b r p c text is_piece role admitted more is =
+    one_byte s b r c e text counts role admitted more is =
         let t = peel s b c text d is in
         let same : t.role ≡ r = let a = t.plays in cc in
-        let rest = subst (λ r. Arrives O m (Some (after s (b == 48) r)) (add c (piece_of (part_of s.stage) r)) text d) same
+        let rest = subst (λ r. Arrives O m (Some (after s (b == 48) r)) (count (part_of s.stage) (Some r) c) text d) same
         (subst (λ o. Arrives O m (Some (after s (b == 48) t.role)) (count (part_of s.stage) o c) text d) t.plays t.rest) in
         arrives_byte C m s b r c text d t.going role (subst (λ r. takes m s (b == 43) r ≡ true) same t.taken) admitted
-        (subst (λ p. Arrives C m (Some (after s (b == 48) r)) (add c p) text d) (sym is_piece)
-        (more (subst (λ p. Arrives O m (Some (after s (b == 48) r)) (add c p) text d) is_piece rest)))
+        (subst (λ e. Arrives C m (Some (after s (b == 48) r)) e text d) (sym counts)
+        (more (subst (λ e. Arrives O m (Some (after s (b == 48) r)) e text d) counts rest)))
 
     -- The first byte behind the sign, which is none, where no prefix is required.
     first_byte : (stage : Stage) (c : Cuts) (text : List ℕ) → C conditions.BasePrefix ≡ false → awaits_integer stage ≡ true → nat_lt 0 (c pieces.Suffix) ≡ false
@@ -213,12 +207,12 @@ module _ (m : Notation) (h : HasRoles m) where
         let more = subst (λ o. Arrives O m (Some (after s (b == 48) t.role)) (count (part_of stage) o c) text d) t.plays t.rest in
         let other : (t.role ≡ roles.Sign) → ⊥ = λ sign.
         let fresh : is_fresh stage ≡ true = let taken = subst (λ r. takes m s (b == 43) r ≡ true) sign t.taken in grind arith in
-        let counted = subst (λ r. Arrives O m (Some (after s (b == 48) r)) (add c (piece_of (part_of stage) r)) text d) sign more in
+        let counted = subst (λ r. Arrives O m (Some (after s (b == 48) r)) (count (part_of stage) (Some r) c) text d) sign more in
         false≢true (sym (unsigned fresh) ∙ ap (λ (c : Cuts). nat_lt 0 (c pieces.Sign)) (sym counted.1)
-        ∙ stays (Some (after s (b == 48) roles.Sign)) (add c (piece_of (part_of stage) roles.Sign)) text pieces.Sign
+        ∙ stays (Some (after s (b == 48) roles.Sign)) (add c (piece_of (part_of stage) roles.Sign)) text pieces.Sign (λ e. cc)
         (subst (λ part. nat_lt 0 (add c (piece_of part roles.Sign) pieces.Sign) ≡ true) (sym (awaited_part stage begin)) (grind (arith, nat_tests)))) in
         arrives_byte C m s b t.role c text d t.going t.plays t.taken (admitted t.role other)
-        (lift (after s (b == 48) t.role) (add c (piece_of (part_of stage) t.role)) text (calm t.role other t.taken)
+        (lift (after s (b == 48) t.role) (count (part_of stage) (Some t.role) c) text (calm t.role other t.taken)
         (shown s c (b == 48) t.role refl suffix) more) where
           admitted : (r : Role) → (r ≡ roles.Sign → ⊥) → admits C (reading stage false) (b == 43) (b == 48) r ≡ true
           admitted roles.Sign other = absurd (other refl)
@@ -241,13 +235,13 @@ module _ (m : Notation) (h : HasRoles m) where
           let s = reading stage false in
           let bare : after s true roles.Digit ≡ reading stages.Bare false = grind arith in
           subst (λ z. Arrives C m (Some s) c (z ∷ b ∷ rest) d) (sym zero)
-          (one_byte s 48 roles.Digit pieces.Integer c (b ∷ rest) (ap digits_piece (awaited_part stage begin))
+          (one_byte s 48 roles.Digit c (add c pieces.Integer) (b ∷ rest) (ap (λ part. add c (digits_piece part)) (awaited_part stage begin))
           (digit_role m (part_of stage) 48 (h.zero_is_digit (part_of stage))) (grind arith)
           (λ more. subst (λ s. Arrives C m (Some s) (add c pieces.Integer) (b ∷ rest) d) (sym bare)
-          (one_byte (reading stages.Bare false) b roles.Prefix pieces.Prefix (add c pieces.Integer) rest refl
+          (one_byte (reading stages.Bare false) b roles.Prefix (add c pieces.Integer) _ rest refl
           (is_role m parts.Integer b h roles.Prefix (λ e. cc) both.1) (grind arith)
-          (λ more. lift (reading stages.Prefixed false) (add (add c pieces.Integer) pieces.Prefix) rest
-          (record { prefix = grind arith; sign = grind arith }) (grind (arith, nat_tests)) more)
+          (λ more. lift (reading stages.Prefixed false) _ rest
+          (record { prefix = grind arith; sign = grind arith }) suffix more)
           (subst (λ s. Arrives O m (Some s) (add c pieces.Integer) (b ∷ rest) d) bare more)))
           (subst (λ z. Arrives O m (Some s) c (z ∷ b ∷ rest) d) zero is))
       prefixed stage c _ set begin suffix one some is = absurd (grind arith)
@@ -266,7 +260,7 @@ module _ (m : Notation) (h : HasRoles m) where
           → Arrives O m (Some start) no_cuts (sign ++ (prefix ++ rest)) d → Arrives C m (Some start) no_cuts (sign ++ (prefix ++ rest)) d
       signed [] one plus count is = begun stages.Start no_cuts refl refl (λ fresh. count) is
       signed (b ∷ []) one plus count is =
-          one_byte start b roles.Sign pieces.Sign no_cuts (prefix ++ rest) refl (is_role m parts.Integer b h roles.Sign (λ e. cc) one) (let need =
+          one_byte start b roles.Sign no_cuts _ (prefix ++ rest) refl (is_role m parts.Integer b h roles.Sign (λ e. cc) one) (let need =
           plus in grind arith)
           (begun stages.Empty (add no_cuts pieces.Sign) refl refl (λ fresh. absurd (false≢true fresh))) is
       signed (b ∷ x ∷ sign) one plus count is = absurd (false≢true one)
@@ -274,7 +268,7 @@ module _ (m : Notation) (h : HasRoles m) where
   -- A literal is accepted, and its parts are counted.
   pub literal_arrives : (l : Literal) → IsLiteral m l → Arrives C m (Some start) no_cuts (text_of l) (all_cuts l)
   literal_arrives l is =
-      let lengths = has_lengths m l is.spelled in
+      let lengths = has_lengths l in
       signed (all_cuts l) (λ set. ap (nat_lt 0) (suffix_length l) ∙ some_bytes l.suffix ∙ is.conditions conditions.BaseSuffix set)
       l.prefix _ is.spelled.prefix (is.conditions conditions.BasePrefix) l.sign is.spelled.sign (is.conditions conditions.NegativeSign)
       (ap (nat_lt 0) (sym lengths.sign) ∙ some_bytes l.sign) (spelled_arrives m h l is.spelled)

@@ -1,7 +1,6 @@
 -- The lengths of parts.
-use Rattle.std.proofs.Common.{ℕ, zero, suc, ◌≡◌, ◌<◌, ◌≤◌, ◌+◌, List, [], ◌∷◌, length, get_or, set, refl, arith, get_or-set_other, get_or-set_same, replicate}
-use Rattle.std.proofs.lemmas.Bool.Decides.{nat_tests}
-use Rattle.lexical_literal.specs.Additions.Summary.{add_more, cuts_of, no_cuts, piece_number}
+use Rattle.std.proofs.Common.{ℕ, zero, suc, ◌≡◌, ◌≤◌, ◌+◌, List, [], ◌∷◌, length, get_or, set, refl, arith, replicate}
+use Rattle.lexical_literal.specs.Additions.Summary.{add_more, cuts_of, no_cuts, piece_number, with_prefix}
 use Rattle.lexical_literal.specs.declared.steps.Piece.{Piece}
 use Rattle.lexical_literal.specs.declared.steps.Piece.TheVariants as pieces
 
@@ -12,9 +11,9 @@ no_counts = λ j piece. none piece j where
   none pieces.Sign = refl
   none _ = refl
 
-pub small_at_first : (k : ℕ) → get_or (replicate 9 0) k 0 ≤ 0
+pub small_at_first : (k : ℕ) → get_or (replicate 9 0) k 0 ≤ 1
 small_at_first k = go 9 k where
-  go : (n k : ℕ) → get_or (replicate n 0) k 0 ≤ 0
+  go : (n k : ℕ) → get_or (replicate n 0) k 0 ≤ 1
   go zero k = omega arith
   go (suc n) zero = omega arith
   go (suc n) (suc k) = go n k
@@ -31,10 +30,8 @@ count_more (a ∷ b ∷ c ∷ d ∷ e ∷ f ∷ g ∷ h ∷ i ∷ []) nine piece
   each _ _ = refl
 count_more counts nine piece n = absurd (omega (arith, nine))
 
--- No piece has more bytes than have been read.
-pub small_more : (counts : List ℕ) (n k : ℕ) → k < length counts → ((j : ℕ) → get_or counts j 0 ≤ n)
-    → (j : ℕ) → get_or (set counts k (get_or counts k 0 + 1)) j 0 ≤ n + 1
-small_more counts n k inside small j =
-    let same = get_or-set_same counts k (get_or counts k 0 + 1) 0 inside in
-    let other = get_or-set_other counts k j (get_or counts k 0 + 1) 0 in
-    let here = small k in let there = small j in grind (arith, nat_tests)
+-- A base prefix behind a sign.
+pub count_prefix : (sign : ℕ) (other : Piece) → with_prefix (cuts_of (sign ∷ 0 ∷ 0 ∷ 0 ∷ 0 ∷ 0 ∷ 0 ∷ 0 ∷ 0 ∷ [])) other
+    ≡ cuts_of (sign ∷ 2 ∷ 0 ∷ 0 ∷ 0 ∷ 0 ∷ 0 ∷ 0 ∷ 0 ∷ []) other
+count_prefix sign pieces.Sign = refl
+count_prefix sign _ = refl

@@ -7,8 +7,8 @@ use Rattle.lexical_util.specs.declared.format_flags.Part.{Part}
 use Rattle.lexical_util.specs.declared.format_flags.Part.TheVariants as parts
 use Rattle.lexical_literal.specs.Notation.{Notation}
 use Rattle.lexical_literal.specs.Additions.Plain.{HasRoles, IsAt, IsBegun, IsOpened, IsReadOn, IsSign, behind_sign, counts_of, fresh, is_free, at_stage}
-use Rattle.lexical_literal.specs.Additions.Summary.{Cuts, add, add_more, after_mark, after_point, cuts_of, has_digit, awaits_integer, is_signed, no_cuts, takes}
-use Rattle.lexical_literal.specs.Additions.Summary.{part_of}
+use Rattle.lexical_literal.specs.Additions.Summary.{Cuts, add_more, after_mark, after_point, cuts_of, has_digit, awaits_integer, is_signed, no_cuts, takes}
+use Rattle.lexical_literal.specs.Additions.Summary.{part_of, with_prefix}
 use Rattle.lexical_literal.specs.declared.plain.At.{At}
 use Rattle.lexical_literal.specs.declared.plain.Opening.{Opening}
 use Rattle.lexical_literal.specs.declared.plain.Sizes.{Sizes}
@@ -17,8 +17,8 @@ use Rattle.lexical_literal.specs.declared.steps.Piece.TheVariants as pieces
 use Rattle.lexical_literal.specs.declared.steps.Stage.{Stage}
 use Rattle.lexical_literal.specs.declared.steps.Stage.TheVariants as stages
 use Rattle.lexical_literal.specs.declared.syntax.Condition.TheVariants as conditions
-use Rattle.lexical_literal.proofs.CountLemmas.{count_more, no_counts}
-use Rattle.lexical_literal.proofs.PlainLemmas.{none_begun, one_read, read_free, read_zero}
+use Rattle.lexical_literal.proofs.CountLemmas.{count_more, count_prefix, no_counts}
+use Rattle.lexical_literal.proofs.PlainLemmas.{none_begun, read_free, read_zero}
 use Rattle.lexical_literal.proofs.ScanLemmas.{is_role}
 
 -- Stages behind a sign.
@@ -67,7 +67,6 @@ module _ (m : Notation) (text : List ℕ) where
       → IsOpened m text (record { sign = sign; prefix = 0; size = sign; stage = behind_sign parts.Integer sign })
   opened sign is free = record {
     at = sign_at sign is;
-    size = omega arith;
     signed = is.signed;
     free = grind arith;
     none = none_begun (behind_sign parts.Integer sign) (begun_behind sign);
@@ -77,14 +76,12 @@ module _ (m : Notation) (text : List ℕ) where
   -- Behind a base prefix.
   pub opened_prefix : HasRoles m → (sign : ℕ) → IsSign m text parts.Integer 0 sign
       → ((stage : Stage) (c : Cuts) → awaits_integer stage ≡ true → is_signed m parts.Integer stage ≡ true → IsAt m text (at_stage sign stage) c
-      → IsAt m text (at_stage (sign + 2) stages.Prefixed) (add (add c pieces.Integer) pieces.Prefix))
-      → IsOpened m text (record { sign = sign; prefix = 1; size = sign + 2; stage = stages.Prefixed })
+      → IsAt m text (at_stage (sign + 2) stages.Prefixed) (with_prefix c))
+      → IsOpened m text (record { sign = sign; prefix = 2; size = sign + 2; stage = stages.Prefixed })
   opened_prefix h sign is prefix = record {
     at = subst (IsAt m text (at_stage (sign + 2) stages.Prefixed))
-        (ap (λ c. add c pieces.Prefix) (count_more (sign ∷ 0 ∷ 0 ∷ 0 ∷ 0 ∷ 0 ∷ 0 ∷ 0 ∷ 0 ∷ []) refl pieces.Integer 1)
-        ∙ count_more (sign ∷ 0 ∷ 1 ∷ 0 ∷ 0 ∷ 0 ∷ 0 ∷ 0 ∷ 0 ∷ []) refl pieces.Prefix 1)
+        (λ j other. count_prefix sign other j)
         (prefix (behind_sign parts.Integer sign) (cuts_of (sign ∷ 0 ∷ 0 ∷ 0 ∷ 0 ∷ 0 ∷ 0 ∷ 0 ∷ 0 ∷ [])) (begun_behind sign) is.signed (sign_at sign is));
-    size = omega arith;
     signed = refl;
     free = grind arith;
     none = refl;
@@ -100,13 +97,11 @@ module _ (m : Notation) (text : List ℕ) where
   -- The digits of the integer.
   pub integer_at : (o : Opening) → IsOpened m text o → (size : ℕ) (stage : Stage) → IsReadOn m text (at_stage o.size o.stage) pieces.Integer
       (at_stage size stage)
-      → IsAt m text (at_stage size stage) (cuts_of (o.sign ∷ o.prefix ∷ (size - o.sign - o.prefix) ∷ 0 ∷ 0 ∷ 0 ∷ 0 ∷ 0 ∷ 0 ∷ []))
+      → IsAt m text (at_stage size stage) (cuts_of (o.sign ∷ o.prefix ∷ (size - o.size) ∷ 0 ∷ 0 ∷ 0 ∷ 0 ∷ 0 ∷ 0 ∷ []))
   integer_at o is size stage on =
-      let sum : o.prefix + (size - o.size) ≡ size - o.sign - o.prefix = omega (arith, is.size, on.more) in
-      at_more (at_stage o.size o.stage) (at_stage size stage) pieces.Integer
-      (cuts_of (o.sign ∷ o.prefix ∷ o.prefix ∷ 0 ∷ 0 ∷ 0 ∷ 0 ∷ 0 ∷ 0 ∷ [])) (o.sign ∷ o.prefix ∷ (size - o.sign - o.prefix) ∷ 0 ∷ 0 ∷ 0 ∷ 0 ∷ 0 ∷ 0 ∷ []) on
-      is.at
-      (count_more (o.sign ∷ o.prefix ∷ o.prefix ∷ 0 ∷ 0 ∷ 0 ∷ 0 ∷ 0 ∷ 0 ∷ []) refl pieces.Integer (size - o.size)
+      let sum : 0 + (size - o.size) ≡ size - o.size = omega arith in
+      at_more (at_stage o.size o.stage) (at_stage size stage) pieces.Integer _ (o.sign ∷ o.prefix ∷ (size - o.size) ∷ 0 ∷ 0 ∷ 0 ∷ 0 ∷ 0 ∷ 0 ∷ []) on is.at
+      (count_more (o.sign ∷ o.prefix ∷ 0 ∷ 0 ∷ 0 ∷ 0 ∷ 0 ∷ 0 ∷ 0 ∷ []) refl pieces.Integer (size - o.size)
       ∙ ap (λ n. cuts_of (o.sign ∷ o.prefix ∷ n ∷ 0 ∷ 0 ∷ 0 ∷ 0 ∷ 0 ∷ 0 ∷ [])) sum)
 
   -- The digits of the fraction.
@@ -147,9 +142,8 @@ module _ (m : Notation) (text : List ℕ) where
     point_at s size stage none inside point taken free is = let b = get_or text size 0 in
         subst (IsAt m text (at_stage (size + 1) (after_point (has_digit stage))))
         (count_more (counts_of s 0 0 0 0) refl pieces.Point 1 ∙ ap (λ n. cuts_of (counts_of (record s { point = n + 1 }) 0 0 0 0)) none)
-        (one_read m text (at_stage size stage) (at_stage (size + 1) (after_point (has_digit stage))) pieces.Point
         (read_free m text h (part_of stage) (at_stage size stage) roles.Point refl (λ same. cc) inside
-        (is_role m (part_of stage) b h roles.Point (λ same. cc) point) refl taken free) refl _ is)
+        (is_role m (part_of stage) b h roles.Point (λ same. cc) point) refl taken free _ is)
 
     -- The exponent character.
     pub mark_at : (s : Sizes) (size : ℕ) (stage : Stage) → size < length text → m.exponent_character (get_or text size 0) ≡ true
@@ -158,9 +152,8 @@ module _ (m : Notation) (text : List ℕ) where
         → IsAt m text (at_stage (size + 1) stages.Mark) (cuts_of (counts_of s 1 0 0 0))
     mark_at s size stage inside mark taken free is = let b = get_or text size 0 in
         subst (IsAt m text (at_stage (size + 1) stages.Mark)) (count_more (counts_of s 0 0 0 0) refl pieces.ExponentCharacter 1)
-        (one_read m text (at_stage size stage) (at_stage (size + 1) stages.Mark) pieces.ExponentCharacter
         (read_free m text h (part_of stage) (at_stage size stage) roles.Exponent refl (λ same. cc) inside
-        (is_role m (part_of stage) b h roles.Exponent (λ same. cc) mark) refl taken free) refl _ is)
+        (is_role m (part_of stage) b h roles.Exponent (λ same. cc) mark) refl taken free _ is)
 
     -- The suffix.
     pub suffix_at : (s : Sizes) (a b c : ℕ) (at : At) → at.size < length text → m.suffix (get_or text at.size 0) ≡ true
@@ -169,9 +162,8 @@ module _ (m : Notation) (text : List ℕ) where
         → IsAt m text (record { size = at.size + 1; read = record at.read { ended = true } }) (cuts_of (counts_of s a b c 1))
     suffix_at s a b c at inside suffix going taken free is = let byte = get_or text at.size 0 in
         subst (IsAt m text (record { size = at.size + 1; read = record at.read { ended = true } })) (count_more (counts_of s a b c 0) refl pieces.Suffix 1)
-        (one_read m text at (record { size = at.size + 1; read = record at.read { ended = true } }) pieces.Suffix
         (read_free m text h (part_of at.read.stage) at roles.Suffix refl (λ same. cc) inside
-        (is_role m (part_of at.read.stage) byte h roles.Suffix (λ same. cc) suffix) going taken free) refl _ is)
+        (is_role m (part_of at.read.stage) byte h roles.Suffix (λ same. cc) suffix) going taken free _ is)
 
 -- Stages behind a decimal point.
 pub behind_point : (m : Notation) (digit : Bool) → let stage = after_point digit in

@@ -16,22 +16,18 @@ use Rattle.lexical_literal.specs.Run.{is_run}
 use Rattle.lexical_literal.specs.Literal.{Literal, IsSpelled, text_of, is_present, is_absent, is_plus, is_none_or_one, is_none_or_prefix, is_zero_led}
 use Rattle.lexical_literal.specs.Additions.Summary.{Cuts, implies, has_digit, is_lone, is_led, after_digit, after_mark, after_point, may_follow, may_lead}
 use Rattle.lexical_literal.specs.Additions.Summary.{is_signed, part_of, forbids_plus, gap_fits, digits_suffice, ends, continues, add, digits_piece}
-use Rattle.lexical_literal.specs.Additions.Summary.{no_condition, piece_of, start, no_cuts}
+use Rattle.lexical_literal.specs.Additions.Summary.{no_condition, piece_of, start, no_cuts, with_prefix}
+use Rattle.lexical_literal.specs.declared.steps.Piece.{Piece}
 use Rattle.lexical_literal.specs.declared.steps.Piece.TheVariants as pieces
 use Rattle.lexical_literal.specs.declared.steps.Stage.{Stage}
 use Rattle.lexical_literal.specs.declared.steps.Stage.TheVariants as stages
 use Rattle.lexical_literal.specs.declared.syntax.Condition.{Condition}
 use Rattle.lexical_literal.proofs.RunLemmas.{is_rest, rest_of_none, digits_present, opens}
-use Rattle.lexical_literal.proofs.ScanLemmas.{Accepts, Arrives, add_all, free_byte, digit_role, is_role}
+use Rattle.lexical_literal.proofs.ScanLemmas.{Accepts, Arrives, add_all, added, free_byte, digit_role, is_role}
 use Rattle.lexical_literal.proofs.StepLemmas.{reading, digit_part, exponent_part, integer_part, mark_part, point_part, run_part, led_after, stage_after, passed}
 use Rattle.lexical_literal.proofs.StepLemmas.{stage_at, sign_fits, prefix_fits, digits_fit, ends_exponent, ends_mantissa, fraction_fits, stops, scales}
 use Rattle.lexical_literal.proofs.StepLemmas.{ends_part, text_after}
 use Rattle.lexical_literal.proofs.CutLemmas.{cut_of}
-
--- `is_tail bytes` has all of `bytes` but the first.
-abbrev pub is_tail : List ℕ → List ℕ
-is_tail [] = []
-is_tail (b ∷ bytes) = bytes
 
 -- `tail_cuts l c` counts the parts of `l` behind the mantissa, begun with `c`, and `all_cuts l` all its parts.
 abbrev tail_cuts : Literal → Cuts → Cuts
@@ -41,11 +37,8 @@ tail_cuts l c = add_all (add_all (add_all (add_all c pieces.ExponentCharacter l.
 abbrev end_cuts : Literal → Cuts → Cuts
 end_cuts l c = tail_cuts l (add_all (add_all c pieces.Point l.point) pieces.Fraction l.fraction)
 
-abbrev prefix_cuts : List ℕ → Cuts → Cuts
-prefix_cuts prefix c = add_all (add_all c pieces.Integer (is_tail prefix)) pieces.Prefix (is_tail prefix)
-
 abbrev pub all_cuts : Literal → Cuts
-all_cuts l = end_cuts l (add_all (prefix_cuts l.prefix (add_all no_cuts pieces.Sign l.sign)) pieces.Integer l.integer)
+all_cuts l = end_cuts l (add_all (add_all (add_all no_cuts pieces.Sign l.sign) pieces.Prefix l.prefix) pieces.Integer l.integer)
 
 -- What the parts behind the mantissa satisfy, said of plain variables: `k`, `s` and `e` tell whether the exponent character, its
 -- sign and the exponent are absent.
@@ -341,20 +334,25 @@ module _ (m : Notation) (h : HasRoles m) where
   -- A prefix, or none.
   prefix_arrives : (stage : Stage) (prefix rest : List ℕ) (c d : Cuts) → part_of stage ≡ parts.Integer → may_follow m stage ≡ true
       → after_digit stage false true ≡ stages.Bare
-      → is_signed m parts.Integer stage ≡ true → is_none_or_prefix m.prefix prefix ≡ true
+      → is_signed m parts.Integer stage ≡ true → is_none_or_prefix m.prefix prefix ≡ true → c pieces.Prefix ≡ 0 → c pieces.Integer ≡ 0
       → (is_signed m parts.Integer (stage_at stage [] prefix) ≡ true → Arrives no_condition m (Some (reading (stage_at stage [] prefix) false))
-      (prefix_cuts prefix c) rest d)
+      (add_all c pieces.Prefix prefix) rest d)
       → Arrives no_condition m (Some (reading stage false)) c (prefix ++ rest) d
-  prefix_arrives stage [] rest c d at follows bare signed one more = more signed
-  prefix_arrives stage (z ∷ b ∷ []) rest c d at follows bare signed one more =
+  prefix_arrives stage [] rest c d at follows bare signed one no_prefix no_integer more = more signed
+  prefix_arrives stage (z ∷ b ∷ []) rest c d at follows bare signed one no_prefix no_integer more =
       let both = and_parts (z == 48) _ one in
       let zero = add c pieces.Integer in
       subst (λ z. Arrives no_condition m (Some (reading stage false)) c (z ∷ b ∷ rest) d) (sym (eqb-true z 48 both.0))
       (free_byte m parts.Integer stage false 48 roles.Digit c (b ∷ rest) d at (digit_role m parts.Integer 48 (h.zero_is_digit parts.Integer))
       (and_from _ _ signed follows) (subst (λ s. Arrives no_condition m (Some (reading s false)) zero (b ∷ rest) d) (sym bare)
       (free_byte m parts.Integer stages.Bare false b roles.Prefix zero rest d refl
-      (is_role m parts.Integer b h roles.Prefix (λ e. cc) both.1) refl (more refl))))
-  prefix_arrives stage _ rest c d at follows bare signed one more = absurd (false≢true one)
+      (is_role m parts.Integer b h roles.Prefix (λ e. cc) both.1) refl
+      (subst (λ c. Arrives no_condition m (Some (reading stages.Prefixed false)) c rest d) (λ j other. counts other j) (more refl))))) where
+        counts : (other : Piece) → add_all c pieces.Prefix (z ∷ b ∷ []) other ≡ with_prefix (add c pieces.Integer) other
+        counts pieces.Prefix = omega (arith, no_prefix)
+        counts pieces.Integer = no_integer
+        counts _ = refl
+  prefix_arrives stage _ rest c d at follows bare signed one no_prefix no_integer more = absurd (false≢true one)
 
   module _ (l : Literal) (is : IsSpelled m l) where
     run : (part : Part) (digits : List ℕ) → is_run m part digits ≡ true → is_rest m part false false digits ≡ true
@@ -382,10 +380,10 @@ module _ (m : Notation) (h : HasRoles m) where
     pub spelled_arrives : Arrives no_condition m (Some start) no_cuts (text_of l) (all_cuts l)
     spelled_arrives =
         let signs = add_all no_cuts pieces.Sign l.sign in
-        let dressed = prefix_cuts l.prefix signs in
+        let dressed = add_all signs pieces.Prefix l.prefix in
         sign_arrives parts.Integer stages.Start false l.sign _ no_cuts (all_cuts l) refl (grind arith)
         (λ signed. prefix_arrives (stage_at stages.Start l.sign []) l.prefix _ signs (all_cuts l) (integer_part l.sign []) (grind arith)
-        (grind arith) signed is.prefix
+        (grind arith) signed is.prefix (added no_cuts pieces.Sign pieces.Prefix l.sign) (added no_cuts pieces.Sign pieces.Integer l.sign)
         (λ signed. run_arrives parts.Integer (stage_at stages.Start l.sign l.prefix) false l.integer _ dressed (all_cuts l)
         (integer_part l.sign l.prefix) signed
         (subst (λ t. is_rest m parts.Integer t false l.integer ≡ true) (grind arith) (run parts.Integer l.integer is.integer)) (record {

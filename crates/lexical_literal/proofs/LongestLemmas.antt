@@ -1,14 +1,13 @@
 -- Fronts of a text, and where the loop is left.
-use Rattle.std.proofs.Common.{ℕ, Bool, IsNone, Option, if◌then◌else◌, ◌≡◌, ◌<◌, ◌≤◌, ◌+◌, inl, inr, true, false, List, [], ◌∷◌, ◌++◌, length, length-set}
-use Rattle.std.proofs.Common.{get_or, replicate, set, take, drop, Some, None, refl, sym, ap, subst, append_assoc, append-nil, take-append-drop, ◌∙◌, arith}
+use Rattle.std.proofs.Common.{ℕ, Bool, IsNone, Option, if◌then◌else◌, ◌≡◌, ◌<◌, ◌≤◌, ◌+◌, inl, inr, true, false, List, [], ◌∷◌, ◌++◌, length}
+use Rattle.std.proofs.Common.{get_or, replicate, take, drop, Some, None, refl, sym, ap, subst, append_assoc, append-nil, take-append-drop, ◌∙◌, arith}
 use Rattle.std.specs.Prelude.{is_some, slice_get}
 use Rattle.std.proofs.lemmas.Bool.{false≢true, cases_lt}
 use Rattle.std.proofs.lemmas.Option.{slice_get-get_or, slice_get_past}
 use Rattle.std.proofs.lemmas.List.{take-take, take_more, take_all}
 use Rattle.lexical_literal.specs.Notation.{Notation, notation_of}
 use Rattle.lexical_literal.specs.Literal.{Literal, IsLiteral, Reads}
-use Rattle.lexical_literal.specs.Additions.Summary.{cuts_of, role_at, scan, step, is_accepted, is_complete, part_of, tally, start, no_cuts, HasLengths, move_by}
-use Rattle.lexical_literal.specs.Additions.Summary.{piece_number, piece_of}
+use Rattle.lexical_literal.specs.Additions.Summary.{count, cuts_of, role_at, scan, step, is_accepted, is_complete, part_of, tally, start, no_cuts, HasLengths}
 use Rattle.lexical_literal.specs.Front.{IsFront, IsValidUpTo, NoLiteral, ReadsFront}
 use Rattle.lexical_literal.specs.Takes.{NoFront}
 use Rattle.lexical_literal.specs.Additions.Longest.{HasFound, IsCountedFront, IsFronted, IsLongest, IsStopped}
@@ -22,7 +21,7 @@ use Rattle.lexical_literal.specs.declared.steps.Summary.{Summary}
 use Rattle.lexical_literal.proofs.ScanLemmas.{scan_append, tally_append}
 use Rattle.lexical_literal.proofs.ConditionLemmas.{has_lengths, literal_from, literal_arrives}
 use Rattle.lexical_literal.proofs.LiteralLemmas.{all_cuts}
-use Rattle.lexical_literal.proofs.CountLemmas.{count_more, no_counts, small_at_first, small_more}
+use Rattle.lexical_literal.proofs.CountLemmas.{no_counts, small_at_first}
 use Rattle.lexical_util.specs.declared.feature_format.roles.Role.{Role}
 use Rattle.lexical_literal.proofs.FrontLemmas.{front_from, front_is_read}
 
@@ -40,7 +39,7 @@ front_shorter m text k n below is = record {
 -- `found` the longest front that is a literal.
 pub record HasCounted (m : Notation) (text : List ℕ) (at : At) (counts : List ℕ) (found : Option Found) : Type 0 where
   pub nine : length counts ≡ 9
-  pub small : (k : ℕ) → get_or counts k 0 ≤ at.size
+  pub small : (k : ℕ) → get_or counts k 0 ≤ at.size + 1
   pub read : IsAt m text at (cuts_of counts)
   pub longest : IsLongest m text at.size found
 
@@ -182,7 +181,7 @@ module _ (m : Notation) (ready : IsReady m) (text : List ℕ) where
   pub has_counted : (n : ℕ) (counts : List ℕ) → tally m (Some start) no_cuts (take n text) ≡ cuts_of counts → (l : Literal) → Reads m l (take n text)
       → HasLengths l (cuts_of counts)
   has_counted n counts lengths l reads =
-      rw (← lengths, reads.whole, (literal_arrives m ready.roles l reads.literal).1) (has_lengths m l reads.literal.spelled)
+      rw (← lengths, reads.whole, (literal_arrives m ready.roles l reads.literal).1) (has_lengths l)
 
   -- Nothing is the longest front of nothing.
   pub first_counted : HasCounted m text (record { size = 0; read = start }) (replicate 9 0) None
@@ -200,15 +199,10 @@ module _ (m : Notation) (ready : IsReady m) (text : List ℕ) where
     incomplete : is_complete m start ≡ false
     incomplete = grind arith
 
-  module _ (at next : At) (counts : List ℕ) (found : Option Found) (has : HasCounted m text at counts found) (begun : IsBegun m text next)
-      (size : next.size ≡ at.size + 1) where
+  module _ (at next : At) (counts : List ℕ) (found : Option Found) (has : HasCounted m text at counts found) (role : Role)
+      (follows : (role_at m (part_of at.read.stage) (get_or text at.size 0) ≡ Some role) × IsBegun m text next × (next.size ≡ at.size + 1)) where
     inside : at.size < length text
-    inside = omega (arith, begun.within, size)
-
-    -- A byte that is read has a role.
-    pub has_role : role_at m (part_of at.read.stage) (get_or text at.size 0) ≡ None → ⊥
-    has_role none = let is : None ≡ Some next.read = sym (next_scan at has.read.begun inside ∙ ap (move_by m.condition m at.read _ _) none)
-        ∙ ap (λ n. scan m (Some start) (take n text)) (sym size) ∙ begun.read in cc
+    inside = omega (arith, follows.1.within, follows.2)
 
     -- A longer front that is a literal, or none.
     longer : (counts : List ℕ) → tally m (Some start) no_cuts (take next.size text) ≡ cuts_of counts → (complete : Bool) → complete ≡ is_complete m next.read
@@ -216,40 +210,38 @@ module _ (m : Notation) (ready : IsReady m) (text : List ℕ) where
     longer counts counted true complete = record {
       found = λ found is. let same : record { size = next.size; counts = counts } ≡ found = cc in
           subst (λ (f : Found). (f.size ≤ next.size) × (l : Literal) × Reads m l (take f.size text)) same
-          (let l = literal_from m ready.roles (take next.size text) (ap (is_accepted m) begun.read ∙ sym complete) in (omega arith, l.0, l.1));
+          (let l = literal_from m ready.roles (take next.size text) (ap (is_accepted m) follows.1.read ∙ sym complete) in (omega arith, l.0, l.1));
       counted = λ found is. let same : record { size = next.size; counts = counts } ≡ found = cc in
           subst (λ (f : Found). (l : Literal) → Reads m l (take f.size text) → HasLengths l (cuts_of f.counts)) same (has_counted next.size counts counted);
       no_longer = λ more over past. absurd (let low : next.size < more = past _ refl in omega (arith, over, low));
     }
     longer counts counted false incomplete = record {
-      found = λ found is. let before = has.longest.found found is in (omega (arith, size, before.0), before.1, before.2);
+      found = λ found is. let before = has.longest.found found is in (omega (arith, follows.2, before.0), before.1, before.2);
       counted = has.longest.counted;
       no_longer = λ more over past l reads. elim (cases_lt at.size more) [
-        | inl new ↦ let same : more ≡ next.size = omega (arith, over, new, size) in
-            false≢true (incomplete ∙ ap (is_accepted m) (sym begun.read) ∙ accepted next.size l (subst (λ n. Reads m l (take n text)) same reads))
+        | inl new ↦ let same : more ≡ next.size = omega (arith, over, new, follows.2) in
+            false≢true (incomplete ∙ ap (is_accepted m) (sym follows.1.read) ∙ accepted next.size l (subst (λ n. Reads m l (take n text)) same reads))
         | inr before ↦ has.longest.no_longer more before past l reads
       ];
     }
 
     -- One more byte is counted.
-    pub more_counted : (r : Role) (k : ℕ) → role_at m (part_of at.read.stage) (get_or text at.size 0) ≡ Some r
-        → k ≡ piece_number (piece_of (part_of at.read.stage) r) → k < 9
-        → (complete : Bool) → complete ≡ is_complete m next.read → let more = set counts k (get_or counts k 0 + 1) in
-        HasCounted m text next more (if complete then Some (record { size = next.size; counts = more }) else found)
-    more_counted r k plays same small complete is =
-        let more = set counts k (get_or counts k 0 + 1) in
-        let counted : tally m (Some start) no_cuts (take next.size text) ≡ cuts_of more = ap (λ n. tally m (Some start) no_cuts (take n text)) size
+    pub more_counted : (more : List ℕ) → length more ≡ 9 → cuts_of more ≡ count (part_of at.read.stage) (Some role) (cuts_of counts)
+        → ((k : ℕ) → get_or more k 0 ≤ at.size + 1 + 1) → (complete : Bool) → complete ≡ is_complete m next.read
+        → HasCounted m text next more (if complete then Some (record { size = next.size; counts = more }) else found)
+    more_counted more nine same small complete is =
+        let counted : tally m (Some start) no_cuts (take next.size text) ≡ cuts_of more = ap (λ n. tally m (Some start) no_cuts (take n text)) follows.2
         ∙ rw (
           take_more text at.size 0 inside,
           tally_append m.condition m (Some start) no_cuts (take at.size text) (get_or text at.size 0 ∷ []),
           has.read.begun.read,
           has.read.counted,
-          plays,
+          follows.0,
         )
-        (count_more counts has.nine (piece_of (part_of at.read.stage) r) 1 ∙ ap (λ k. cuts_of (set counts k (get_or counts k 0 + 1))) (sym same)) in record {
-          nine = length-set counts k (get_or counts k 0 + 1) ∙ has.nine;
-          small = λ j. let one = small_more counts at.size k (omega (arith, small, has.nine)) has.small j in omega (arith, one, size);
-          read = record { begun = begun; counted = counted };
+        (sym same) in record {
+          nine = nine;
+          small = λ k. let one = small k in omega (arith, one, follows.2);
+          read = record { begun = follows.1; counted = counted };
           longest = longer more counted complete is;
         }
 
@@ -266,13 +258,13 @@ module _ (m : Notation) (ready : IsReady m) (text : List ℕ) where
   -- A text has one reading.
   pub one_reading : (l k : Literal) → Reads m l text → Reads m k text → l ≡ k
   one_reading l k first second =
-      let a = has_lengths m l first.literal.spelled in
+      let a = has_lengths l in
       let counts = λ (l : Literal) (is : IsLiteral m l). (literal_arrives m ready.roles l is).1 in
       let b : HasLengths k (all_cuts l) =
-      rw (← counts l first.literal, ← first.whole, second.whole, counts k second.literal) (has_lengths m k second.literal.spelled) in
+      rw (← counts l first.literal, ← first.whole, second.whole, counts k second.literal) (has_lengths k) in
       let sign = same_part l.sign k.sign _ _ (a.sign ∙ sym b.sign) (sym first.whole ∙ second.whole) in
       let prefix = same_part l.prefix k.prefix _ _ (a.prefix ∙ sym b.prefix) sign.1 in
-      let integer = same_part l.integer k.integer _ _ (omega (arith, a.integer, b.integer)) prefix.1 in
+      let integer = same_part l.integer k.integer _ _ (a.integer ∙ sym b.integer) prefix.1 in
       let point = same_part l.point k.point _ _ (a.point ∙ sym b.point) integer.1 in
       let fraction = same_part l.fraction k.fraction _ _ (a.fraction ∙ sym b.fraction) point.1 in
       let exponent_character = same_part l.exponent_character k.exponent_character _ _ (a.exponent_character ∙ sym b.exponent_character) fraction.1 in

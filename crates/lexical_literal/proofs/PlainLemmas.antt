@@ -14,7 +14,7 @@ use Rattle.lexical_literal.specs.Notation.{Notation}
 use Rattle.lexical_literal.specs.Additions.Plain.{HasRoles, IsAt, IsReadOn, fresh, is_free, at_stage}
 use Rattle.lexical_literal.specs.Additions.Summary.{Cuts, add, add_more, admits, after, after_digit, after_mark, digits_piece, forbids_plus, leads_to_prefix}
 use Rattle.lexical_literal.specs.Additions.Summary.{has_digit, awaits_integer, is_negative, is_run, is_signed, may_follow, gap_fits, is_open, no_cuts, piece_of}
-use Rattle.lexical_literal.specs.Additions.Summary.{start, takes, role_at, part_of, takes_in, digits_of, is_fresh, needs_sign, implies}
+use Rattle.lexical_literal.specs.Additions.Summary.{start, takes, role_at, part_of, takes_in, digits_of, is_fresh, needs_sign, implies, count, with_prefix}
 use Rattle.lexical_literal.specs.declared.plain.At.{At}
 use Rattle.lexical_literal.specs.declared.steps.Piece.{Piece}
 use Rattle.lexical_literal.specs.declared.steps.Piece.TheVariants as pieces
@@ -27,9 +27,6 @@ use Rattle.lexical_literal.proofs.ScanLemmas.{digit_role, is_role, moved, scan_a
 -- Sums of lengths.
 none_more : (c : Cuts) (p other : Piece) (n : ℕ) → add_more c p (n - n) other ≡ c other
 none_more c p other n = let same : n - n ≡ 0 = omega arith in grind arith
-
-one_more : (c : Cuts) (p other : Piece) (n : ℕ) → add_more c p (n + 1 - n) other ≡ add c p other
-one_more c p other n = let same : n + 1 - n ≡ 1 = omega arith in grind arith
 
 sum_more : (c : Cuts) (p other : Piece) (k n l : ℕ) → k ≤ n → n ≤ l → add_more (add_more c p (n - k)) p (l - n) other ≡ add_more c p (l - k) other
 sum_more c p other k n l low high = let same : n - k + (l - n) ≡ l - k = omega arith in grind arith
@@ -109,44 +106,43 @@ module _ (m : Notation) (text : List ℕ) where
         (second.reads (add_more c p (mid.size - at.size)) (first.reads c is));
   }
 
-  -- One byte of a piece is one more byte.
-  pub one_read : (at next : At) (p : Piece) → IsReadOn m text at p next → next.size ≡ at.size + 1 → (c : Cuts) → IsAt m text at c → IsAt m text next (add c p)
-  one_read at next p is one c begun = subst (IsAt m text next) (λ j other. (ap (λ n. add_more c p (n - at.size) other) one ∙ one_more c p other at.size) j)
-      (is.reads c begun)
+  -- One more byte of a piece is a byte of it.
+  one_on : (at next : At) (p : Piece) → next.size ≡ at.size + 1 → ((c : Cuts) → IsAt m text at c → IsAt m text next (add c p)) → IsReadOn m text at p next
+  one_on at next p one is = let same : 1 ≡ next.size - at.size = omega (arith, one) in record {
+    more = omega (arith, one);
+    reads = λ c begun. subst (λ n. IsAt m text next (add_more c p n)) same (is c begun);
+  }
 
   module _ (h : HasRoles m) where
     -- One byte is read.
     pub read_one : (at : At) (r : Role) → at.size < length text → role_at m (part_of at.read.stage) (get_or text at.size 0) ≡ Some r → at.read.ended ≡ false
         → takes m at.read (get_or text at.size 0 == 43) r ≡ true
-        → admits m.condition at.read (get_or text at.size 0 == 43) (get_or text at.size 0 == 48) r ≡ true
-        → IsReadOn m text at (piece_of (part_of at.read.stage) r) (record { size = at.size + 1; read = after at.read (get_or text at.size 0 == 48) r })
-    read_one at r inside plays going taken admitted = let b = get_or text at.size 0 in record {
-      more = omega arith;
-      reads = λ c is. record {
-        begun = record {
-          within = omega arith;
-          read = rw (take_more text at.size 0 inside, scan_append m.condition m (Some start) (take at.size text) (b ∷ []), is.begun.read)
-              (moved m.condition m at.read b r plays going taken admitted);
-        };
-        counted = rw (
-          take_more text at.size 0 inside,
-          tally_append m.condition m (Some start) no_cuts (take at.size text)
-              (b ∷ []),
-          is.begun.read,
-          is.counted,
-          plays,
-        )
-            (sym (λ j other. one_more c (piece_of (part_of at.read.stage) r) other at.size j));
+        → admits m.condition at.read (get_or text at.size 0 == 43) (get_or text at.size 0 == 48) r ≡ true → (c : Cuts) → IsAt m text at c
+        → IsAt m text (record { size = at.size + 1; read = after at.read (get_or text at.size 0 == 48) r }) (count (part_of at.read.stage) (Some r) c)
+    read_one at r inside plays going taken admitted c is = let b = get_or text at.size 0 in record {
+      begun = record {
+        within = omega arith;
+        read = rw (take_more text at.size 0 inside, scan_append m.condition m (Some start) (take at.size text) (b ∷ []), is.begun.read)
+            (moved m.condition m at.read b r plays going taken admitted);
       };
+      counted = rw (
+        take_more text at.size 0 inside,
+        tally_append m.condition m (Some start) no_cuts (take at.size text) (b ∷ []),
+        is.begun.read,
+        is.counted,
+        plays,
+      )
+          refl;
     }
 
     -- One byte that is no sign is read, where no base prefix is missing.
     pub read_free : (part : Part) (at : At) (r : Role) → part_of at.read.stage ≡ part → (roles.Sign ≡ r → ⊥) → at.size < length text
         → role_at m part (get_or text at.size 0) ≡ Some r → at.read.ended ≡ false
-        → takes_in m part at.read.stage at.read.gap (get_or text at.size 0 == 43) r ≡ true → is_free m at.read.stage ≡ true
-        → IsReadOn m text at (piece_of part r) (record { size = at.size + 1; read = after at.read (get_or text at.size 0 == 48) r })
+        → takes_in m part at.read.stage at.read.gap (get_or text at.size 0 == 43) r ≡ true → is_free m at.read.stage ≡ true → (c : Cuts) → IsAt m text at c
+        → IsAt m text (record { size = at.size + 1; read = after at.read (get_or text at.size 0 == 48) r }) (count part (Some r) c)
     read_free part at r in_part other inside plays going taken free = let b = get_or text at.size 0 in
-        subst (λ part. IsReadOn m text at (piece_of part r) (record { size = at.size + 1; read = after at.read (b == 48) r })) in_part
+        let next : At = record { size = at.size + 1; read = after at.read (b == 48) r } in
+        subst (λ part. (c : Cuts) → IsAt m text at c → IsAt m text next (count part (Some r) c)) in_part
         (read_one at r inside (subst (λ part. role_at m part b ≡ Some r) (sym in_part) plays) going
         (subst (λ part. takes_in m part at.read.stage at.read.gap (b == 43) r ≡ true) (sym in_part) taken)
         (admits_free m at.read (b == 43) (b == 48) r other free))
@@ -158,16 +154,16 @@ module _ (m : Notation) (text : List ℕ) where
     read_first part size stage in_part inside digit none signed free = let b = get_or text size 0 in
         subst (λ after. IsReadOn m text (at_stage size stage) (digits_piece part) (at_stage (size + 1) after))
         (after_first stage (b == 48) none ∙ ap (λ part. if (b == 48) && awaits_integer stage then stages.Bare else digits_of part) in_part)
-        (read_free part (at_stage size stage) roles.Digit in_part (λ same. cc) inside (digit_role m part b digit) refl
-        (and_from _ _ signed (and_from _ _ refl (first_follows m stage none))) free)
+        (one_on _ _ (digits_piece part) refl (read_free part (at_stage size stage) roles.Digit in_part (λ same. cc) inside (digit_role m part b digit) refl
+        (and_from _ _ signed (and_from _ _ refl (first_follows m stage none))) free))
 
     -- A digit that changes no stage.
     pub read_digit : (part : Part) (size : ℕ) (stage : Stage) → part_of stage ≡ part → is_run stage ≡ true → size < length text
         → m.digit part (get_or text size 0) ≡ true → IsReadOn m text (at_stage size stage) (digits_piece part) (at_stage (size + 1) stage)
     read_digit part size stage in_part run inside digit = let b = get_or text size 0 in
         subst (λ after. IsReadOn m text (at_stage size stage) (digits_piece part) (at_stage (size + 1) after)) (same_digit m stage run false (b == 48))
-        (read_free part (at_stage size stage) roles.Digit in_part (λ same. cc) inside (digit_role m part b digit) refl
-        (takes_more m stage run part (b == 43) false (λ gap. absurd (false≢true gap))) (run_is_free m stage run))
+        (one_on _ _ (digits_piece part) refl (read_free part (at_stage size stage) roles.Digit in_part (λ same. cc) inside (digit_role m part b digit) refl
+        (takes_more m stage run part (b == 43) false (λ gap. absurd (false≢true gap))) (run_is_free m stage run)))
 
     -- A separator and a digit behind it, which change no stage.
     pub read_separated : (part : Part) (size : ℕ) (stage : Stage) → part_of stage ≡ part → is_run stage ≡ true → size + 1 < length text
@@ -181,12 +177,12 @@ module _ (m : Notation) (text : List ℕ) where
         let first : IsReadOn m text (at_stage size stage) (digits_piece part) gap =
         subst (λ after. IsReadOn m text (at_stage size stage) (digits_piece part)
         (record { size = size + 1; read = record { stage = after; gap = true; ended = false } })) (same_mark m stage run)
-        (read_free part (at_stage size stage) roles.Separator in_part (λ same. cc) (omega (arith, inside))
-        (is_role m part b h roles.Separator (λ same. cc) separator) refl (takes_separator m stage run part (b == 43) allowed) (run_is_free m stage run)) in
+        (one_on _ _ (digits_piece part) refl (read_free part (at_stage size stage) roles.Separator in_part (λ same. cc) (omega (arith, inside))
+        (is_role m part b h roles.Separator (λ same. cc) separator) refl (takes_separator m stage run part (b == 43) allowed) (run_is_free m stage run))) in
         let second : IsReadOn m text gap (digits_piece part) (at_stage (size + 1 + 1) stage) =
         subst (λ after. IsReadOn m text gap (digits_piece part) (at_stage (size + 1 + 1) after)) (same_digit m stage run true (d == 48))
-        (read_free part gap roles.Digit in_part (λ same. cc) inside (digit_role m part d digit) refl
-        (takes_more m stage run part (d == 43) true (λ _. allowed)) (run_is_free m stage run)) in
+        (one_on _ _ (digits_piece part) refl (read_free part gap roles.Digit in_part (λ same. cc) inside (digit_role m part d digit) refl
+        (takes_more m stage run part (d == 43) true (λ _. allowed)) (run_is_free m stage run))) in
         go_on (at_stage size stage) gap (at_stage (size + 2) stage) (digits_piece part) first
         (subst (λ n. IsReadOn m text gap (digits_piece part) (at_stage n stage)) two second)
 
@@ -196,8 +192,8 @@ module _ (m : Notation) (text : List ℕ) where
         → IsReadOn m text (at_stage size (fresh part)) (piece_of part roles.Sign) (at_stage (size + 1) (after_mark (fresh part)))
     read_sign part size inside allowed = let b = get_or text size 0 in
         subst (λ piece. IsReadOn m text (at_stage size (fresh part)) piece (at_stage (size + 1) (after_mark (fresh part)))) (sign_piece part)
-        (read_one (at_stage size (fresh part)) roles.Sign inside (is_role m _ b h roles.Sign (λ same. cc) (some_sign part b allowed)) refl
-        (sign_taken part b allowed) (sign_admitted part b (b == 48) allowed)) where
+        (one_on _ _ (piece_of (part_of (fresh part)) roles.Sign) refl (read_one (at_stage size (fresh part)) roles.Sign inside
+        (is_role m _ b h roles.Sign (λ same. cc) (some_sign part b allowed)) refl (sign_taken part b allowed) (sign_admitted part b (b == 48) allowed))) where
           allows : Part → ℕ → Bool
           allows part b = ((b == 43) && not (forbids_plus m part)) || ((b == 45) && not (m.condition conditions.NegativeSign && is_negative part false
               roles.Sign))
@@ -222,7 +218,8 @@ module _ (m : Notation) (text : List ℕ) where
     pub read_led : (size : ℕ) → size < length text → m.digit parts.Integer (get_or text size 0) ≡ true → may_follow m stages.Bare ≡ true
         → is_free m stages.Bare ≡ true → IsReadOn m text (at_stage size stages.Bare) pieces.Integer (at_stage (size + 1) stages.Led)
     read_led size inside digit may free = let b = get_or text size 0 in
-        read_free parts.Integer (at_stage size stages.Bare) roles.Digit refl (λ same. cc) inside (digit_role m parts.Integer b digit) refl may free
+        one_on _ _ pieces.Integer refl
+        (read_free parts.Integer (at_stage size stages.Bare) roles.Digit refl (λ same. cc) inside (digit_role m parts.Integer b digit) refl may free)
 
     -- The zero that begins the integer.
     pub read_zero : (size : ℕ) (stage : Stage) → size < length text → get_or text size 0 ≡ 48 → awaits_integer stage ≡ true
@@ -235,11 +232,11 @@ module _ (m : Notation) (text : List ℕ) where
         subst (λ piece. IsReadOn m text (at_stage size stage) piece (at_stage (size + 1) stages.Bare)) (ap digits_piece in_part)
         (subst (λ after. IsReadOn m text (at_stage size stage) (digits_piece (part_of stage)) (at_stage (size + 1) after))
         (ap (after_digit stage false) is_zero ∙ bare stage begun)
-        (read_one (at_stage size stage) roles.Digit inside
+        (one_on _ _ (digits_piece (part_of stage)) refl (read_one (at_stage size stage) roles.Digit inside
         (digit_role m (part_of stage) b (ap (m.digit (part_of stage)) naught ∙ h.zero_is_digit (part_of stage))) refl
         (subst (λ part. takes_in m part stage false (b == 43) roles.Digit ≡ true) (sym in_part)
         (and_from _ _ signed (and_from _ _ refl (first_follows m stage (none_begun stage begun)))))
-        (ap (λ z. admits m.condition (at_stage size stage).read (b == 43) z roles.Digit) is_zero ∙ admitted stage (b == 43) begun))) where
+        (ap (λ z. admits m.condition (at_stage size stage).read (b == 43) z roles.Digit) is_zero ∙ admitted stage (b == 43) begun)))) where
           bare : (stage : Stage) → awaits_integer stage ≡ true → after_digit stage false true ≡ stages.Bare
           bare stages.Start is = refl
           bare stages.Empty is = refl
@@ -253,17 +250,17 @@ module _ (m : Notation) (text : List ℕ) where
     -- The base prefix, with its zero.
     pub read_prefix : (size : ℕ) (stage : Stage) → size + 1 < length text → get_or text size 0 ≡ 48 → m.prefix (get_or text (size + 1) 0) ≡ true
         → awaits_integer stage ≡ true → is_signed m parts.Integer stage ≡ true
-        → (c : Cuts) → IsAt m text (at_stage size stage) c → IsAt m text (at_stage (size + 2) stages.Prefixed) (add (add c pieces.Integer)
-        pieces.Prefix)
+        → (c : Cuts) → IsAt m text (at_stage size stage) c → IsAt m text (at_stage (size + 2) stages.Prefixed) (with_prefix c)
     read_prefix size stage inside naught prefix first signed c begun =
         let b = get_or text (size + 1) 0 in
-        let zero_at : At = at_stage (size + 1) stages.Bare in
         let two : size + 1 + 1 ≡ size + 2 = omega arith in
-        let zero = read_zero size stage (omega (arith, inside)) naught first signed in
-        let second : IsReadOn m text zero_at pieces.Prefix (at_stage (size + 1 + 1) stages.Prefixed) =
-        read_one zero_at roles.Prefix inside (is_role m parts.Integer b h roles.Prefix (λ same. cc) prefix) refl refl (prefix_admitted (b == 43) (b == 48)) in
-        subst (λ n. IsAt m text (at_stage n stages.Prefixed) (add (add c pieces.Integer) pieces.Prefix)) two
-        (one_read zero_at (at_stage (size + 1 + 1) stages.Prefixed) pieces.Prefix second refl (add c pieces.Integer)
-        (one_read (at_stage size stage) zero_at pieces.Integer zero refl c begun)) where
+        subst (λ c. IsAt m text (at_stage (size + 2) stages.Prefixed) c) (λ j other. same_prefix c (size + 1 - size) other j)
+        (subst (λ n. IsAt m text (at_stage n stages.Prefixed) (with_prefix (add_more c pieces.Integer (size + 1 - size)))) two
+        (read_one (at_stage (size + 1) stages.Bare) roles.Prefix inside (is_role m parts.Integer b h roles.Prefix (λ same. cc) prefix) refl refl
+        (prefix_admitted (b == 43) (b == 48)) _ ((read_zero size stage (omega (arith, inside)) naught first signed).reads c begun))) where
+          same_prefix : (c : Cuts) (n : ℕ) (other : Piece) → with_prefix (add_more c pieces.Integer n) other ≡ with_prefix c other
+          same_prefix c n pieces.Integer = refl
+          same_prefix c n _ = refl
+
           prefix_admitted : (plus z : Bool) → admits m.condition (at_stage 0 stages.Bare).read plus z roles.Prefix ≡ true
           prefix_admitted plus z = grind arith

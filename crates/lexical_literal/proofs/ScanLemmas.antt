@@ -1,14 +1,15 @@
 -- How a text is read, byte by byte.
-use Rattle.std.proofs.Common.{ℕ, ◌≡◌, Bool, true, false, not, ◌==◌, ◌&&◌, if◌then◌else◌, List, [], ◌∷◌, ◌++◌, Option, Some, None}
+use Rattle.std.proofs.Common.{ℕ, ◌≡◌, Bool, true, false, not, ◌+◌, ◌==◌, ◌&&◌, if◌then◌else◌, List, [], ◌∷◌, ◌++◌, length, Option, Some, None}
 use Rattle.std.proofs.Common.{refl, sym, ap, subst, ◌∙◌, arith}
 use Rattle.std.proofs.lemmas.Bool.{false≢true, false_from_ne_true}
+use Rattle.std.proofs.lemmas.Bool.Decides.{nat_tests}
 use Rattle.lexical_util.specs.declared.feature_format.roles.Role.{Role}
 use Rattle.lexical_util.specs.declared.feature_format.roles.Role.TheVariants as roles
 use Rattle.lexical_util.specs.declared.format_flags.Part.{Part}
 use Rattle.lexical_literal.specs.Notation.{Notation, set_of_role}
 use Rattle.lexical_literal.specs.Additions.Plain.{HasRoles}
 use Rattle.lexical_literal.specs.Additions.Summary.{Cuts, add, admits, role_at, takes, after, part_of, takes_in}
-use Rattle.lexical_literal.specs.Additions.Summary.{move_by, scan_by, step_by, accepted_by, count, no_condition, tally_by}
+use Rattle.lexical_literal.specs.Additions.Summary.{move_by, piece_number, scan_by, step_by, accepted_by, count, no_condition, tally_by}
 use Rattle.lexical_literal.specs.declared.steps.Piece.{Piece}
 use Rattle.lexical_literal.specs.declared.steps.Stage.{Stage}
 use Rattle.lexical_literal.specs.declared.steps.Summary.{Summary}
@@ -26,6 +27,11 @@ Arrives C m o c text d = Accepts C m o text × (tally_by C m o c text ≡ d)
 abbrev pub add_all : Cuts → Piece → List ℕ → Cuts
 add_all c piece [] = c
 add_all c piece (b ∷ bytes) = add_all (add c piece) piece bytes
+
+pub added : (c : Cuts) (piece other : Piece) (bytes : List ℕ)
+    → add_all c piece bytes other ≡ (if piece_number other == piece_number piece then c other + length bytes else c other)
+added c piece other [] = grind (arith, nat_tests)
+added c piece other (b ∷ bytes) = let rest = added (add c piece) piece other bytes in grind (arith, nat_tests)
 
 module _ (C : Condition → Bool) (m : Notation) where
   pub scan_none : (text : List ℕ) → scan_by C m None text ≡ None

@@ -8,7 +8,7 @@ ghost use Rattle.lexical_literal.specs.Notation.{Notation, notation_of, radix_of
 ghost use Rattle.lexical_literal.specs.Additions.Longest.{HasFound, IsStopped};
 ghost use Rattle.lexical_literal.specs.Additions.Plain.{IsAt, IsBegun, IsDigitAt, IsOpened, IsOver, IsPassed, IsReadOn, IsReady, IsRunOn, IsSeparated, IsSign};
 ghost use Rattle.lexical_literal.specs.Additions.Plain.{behind_sign, counts_of, fresh, is_free, at_stage};
-ghost use Rattle.lexical_literal.specs.Additions.Summary.{Cuts, add, after_mark, after_point, awaits_integer, cuts_of, has_digit, is_bare, is_fresh, is_run, is_signed, part_of, piece_of};
+ghost use Rattle.lexical_literal.specs.Additions.Summary.{Cuts, after_mark, after_point, awaits_integer, cuts_of, has_digit, is_bare, is_fresh, is_run, is_signed, part_of, piece_of, with_prefix};
 ghost use Rattle.lexical_literal.specs.declared.steps.Piece.TheVariants as pieces;
 ghost use Rattle.lexical_literal.specs.declared.syntax.Condition.TheVariants as conditions;
 
@@ -47,7 +47,7 @@ pub(crate) struct Run {
     pub(crate) sum: u64,
 }
 
-// The lengths of the parts up to the fraction. The zero of a prefix is counted as a digit of the integer.
+// The lengths of the parts up to the fraction.
 #[derive(Clone, Copy)]
 pub(crate) struct Sizes {
     pub(crate) sign: usize,
@@ -57,8 +57,8 @@ pub(crate) struct Sizes {
     pub(crate) fraction: usize,
 }
 
-// What comes before the digits of the integer: the lengths of the sign and of the prefix without its zero, the index behind
-// them, and the stage there.
+// What comes before the digits of the integer: the lengths of the sign and of the prefix, the index behind them, and the stage
+// there.
 #[derive(Clone, Copy)]
 pub(crate) struct Opening {
     pub(crate) sign: usize,
@@ -157,7 +157,7 @@ const fn reads_prefix(grammar: Grammar, text: &[u8], size: usize) -> bool
     ensures on { IsTrue result → (stage : Stage) (c : Cuts) → awaits_integer stage ≡ true
         → is_signed (notation_of grammar) Part.Integer stage ≡ true
         → IsAt (notation_of grammar) text.now (at_stage size stage) c
-        → IsAt (notation_of grammar) text.now (at_stage (size + 2) Stage.Prefixed) (add (add c pieces.Integer) pieces.Prefix) }
+        → IsAt (notation_of grammar) text.now (at_stage (size + 2) Stage.Prefixed) (with_prefix c) }
 {
     if size + 1 >= text.len() {
         return false;
@@ -348,7 +348,7 @@ const fn open(grammar: Grammar, text: &[u8], sign: usize) -> Option<Opening>
     if reads_prefix(grammar, text, sign) {
         Some(Opening {
             sign,
-            prefix: 1,
+            prefix: 2,
             size: sign + 2,
             stage: Stage::Prefixed,
         })
@@ -417,11 +417,10 @@ const fn integer(grammar: Grammar, text: &[u8], fronts: bool, opening: Opening) 
     if run.size == size {
         return stopped(grammar, text, at_stage(size, stage), false);
     }
-    let integer = run.size - sign - prefix;
     let sizes = Sizes {
         sign,
         prefix,
-        integer,
+        integer: run.size - size,
         point: 0,
         fraction: 0,
     };

@@ -1,10 +1,10 @@
 //! How literals are found, and the lengths of their parts.
 
-ghost use Rattle.std.specs.Prelude.{◌≡◌, ◌+◌, ◌++◌, ◌∷◌, ◌<◌, ◌≤◌, Bool, IfSome, IsErrAnd, IsNone, IsTrue, None, ℕ, List, [], false, true, length, slice_get, take};
+ghost use Rattle.std.specs.Prelude.{◌≡◌, ◌+◌, ◌++◌, ◌∷◌, ◌<◌, ◌≤◌, ◌^◌, Bool, IfSome, Some, IsErrAnd, IsNone, IsTrue, None, ℕ, List, [], false, get_or, true, length, slice_get, take};
 ghost use Rattle.lexical_literal.specs.Additions.Explained.{tail_byte};
 ghost use Rattle.lexical_literal.specs.Additions.Longest.{HasFound, IsCountedFront, IsFronted, IsGrouped, IsLongest, IsMeasured, IsStopped};
 ghost use Rattle.lexical_literal.specs.Additions.Plain.{IsBegun};
-ghost use Rattle.lexical_literal.specs.Additions.Summary.{HasLengths, cuts_of, is_complete};
+ghost use Rattle.lexical_literal.specs.Additions.Summary.{HasLengths, count, cuts_of, is_complete, part_of, role_at};
 ghost use Rattle.lexical_literal.specs.Additions.Causes.{lets};
 ghost use Rattle.lexical_literal.specs.Cause.{IsRefusal, tail_of, tail_size};
 ghost use Rattle.lexical_literal.specs.Literal.{Literal, Reads, text_of};
@@ -16,8 +16,9 @@ use crate::cause::{Marks, ReadError, Spot};
 use crate::groups::{is_grouped, wrong_group};
 use crate::plain::{At, BEGIN, Counted, plain};
 use crate::span::marks;
-use crate::steps::{Summary, is_complete, part_of, piece_number, piece_of, role_at, step};
+use crate::steps::{Piece, Summary, is_complete, part_of, piece_number, piece_of, step};
 use crate::syntax::{Condition, Syntax};
+use lexical_util::format::{Part, Role};
 
 /// The parts of a literal, in the order of the text. An absent part has no bytes.
 #[derive(Debug, Clone, Copy, PartialEq, Eq, Hash)]
@@ -159,15 +160,16 @@ impl Syntax {
     {
         match self.step(text, at) {
             None => at,
-            Some(next) => self.walk(text, next),
+            Some((_, next)) => self.walk(text, next),
         }
     }
 
-    // Returns what has been read with one more byte, or `None` if reading stops at `at`.
+    // Returns the role of the byte that follows, and what has been read with it, or `None` if reading stops at `at`.
     #[inline(always)]
-    const fn step(&self, text: &[u8], at: At) -> Option<At>
+    const fn step(&self, text: &[u8], at: At) -> Option<(Role, At)>
         requires { IsBegun (notation_of self.now) text.now at }
-        ensures next { IfSome result (λ next. IsBegun (notation_of self.now) text.now next × (next.size ≡ at.size + 1)) }
+        ensures next { IfSome result (λ next. (role_at (notation_of self.now) (part_of at.read.stage) (get_or text.now at.size 0) ≡ Some next.0)
+            × IsBegun (notation_of self.now) text.now next.1 × (next.1.size ≡ at.size + 1)) }
         ensures stop { IsNone result → IsStopped (notation_of self.now) text.now at }
     {
         let grammar = self.grammar();
@@ -175,13 +177,11 @@ impl Syntax {
         if size == text.len() {
             return None;
         }
-        match step(grammar, read, text[size]) {
-            None => None,
-            Some(read) => Some(At {
-                size: size + 1,
-                read,
-            }),
-        }
+        let Some((role, read)) = step(grammar, read, text[size]) else {
+            return None;
+        };
+        let size = size + 1;
+        Some((role, At { size, read }))
     }
 
     // Returns where reading stops, step by step.
@@ -191,7 +191,7 @@ impl Syntax {
         ensures { IsStopped (notation_of self.now) text.now result }
     {
         let mut stop = at;
-        while let Some(next) = self.step(text, stop) {
+        while let Some((_, next)) = self.step(text, stop) {
             stop = next;
         }
         stop
@@ -217,12 +217,9 @@ impl Syntax {
         let mut at = BEGIN;
         let mut counts = [0; 9];
         let mut found = None;
-        while let Some(next) = self.step(text, at) {
-            let part = part_of(at.read.stage);
-            let Some(role) = role_at(grammar, part, text[at.size]) else {
-                return found;
-            };
-            counts[piece_number(piece_of(part, role))] += 1;
+        while let Some((role, next)) = self.step(text, at) {
+            let more = count_byte(counts, part_of(at.read.stage), role);
+            counts = more;
             at = next;
             if is_complete(grammar, at.read) {
                 let size = at.size;
@@ -309,6 +306,24 @@ impl Syntax {
     }
 }
 
+// Counts one more byte with the role `role` in `part`. Before that of a prefix, its zero has been counted for the integer.
+#[inline(always)]
+const fn count_byte(counts: [usize; 9], part: Part, role: Role) -> [usize; 9]
+    requires { (k : ℕ) → get_or counts k 0 + 1 < 2 ^ 64 }
+    ensures nine { length result ≡ 9 }
+    ensures counted { cuts_of result ≡ count part (Some role) (cuts_of counts) }
+    ensures small { (n : ℕ) → 0 < n → ((k : ℕ) → get_or counts k 0 ≤ n) → (k : ℕ) → get_or result k 0 ≤ n + 1 }
+{
+    let mut more = counts;
+    if matches!(role, Role::Prefix) {
+        more[piece_number(Piece::Prefix)] = 2;
+        more[piece_number(Piece::Integer)] = 0;
+    } else {
+        more[piece_number(piece_of(part, role))] += 1;
+    }
+    more
+}
+
 // Returns the byte behind the first `size`, if there is one.
 const fn byte_at(text: &[u8], size: usize) -> Option<u8>
     ensures { result ≡ slice_get text.now size }
@@ -389,15 +404,15 @@ fn split_front<'a>(text: &'a [u8], size: usize) -> (&'a [u8], &'a [u8])
     text.split_at(size)
 }
 
-// Splits `text` into parts with the lengths `counts`. The zero of a prefix is counted as a digit of the integer.
+// Splits `text` into parts with the lengths `counts`.
 #[inline(always)]
 pub(crate) fn cut<'a>(text: &'a [u8], counts: [usize; 9]) -> Parts<'a>
     requires { (l : Literal) × (text.now ≡ text_of l) × HasLengths l (cuts_of counts) }
     ensures { (l : Literal) → text.now ≡ text_of l → HasLengths l (cuts_of counts) → literal_of result ≡ l }
 {
     let (sign, after_sign) = split_front(text, counts[0]);
-    let (prefix, after_prefix) = split_front(after_sign, counts[1] + counts[1]);
-    let (integer, after_integer) = split_front(after_prefix, counts[2] - counts[1]);
+    let (prefix, after_prefix) = split_front(after_sign, counts[1]);
+    let (integer, after_integer) = split_front(after_prefix, counts[2]);
     let (point, after_point) = split_front(after_integer, counts[3]);
     let (fraction, after_fraction) = split_front(after_point, counts[4]);
     let (exponent_character, after_character) = split_front(after_fraction, counts[5]);

@@ -1,6 +1,6 @@
 //! The steps of reading: what has been read of a number, changed by one byte.
 
-ghost use Rattle.std.specs.Prelude.{◌≡◌, ◌<◌, ◌==◌, ◌&&◌, Some, false, not, nat_lt};
+ghost use Rattle.std.specs.Prelude.{◌≡◌, ◌<◌, ◌==◌, ◌&&◌, IfSome, IsNone, None, Some, false, not, nat_lt};
 ghost use Rattle.lexical_util.specs.Digits.{byte_value, digit_of};
 ghost use Rattle.lexical_util.specs.Record.{raw};
 ghost use Rattle.lexical_util.specs.Roles.{signs};
@@ -494,14 +494,19 @@ pub(crate) const fn role_at(grammar: Grammar, part: Part, byte: u8) -> Option<Ro
     }
 }
 
-// Returns what `byte` makes of what has been read, or `None` if no literal begins so.
+// Returns the role of `byte`, and what it makes of what has been read, or `None` if no literal begins so.
 #[inline(always)]
-pub(crate) const fn step(grammar: Grammar, read: Summary, byte: u8) -> Option<Summary>
-    ensures { result ≡ step (notation_of grammar) read byte }
+pub(crate) const fn step(grammar: Grammar, read: Summary, byte: u8) -> Option<(Role, Summary)>
+    ensures none { IsNone result → step (notation_of grammar) read byte ≡ None }
+    ensures some { IfSome result (λ next. (role_at (notation_of grammar) (part_of read.stage) byte ≡ Some next.0)
+        × (step (notation_of grammar) read byte ≡ Some next.1)) }
 {
-    match role_at(grammar, part_of(read.stage), byte) {
+    let Some(role) = role_at(grammar, part_of(read.stage), byte) else {
+        return None;
+    };
+    match moved(grammar, read, byte, role) {
         None => None,
-        Some(role) => moved(grammar, read, byte, role),
+        Some(read) => Some((role, read)),
     }
 }
 

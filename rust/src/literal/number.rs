@@ -151,11 +151,7 @@ impl<'a> Literal<'a> {
     #[must_use]
     #[inline]
     pub const fn lengths(&self) -> [usize; 9] {
-        let mut lengths = self.counts;
-        // The zero of a prefix is counted as a digit of the integer.
-        lengths[2] = lengths[2].wrapping_sub(lengths[1]);
-        lengths[1] += lengths[1];
-        lengths
+        self.counts
     }
 
     /// Returns all bytes of the literal.

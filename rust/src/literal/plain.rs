@@ -39,7 +39,7 @@ pub(crate) struct Run {
     pub(crate) sum: u64,
 }
 
-// The lengths of the parts up to the fraction. The zero of a prefix is counted as a digit of the integer.
+// The lengths of the parts up to the fraction.
 #[derive(Clone, Copy)]
 pub(crate) struct Sizes {
     pub(crate) sign: usize,
@@ -49,8 +49,8 @@ pub(crate) struct Sizes {
     pub(crate) fraction: usize,
 }
 
-// What comes before the digits of the integer: the lengths of the sign and of the prefix without its zero, the index behind
-// them, and the stage there.
+// What comes before the digits of the integer: the lengths of the sign and of the prefix, the index behind them, and the stage
+// there.
 #[derive(Clone, Copy)]
 pub(crate) struct Opening {
     pub(crate) sign: usize,
@@ -214,7 +214,7 @@ pub(crate) const fn plain(grammar: Grammar, text: &[u8], fronts: bool) -> Counte
 #[inline(always)]
 const fn open(grammar: Grammar, text: &[u8], sign: usize) -> Option<Opening> {
     if reads_prefix(grammar, text, sign) {
-        Some(Opening { sign, prefix: 1, size: sign + 2, stage: Stage::Prefixed })
+        Some(Opening { sign, prefix: 2, size: sign + 2, stage: Stage::Prefixed })
     } else if grammar.conditions.has(Condition::BasePrefix) {
         None
     } else {
@@ -246,8 +246,7 @@ const fn integer(grammar: Grammar, text: &[u8], fronts: bool, opening: Opening) 
     if run.size == size {
         return stopped(grammar, text, at_stage(size, stage), false);
     }
-    let integer = run.size - sign - prefix;
-    let sizes = Sizes { sign, prefix, integer, point: 0, fraction: 0 };
+    let sizes = Sizes { sign, prefix, integer: run.size - size, point: 0, fraction: 0 };
     let at = at_stage(run.size, run.stage);
     if run.size < text.len() && is_point(grammar, text[run.size]) && takes(grammar, at.read, false, Role::Point) {
         return fraction(grammar, text, fronts, sizes, run);

@@ -6,8 +6,9 @@ use crate::literal::cause::{Marks, ReadError, Spot};
 use crate::literal::groups::{is_grouped, wrong_group};
 use crate::literal::plain::{plain, At, Counted, BEGIN};
 use crate::literal::span::marks;
-use crate::literal::steps::{is_complete, part_of, piece_number, piece_of, role_at, step, Summary};
+use crate::literal::steps::{is_complete, part_of, piece_number, piece_of, step, Piece, Summary};
 use crate::literal::syntax::{Condition, Syntax};
+use crate::word::{Part, Role};
 
 /// The parts of a literal, in the order of the text. An absent part has no bytes.
 #[derive(Debug, Clone, Copy, PartialEq, Eq, Hash)]
@@ -119,29 +120,30 @@ impl Syntax {
     pub(crate) const fn stop(&self, text: &[u8], at: At) -> At {
         match self.step(text, at) {
             None => at,
-            Some(next) => self.walk(text, next),
+            Some((_, next)) => self.walk(text, next),
         }
     }
 
-    // Returns what has been read with one more byte, or `None` if reading stops at `at`.
+    // Returns the role of the byte that follows, and what has been read with it, or `None` if reading stops at `at`.
     #[inline(always)]
-    const fn step(&self, text: &[u8], at: At) -> Option<At> {
+    const fn step(&self, text: &[u8], at: At) -> Option<(Role, At)> {
         let grammar = self.grammar();
         let At { size, read } = at;
         if size == text.len() {
             return None;
         }
-        match step(grammar, read, text[size]) {
-            None => None,
-            Some(read) => Some(At { size: size + 1, read }),
-        }
+        let Some((role, read)) = step(grammar, read, text[size]) else {
+            return None;
+        };
+        let size = size + 1;
+        Some((role, At { size, read }))
     }
 
     // Returns where reading stops, step by step.
     #[cold]
     pub(crate) const fn walk(&self, text: &[u8], at: At) -> At {
         let mut stop = at;
-        while let Some(next) = self.step(text, stop) {
+        while let Some((_, next)) = self.step(text, stop) {
             stop = next;
         }
         stop
@@ -163,12 +165,9 @@ impl Syntax {
         let mut at = BEGIN;
         let mut counts = [0; 9];
         let mut found = None;
-        while let Some(next) = self.step(text, at) {
-            let part = part_of(at.read.stage);
-            let Some(role) = role_at(grammar, part, text[at.size]) else {
-                return found;
-            };
-            counts[piece_number(piece_of(part, role))] += 1;
+        while let Some((role, next)) = self.step(text, at) {
+            let more = count_byte(counts, part_of(at.read.stage), role);
+            counts = more;
             at = next;
             if is_complete(grammar, at.read) {
                 let size = at.size;
@@ -233,6 +232,19 @@ impl Syntax {
     }
 }
 
+// Counts one more byte with the role `role` in `part`. Before that of a prefix, its zero has been counted for the integer.
+#[inline(always)]
+const fn count_byte(counts: [usize; 9], part: Part, role: Role) -> [usize; 9] {
+    let mut more = counts;
+    if matches!(role, Role::Prefix) {
+        more[piece_number(Piece::Prefix)] = 2;
+        more[piece_number(Piece::Integer)] = 0;
+    } else {
+        more[piece_number(piece_of(part, role))] += 1;
+    }
+    more
+}
+
 // Returns the byte behind the first `size`, if there is one.
 const fn byte_at(text: &[u8], size: usize) -> Option<u8> {
     if size < text.len() {
@@ -288,12 +300,12 @@ const fn split_front<'a>(text: &'a [u8], size: usize) -> (&'a [u8], &'a [u8]) {
     text.split_at(size)
 }
 
-// Splits `text` into parts with the lengths `counts`. The zero of a prefix is counted as a digit of the integer.
+// Splits `text` into parts with the lengths `counts`.
 #[inline(always)]
 pub(crate) const fn cut<'a>(text: &'a [u8], counts: [usize; 9]) -> Parts<'a> {
     let (sign, after_sign) = split_front(text, counts[0]);
-    let (prefix, after_prefix) = split_front(after_sign, counts[1] + counts[1]);
-    let (integer, after_integer) = split_front(after_prefix, counts[2] - counts[1]);
+    let (prefix, after_prefix) = split_front(after_sign, counts[1]);
+    let (integer, after_integer) = split_front(after_prefix, counts[2]);
     let (point, after_point) = split_front(after_integer, counts[3]);
     let (fraction, after_fraction) = split_front(after_point, counts[4]);
     let (exponent_character, after_character) = split_front(after_fraction, counts[5]);

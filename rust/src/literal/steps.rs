@@ -384,12 +384,15 @@ pub(crate) const fn role_at(grammar: Grammar, part: Part, byte: u8) -> Option<Ro
     }
 }
 
-// Returns what `byte` makes of what has been read, or `None` if no literal begins so.
+// Returns the role of `byte`, and what it makes of what has been read, or `None` if no literal begins so.
 #[inline(always)]
-pub(crate) const fn step(grammar: Grammar, read: Summary, byte: u8) -> Option<Summary> {
-    match role_at(grammar, part_of(read.stage), byte) {
+pub(crate) const fn step(grammar: Grammar, read: Summary, byte: u8) -> Option<(Role, Summary)> {
+    let Some(role) = role_at(grammar, part_of(read.stage), byte) else {
+        return None;
+    };
+    match moved(grammar, read, byte, role) {
         None => None,
-        Some(role) => moved(grammar, read, byte, role),
+        Some(read) => Some((role, read)),
     }
 }
 

@@ -124,8 +124,7 @@ counts_of s mark sign exponent suffix = s.sign ∷ s.prefix ∷ s.integer ∷ s.
 -- `IsOpened m text opening` holds if `opening` has the sign and the base prefix that `text` begins with, and if a digit may follow.
 pub record IsOpened (m : Notation) (text : List ℕ) (opening : Opening) : Type 0 where
   pub at : IsAt m text (at_stage opening.size opening.stage)
-      (cuts_of (opening.sign ∷ opening.prefix ∷ opening.prefix ∷ 0 ∷ 0 ∷ 0 ∷ 0 ∷ 0 ∷ 0 ∷ []))
-  pub size : opening.size ≡ opening.sign + opening.prefix + opening.prefix
+      (cuts_of (opening.sign ∷ opening.prefix ∷ 0 ∷ 0 ∷ 0 ∷ 0 ∷ 0 ∷ 0 ∷ 0 ∷ []))
   pub signed : is_signed m parts.Integer opening.stage ≡ true
   pub free : is_free m opening.stage ≡ true
   pub none : has_digit opening.stage ≡ false

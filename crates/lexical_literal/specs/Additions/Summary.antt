@@ -286,7 +286,7 @@ piece_number pieces.ExponentSign = 6
 piece_number pieces.Exponent = 7
 piece_number pieces.Suffix = 8
 
--- `Cuts` has the number of bytes of each piece that has been read. The zero of a prefix counts as a digit of the integer.
+-- `Cuts` has the number of bytes of each piece that has been read.
 abbrev pub Cuts : Type 0
 Cuts = Piece → ℕ
 
@@ -301,9 +301,16 @@ add c piece = add_more c piece 1
 abbrev pub cuts_of : List ℕ → Cuts
 cuts_of counts piece = slice_index counts (piece_number piece)
 
+-- `with_prefix c` has a base prefix: the digit 0 that has been counted for the integer is its zero.
+abbrev pub with_prefix : Cuts → Cuts
+with_prefix c pieces.Prefix = 2
+with_prefix c pieces.Integer = 0
+with_prefix c other = c other
+
 -- `count part role c` counts one more byte with the role `role` in `part`.
 abbrev pub count : Part → Option Role → Cuts → Cuts
 count part None c = c
+count part (Some roles.Prefix) c = with_prefix c
 count part (Some role) c = add c (piece_of part role)
 
 -- `scan_by C m s text` is the summary after the bytes of `text`, with the conditions `C`, and `scan m s text` with those of `m`.
@@ -346,8 +353,8 @@ no_cuts piece = 0
 -- `HasLengths l c` holds if the parts of `l` have the lengths `c`.
 pub record HasLengths (l : Literal) (c : Cuts) : Type 0 where
   pub sign : length l.sign ≡ c pieces.Sign
-  pub prefix : length l.prefix ≡ c pieces.Prefix + c pieces.Prefix
-  pub integer : length l.integer + c pieces.Prefix ≡ c pieces.Integer
+  pub prefix : length l.prefix ≡ c pieces.Prefix
+  pub integer : length l.integer ≡ c pieces.Integer
   pub point : length l.point ≡ c pieces.Point
   pub fraction : length l.fraction ≡ c pieces.Fraction
   pub exponent_character : length l.exponent_character ≡ c pieces.ExponentCharacter

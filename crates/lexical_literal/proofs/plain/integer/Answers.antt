@@ -14,7 +14,7 @@ fraction-requires-clause-at c =
     let text = c.args.text.now in
     let run = c.digits-run.result in
     let o = c.args.opening in
-    let s : Sizes = record { sign = o.sign; prefix = o.prefix; integer = run.size - o.sign - o.prefix; point = 0; fraction = 0 } in
+    let s : Sizes = record { sign = o.sign; prefix = o.prefix; integer = run.size - o.size; point = 0; fraction = 0 } in
     point_at m text c.requires.ready.roles s run.size run.stage refl c.if-run-text.true (sym c.is_point.ensures ∙ c.if-is_point.true)
     (subst (λ (at : At). takes m at.read false roles.Point ≡ true) c.at_stage-at.ensures (sym c.takes.ensures ∙ c.if-takes.true)) c.digits-run.ensures.free
     (integer_at m text o c.requires.opened run.size run.stage c.digits-run.ensures.run.on)

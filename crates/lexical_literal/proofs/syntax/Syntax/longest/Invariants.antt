@@ -3,8 +3,8 @@ use Rattle.lexical_literal.specs.Notation.{notation_of}
 use Rattle.lexical_literal.proofs.LongestLemmas.{HasCounted}
 use Rattle.lexical_literal.proofs.syntax.Syntax.longest.Given as goal
 
-abbrev pub invariant-loop-next : goal.invariant-loop-next
-invariant-loop-next l = HasCounted (notation_of l.self) l.text l.at l.counts l.found
+abbrev pub invariant-loop-role : goal.invariant-loop-role
+invariant-loop-role l = HasCounted (notation_of l.self) l.text l.at l.counts l.found
 
-abbrev pub decreases-loop-next : goal.decreases-loop-next
-decreases-loop-next l = length l.text - l.at.size
+abbrev pub decreases-loop-role : goal.decreases-loop-role
+decreases-loop-role l = length l.text - l.at.size
