@@ -246,8 +246,8 @@ module _ (m : Notation) (ready : IsReady m) (text : List ℕ) where
         }
 
   -- Where a literal may have been found.
-  pub complete_at : (counted : Counted) → IsAt m text counted.at (cuts_of counted.counts) → counted.complete ≡ is_complete m counted.at.read → counted.exact ≡ false
-      → HasFound m text counted
+  pub complete_at : (counted : Counted) → IsAt m text counted.at (cuts_of counted.counts) → counted.complete ≡ is_complete m counted.at.read
+      → counted.exact ≡ false → HasFound m text counted
   complete_at counted is complete inexact = record {
     begun = is.begun;
     literal = λ yes. literal_from m ready.roles (take counted.at.size text) (ap (is_accepted m) is.begun.read ∙ sym complete ∙ yes);

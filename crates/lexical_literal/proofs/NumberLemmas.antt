@@ -37,4 +37,5 @@ module _ (C : Condition → Bool) (N : Condition → ℕ) where
     numbers = ext_get_or 0 c.numbers (map (λ d. if C d then N d else 0) all_conditions) all (λ i below.
         let inside : i < length all_conditions = omega (arith, all, below) in
         let d = get_or all_conditions i conditions.BasePrefix in
-        ap (λ i. get_or c.numbers i 0) (sym (at_place i inside)) ∙ each d ∙ sym (get_or-map (λ d. if C d then N d else 0) all_conditions i conditions.BasePrefix 0 inside))
+        ap (λ i. get_or c.numbers i 0) (sym (at_place i inside)) ∙ each d
+        ∙ sym (get_or-map (λ d. if C d then N d else 0) all_conditions i conditions.BasePrefix 0 inside))

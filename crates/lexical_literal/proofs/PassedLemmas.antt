@@ -6,7 +6,8 @@ use Rattle.lexical_util.specs.declared.feature_format.roles.Role.{Role}
 use Rattle.lexical_util.specs.declared.feature_format.roles.Role.TheVariants as roles
 use Rattle.lexical_util.specs.declared.format_flags.Part.TheVariants as parts
 use Rattle.lexical_literal.specs.Notation.{Notation}
-use Rattle.lexical_literal.specs.Additions.Summary.{admits, forbids_plus, implies, is_bare, is_fresh, is_negative, leads_to_prefix, move_by, part_of, step, takes}
+use Rattle.lexical_literal.specs.Additions.Summary.{admits, forbids_plus, implies, is_bare, is_fresh}
+use Rattle.lexical_literal.specs.Additions.Summary.{is_negative, leads_to_prefix, move_by, part_of, step, takes}
 use Rattle.lexical_literal.specs.declared.steps.Stage.TheVariants as stages
 use Rattle.lexical_literal.specs.declared.steps.Summary.{Summary}
 use Rattle.lexical_literal.specs.declared.syntax.Condition.TheVariants as conditions

@@ -8,7 +8,8 @@ ghost use Rattle.lexical_literal.specs.Notation.{Notation, notation_of, radix_of
 ghost use Rattle.lexical_literal.specs.Additions.Longest.{HasFound, IsStopped};
 ghost use Rattle.lexical_literal.specs.Additions.Plain.{IsAt, IsBegun, IsDigitAt, IsOpened, IsOver, IsPassed, IsReadOn, IsReady, IsRunOn, IsSeparated, IsSign};
 ghost use Rattle.lexical_literal.specs.Additions.Plain.{behind_sign, counts_of, fresh, is_free, at_stage};
-ghost use Rattle.lexical_literal.specs.Additions.Summary.{Cuts, after_mark, after_point, awaits_integer, cuts_of, has_digit, is_bare, is_fresh, is_run, is_signed, part_of, piece_of, with_prefix};
+ghost use Rattle.lexical_literal.specs.Additions.Summary.{Cuts, after_mark, after_point, awaits_integer, cuts_of, has_digit, is_bare, is_fresh};
+ghost use Rattle.lexical_literal.specs.Additions.Summary.{is_run, is_signed, part_of, piece_of, with_prefix};
 ghost use Rattle.lexical_literal.specs.declared.steps.Piece.TheVariants as pieces;
 ghost use Rattle.lexical_literal.specs.declared.syntax.Condition.TheVariants as conditions;
 

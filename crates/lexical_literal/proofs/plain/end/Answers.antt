@@ -10,7 +10,8 @@ use Rattle.lexical_literal.proofs.JoinLemmas.{suffix_at}
 use Rattle.lexical_literal.proofs.LongestLemmas.{complete_at, stops_at}
 use Rattle.lexical_literal.proofs.PassedLemmas.{passed}
 use Rattle.lexical_literal.proofs.plain.end.Goals as goal
-use Rattle.lexical_literal.proofs.plain.end.Goals.{else-size-text-via-then-size-text+then-is_base_suffix+else-takes, else-size-text-via-then-size-text+else-is_base_suffix}
+use Rattle.lexical_literal.proofs.plain.end.Goals.{else-size-text-via-then-size-text+then-is_base_suffix+else-takes}
+use Rattle.lexical_literal.proofs.plain.end.Goals.{else-size-text-via-then-size-text+else-is_base_suffix}
 use Rattle.lexical_literal.proofs.plain.end.Goals.{else-size-text-via-else-size-text}
 
 pub returns-then-takes : goal.returns-then-takes
@@ -38,6 +39,6 @@ stopped-requires-clause-exact c holds =
       | else-size-text-via-else-size-text w ↦ absurd (omega (arith, w.if-size-text.false, inside))
     ] in
     let is = c.is_passed-exact.ensures in
-    let none = passed m at.read b (is.digit holds) (is.separator holds) (is.fresh holds) (is.prefix holds) (c.requires.point inside) (c.requires.exponent inside)
-    suffix_passed in
+    let none = passed m at.read b (is.digit holds) (is.separator holds) (is.fresh holds) (is.prefix holds) (c.requires.point inside)
+    (c.requires.exponent inside) suffix_passed in
     (inside, stops_at m c.requires.ready c.args.text.now at c.requires.at.begun (λ _. none))

@@ -11,4 +11,5 @@ is_none (Some _) none = absurd (cc)
 
 pub returns-then-index-text-clause-none : goal.returns-then-index-text-clause-none
 returns-then-index-text-clause-none c none _ =
-    is_no_digit (radix_of (raw c.args.grammar.word) c.args.part) (get_or c.args.text.now c.args.index 0) (sym c.digit_value.ensures ∙ is_none c.digit_value.result none)
+    is_no_digit (radix_of (raw c.args.grammar.word) c.args.part) (get_or c.args.text.now c.args.index 0)
+    (sym c.digit_value.ensures ∙ is_none c.digit_value.result none)

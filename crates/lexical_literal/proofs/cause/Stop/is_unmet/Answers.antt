@@ -22,7 +22,8 @@ returns-then-is_free c =
     elim c.if-has.branch [
       | then-has w ↦
           let set = sym c.has.ensures ∙ w.if-has.true in
-          let only : (d : Condition) → has c.only.result d ≡ (is_same c.args.condition d || false) = λ d. ap (λ (c : Conditions). has c d) c.only.ensures ∙ has_only conditions c.args.condition d set ∙ or_false _ in
+          let only : (d : Condition) → has c.only.result d ≡ (is_same c.args.condition d || false) =
+          λ d. ap (λ (c : Conditions). has c d) c.only.ensures ∙ has_only conditions c.args.condition d set ∙ or_false _ in
           ap not (c.allows.ensures ∙ (λ j. lets (with_rules m (λ f. c.bare.ensures f j) (λ d. only d j)) c.args.self.read c.args.self.byte))
           ∙ both (m.condition c.args.condition) (lets (bare m) c.args.self.read c.args.self.byte) _
           set (sym w.is_free.ensures ∙ sym w.value-is ∙ c.if-is_free.true)

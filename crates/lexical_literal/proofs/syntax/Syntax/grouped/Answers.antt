@@ -50,6 +50,7 @@ returns-in_default c = elim c.in_default.branch [
       }
   | in_default-via-in_default w ↦
       let l = c.requires.literal in
-      let groups = any_groups c.args.self.now l (sym (ap (λ (g : Grammar). integer_group_size g.conditions) c.grammar.ensures.value) ∙ sym c.get.ensures ∙ w.in_default.is) in
+      let groups = any_groups c.args.self.now l (sym (ap (λ (g : Grammar). integer_group_size g.conditions) c.grammar.ensures.value)
+      ∙ sym c.get.ensures ∙ w.in_default.is) in
       record { grouped = λ _. (l, c.requires.reads, groups, c.requires.counted l c.requires.reads.reads); error = tt }
 ]
