@@ -210,7 +210,7 @@ module _ (m : Notation) where
     front_from text s is =
         let more = completed s.stage s.gap s.ended
         (all_go_on ready.roles start text s (record { closes = refl; led = refl; prefixed = grind arith }) is) in
-        let found = literal_from m ready.roles (text ++ more.0) (rw (scan_append C m (Some start) text more.0, is) more.1) in
+        let found = literal_from m ready.roles ready.no_sizes (text ++ more.0) (rw (scan_append C m (Some start) text more.0, is) more.1) in
         record { more = more.0; literal = found.0; reads = found.1 }
 
     -- A front of a literal is read.

@@ -27,4 +27,5 @@ mod PartOfLemmas
 mod OneCauseLemmas
 mod FormLemmas
 mod GroupLemmas
+mod SizeLemmas
 mod SpanLemmas

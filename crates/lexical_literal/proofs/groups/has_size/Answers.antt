@@ -1,1 +1,2 @@
-use Rattle.lexical_literal.proofs.GroupLemmas.{grouped_is, kept_flag}
+use Rattle.lexical_literal.proofs.GroupLemmas.{grouped_is, tighter}
+use Rattle.lexical_literal.proofs.SizeLemmas.{group_append}
