@@ -28,4 +28,5 @@ mod OneCauseLemmas
 mod FormLemmas
 mod GroupLemmas
 mod SizeLemmas
+mod FitLemmas
 mod SpanLemmas

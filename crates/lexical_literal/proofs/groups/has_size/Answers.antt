@@ -1,2 +1,3 @@
 use Rattle.lexical_literal.proofs.GroupLemmas.{grouped_is, tighter}
-use Rattle.lexical_literal.proofs.SizeLemmas.{group_append}
+use Rattle.lexical_literal.proofs.FitLemmas.{u}
+use Rattle.lexical_literal.proofs.FrontLemmas.{front_from}
