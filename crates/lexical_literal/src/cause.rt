@@ -194,7 +194,6 @@ impl ReadError {
 impl Spot {
     // Returns what has been read, and the byte that cannot follow.
     const fn stop(self) -> Stop
-        requires { self.marks.group ≤ self.marks.size }
         ensures { result ≡ record { grammar = self.grammar; read = self.read; group = group_at self; byte = self.byte } }
     {
         let Spot { grammar, read, byte, separated, marks, .. } = self;
@@ -204,7 +203,7 @@ impl Spot {
             group: Group {
                 part: part_of(read.stage),
                 separated,
-                digits: marks.size - marks.group,
+                digits: marks.size.saturating_sub(marks.group),
             },
             byte,
         }
