@@ -202,7 +202,7 @@ module _ (m : Notation) where
       record { leading = λ set. rw (none) set; internal = λ set. set; trailing = λ set. rw (none) set; consecutive = λ set. rw (none) set }
   keeps parts.Exponent none = record { leading = λ set. set; internal = λ set. set; trailing = λ set. set; consecutive = λ set. set }
 
-  same_internal : (part : Part) → m.flag (separators_in part).internal ≡ true → u.flag (separators_in part).internal ≡ true
+  pub same_internal : (part : Part) → m.flag (separators_in part).internal ≡ true → u.flag (separators_in part).internal ≡ true
   same_internal parts.Integer is = is
   same_internal parts.Fraction is = is
   same_internal parts.Exponent is = is
