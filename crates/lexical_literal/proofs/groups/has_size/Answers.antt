@@ -1,3 +1,3 @@
 use Rattle.lexical_literal.proofs.GroupLemmas.{grouped_is, tighter}
-use Rattle.lexical_literal.proofs.LongestLemmas.{first_counted}
+use Rattle.lexical_literal.proofs.DecideLemmas.{decided_of}
 use Rattle.lexical_literal.proofs.FrontLemmas.{front_from}
