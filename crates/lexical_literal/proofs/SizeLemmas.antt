@@ -184,7 +184,7 @@ module _ (m : Notation) where
   busy layout.required_integer_digits = refl
   busy _ = refl
 
-  required : (f : Flag) → IsTrue (m.flag f && is_one_of requirement_flags f) → IsTrue (u.flag f)
+  pub required : (f : Flag) → IsTrue (m.flag f && is_one_of requirement_flags f) → IsTrue (u.flag f)
   required f is =
       let both = and_parts (m.flag f) _ is in
       and_from _ _ (go (is_one_of requirement_flags f) (makes_empty parts.Integer f) (makes_empty parts.Fraction f) both.1 (busy f)) both.0 where
@@ -202,7 +202,7 @@ module _ (m : Notation) where
       record { leading = λ set. rw (none) set; internal = λ set. set; trailing = λ set. rw (none) set; consecutive = λ set. rw (none) set }
   keeps parts.Exponent none = record { leading = λ set. set; internal = λ set. set; trailing = λ set. set; consecutive = λ set. set }
 
-  same_internal : (part : Part) → m.flag (separators_in part).internal ≡ true → u.flag (separators_in part).internal ≡ true
+  pub same_internal : (part : Part) → m.flag (separators_in part).internal ≡ true → u.flag (separators_in part).internal ≡ true
   same_internal parts.Integer is = is
   same_internal parts.Fraction is = is
   same_internal parts.Exponent is = is
