@@ -92,7 +92,7 @@ role_next m part (Some byte) = role_at m part byte
 
 -- `goes m s g next` is true if the byte `next` may follow, or if a literal has been read, where `next` is `None`.
 abbrev pub goes : Notation → Summary → Group → Option ℕ → Bool
-goes m s g next = lets (unsized m) s next && fits m g (role_next m (part_of s.stage) next)
+goes m s g next = lets (unsized m) s next && fits m g (role_next m g.part next)
 
 -- `IsReadOf m s g front` holds if what may follow `s` and `g` is what is allowed after `front`, with fewer requirements too, and if `s`
 -- is in the part that `front` ends in, unless a suffix has been read.

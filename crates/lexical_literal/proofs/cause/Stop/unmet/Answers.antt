@@ -28,20 +28,20 @@ loop-index-preserved c =
     let next = λ (d : Condition). number_next X N i (number_of c.loop-index.unmet d) d c.loop-index-test.true (c.loop-index.invariant.each d) in
     elim c.if-is_unmet.branch [
       | then-is_unmet w ↦
-        let is : X at ≡ true = sym c.is_unmet.ensures ∙ w.if-is_unmet.true in
-        record {
-          all = ap (λ (k : Conditions). length k.numbers) w.unmet-is ∙ w.with-unmet.ensures.all;
-          each = λ d. ap (λ (k : Conditions). number_of k d) w.unmet-is ∙ w.with-unmet.ensures.each d
-              ∙ ap (λ n. if is_same at d then n else number_of c.loop-index.unmet d) w.number.ensures
-              ∙ ap (λ t. if t then (if is_same at d then N at else number_of c.loop-index.unmet d) else number_of c.loop-index.unmet d) (sym is)
-              ∙ next d;
-        }
+          let is : X at ≡ true = sym c.is_unmet.ensures ∙ w.if-is_unmet.true in
+          record {
+            all = ap (λ (k : Conditions). length k.numbers) w.unmet-is ∙ w.with-unmet.ensures.all;
+            each = λ d. ap (λ (k : Conditions). number_of k d) w.unmet-is ∙ w.with-unmet.ensures.each d
+                ∙ ap (λ n. if is_same at d then n else number_of c.loop-index.unmet d) w.number.ensures
+                ∙ ap (λ t. if t then (if is_same at d then N at else number_of c.loop-index.unmet d) else number_of c.loop-index.unmet d) (sym is)
+                ∙ next d;
+          }
       | else-is_unmet w ↦
-        let is : X at ≡ false = sym c.is_unmet.ensures ∙ w.if-is_unmet.false in
-        record {
-          all = ap (λ (k : Conditions). length k.numbers) w.unmet-is ∙ c.loop-index.invariant.all;
-          each = λ d. ap (λ (k : Conditions). number_of k d) w.unmet-is
-              ∙ ap (λ t. if t then (if is_same at d then N at else number_of c.loop-index.unmet d) else number_of c.loop-index.unmet d) (sym is)
-              ∙ next d;
-        }
+          let is : X at ≡ false = sym c.is_unmet.ensures ∙ w.if-is_unmet.false in
+          record {
+            all = ap (λ (k : Conditions). length k.numbers) w.unmet-is ∙ c.loop-index.invariant.all;
+            each = λ d. ap (λ (k : Conditions). number_of k d) w.unmet-is
+                ∙ ap (λ t. if t then (if is_same at d then N at else number_of c.loop-index.unmet d) else number_of c.loop-index.unmet d) (sym is)
+                ∙ next d;
+          }
     ]
