@@ -215,7 +215,9 @@ module _ (m : Notation) where
         → is_signed u part stage ≡ true → takes_in b part stage gap plus role ≡ true → takes_in u part stage gap plus role ≡ false
         → may_follow u stage ≡ false
     shut part kept stage gap plus roles.Digit is sign free refused =
-        let fit = kept_gap part kept (has_digit stage) gap true in grind arith
+        let two = and_parts (gap_fits b part (has_digit stage) gap true) _ (and_parts (is_signed b part stage) _ free).1 in
+        let fit = kept_gap part kept (has_digit stage) gap true two.0 in
+        false_from_ne_true _ (λ may. false≢true (sym refused ∙ and_from _ _ sign (and_from _ _ fit may)))
     shut part kept stage gap plus roles.Separator is sign free refused =
         let two = and_parts (not gap || b.flag (separators_in part).consecutive) _ (and_parts (is_signed b part stage) _ free).1 in
         let more = either_kept (not gap) _ _ kept.consecutive two.0 in
