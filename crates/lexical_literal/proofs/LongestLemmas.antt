@@ -15,7 +15,7 @@ use Rattle.lexical_literal.specs.Front.{IsFront, IsValidUpTo, NoFront, NoLiteral
 use Rattle.lexical_literal.specs.Additions.Longest.{HasBegun, HasFound, IsCountedFront, IsFronted, IsLongest, IsMeasured, IsStopped, IsUnderway}
 use Rattle.lexical_literal.specs.Additions.Sizes.{first_group, fits, goes, group_after, grow, grown, unsized}
 use Rattle.lexical_literal.specs.Groups.{has_sizes}
-use Rattle.lexical_literal.specs.Additions.Plain.{HasRoles, HasSizes, IsReady, IsAt, IsBegun, IsRefused}
+use Rattle.lexical_literal.specs.Additions.Plain.{HasRoles, HasSizes, IsReady, IsAt, IsRefused}
 use Rattle.lexical_literal.specs.declared.read.Found.{Found}
 use Rattle.lexical_literal.specs.declared.plain.At.{At}
 use Rattle.lexical_literal.specs.declared.plain.Counted.{Counted}
