@@ -1,7 +1,7 @@
 -- Grouped digits.
 use Rattle.std.proofs.Common.{ℕ, ◌≡◌, ◌<◌, ◌≤◌, ◌==◌, ◌&&◌, Bool, true, false, get_or, zero, suc, List, [], ◌∷◌, length, refl, subst, sym, ap, ◌∙◌, arith}
 use Rattle.std.proofs.Common.{◌+◌, ◌*◌, ◌%◌, inl, inr, not}
-use Rattle.std.proofs.lemmas.Bool.{and_from, cases_lt, false≢true}
+use Rattle.std.proofs.lemmas.Bool.{cases_lt, false≢true, or_right}
 use Rattle.std.proofs.lemmas.Bool.Decides.{nat_tests}
 use Rattle.std.proofs.lemmas.Nat.{mod-mul-add}
 use Rattle.std.specs.Int.Digits.{AllBelowBase}
@@ -13,9 +13,7 @@ use Rattle.lexical_util.specs.Digits.{byte_value}
 use Rattle.lexical_base.proofs.ValueLemmas.{byte_value-digit_character}
 use Rattle.std.proofs.lemmas.Int.Digits.{all_below_base_digits_of, first_digits_of}
 use Rattle.std.specs.Int.Digits.{digits_of}
-use Rattle.lexical_literal.specs.Groups.{all_fit, group_sizes, higher, is_grouped, rest_fits}
-use Rattle.lexical_literal.specs.declared.syntax.Condition.TheVariants as conditions
-use Rattle.lexical_util.specs.declared.format_flags.Part.TheVariants as parts
+use Rattle.lexical_literal.specs.Groups.{are_groups, is_grouped}
 use Rattle.lexical_literal.specs.Literal.{has_leading_zero}
 use Rattle.lexical_literal.specs.Notation.{Notation}
 use Rattle.lexical_literal.proofs.RunLemmas.{is_rest}
@@ -48,88 +46,84 @@ module _ (m : Notation) (part : Part) (radix separator group : ℕ) (digit : (d 
       (λ ends. let has = between (grind (arith, nat_tests)) in
       (has.0, has.2, grouped_rest digits true true all.1 (λ is. (refl, grind (arith, nat_tests), has.1))))
 
-module _ (m : Notation) (radix separator : ℕ) (digit : (d : ℕ) → d < radix → m.separator (character d) ≡ false) where
-  -- Without groups, there is one.
-  pub one_group : (digits : List ℕ) → AllBelowBase radix digits → group_sizes m.separator (grouped separator 0 digits) ≡ length digits ∷ []
-  one_group [] all = refl
-  one_group (d ∷ digits) all =
+module _ (S : ByteSet) (radix separator s : ℕ) (digit : (d : ℕ) → d < radix → S (character d) ≡ false) (own : S separator ≡ true) (two : 2 ≤ s) where
+  -- Behind the last `groups` separators are groups of `s` digits, before which there are `more` digits.
+  record IsAligned (digits : ℕ) (bytes : List ℕ) : Type 0 where
+    groups : ℕ
+    more : ℕ
+    within : (0 < more) × (more ≤ s)
+    count : digits ≡ groups * s + more
+    size : length bytes ≡ groups * (s + 1) + more
+    are : are_groups S s bytes ≡ true
+
+  step : (p q : ℕ) → (p + 1) * q ≡ p * q + q
+  step p q = omega arith
+
+  aligned : (d : ℕ) (digits : List ℕ) → AllBelowBase radix (d ∷ digits) → IsAligned (length (d ∷ digits)) (grouped separator s (d ∷ digits))
+  aligned d [] all =
+      let first = digit d all.0 in
+      record { groups = 0; more = 1; within = (omega arith, omega arith); count = omega arith; size = omega arith; are = grind (arith, nat_tests) }
+  aligned d (e ∷ digits) all =
+      let first = digit d all.0 in
+      let rest = aligned e digits all.1 in
+      let are = rest.are in
+      let p = rest.groups in
+      let k = rest.more in
+      let bytes = grouped separator s (e ∷ digits) in
+      let n = length (e ∷ digits) in
+      elim (cases_lt k s) [
+        | inl part ↦
+            let left : n % s ≡ k = ap (λ n. n % s) rest.count ∙ mod-mul-add p s k part in
+            let inside : ends_group s n ≡ false = let some = rest.within.0 in grind (arith, nat_tests) in
+            let place : length bytes % (s + 1) ≡ k = ap (λ n. n % (s + 1)) rest.size ∙ mod-mul-add p (s + 1) k (omega arith) in
+            rw inside (record {
+              groups = p;
+              more = k + 1;
+              within = (omega arith, omega arith);
+              count = omega (arith, rest.count);
+              size = omega (arith, rest.size);
+              are = grind (arith, nat_tests);
+            })
+        | inr whole ↦
+            let full : k ≡ s = omega (arith, rest.within.1) in
+            let count : n ≡ (p + 1) * s + 0 = omega (arith, rest.count, full, step p s) in
+            let size : length (separator ∷ bytes) ≡ (p + 1) * (s + 1) + 0 = omega (arith, rest.size, full, step p (s + 1)) in
+            let left : n % s ≡ 0 = ap (λ n. n % s) count ∙ mod-mul-add (p + 1) s 0 (omega arith) in
+            let ends : ends_group s n ≡ true = grind (arith, nat_tests) in
+            let place : length bytes % (s + 1) ≡ s = ap (λ n. n % (s + 1)) (rest.size ∙ ap (λ k. p * (s + 1) + k) full)
+            ∙ mod-mul-add p (s + 1) s (omega arith) in
+            let behind : length (separator ∷ bytes) % (s + 1) ≡ 0 = ap (λ n. n % (s + 1)) size ∙ mod-mul-add (p + 1) (s + 1) 0 (omega arith) in
+            rw ends (record {
+              groups = p + 1;
+              more = 1;
+              within = (omega arith, omega arith);
+              count = omega (arith, count);
+              size = omega (arith, size);
+              are = grind (arith, nat_tests);
+            })
+      ]
+
+module _ (S : ByteSet) (radix separator s : ℕ) (digit : (d : ℕ) → d < radix → S (character d) ≡ false) where
+  -- Without groups, there are no separators.
+  no_separators : (digits : List ℕ) → AllBelowBase radix digits → list_any S (grouped separator 0 digits) ≡ false
+  no_separators [] all = refl
+  no_separators (d ∷ digits) all =
+      let rest = no_separators digits all.1 in
+      let first = digit d all.0 in
       let none : ends_group 0 (length digits) ≡ false = grind arith in
-      let sum : length digits + 1 ≡ length (d ∷ digits) = omega arith in
-      rw (none, digit d all.0, one_group digits all.1) (ap (λ n. n ∷ []) sum)
-
-  module _ (s : ℕ) (own : m.separator separator ≡ true) (some : 0 < s) (last : m.number conditions.IntegerGroupSize ≡ s) (inner : higher m ≡ s) where
-    -- The first of some groups has `first` digits, and those behind it `counts`. Behind a whole group they fit, and behind the first.
-    record IsAligned (digits : ℕ) (bytes : List ℕ) : Type 0 where
-      first : ℕ
-      counts : List ℕ
-      sizes : group_sizes m.separator bytes ≡ first ∷ counts
-      within : (0 < first) × (first ≤ s)
-      groups : ℕ
-      count : digits ≡ groups * s + first
-      behind : (k : ℕ) → k ≡ s → rest_fits m parts.Integer (k ∷ counts) ≡ true
-      whole : (k : ℕ) → 0 < k → k ≤ s → all_fit m parts.Integer (k ∷ counts) ≡ true
-
-    step : (p q : ℕ) → (p + 1) * q ≡ p * q + q
-    step p q = omega arith
-
-    aligned : (d : ℕ) (digits : List ℕ) → AllBelowBase radix (d ∷ digits) → IsAligned (length (d ∷ digits)) (grouped separator s (d ∷ digits))
-    aligned d [] all = record {
-      first = 1;
-      counts = [];
-      sizes = rw (digit d all.0) refl;
-      within = (omega arith, omega (arith, some));
-      groups = 0;
-      count = omega arith;
-      behind = λ k same. grind (arith, nat_tests);
-      whole = λ k low high. refl;
-    }
-    aligned d (e ∷ digits) all =
-        let rest = aligned e digits all.1 in
-        let p = rest.groups in
-        let k = rest.first in
-        let n = length (e ∷ digits) in
-        let bytes = grouped separator s (e ∷ digits) in
-        elim (cases_lt k s) [
-          | inl part ↦
-              let left : n % s ≡ k = ap (λ n. n % s) rest.count ∙ mod-mul-add p s k part in
-              let inside : ends_group s n ≡ false = let some = rest.within.0 in grind (arith, nat_tests) in
-              record {
-                first = k + 1;
-                counts = rest.counts;
-                sizes = rw (inside, digit d all.0, rest.sizes) refl;
-                within = (omega arith, omega (arith, part));
-                groups = p;
-                count = omega (arith, rest.count);
-                behind = rest.behind;
-                whole = rest.whole;
-              }
-          | inr full ↦
-              let same : k ≡ s = omega (arith, full, rest.within.1) in
-              let count : n ≡ (p + 1) * s + 0 = omega (arith, rest.count, same, step p s) in
-              let left : n % s ≡ 0 = ap (λ n. n % s) count ∙ mod-mul-add (p + 1) s 0 (omega (arith, some)) in
-              let ends : ends_group s n ≡ true = grind (arith, nat_tests) in
-              record {
-                first = 1;
-                counts = k ∷ rest.counts;
-                sizes = rw (ends, digit d all.0, own, rest.sizes) refl;
-                within = (omega arith, omega (arith, some));
-                groups = p + 1;
-                count = omega (arith, count);
-                behind = λ j is. and_from _ _ (grind (arith, nat_tests)) (rest.behind k same);
-                whole = λ j low high. and_from _ _ (grind (arith, nat_tests)) (rest.behind k same);
-              }
-        ]
-
-    pub right_size : (digits : List ℕ) → AllBelowBase radix digits → is_grouped m parts.Integer (grouped separator s digits) ≡ true
-    right_size [] all = refl
-    right_size (d ∷ digits) all = let are = aligned d digits all in
-        ap (all_fit m parts.Integer) are.sizes ∙ are.whole are.first are.within.0 are.within.1
+      rw none (grind arith)
 
   -- Digits in groups of the required size, or without groups, are in groups.
-  pub right_groups : (group : ℕ) (digits : List ℕ) → (0 < group → (m.separator separator ≡ true) × (m.number conditions.IntegerGroupSize ≡ group)
-      × (higher m ≡ group)) → AllBelowBase radix digits → is_grouped m parts.Integer (grouped separator group digits) ≡ true
-  right_groups zero digits right all = ap (all_fit m parts.Integer) (one_group digits all)
-  right_groups (suc group) digits right all = let has = right (omega arith) in right_size (suc group) has.0 (omega arith) has.1 has.2 digits all
+  pub right_groups : (group : ℕ) (digits : List ℕ) → 2 ≤ s → (0 < group → (group ≡ s) × (S separator ≡ true)) → AllBelowBase radix digits
+      → is_grouped S s (grouped separator group digits) ≡ true
+  right_groups group [] two right all = refl
+  right_groups zero (d ∷ digits) two right all = let none = no_separators (d ∷ digits) all in grind arith
+  right_groups (suc group) (d ∷ digits) two right all =
+      let has = right (omega arith) in
+      let first = digit d all.0 in
+      let are = (aligned S radix separator s digit has.1 two d digits all).are in
+      subst (λ k. is_grouped S s (grouped separator k (d ∷ digits)) ≡ true) (sym has.0)
+      (or_right (not (list_any S (grouped separator s (d ∷ digits)))) _ (λ i. not (first i) && are i))
 
 -- A number is written without leading zeros.
 zero_value : byte_value 48 ≡ 0

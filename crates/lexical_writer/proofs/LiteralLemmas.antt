@@ -15,12 +15,13 @@ use Rattle.lexical_util.specs.Unfoldable.{cased, IsPunctuation, Lawful, Holds}
 use Rattle.lexical_util.specs.declared.format_flags.Part.{Part}
 use Rattle.lexical_util.specs.declared.format_flags.Part.TheVariants as parts
 use Rattle.lexical_base.proofs.ValueLemmas.{byte_value-digit_character}
-use Rattle.lexical_literal.specs.Literal.{IsSpelled, Literal, Reads, condition, has_leading_zero, is_absent, is_none_or_one, is_plus}
+use Rattle.lexical_literal.specs.Literal.{IsSpelled, Literal, condition, has_leading_zero, is_absent, is_none_or_one, is_plus}
 use Rattle.lexical_literal.specs.Literal.{is_none_or_prefix, is_present, requirement, text_of}
-use Rattle.lexical_literal.specs.Notation.{Notation, has, lacks_options, notation_of, number_of, point_of, exponent_character_of, radix_of}
-use Rattle.lexical_literal.specs.Groups.{all_fit, is_grouped}
+use Rattle.lexical_literal.specs.Notation.{Notation, has, integer_group_size, lacks_options, notation_of, point_of, exponent_character_of, radix_of}
+use Rattle.lexical_literal.specs.Groups.{has_groups}
 use Rattle.lexical_literal.specs.Run.{is_run}
 use Rattle.lexical_literal.specs.Syntax.{IsSyntax, FitIfAny, contradiction, fault}
+use Rattle.lexical_literal.specs.Takes.{Takes}
 use Rattle.lexical_literal.specs.declared.syntax.Condition.{Condition}
 use Rattle.lexical_literal.specs.declared.syntax.Condition.TheVariants as conditions
 use Rattle.lexical_literal.specs.declared.syntax.Conditions.{Conditions}
@@ -38,7 +39,7 @@ use Rattle.lexical_writer.specs.declared.layout.WriteError.{WriteError}
 use Rattle.lexical_writer.specs.declared.layout.WriteError.TheVariants as errors
 use Rattle.lexical_writer.specs.declared.layout.Style.{Style}
 use Rattle.lexical_writer.proofs.DigitLemmas.{grouped_digits, grouped_present, values_below, zero_below, zero_number}
-use Rattle.lexical_writer.proofs.GroupLemmas.{Between, grouped_rest, no_leading_zero, one_group, right_groups}
+use Rattle.lexical_writer.proofs.GroupLemmas.{Between, grouped_rest, no_leading_zero, right_groups}
 
 -- The flags of a lawful format agree.
 agree : (word : ℕ) → Lawful word → (((raw word).flag layout.no_exponent_notation && (raw word).flag layout.required_exponent_notation) ≡ false)
@@ -50,13 +51,13 @@ agree word lawful = let flags = lawful.flags in assumption flags
 -- The conditions of a syntax agree with its format.
 no_contradiction : (r : Record) (c : Conditions) → contradiction r c ≡ None → ((has c conditions.BasePrefix && (r.byte layout.base_prefix == 0)) ≡ false)
     × ((has c conditions.BaseSuffix && (r.byte layout.base_suffix == 0)) ≡ false)
+    × ((s : ℕ) → integer_group_size c ≡ Some s → 2 ≤ s)
 unfolding fault
-no_contradiction r c none = (grind (arith, nat_tests), grind (arith, nat_tests))
+no_contradiction r c none = (grind (arith, nat_tests), grind (arith, nat_tests), λ s has. grind (arith, nat_tests))
 
--- Groups have the size that a condition requires, and there are none if another one is required of higher groups.
-same_size : (r : Record) (c : Conditions) (style : Style) → has c conditions.IntegerGroupSize ≡ true → 0 < group_of r c style
-    → (number_of c conditions.IntegerGroupSize ≡ group_of r c style) × ((number_of c conditions.HigherGroupSize == 0) ≡ true)
-same_size r c style set some = (grind arith, grind arith)
+-- Groups have the size that a condition requires.
+same_size : (r : Record) (c : Conditions) (style : Style) (s : ℕ) → integer_group_size c ≡ Some s → 0 < group_of r c style → group_of r c style ≡ s
+same_size r c style s has some = grind arith
 
 -- Punctuation is not 0.
 some_byte : (r : Record) (byte : ℕ) → IsPunctuation r byte → (byte == 0) ≡ false
@@ -212,14 +213,13 @@ module _ (g : Grammar) (style : Style) (amount : Amount) (is : IsSyntax g)
   }
 
   -- The integer is in groups.
-  no_digit : (d : ℕ) → d < radix → m.separator (character d) ≡ false
-  no_digit d below =
+  groups : (size : Option ℕ) → integer_group_size g.conditions ≡ size → has_groups m.separator size l.integer ≡ true
+  groups None has = refl
+  groups (Some s) has =
+      right_groups m.separator radix separator s (λ d below.
       let small : radix ≤ 36 = (radixes g.word is.lawful parts.Integer).1 in
-      false_from_ne_true _ (λ in_use. apart (character d) (omega (arith, byte_value-digit_character d (omega arith))) in_use)
-
-  groups : has g.conditions conditions.IntegerGroupSize ≡ true → is_grouped m parts.Integer l.integer ≡ true
-  groups set = right_groups m radix separator no_digit group _
-      (λ some. let same = same_size r g.conditions style set some in ((between some).0, same.0, rw (same.1) same.0))
+      false_from_ne_true _ (λ in_use. apart (character d) (omega (arith, byte_value-digit_character d (omega arith))) in_use))
+      group _ ((no_contradiction r g.conditions is.conditions).2 s has) (λ some. (same_size r g.conditions style s has some, (between some).0))
       (zero_below radix (has_zero r amount) _ (radixes g.word is.lawful parts.Integer).0
       (all_below_base_digits_of radix (size_of radix amount.integer) (radixes g.word is.lawful parts.Integer).0))
 
@@ -272,16 +272,11 @@ module _ (g : Grammar) (style : Style) (amount : Amount) (is : IsSyntax g)
   met layout.required_exponent_notation set = some_exponent set
   met _ set = refl
 
-  conditions_met : (c : Condition) → IsTrue (m.condition c) → IsTrue (condition c m l)
+  conditions_met : (c : Condition) → IsTrue (m.condition c) → IsTrue (condition c l)
   conditions_met conditions.BasePrefix set = let there = no_contradiction r g.conditions is.conditions in grind arith
   conditions_met conditions.BaseSuffix set = let there = no_contradiction r g.conditions is.conditions in grind arith
   conditions_met conditions.NegativeSign set = grind (arith, allowed)
-  conditions_met conditions.IntegerGroupSize set = groups set
-  conditions_met conditions.HigherGroupSize set = refl
-  conditions_met conditions.FractionGroupSize set = ap (all_fit m parts.Fraction)
-      (one_group m radix 0 no_digit (or_zero (has_point g amount && r.flag layout.required_fraction_digits) (values_of radix (given_fraction amount)))
-      (zero_below radix (has_point g amount && r.flag layout.required_fraction_digits) _ (radixes g.word is.lawful parts.Fraction).0
-      (values_below radix (given_fraction amount) (radixes g.word is.lawful parts.Fraction).0)))
+  conditions_met _ set = refl
 
   one_sign : (negative required : Bool) → is_none_or_one sets.signs (option_to_list (sign_of negative required)) ≡ true
   one_sign negative required = grind arith
@@ -321,14 +316,17 @@ module _ (g : Grammar) (style : Style) (amount : Amount) (is : IsSyntax g)
     requirements = met;
   }
 
-  reads : Reads m l (text_of l)
-  reads = record { whole = refl; literal = record { spelled = spelled; conditions = conditions_met } }
+  takes : Takes g l (text_of l)
+  takes = record {
+    reads = record { whole = refl; literal = record { spelled = spelled; conditions = conditions_met } };
+    groups = groups (integer_group_size g.conditions) refl;
+  }
 
 -- What is laid out is a literal with the digits of the amount.
 pub written : (g : Grammar) (style : Style) (amount : Amount) → IsSyntax g
     → ((byte : ℕ) → byte_value byte < (raw g.word).byte layout.mantissa_radix → IsTrue (sets.used_separator (raw g.word) byte) → ⊥)
     → (result : Result Layout WriteError) → IsLaidOut g style amount result
-    → IfOk result (λ layout. Reads (notation_of g) (literal_of layout) (text_of (literal_of layout)) × HasNumber g amount (literal_of layout))
+    → IfOk result (λ layout. Takes g (literal_of layout) (text_of (literal_of layout)) × HasNumber g amount (literal_of layout))
 written g style amount is apart (Ok layout) laid =
-    subst (λ l. Reads (notation_of g) l (text_of l) × HasNumber g amount l) (sym laid.1) (reads g style amount is apart laid.0, has_number g style amount is apart laid.0)
+    subst (λ l. Takes g l (text_of l) × HasNumber g amount l) (sym laid.1) (takes g style amount is apart laid.0, has_number g style amount is apart laid.0)
 written g style amount is apart (Err error) laid = tt

@@ -5,7 +5,7 @@ use Rattle.std.specs.Int.Digits.{digits_of}
 use Rattle.lexical_util.specs.Layout as layout
 use Rattle.lexical_util.specs.Record.{Record, raw, effective_exponent_radix}
 use Rattle.lexical_literal.specs.Literal.{Literal, is_absent, is_present}
-use Rattle.lexical_literal.specs.Notation.{has, lacks_options, number_of}
+use Rattle.lexical_literal.specs.Notation.{has, integer_group_size, lacks_options}
 use Rattle.lexical_literal.specs.declared.syntax.Condition.TheVariants as conditions
 use Rattle.lexical_literal.specs.declared.syntax.Conditions.{Conditions}
 use Rattle.lexical_literal.specs.declared.syntax.Grammar.{Grammar}
@@ -61,13 +61,11 @@ abbrev pub given_power : Amount → Power
 given_power amount = unwrap_or amount.exponent (record { negative = false; source = sources.Number 0 })
 
 -- `group_of r c style` is the number of digits of a group: the one that the conditions `c` require, or that of `style`. It is 0 if
--- there are no groups: if `style` has none, if `c` require another size of higher groups, and where the format `r` does not allow
--- a separator between digits, or has none.
+-- there are no groups: if `style` has none, and where the format `r` does not allow a separator between digits, or has none.
 abbrev pub group_of : Record → Conditions → Style → ℕ
 group_of r c style =
     if r.flag layout.integer_internal_digit_separator && not (r.byte layout.digit_separator == 0)
-    then (if (style.group == 0) || has c conditions.HigherGroupSize then 0
-    else (if has c conditions.IntegerGroupSize then number_of c conditions.IntegerGroupSize else style.group)) else 0
+    then (if style.group == 0 then 0 else unwrap_or (integer_group_size c) style.group) else 0
 
 -- `needs_exponent g` is true if each literal of `g` has an exponent.
 abbrev pub needs_exponent : Grammar → Bool

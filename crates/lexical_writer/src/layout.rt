@@ -4,9 +4,9 @@ ghost use Rattle.std.specs.Prelude.{◌≡◌, ◌++◌, ◌&&◌, not, [], ℕ,
 ghost use Rattle.std.specs.Int.Digits.{digits_of};
 ghost use Rattle.lexical_util.specs.Record.{raw};
 ghost use Rattle.lexical_util.specs.Rules.{IsRadix, Lawful};
-ghost use Rattle.lexical_literal.specs.Literal.{Reads, is_present, text_of};
-ghost use Rattle.lexical_literal.specs.Notation.{notation_of};
+ghost use Rattle.lexical_literal.specs.Literal.{is_present, text_of};
 ghost use Rattle.lexical_literal.specs.Syntax.{IsSyntax};
+ghost use Rattle.lexical_literal.specs.Takes.{Takes};
 ghost use Rattle.lexical_writer.specs.Digits.{grouped, only_if, or_zero, run_text, size_of, values_of};
 ghost use Rattle.lexical_writer.specs.Layout.{base_byte, first_error, given_fraction, group_of, has_zero};
 ghost use Rattle.lexical_writer.specs.Layout.{HasNumber, IsLaidOut, literal_of, needs_exponent, refusal, sign_of};
@@ -24,8 +24,7 @@ use lexical_util::laws::byte_facts;
 #[derive(Debug, Clone, Copy, PartialEq, Eq, Hash)]
 pub struct Style {
     /// The number of integer digits of a group, or 0 for digits without groups. Where the format does not allow
-    /// separators between integer digits, or requires another size of higher groups, there are no groups. Where the syntax
-    /// requires a size, groups have this size.
+    /// separators between integer digits, there are no groups. Where the syntax requires a size, groups have this size.
     pub group: usize,
     /// Whether the base prefix is written, if the format has one.
     pub prefix: bool,
@@ -192,7 +191,7 @@ impl<'a> Amount<'a> {
     #[inline(always)]
     pub fn lay_out(&self, syntax: &Syntax, style: Style) -> Result<Layout<'a>, WriteError>
         ensures parts { IsLaidOut syntax.now style self.now result }
-        ensures literal { IfOk result (λ layout. Reads (notation_of syntax.now) (literal_of layout) (text_of (literal_of layout))) }
+        ensures literal { IfOk result (λ layout. Takes syntax.now (literal_of layout) (text_of (literal_of layout))) }
         ensures number { IfOk result (λ layout. HasNumber syntax.now self.now (literal_of layout)) }
         ensures lawful { IsSyntax syntax.now }
     {
@@ -316,7 +315,7 @@ const fn group_of(format: NumberFormat, conditions: Conditions, style: Style) ->
         return 0;
     }
     match conditions.number(Condition::IntegerGroupSize) {
-        _ if style.group == 0 || conditions.has(Condition::HigherGroupSize) => 0,
+        _ if style.group == 0 => 0,
         0 => style.group,
         size => size as usize,
     }

@@ -14,8 +14,7 @@ use crate::word::{base_prefix, base_suffix, digit_separator, FormatView};
 #[non_exhaustive]
 pub struct Style {
     /// The number of integer digits of a group, or 0 for digits without groups. Where the format does not allow
-    /// separators between integer digits, or requires another size of higher groups, there are no groups. Where the syntax
-    /// requires a size, groups have this size.
+    /// separators between integer digits, there are no groups. Where the syntax requires a size, groups have this size.
     pub group: usize,
     /// Whether the base prefix is written, if the format has one.
     pub prefix: bool,
@@ -236,7 +235,7 @@ const fn group_of(format: FormatView, conditions: Conditions, style: Style) -> u
         return 0;
     }
     match conditions.number(Condition::IntegerGroupSize) {
-        _ if style.group == 0 || conditions.has(Condition::HigherGroupSize) => 0,
+        _ if style.group == 0 => 0,
         0 => style.group,
         size => size as usize,
     }
