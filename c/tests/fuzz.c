@@ -234,7 +234,7 @@ static void test_lines(void) {
     }
     if (len && draw() % 4 == 0) text[draw() % len] = (char)draw();
     char *const from = copy(len);
-    peltzivar_syntax syntax = {{1, 2}, 3, 4, true, true, true, 7, {0}};
+    peltzivar_syntax syntax = {{1, 2}, 3, 4, true, true, true, 7, 0, 0, {0}};
     const size_t problems = peltzivar_read_settings(from, len, &syntax);
     CHECK(problems ? syntax.format.low == 1 && syntax.integer_group_size == 7 : !peltzivar_check_syntax(&syntax));
     for (size_t index = 0; index == 0 || *text; index++) {

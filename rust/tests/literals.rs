@@ -1,7 +1,7 @@
 //! Literals that are read, over the tables of docs/FORMAT.md and docs/EXPLANATIONS.md, and the grammars of languages.
 
 use peltzivar::format::{CASE_SENSITIVE_SPECIAL, DIGIT_SEPARATOR_FLAG_MASK, NO_SPECIAL};
-use peltzivar::literal::{Form, Language, Literal, ReadError, ReadErrorKind, Specials, Syntax};
+use peltzivar::literal::{Condition, Form, Language, Literal, ReadError, ReadErrorKind, Specials, Syntax};
 use peltzivar::{Edit, FlagSetter, Format, NumberFormatBuilder, Part, Settings};
 use std::collections::HashSet;
 
@@ -179,6 +179,8 @@ fn causes_are_those_of_the_page() {
         };
         let blamed = (0..128).filter(|bit| error.mask() >> bit & 1 == 1);
         blamed.for_each(|bit| found += &format!(" {bit}"));
+        let conditions = Condition::ALL.iter().filter(|&&it| error.conditions().has(it));
+        conditions.for_each(|it| found += &format!(" {}", it.name()));
         let found = [found, error.valid_up_to().to_string(), format!("{:?}", error.span())];
         assert_eq!(found, [cause, valid_up_to, span], "{settings}: {text}");
     }
