@@ -262,15 +262,15 @@ impl Syntax {
         };
         // With the size of the integer's groups is that of its higher groups.
         let required = |number| self.word & (bits(number) | if number == GROUPS { bits(HIGHER) } else { 0 });
-        let refuses = |&number: &u32| self.begun(bare | required(number), stop, more).is_none();
-        let alone = mask((0..15).filter(refuses), |flag| is_set(self.word, flag));
-        let unmet = self.word & mask(CONDITIONS.into_iter().filter(refuses), |_| true);
+        let begins = |number| self.begun(bare | required(number), stop, more).is_some();
+        let refuses = |number| is_set(self.word, number) && !begins(number);
+        let (alone, unmet) = (mask(0..15, refuses), self.word & mask(CONDITIONS, refuses));
         let zeros = || mask(12..14, |flag| is_set(self.word, flag));
         let hidden = u128::from(is_set(self.word, 14) && !self.is_integers) << 12;
         let blamed = if alone | unmet == 0 { zeros() } else { alone } & !hidden;
         let end = if is_missing { stop.len() } else { stop.len() - 1 };
         let mut requirements = self.requirements(self.word, &text, &pieces, end).into_iter();
-        let (_, _, span, code) = requirements.find(|row| row.0 == (blamed | unmet).trailing_zeros()).unwrap();
+        let (_, _, span, code) = requirements.find(|row| is_set(blamed | unmet, row.0)).unwrap();
         (end, ReadErrorKind::Requirement, blamed, conditions(unmet), span, code, stop.get(end).copied())
     }
 
