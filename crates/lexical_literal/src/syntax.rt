@@ -10,7 +10,7 @@ ghost use Rattle.lexical_util.specs.declared.lawful.Rejected.TheVariants as reje
 ghost use Rattle.lexical_literal.specs.Additions.Plain.{IsReady};
 ghost use Rattle.lexical_literal.specs.declared.syntax.Condition.{Condition};
 ghost use Rattle.lexical_literal.specs.declared.syntax.Options.{Options};
-ghost use Rattle.lexical_literal.specs.Notation.{all_conditions, get, has, is_same, kept, no_conditions, notation_of, number_of, IsOnlyRole};
+ghost use Rattle.lexical_literal.specs.Notation.{all_conditions, has, is_same, kept, no_conditions, notation_of, number_of, IsOnlyRole};
 ghost use Rattle.lexical_literal.specs.Syntax.{IsSyntax, contradiction, fault, limits, missing};
 
 use crate::steps::role_at;
@@ -139,16 +139,6 @@ impl Conditions {
         ensures { result ≡ kept (is_same condition) (number_of self) }
     {
         Conditions::NONE.with(condition, self.number(condition))
-    }
-
-    // Returns the number of `condition`, or `None` if it is not one of them.
-    pub(crate) const fn get(self, condition: Condition) -> Option<u8>
-        ensures { result ≡ get self condition }
-    {
-        match self.number(condition) {
-            0 => None,
-            number => Some(number),
-        }
     }
 }
 

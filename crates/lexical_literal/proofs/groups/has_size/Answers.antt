@@ -1,0 +1,1 @@
+use Rattle.lexical_literal.proofs.GroupLemmas.{grouped_is, kept_flag}
