@@ -1,18 +1,28 @@
 -- Groups, counted at once and byte by byte, and runs without empty groups.
-use Rattle.std.proofs.Common.{ℕ, ◌≡◌, ◌<◌, ◌≤◌, ◌+◌, ◌==◌, inl, inr, Bool, true, false, not, ◌&&◌, ◌||◌, if◌then◌else◌, nat_lt, List, [], ◌∷◌, Some, None}
+use Rattle.std.proofs.Common.{ℕ, ◌≡◌, ◌<◌, ◌≤◌, ◌+◌, ◌==◌, inl, inr, Bool, true, false, not, ◌&&◌, ◌||◌, if◌then◌else◌, nat_lt, List, [], ◌∷◌, Some, None, zero, suc}
 use Rattle.std.proofs.Common.{refl, sym, ap, subst, ◌∙◌, arith}
-use Rattle.std.proofs.lemmas.Bool.{false≢true, and_parts, and_from, cases_Bool, or_left, or_right}
+use Rattle.std.proofs.lemmas.Bool.{false≢true, and_parts, and_from, cases_Bool, false_from_ne_true, or_left, or_right}
 use Rattle.std.proofs.lemmas.Bool.Decides.{nat_tests}
 use Rattle.lexical_util.specs.Layout.{Flag, separators_in}
 use Rattle.lexical_util.specs.declared.feature_format.roles.Role.TheVariants as roles
 use Rattle.lexical_util.specs.declared.format_flags.Part.{Part}
 use Rattle.lexical_util.specs.declared.format_flags.Part.TheVariants as parts
-use Rattle.lexical_literal.specs.Groups.{all_fit, group_sizes, has_size, inner_fits, is_grouped, last_fits, one_more, rest_fits}
+use Rattle.lexical_literal.specs.Groups.{all_fit, first_fits, group_sizes, has_size, inner_fits, is_grouped, last_fits, one_more, rest_fits}
 use Rattle.lexical_literal.specs.Notation.{Notation}
 use Rattle.lexical_literal.specs.Run.{is_run}
-use Rattle.lexical_literal.specs.Additions.Sizes.{follows, grown, is_idle, most, unsized}
+use Rattle.lexical_literal.specs.Additions.Summary.{gap_fits}
+use Rattle.lexical_literal.specs.Additions.Sizes.{follows, grown, is_size, makes_empty, most, unsized}
 use Rattle.lexical_literal.specs.declared.groups.Group.{Group}
+use Rattle.lexical_literal.specs.Additions.Plain.{HasRoles, HasSizes}
+use Rattle.lexical_literal.specs.Cause.{with_rules}
+use Rattle.lexical_literal.specs.declared.syntax.Condition.{Condition}
+use Rattle.lexical_literal.specs.declared.syntax.Condition.TheVariants as conditions
 use Rattle.lexical_literal.proofs.RunLemmas.{is_rest, rest_of_none}
+use Rattle.lexical_literal.proofs.ScanLemmas.{as_role, digit_role}
+
+-- `group part separated digits` is a group of `part`.
+abbrev pub group : Part → Bool → ℕ → Group
+group part separated digits = record { part = part; separated = separated; digits = digits }
 
 -- `run_fits m g run` is true if the bytes of `run` may follow the group `g`, and the part may end behind them.
 abbrev pub run_fits : Notation → Group → List ℕ → Bool
@@ -28,9 +38,6 @@ more n [] = []
 more n (count ∷ counts) = (n + count) ∷ counts
 
 module _ (m : Notation) (part : Part) where
-  abbrev group : Bool → ℕ → Group
-  group separated digits = record { part = part; separated = separated; digits = digits }
-
   abbrev counts_fit : Bool → List ℕ → Bool
   counts_fit separated counts = if separated then rest_fits m part counts else all_fit m part counts
 
@@ -69,67 +76,108 @@ module _ (m : Notation) (part : Part) where
   absorbed false false if_b = refl
 
   pub sizes_fit : (separated : Bool) (digits : ℕ) (run : List ℕ)
-      → run_fits m (group separated digits) run ≡ counts_fit separated (more digits (group_sizes m.separator run))
+      → run_fits m (group part separated digits) run ≡ counts_fit separated (more digits (group_sizes m.separator run))
   sizes_fit true digits [] = ap (last_fits m part) (let sum : digits ≡ digits + 0 = omega arith in sum)
   sizes_fit false digits [] = refl
   sizes_fit separated digits (b ∷ run) = elim (cases_Bool (m.separator b)) [
     | inl is ↦ let rest = sizes_fit true 0 run in let some = some_counts run in rw (is) (closed separated rest some)
     | inr other ↦ let rest = sizes_fit separated (digits + 1) run in let some = some_counts run in rw (other) (longer separated rest some)
   ] where
-    closed : (separated : Bool) → run_fits m (group true 0) run ≡ rest_fits m part (more 0 (group_sizes m.separator run))
+    closed : (separated : Bool) → run_fits m (group part true 0) run ≡ rest_fits m part (more 0 (group_sizes m.separator run))
         → (count : ℕ) × (counts : List ℕ) × (group_sizes m.separator run ≡ count ∷ counts)
-        → (follows m (group separated digits) (Some roles.Separator) && run_fits m (group true 0) run)
+        → (follows m (group part separated digits) (Some roles.Separator) && run_fits m (group part true 0) run)
         ≡ counts_fit separated (more digits (0 ∷ group_sizes m.separator run))
     closed true rest some = let same : digits + 0 ≡ digits = omega arith in rw (rest, none_more (group_sizes m.separator run), some.2, same) refl
     closed false rest some = let same : digits + 0 ≡ digits = omega arith in rw (rest, none_more (group_sizes m.separator run), some.2, same) refl
 
-    longer : (separated : Bool) → run_fits m (group separated (digits + 1)) run ≡ counts_fit separated (more (digits + 1) (group_sizes m.separator run))
+    longer : (separated : Bool) → run_fits m (group part separated (digits + 1)) run ≡ counts_fit separated (more (digits + 1) (group_sizes m.separator run))
         → (count : ℕ) × (counts : List ℕ) × (group_sizes m.separator run ≡ count ∷ counts)
-        → (follows m (group separated digits) (Some roles.Digit) && run_fits m (group separated (digits + 1)) run)
+        → (follows m (group part separated digits) (Some roles.Digit) && run_fits m (group part separated (digits + 1)) run)
         ≡ counts_fit separated (more digits (one_more (group_sizes m.separator run)))
     longer true rest some = rw (rest, one_more_is digits (group_sizes m.separator run), some.2) (absorbed _ _ (may_grow digits some.0 some.1))
     longer false rest some = rw (rest, one_more_is digits (group_sizes m.separator run)) refl
 
 -- A digit run is grouped if its bytes fit one by one.
-pub grouped_is : (m : Notation) (part : Part) (run : List ℕ) → is_grouped m part run ≡ run_fits m (group m part false 0) run
+pub grouped_is : (m : Notation) (part : Part) (run : List ℕ) → is_grouped m part run ≡ run_fits m (group part false 0) run
 grouped_is m part run = ap (all_fit m part) (sym (none_more m part (group_sizes m.separator run))) ∙ sym (sizes_fit m part false 0 run)
 
--- THE FLAGS THAT SIZES MAKE IDLE
+-- No group of several is empty.
+pub not_empty : (m : Notation) (part : Part) → HasSizes m → has_size m part ≡ true → (first_fits m part 0 ≡ false) × (inner_fits m part 0 ≡ false)
+    × (last_fits m part 0 ≡ false)
+not_empty m parts.Integer sizes is = let some = sizes.integer is in (refl, grind (arith, nat_tests), grind (arith, nat_tests))
+not_empty m parts.Fraction sizes is = let some = sizes.fraction is in (grind (arith, nat_tests), grind (arith, nat_tests), refl)
+not_empty m parts.Exponent sizes is = absurd (false≢true is)
 
-module _ (m : Notation) where
-  abbrev u : Notation
-  u = unsized m
+-- A digit is no separator.
+pub one_role : (m : Notation) → HasRoles m → (part : Part) (b : ℕ) → m.digit part b ≡ true → m.separator b ≡ false
+one_role m h part b digit = false_from_ne_true _ (λ is.
+    let same = h.one roles.Digit roles.Separator b (as_role m part b roles.Digit (digit_role m part b digit)) is in cc)
 
-  pub kept_flag : (f : Flag) → u.flag f ≡ true → m.flag f ≡ true
-  kept_flag f is = (and_parts (not (is_idle m f)) (m.flag f) is).1
+-- A run without empty groups needs no flag but the one on separators between digits.
+module _ (m : Notation) (h : HasRoles m) (part : Part) (sizes : HasSizes m) (sized : has_size m part ≡ true) (B : Flag → Bool) (D : Condition → Bool)
+    (internal : m.flag (separators_in part).internal ≡ true → B (separators_in part).internal ≡ true) where
+  abbrev n : Notation
+  n = with_rules m B D
 
-  pub same_internal : (part : Part) → u.flag (separators_in part).internal ≡ m.flag (separators_in part).internal
-  same_internal parts.Integer = refl
-  same_internal parts.Fraction = refl
-  same_internal parts.Exponent = refl
+  -- `seen separated digits` is true if there is a digit before, and `gap separated digits` if the last byte is a separator.
+  abbrev seen : Bool → ℕ → Bool
+  seen separated digits = separated || nat_lt 0 digits
 
-  no_empty : (part : Part) → has_size m part ≡ true → (u.flag (separators_in part).leading ≡ false) × (u.flag (separators_in part).trailing ≡ false)
-      × (u.flag (separators_in part).consecutive ≡ false)
-  no_empty parts.Integer sized = (rw (sized) refl, rw (sized) refl, rw (sized) refl)
-  no_empty parts.Fraction sized = (rw (sized) refl, rw (sized) refl, rw (sized) refl)
-  no_empty parts.Exponent sized = absurd (false≢true sized)
+  abbrev gap : Bool → ℕ → Bool
+  gap separated digits = separated && (digits == 0)
 
-  some_empty : (part : Part) → has_size m part ≡ false → (u.flag (separators_in part).leading ≡ m.flag (separators_in part).leading)
-      × (u.flag (separators_in part).trailing ≡ m.flag (separators_in part).trailing)
-      × (u.flag (separators_in part).consecutive ≡ m.flag (separators_in part).consecutive)
-  some_empty parts.Integer none = (rw (none) refl, rw (none) refl, rw (none) refl)
-  some_empty parts.Fraction none = (rw (none) refl, rw (none) refl, rw (none) refl)
-  some_empty parts.Exponent none = (refl, refl, refl)
+  some_digits : (f : ℕ → Bool) (digits : ℕ) → f 0 ≡ false → f digits ≡ true → nat_lt 0 digits ≡ true
+  some_digits f zero none is = absurd (false≢true (sym none ∙ is))
+  some_digits f (suc digits) none is = grind (arith, nat_tests)
 
-  -- RUNS WITHOUT EMPTY GROUPS
+  at_end : (separated : Bool) (digits : ℕ) → follows m (group part separated digits) None ≡ true → gap separated digits ≡ false
+  at_end false digits fit = refl
+  at_end true digits fit = let some = some_digits (last_fits m part) digits (not_empty m part sizes sized).2 fit in grind (arith, nat_tests)
 
-  module _ (part : Part) where
-    -- A run that idle flags allow is one with them.
-    looser : (h g : Bool) (run : List ℕ) → is_rest u part h g run ≡ true → is_rest m part h g run ≡ true
-    looser h g [] is =
-        let leading = kept_flag (separators_in part).leading in let internal = kept_flag (separators_in part).internal in
-        let trailing = kept_flag (separators_in part).trailing in grind arith
-    looser h g (b ∷ run) is =
-        let leading = kept_flag (separators_in part).leading in let internal = kept_flag (separators_in part).internal in
-        let trailing = kept_flag (separators_in part).trailing in let consecutive = kept_flag (separators_in part).consecutive in
-        let closed = looser true false run in let gap = looser h true run in grind arith
+  before : (separated : Bool) (digits : ℕ) → follows m (group part separated digits) (Some roles.Separator) ≡ true → nat_lt 0 digits ≡ true
+  before false digits fit = some_digits (first_fits m part) digits (not_empty m part sizes sized).0 fit
+  before true digits fit = some_digits (inner_fits m part) digits (not_empty m part sizes sized).1 fit
+
+  pub tighter : (separated : Bool) (digits : ℕ) (run : List ℕ) → run_fits m (group part separated digits) run ≡ true
+      → is_rest m part (seen separated digits) (gap separated digits) run ≡ true
+      → is_rest n part (seen separated digits) (gap separated digits) run ≡ true
+  tighter separated digits [] fit is = let none = at_end separated digits fit in rw (none) refl
+  tighter separated digits (b ∷ run) fit is = elim (cases_Bool (m.digit part b)) [
+    | inl digit ↦
+        let more = and_parts (follows m (group part separated digits) (Some roles.Digit)) _ (rw (one_role m h part b digit) at fit) in
+        let rest = and_parts (gap_fits m part (seen separated digits) (gap separated digits) true) _ (rw (digit) at is) in
+        let some : seen separated (digits + 1) ≡ true = grind (arith, nat_tests) in
+        let none : gap separated (digits + 1) ≡ false = grind (arith, nat_tests) in
+        rw (digit) (and_from _ _ (place (seen separated digits) (gap separated digits) (grind arith) rest.0)
+        (subst (λ t. is_rest n part t false run ≡ true) some (subst (λ t. is_rest n part (seen separated (digits + 1)) t run ≡ true) none
+        (tighter separated (digits + 1) run more.1 (subst (λ t. is_rest m part (seen separated (digits + 1)) t run ≡ true) (sym none)
+        (subst (λ t. is_rest m part t false run ≡ true) (sym some) rest.1))))))
+    | inr other ↦
+        let all = and_parts (m.separator b && (not (gap separated digits) || m.flag (separators_in part).consecutive)) _ (rw (other) at is) in
+        let rest = and_parts (m.separator b) _ all.0 in
+        let more = and_parts (follows m (group part separated digits) (Some roles.Separator)) _ (rw (rest.0) at fit) in
+        let some = before separated digits more.0 in
+        let sees : seen separated digits ≡ true = or_right separated _ some in
+        let none : gap separated digits ≡ false = grind (arith, nat_tests) in
+        rw (other) (and_from _ _ (and_from _ _ rest.0 (or_left _ _ (ap not none))) (subst (λ t. is_rest n part t true run ≡ true) (sym sees)
+        (tighter true 0 run more.1 (subst (λ t. is_rest m part t true run ≡ true) sees all.1))))
+  ] where
+    place : (s g : Bool) → (g ≡ true → s ≡ true) → gap_fits m part s g true ≡ true → gap_fits n part s g true ≡ true
+    place s false sees is = refl
+    place true true sees is = internal is
+    place false true sees is = absurd (false≢true (sees refl))
+
+-- Without sizes, a notation is the same without them.
+pub same_unsized : (m : Notation) → ((c : Condition) → is_size c ≡ true → m.condition c ≡ false) → unsized m ≡ m
+same_unsized m none = λ j. with_rules m (λ f. same_flag f j) (λ c. same_condition c j) where
+  same_flag : (f : Flag) → (unsized m).flag f ≡ m.flag f
+  same_flag f = let integer = none conditions.IntegerGroupSize refl in let fraction = none conditions.FractionGroupSize refl in
+      rw (integer, fraction) (go (makes_empty parts.Integer f) (makes_empty parts.Fraction f) (m.flag f)) where
+        go : (a b t : Bool) → (not ((a && false) || (b && false)) && t) ≡ t
+        go a b t = grind arith
+
+  same_condition : (c : Condition) → (unsized m).condition c ≡ m.condition c
+  same_condition c = go (is_size c) (m.condition c) (none c) where
+    go : (is t : Bool) → (is ≡ true → t ≡ false) → (not is && t) ≡ t
+    go true t none = sym (none refl)
+    go false t none = refl

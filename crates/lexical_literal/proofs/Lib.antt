@@ -27,4 +27,6 @@ mod PartOfLemmas
 mod OneCauseLemmas
 mod FormLemmas
 mod GroupLemmas
+mod SizeLemmas
+mod FitLemmas
 mod SpanLemmas

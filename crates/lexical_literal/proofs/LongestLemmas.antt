@@ -173,7 +173,7 @@ module _ (m : Notation) (ready : IsReady m) (text : List ℕ) where
       };
       read = is.read;
       refused = λ inside. rw (slice_get-get_or text at.size 0 inside) (ap is_some (none inside));
-      complete = λ complete. literal_from m ready.roles (take at.size text) (ap (is_accepted m) is.read ∙ complete);
+      complete = λ complete. literal_from m ready.roles ready.no_sizes (take at.size text) (ap (is_accepted m) is.read ∙ complete);
       incomplete = λ incomplete l reads. false≢true (sym incomplete ∙ ap (is_accepted m) (sym is.read) ∙ accepted at.size l reads);
     }
 
@@ -210,7 +210,7 @@ module _ (m : Notation) (ready : IsReady m) (text : List ℕ) where
     longer counts counted true complete = record {
       found = λ found is. let same : record { size = next.size; counts = counts } ≡ found = cc in
           subst (λ (f : Found). (f.size ≤ next.size) × (l : Literal) × Reads m l (take f.size text)) same
-          (let l = literal_from m ready.roles (take next.size text) (ap (is_accepted m) follows.1.read ∙ sym complete) in (omega arith, l.0, l.1));
+          (let l = literal_from m ready.roles ready.no_sizes (take next.size text) (ap (is_accepted m) follows.1.read ∙ sym complete) in (omega arith, l.0, l.1));
       counted = λ found is. let same : record { size = next.size; counts = counts } ≡ found = cc in
           subst (λ (f : Found). (l : Literal) → Reads m l (take f.size text) → HasLengths l (cuts_of f.counts)) same (has_counted next.size counts counted);
       no_longer = λ more over past. absurd (let low : next.size < more = past _ refl in omega (arith, over, low));
@@ -250,7 +250,7 @@ module _ (m : Notation) (ready : IsReady m) (text : List ℕ) where
       → counted.exact ≡ false → HasFound m text counted
   complete_at counted is complete inexact = record {
     begun = is.begun;
-    literal = λ yes. literal_from m ready.roles (take counted.at.size text) (ap (is_accepted m) is.begun.read ∙ sym complete ∙ yes);
+    literal = λ yes. literal_from m ready.roles ready.no_sizes (take counted.at.size text) (ap (is_accepted m) is.begun.read ∙ sym complete ∙ yes);
     lengths = λ yes. has_counted counted.at.size counted.counts is.counted;
     exact = λ yes. absurd (false≢true (sym inexact ∙ yes));
   }

@@ -1,1 +1,3 @@
-use Rattle.lexical_literal.proofs.GroupLemmas.{grouped_is, kept_flag}
+use Rattle.lexical_literal.proofs.GroupLemmas.{grouped_is, tighter}
+use Rattle.lexical_literal.proofs.FitLemmas.{u}
+use Rattle.lexical_literal.proofs.FrontLemmas.{front_from}
