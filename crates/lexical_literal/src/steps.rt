@@ -414,7 +414,6 @@ const fn finishes(conditions: Conditions, read: Summary) -> bool
 pub(crate) const fn takes(grammar: Grammar, read: Summary, plus: bool, role: Role) -> bool
     ensures { result ≡ takes (steps_of grammar) read plus role }
 {
-    let format = grammar.view();
     let Summary { stage, .. } = read;
     let part = part_of(stage);
     let digit = has_digit(stage);
