@@ -172,6 +172,14 @@ module _ (m : Notation) where
       linked_all sized (after s (b == 48) one.role) (grown g (Some one.role)) text t last
       (linked_after s g (b == 43) (b == 48) one.role linked one.going one.taken fit.0) one.rest fit.1
 
+  first_linked : Linked start first_group
+  first_linked = record { part = refl; sized = λ sized. absurd (false≢true sized) }
+
+  -- What has been read is in the part of its last group.
+  pub linked_there : has_sizes m ≡ true → (text : List ℕ) (s : Summary) (g : Group) → scan u (Some start) text ≡ Some s
+      → group_after m (Some first_group) text ≡ Some g → g.part ≡ part_of s.stage
+  linked_there sized text s g read grouped = (linked_all sized start first_group text s g first_linked read grouped).part
+
   -- FRONTS
 
   module _ (ready : IsReady u) (sizes : HasSizes m) where
@@ -192,8 +200,7 @@ module _ (m : Notation) where
 
     module _ (text : List ℕ) (s : Summary) (g : Group) (is : Filling text s g) where
       linked : Linked s g
-      linked = linked_all (some_size g.part is.sized) start first_group text s g
-          (record { part = refl; sized = λ sized. absurd (false≢true sized) }) is.read is.grouped
+      linked = linked_all (some_size g.part is.sized) start first_group text s g first_linked is.read is.grouped
 
       opened : Open s g
       opened = linked.sized (and_from _ _ is.separated is.sized)

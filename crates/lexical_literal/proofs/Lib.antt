@@ -29,4 +29,5 @@ mod FormLemmas
 mod GroupLemmas
 mod SizeLemmas
 mod FitLemmas
+mod DecideLemmas
 mod SpanLemmas

@@ -1,7 +1,8 @@
 -- The literals of a notation with sizes of groups are those without, whose groups fit, at once or byte by byte.
 use Rattle.std.proofs.Common.{ℕ, ◌≡◌, ◌+◌, ◌==◌, inl, inr, Bool, true, false, not, ◌&&◌, ◌||◌, if◌then◌else◌, List, [], ◌∷◌, ◌++◌, Option, Some, None}
-use Rattle.std.proofs.Common.{IsTrue, refl, sym, ap, subst, ◌∙◌, arith}
+use Rattle.std.proofs.Common.{IsTrue, ◌<◌, ◌≤◌, drop, get_or, length, take, refl, sym, ap, subst, ◌∙◌, arith}
 use Rattle.std.proofs.lemmas.Bool.{false≢true, and_parts, and_from, cases_Bool, eqb-true, or_left, or_right}
+use Rattle.std.proofs.lemmas.List.{drop_more, get_or-take, length-take-le}
 use Rattle.lexical_util.specs.Layout as layout
 use Rattle.lexical_util.specs.Layout.{Flag, separators_in}
 use Rattle.lexical_util.specs.Roles.{signs}
@@ -41,6 +42,33 @@ module _ (m : Notation) where
   group_append o [] y = refl
   group_append None (b ∷ x) y = sym (group_none y)
   group_append (Some g) (b ∷ x) y = group_append (grow m g (role_at m g.part b)) x y
+
+  -- One byte of a front.
+  pub group_step : (text : List ℕ) (size index : ℕ) (g : Group) → index < size → size ≤ length text → group_after m (Some g) (drop index (take size text))
+      ≡ group_after m (grow m g (role_at m g.part (get_or text index 0))) (drop (index + 1) (take size text))
+  group_step text size index g inside within =
+      rw (drop_more (take size text) index 0 (omega (arith, length-take-le size text within, inside)), get_or-take size text index 0 inside) refl
+
+  -- A group has no more digits than bytes have been read.
+  pub grown_small : (g next : Group) (r : Option Role) → grow m g r ≡ Some next → next.digits ≤ g.digits + 1
+  grown_small g next r is = go (has_sizes m) (fits m g r) is where
+    small : (r : Option Role) → (grown g r).digits ≤ g.digits + 1
+    small (Some roles.Digit) = omega arith
+    small _ = omega arith
+
+    go : (sized fit : Bool) → (if not sized then Some g else (if fit then Some (grown g r) else None)) ≡ Some next → next.digits ≤ g.digits + 1
+    go false fit is = let same : g ≡ next = cc in subst (λ (x : Group). x.digits ≤ g.digits + 1) same (omega arith)
+    go true true is = let same : grown g r ≡ next = cc in subst (λ (x : Group). x.digits ≤ g.digits + 1) same (small r)
+    go true false is = absurd (let apart : None ≡ Some next = is in cc)
+
+  pub small_after : (g last : Group) (text : List ℕ) → group_after m (Some g) text ≡ Some last → last.digits ≤ g.digits + length text
+  small_after g last [] is = let same : g ≡ last = cc in subst (λ (x : Group). x.digits ≤ g.digits + 0) same (omega arith)
+  small_after g last (b ∷ text) is = go (grow m g (role_at m g.part b)) (λ next. grown_small g next (role_at m g.part b)) (λ next. small_after next last text) is where
+    go : (o : Option Group) → ((next : Group) → o ≡ Some next → next.digits ≤ g.digits + 1)
+        → ((next : Group) → group_after m (Some next) text ≡ Some last → last.digits ≤ next.digits + length text)
+        → group_after m o text ≡ Some last → last.digits ≤ g.digits + length (b ∷ text)
+    go None low more is = absurd (let none = group_none text in cc)
+    go (Some next) low more is = omega (arith, low next refl, more next is)
 
   -- `ends o` is true if what has been read, with the last group `o`, may end.
   abbrev pub ends : Option Group → Bool
@@ -184,7 +212,7 @@ module _ (m : Notation) where
   busy layout.required_integer_digits = refl
   busy _ = refl
 
-  required : (f : Flag) → IsTrue (m.flag f && is_one_of requirement_flags f) → IsTrue (u.flag f)
+  pub required : (f : Flag) → IsTrue (m.flag f && is_one_of requirement_flags f) → IsTrue (u.flag f)
   required f is =
       let both = and_parts (m.flag f) _ is in
       and_from _ _ (go (is_one_of requirement_flags f) (makes_empty parts.Integer f) (makes_empty parts.Fraction f) both.1 (busy f)) both.0 where

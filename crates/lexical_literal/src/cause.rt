@@ -4,10 +4,10 @@ ghost use Rattle.std.specs.Prelude.{◌≡◌, ◌<◌, ◌^◌, Some, if◌then
 ghost use Rattle.lexical_util.specs.Layout.{Flag, bit};
 ghost use Rattle.lexical_util.specs.Record.{raw};
 ghost use Rattle.lexical_util.specs.Roles.{other_case};
-ghost use Rattle.lexical_literal.specs.Additions.Causes.{is_at_gap, place_of};
+ghost use Rattle.lexical_literal.specs.Additions.Causes.{is_at_gap, lets, place_of};
 ghost use Rattle.lexical_literal.specs.Additions.Explained.{alone, blame, cases, group_at, mask_of, refusal_of, requirements, separators};
 ghost use Rattle.lexical_literal.specs.Additions.Explained.{unmet, zeros};
-ghost use Rattle.lexical_literal.specs.Additions.Sizes.{fits, goes};
+ghost use Rattle.lexical_literal.specs.Additions.Sizes.{fits, goes, role_next, unsized};
 ghost use Rattle.lexical_literal.specs.Additions.Summary.{part_of, role_at};
 ghost use Rattle.lexical_literal.specs.Cause.{adding, bare, binds, case_set, first_unmet, with_rules};
 ghost use Rattle.lexical_literal.specs.Forms.{is_byte};
@@ -194,17 +194,23 @@ impl ReadError {
 impl Spot {
     // Returns what has been read, and the byte that cannot follow.
     const fn stop(self) -> Stop
-        requires { self.marks.group ≤ self.marks.size }
         ensures { result ≡ record { grammar = self.grammar; read = self.read; group = group_at self; byte = self.byte } }
     {
-        let Spot { grammar, read, byte, separated, marks, .. } = self;
+        let Spot {
+            grammar,
+            read,
+            byte,
+            separated,
+            marks,
+            ..
+        } = self;
         Stop {
             grammar,
             read,
             group: Group {
                 part: part_of(read.stage),
                 separated,
-                digits: marks.size - marks.group,
+                digits: marks.size.saturating_sub(marks.group),
             },
             byte,
         }
@@ -296,23 +302,34 @@ impl Stop {
             options: self.grammar.options,
             conditions,
         };
+        self.goes_on(other) && self.fits(other)
+    }
+
+    // Returns whether it could by the steps of `other`.
+    const fn goes_on(self, other: Grammar) -> bool
+        requires { other.options ≡ self.grammar.options }
+        ensures { result ≡ lets (unsized (with_rules (notation_of self.grammar) (raw other.word).flag (has other.conditions))) self.read self.byte }
+    {
         match self.byte {
-            None => is_complete(other, self.read) && self.fits(other, None),
+            None => is_complete(other, self.read),
             Some(byte) => match role_at(self.grammar, part_of(self.read.stage), byte) {
                 None => false,
-                Some(role) => {
-                    matches!(moved(other, self.read, byte, role), Some(_))
-                        && self.fits(other, Some(role))
-                }
+                Some(role) => matches!(moved(other, self.read, byte, role), Some(_)),
             },
         }
     }
 
-    // Returns whether a byte with the role `role` may follow the last group, if the conditions were those of `other`.
-    const fn fits(self, other: Grammar, role: Option<Role>) -> bool
-        ensures { result ≡ fits (with_rules (notation_of self.grammar) (notation_of other).flag (has other.conditions)) self.group role }
+    // Returns whether it could behind the last group, with the conditions of `other`.
+    const fn fits(self, other: Grammar) -> bool
+        ensures { result ≡ fits (with_rules (notation_of self.grammar) (raw other.word).flag (has other.conditions)) self.group
+            (role_next (notation_of self.grammar) self.group.part self.byte) }
     {
-        !has_size(other, self.group.part) || follows(self.grammar, self.group, role)
+        let Group { part, .. } = self.group;
+        let role = match self.byte {
+            None => None,
+            Some(byte) => role_at(self.grammar, part, byte),
+        };
+        !has_size(other, part) || follows(self.grammar, self.group, role)
     }
 
     // Returns the word without the flags that require something.

@@ -7,7 +7,8 @@ ghost use Rattle.std.specs.Result.{OkIff};
 ghost use Rattle.lexical_util.specs.NormalForm.{normal_form_of};
 ghost use Rattle.lexical_util.specs.Options.{OptionsFit, IsOptionsError};
 ghost use Rattle.lexical_util.specs.declared.lawful.Rejected.TheVariants as rejected;
-ghost use Rattle.lexical_literal.specs.Additions.Plain.{IsReady};
+ghost use Rattle.lexical_literal.specs.Additions.Plain.{HasSizes, IsReady};
+ghost use Rattle.lexical_literal.specs.Additions.Sizes.{steps_of};
 ghost use Rattle.lexical_literal.specs.declared.syntax.Condition.{Condition};
 ghost use Rattle.lexical_literal.specs.declared.syntax.Options.{Options};
 ghost use Rattle.lexical_literal.specs.Notation.{all_conditions, has, is_same, kept, no_conditions, notation_of, number_of, IsOnlyRole};
@@ -318,7 +319,8 @@ impl Syntax {
     // Returns the format, the options and the conditions.
     pub(crate) const fn grammar(&self) -> Grammar
         ensures value { result ≡ self.now }
-        ensures ready { IsReady (notation_of self.now) }
+        ensures ready { IsReady (steps_of self.now) }
+        ensures sizes { HasSizes (notation_of self.now) }
     {
         role_facts();
         Grammar {
