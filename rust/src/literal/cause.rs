@@ -156,7 +156,7 @@ impl Spot {
         Stop {
             grammar,
             read,
-            group: Group { part: part_of(read.stage), separated, digits: marks.size - marks.group },
+            group: Group { part: part_of(read.stage), separated, digits: marks.size.saturating_sub(marks.group) },
             byte,
         }
     }
@@ -234,18 +234,28 @@ impl Stop {
     // Returns whether the text could go on if the flags of the format were those of `word`, with other conditions.
     const fn allows(self, word: u128, conditions: Conditions) -> bool {
         let other = Grammar { word, options: self.grammar.options, conditions };
+        self.goes_on(other) && self.fits(other)
+    }
+
+    // Returns whether it could by the steps of `other`.
+    const fn goes_on(self, other: Grammar) -> bool {
         match self.byte {
-            None => is_complete(other, self.read) && self.fits(other, None),
+            None => is_complete(other, self.read),
             Some(byte) => match role_at(self.grammar, part_of(self.read.stage), byte) {
                 None => false,
-                Some(role) => matches!(moved(other, self.read, byte, role), Some(_)) && self.fits(other, Some(role)),
+                Some(role) => matches!(moved(other, self.read, byte, role), Some(_)),
             },
         }
     }
 
-    // Returns whether a byte with the role `role` may follow the last group, if the conditions were those of `other`.
-    const fn fits(self, other: Grammar, role: Option<Role>) -> bool {
-        !has_size(other, self.group.part) || follows(self.grammar, self.group, role)
+    // Returns whether it could behind the last group, with the conditions of `other`.
+    const fn fits(self, other: Grammar) -> bool {
+        let Group { part, .. } = self.group;
+        let role = match self.byte {
+            None => None,
+            Some(byte) => role_at(self.grammar, part, byte),
+        };
+        !has_size(other, part) || follows(self.grammar, self.group, role)
     }
 
     // Returns the word without the flags that require something.
