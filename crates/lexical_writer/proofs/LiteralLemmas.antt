@@ -242,8 +242,8 @@ module _ (g : Grammar) (style : Style) (amount : Amount) (is : IsSyntax g)
       (all_below_base_digits_of radix (size_of radix amount.integer) (radixes g.word is.lawful parts.Integer).0) in
       elim (cases_lt 0 group.higher) [
         | inl some ↦
-          let are = required g style is.conditions set some in
-          right_groups m radix separator group no_separator (between some).0 are.last are.size are.two are.some digits all
+            let are = required g style is.conditions set some in
+            right_groups m radix separator group no_separator (between some).0 are.last are.size are.two are.some digits all
         | inr none ↦ single_fits m radix separator group no_separator parts.Integer digits all (omega (arith, none))
       ]
 
