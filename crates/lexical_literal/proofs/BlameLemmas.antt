@@ -47,7 +47,7 @@ module _ (m : Notation) where
   pub bare_weaker : IsWeaker m (bare m).flag no_condition
   bare_weaker = record { no_more = λ f is. grind arith; no_less = λ f is. grind arith; conditions = λ c is. absurd (false≢true is) }
 
-  own_weaker : IsWeaker m m.flag m.condition
+  pub own_weaker : IsWeaker m m.flag m.condition
   own_weaker = record { no_more = λ f is. grind arith; no_less = λ f is. grind arith; conditions = λ c is. is }
 
   same_condition : (c d : Condition) → (is_same c d || false) ≡ true → c ≡ d

@@ -19,6 +19,7 @@ use Rattle.lexical_literal.specs.declared.groups.Group.{Group}
 use Rattle.lexical_literal.specs.declared.steps.Summary.{Summary}
 use Rattle.lexical_literal.specs.declared.syntax.Condition.{Condition}
 use Rattle.lexical_literal.specs.declared.syntax.Condition.TheVariants as conditions
+use Rattle.lexical_literal.proofs.BlameLemmas.{own_weaker}
 use Rattle.lexical_literal.proofs.CauseLemmas.{behind_more}
 use Rattle.lexical_literal.proofs.DecideLemmas.{decided_of}
 use Rattle.lexical_literal.proofs.FitLemmas.{linked_there}
@@ -109,6 +110,10 @@ module _ (m : Notation) (ready : IsReady (unsized m)) (sizes : HasSizes m) (fron
       | inl is ↦ ap (λ (g : Group). fits n g (role_next n g.part next)) (same_group is)
       | inr none ↦ free g.part _ none ∙ sym (free last.part _ (no_group none))
     ]
+
+  -- It allows what the group that has been read allows.
+  pub goes_too : (next : Option ℕ) → goes m s g next ≡ goes m s last next
+  goes_too next = ap (λ t. lets (unsized m) s next && t) (same_fit m.flag m.condition (own_weaker m) next)
 
   -- What has been read, with this group, decides what is allowed.
   pub is_read_of : IsReadOf m s last front

@@ -10,5 +10,5 @@ pub returns-in-Some : goal.returns-in-Some
 returns-in-Some c = begun_with (notation_of c.args.grammar) c.requires.ready c.requires.sizes c.args.text.now c.args.counted c.requires.found
     c.in-Some.group (sym c.group_after.ensures ∙ c.in-Some.is) (λ yes. elim c.if-not-counted.branch [
       | then-not-counted w ↦ absurd (false≢true (sym (ap not yes) ∙ w.if-not-counted.true))
-      | else-not-counted w ↦ sym w.fits.ensures ∙ w.value-is ∙ c.if-fits.true
+      | else-not-counted w ↦ sym w.fits.ensures ∙ sym w.value-is ∙ c.if-fits.true
     ])
