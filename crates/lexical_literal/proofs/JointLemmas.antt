@@ -9,7 +9,6 @@ use Rattle.lexical_util.specs.declared.feature_format.roles.Role.TheVariants as 
 use Rattle.lexical_util.specs.declared.format_flags.Part.{Part}
 use Rattle.lexical_util.specs.declared.format_flags.Part.TheVariants as parts
 use Rattle.lexical_literal.specs.Notation.{Notation, is_same}
-use Rattle.lexical_literal.specs.Run.{is_place}
 use Rattle.lexical_literal.specs.Cause.{adding, bare, binds, is_at, is_one_of, number_separator_flags, with_rules}
 use Rattle.lexical_literal.specs.Additions.Causes.{is_separator, lets, place_of}
 use Rattle.lexical_literal.specs.Additions.Summary.{admits, after, complete_by, continues, digits_suffice, ends, finishes, has_digit, implies, may_follow}

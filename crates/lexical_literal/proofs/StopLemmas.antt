@@ -13,7 +13,7 @@ use Rattle.lexical_literal.specs.Groups.{has_size, has_sizes}
 use Rattle.lexical_literal.specs.Notation.{Notation}
 use Rattle.lexical_literal.specs.Additions.Causes.{IsWeaker, lets}
 use Rattle.lexical_literal.specs.Additions.Plain.{HasRoles, HasSizes, IsReady}
-use Rattle.lexical_literal.specs.Additions.Sizes.{IsReadOf, first_group, fits, follows, goes, group_after, grow, grown, next_part, role_next, unsized}
+use Rattle.lexical_literal.specs.Additions.Sizes.{IsReadOf, first_group, fits, goes, group_after, grown, role_next, unsized}
 use Rattle.lexical_literal.specs.Additions.Summary.{part_of, role_at, scan, start}
 use Rattle.lexical_literal.specs.declared.groups.Group.{Group}
 use Rattle.lexical_literal.specs.declared.steps.Summary.{Summary}

@@ -13,11 +13,10 @@ use Rattle.lexical_util.specs.Record.{raw}
 use Rattle.lexical_util.specs.Roles.{signs}
 use Rattle.lexical_util.specs.declared.format_flags.Part.{Part}
 use Rattle.lexical_util.specs.declared.format_flags.Part.TheVariants as parts
-use Rattle.lexical_literal.specs.Literal.{Literal, condition, has_leading_zero, is_absent, is_none_or_one, is_plus, is_present, requirement, text_of}
+use Rattle.lexical_literal.specs.Literal.{Literal, Reads, condition, has_leading_zero, is_absent, is_none_or_one, is_plus, is_present, requirement, text_of}
 use Rattle.lexical_literal.specs.Notation.{Notation, has, notation_of}
 use Rattle.lexical_literal.specs.Readings.{AllIn}
 use Rattle.lexical_literal.specs.Run.{are_fit}
-use Rattle.lexical_literal.specs.Takes.{Takes}
 use Rattle.lexical_literal.specs.declared.syntax.Condition.{Condition}
 use Rattle.lexical_literal.specs.declared.syntax.Grammar.{Grammar}
 use Rattle.lexical_value.specs.Private.{AllowPlain, IsSpelled, TakesDecimals, unsigned}
@@ -63,11 +62,13 @@ module _ (g : Grammar) (sign integer point fraction character exponent_sign expo
       (allow : AllowPlain g.conditions (is_minus sign)) (exponents : (character ≡ []) ⊎ TakesDecimals (raw g.word)) (spelled : IsSpelled plain)
       (digits : AllIn (m.digit parts.Integer) integer) where
     -- A condition requires nothing that is not there.
-    admitted : (c : Condition) → IsTrue (has g.conditions c) → IsTrue (is_none_or_one signs sign) → IsTrue (condition c plain)
+    admitted : (c : Condition) → IsTrue (has g.conditions c) → IsTrue (is_none_or_one signs sign) → IsTrue (condition c m plain)
     admitted c set is =
         let prefix = allow.prefix in
         let suffix = allow.suffix in
         let minus = allow.sign in
+        let whole = allow.integer in
+        let part = allow.fraction in
         let signed = positive sign in
         grind arith
       where
@@ -91,9 +92,8 @@ module _ (g : Grammar) (sign integer point fraction character exponent_sign expo
         → (IsTrue (m.flag layout.no_positive_mantissa_sign) → is_plus sign ≡ false)
         → IsTrue (is_none_or_one m.point point) → AllIn (m.digit parts.Fraction) fraction
         → IsTrue (is_none_or_one m.exponent_character character) → IsTrue (is_none_or_one signs exponent_sign)
-        → (IsTrue (m.flag layout.no_positive_exponent_sign) → is_plus exponent_sign ≡ false) → AllIn (m.digit parts.Exponent) exponent → Takes g plain text
+        → (IsTrue (m.flag layout.no_positive_exponent_sign) → is_plus exponent_sign ≡ false) → AllIn (m.digit parts.Exponent) exponent → Reads m plain text
     reads text rest whole is signed plus pointed fractions marked exponent_signed exponent_plus exponent_digits = record {
-      reads = record {
         whole = whole ∙ ap (λ t. sign ++ t) (is ∙ (λ i. integer ++ (point ++ (fraction ++ (character ++ (exponent_sign ++ sym (append-nil exponent) i))))));
         literal = record {
           conditions = λ c set. admitted c set signed;
@@ -116,8 +116,6 @@ module _ (g : Grammar) (sign integer point fraction character exponent_sign expo
             requirements = met plus exponent_plus;
           };
         };
-      };
-      groups = let none = allow.groups in grind arith;
     }
 
 -- Behind its sign, the text of a literal without a prefix and a suffix has its other parts.

@@ -11,12 +11,13 @@ use Rattle.lexical_literal.specs.declared.syntax.Condition.TheVariants as condit
 use Rattle.lexical_literal.specs.declared.syntax.Conditions.{Conditions}
 use Rattle.lexical_value.specs.declared.plain_float.Plain.{Plain}
 
--- `AllowPlain c negative` holds if no condition of `c` requires a prefix, a suffix or groups of digits, and if none forbids
+-- `AllowPlain c negative` holds if no condition of `c` requires a prefix, a suffix or sizes of groups, and if none forbids
 -- the sign `-` or `negative` is false.
 pub record AllowPlain (c : Conditions) (negative : Bool) : Type 0 where
   pub prefix : has c conditions.BasePrefix ≡ false
   pub suffix : has c conditions.BaseSuffix ≡ false
-  pub groups : has c conditions.IntegerGroupSize ≡ false
+  pub integer : has c conditions.IntegerGroupSize ≡ false
+  pub fraction : has c conditions.FractionGroupSize ≡ false
   pub sign : IsTrue (has c conditions.NegativeSign) → negative ≡ false
 
 -- `TakesDecimals r` holds if all radixes of `r` are 10, and no flag requires a sign or an exponent, or restricts exponents.

@@ -3,9 +3,9 @@
 ghost use Rattle.std.specs.Prelude.{◌≡◌, ◌++◌, false, IfSome, IsTrue};
 ghost use Rattle.lexical_util.specs.Record.{raw};
 ghost use Rattle.lexical_util.specs.Roles as sets;
-ghost use Rattle.lexical_literal.specs.Literal.{Literal, is_none_or_one, is_plus};
+ghost use Rattle.lexical_literal.specs.Literal.{Literal, Reads, is_none_or_one, is_plus};
+ghost use Rattle.lexical_literal.specs.Notation.{notation_of};
 ghost use Rattle.lexical_literal.specs.Parts.{literal_of};
-ghost use Rattle.lexical_literal.specs.Takes.{Takes};
 ghost use Rattle.lexical_value.specs.Integer.{IsInteger};
 ghost use Rattle.lexical_value.specs.Private.{AllowPlain, IsSpelled};
 ghost use Rattle.lexical_value.specs.Value.{is_minus};
@@ -20,7 +20,7 @@ use lexical_number::numeral::Numeral;
 // others, returns `None`.
 #[inline(always)]
 pub(crate) fn plain_integer<T: Integer>(syntax: Syntax, text: &[u8]) -> Option<T>
-    ensures { IfSome result (λ value. (l : Literal) × Takes syntax l text.now × IsInteger (raw syntax.word) l (T.range.value value)) }
+    ensures { IfSome result (λ value. (l : Literal) × Reads (notation_of syntax) l text.now × IsInteger (raw syntax.word) l (T.range.value value)) }
 {
     let format = syntax.format().view();
     if format.required_mantissa_sign()
@@ -60,6 +60,7 @@ pub(crate) const fn allow_plain(conditions: Conditions, text: &[u8]) -> bool
     !conditions.has(Condition::BasePrefix)
         && !conditions.has(Condition::BaseSuffix)
         && !conditions.has(Condition::IntegerGroupSize)
+        && !conditions.has(Condition::FractionGroupSize)
         && !(conditions.has(Condition::NegativeSign) && is_minus(text))
 }
 

@@ -6,9 +6,8 @@ ghost use Rattle.std.specs.Str.Parse.{AllDigits, digits_value_after};
 ghost use Rattle.lexical_util.specs.Record.{Record, raw};
 ghost use Rattle.lexical_util.specs.Roles as sets;
 ghost use Rattle.lexical_literal.specs.Literal.{Literal, Reads, is_none_or_one};
-ghost use Rattle.lexical_literal.specs.Notation.{Notation};
+ghost use Rattle.lexical_literal.specs.Notation.{Notation, notation_of};
 ghost use Rattle.lexical_literal.specs.Parts.{literal_of};
-ghost use Rattle.lexical_literal.specs.Takes.{Takes};
 ghost use Rattle.lexical_number.specs.Binary.{format_of};
 ghost use Rattle.lexical_value.specs.Float.{nearest};
 ghost use Rattle.lexical_value.specs.Private.{AllowPlain, IsPlain, TakesDecimals};
@@ -45,7 +44,7 @@ struct Run<'a> {
 // the value. For some of these texts, and for all others, returns `None`.
 #[inline(always)]
 pub(crate) fn plain_float<F: Float>(syntax: Syntax, text: &[u8]) -> Option<F>
-    ensures { IfSome result (λ value. (l : Literal) × Takes syntax l text.now
+    ensures { IfSome result (λ value. (l : Literal) × Reads (notation_of syntax) l text.now
         × (F.value value ≡ nearest (format_of F.DOUBLE) (raw syntax.word) l)) }
 {
     let options = syntax.options()?;
@@ -117,7 +116,7 @@ fn read_plain<'a>(syntax: Syntax, options: Options, text: &'a [u8]) -> Option<Pl
     requires options { syntax.options ≡ Some options }
     requires conditions { AllowPlain syntax.conditions (is_minus text.now) }
     requires decimals { TakesDecimals (raw syntax.word) }
-    ensures takes { IfSome result (λ plain. Takes syntax (literal_of plain.parts) text.now) }
+    ensures takes { IfSome result (λ plain. Reads (notation_of syntax) (literal_of plain.parts) text.now) }
     ensures minus { IfSome result (λ plain. is_minus text.now ≡ is_minus (literal_of plain.parts).sign) }
     ensures plain { IfSome result (λ plain. IsPlain plain) }
 {

@@ -46,6 +46,7 @@ pub(crate) const fn allow_plain(conditions: Conditions, text: &[u8]) -> bool {
     !conditions.has(Condition::BasePrefix)
         && !conditions.has(Condition::BaseSuffix)
         && !conditions.has(Condition::IntegerGroupSize)
+        && !conditions.has(Condition::FractionGroupSize)
         && !(conditions.has(Condition::NegativeSign) && is_minus(text))
 }
 

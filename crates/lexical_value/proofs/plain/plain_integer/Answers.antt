@@ -3,8 +3,8 @@ use Rattle.std.proofs.Common.{◌≡◌, [], append-nil, ap, ◌∙◌, inl, not
 use Rattle.lexical_util.specs.Layout.{Flag}
 use Rattle.lexical_util.specs.Layout as layout
 use Rattle.lexical_util.specs.Record.{raw}
-use Rattle.lexical_literal.specs.Literal.{Literal}
-use Rattle.lexical_literal.specs.Takes.{Takes}
+use Rattle.lexical_literal.specs.Literal.{Literal, Reads}
+use Rattle.lexical_literal.specs.Notation.{notation_of}
 use Rattle.lexical_number.specs.Number.{number}
 use Rattle.lexical_number.specs.Numeral.{with_sign}
 use Rattle.lexical_value.specs.Integer.{IsInteger}
@@ -20,7 +20,7 @@ returns g c =
     let integer = c.split_sign.result.1.now in
     let radix = c.mantissa_radix.ensures.value ∙ ap (λ w. (raw w).byte layout.mantissa_radix) word in
     if_fits g.T.Integer.range.value
-    (λ z. (l : Literal) × Takes c.args.syntax l c.args.text.now × IsInteger (raw c.args.syntax.word) l z) _ _ c.from_numeral.result
+    (λ z. (l : Literal) × Reads (notation_of c.args.syntax) l c.args.text.now × IsInteger (raw c.args.syntax.word) l z) _ _ c.from_numeral.result
     c.from_numeral.ensures (λ fits. (
       _,
       reads c.args.syntax c.split_sign.result.0.now integer [] [] [] [] []

@@ -1,5 +1,4 @@
 -- A literal that has been found is measured.
-use Rattle.std.proofs.Common.{arith}
 use Rattle.std.proofs.lemmas.Bool.{eqb-true}
 use Rattle.lexical_literal.proofs.LongestLemmas.{found_whole}
 use Rattle.lexical_literal.proofs.syntax.Syntax.is_whole.Goals as goal

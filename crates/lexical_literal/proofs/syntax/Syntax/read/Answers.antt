@@ -6,7 +6,7 @@ use Rattle.lexical_literal.specs.Notation.{notation_of}
 use Rattle.lexical_literal.specs.Parts.{IsRead}
 use Rattle.lexical_literal.specs.declared.read.Parts.{Parts}
 use Rattle.lexical_literal.specs.declared.syntax.Grammar.{Grammar}
-use Rattle.lexical_literal.proofs.LongestLemmas.{none_whole}
+use Rattle.lexical_literal.proofs.LongestLemmas.{none_whole, read_whole}
 use Rattle.lexical_literal.proofs.syntax.Syntax.read.Goals as goal
 
 refused : (g : Grammar) (text : List ℕ) (r : Result Parts Explained) → NoLiteral (notation_of g) text
@@ -22,3 +22,7 @@ pub returns-then-counted : goal.returns-then-counted
 returns-then-counted c =
     let stop = c.begin-counted.ensures.exact c.if-counted.true in
     refused c.args.self.now c.args.text.now c.refuse.result (none_whole _ _ _ stop.1 (λ all. absurd (omega (arith, all, stop.0)))) c.refuse.ensures
+
+pub returns-then-is_whole : goal.returns-then-is_whole
+returns-then-is_whole c =
+    read_whole c.args.self.now c.args.text.now c.begin-counted.result.counts c.cut.result (c.is_whole.ensures c.if-is_whole.true) c.cut.ensures

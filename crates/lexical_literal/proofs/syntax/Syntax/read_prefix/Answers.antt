@@ -1,7 +1,8 @@
 -- A text of which no front is a literal is none.
-use Rattle.std.proofs.Common.{ℕ, List, Result, Ok, Err, IsErrAnd, ap, is_some}
+use Rattle.std.proofs.Common.{ℕ, List, Result, Ok, Err, IsErrAnd, ap, is_some, sym, subst, ◌∙◌}
+use Rattle.std.proofs.lemmas.Bool.{false≢true}
 use Rattle.lexical_literal.specs.Cause.{Explained, IsRefusal}
-use Rattle.lexical_literal.specs.Front.{NoFront}
+use Rattle.lexical_literal.specs.Front.{NoFront, ReadsFront}
 use Rattle.lexical_literal.specs.Notation.{notation_of}
 use Rattle.lexical_literal.specs.Parts.{IsReadPrefix}
 use Rattle.lexical_literal.specs.declared.number.Front.{Front}
@@ -20,3 +21,19 @@ refuse-requires-clause-refused c = none_whole _ _ (c.front-found.ensures.none (a
 pub returns-in-None : goal.returns-in-None
 returns-in-None c =
     refused c.args.self.now c.args.text.now c.refuse.result (c.front-found.ensures.none (ap is_some c.in-None.is)) c.refuse.ensures
+
+pub front_of-requires : goal.front_of-requires
+front_of-requires c = (c.front-found.ensures.longest c.in-Some.found c.in-Some.is).reads.within
+
+pub cut-parts-requires : goal.cut-parts-requires
+cut-parts-requires c = let is = c.front-found.ensures.longest c.in-Some.found c.in-Some.is in
+    (is.literal, c.front_of.ensures ∙ is.reads.reads.whole, is.counted is.literal is.reads.reads)
+
+pub returns-in-Some : goal.returns-in-Some
+returns-in-Some c =
+    let is = c.front-found.ensures.longest c.in-Some.found c.in-Some.is in
+    let same = c.cut-parts.ensures is.literal (c.front_of.ensures ∙ is.reads.reads.whole) (is.counted is.literal is.reads.reads) in record {
+      found = subst (λ l. ReadsFront (notation_of c.args.self.now) l c.args.text.now c.in-Some.found.size) (sym same) is.reads;
+      none = λ err. absurd (false≢true err);
+      error = tt;
+    }
