@@ -1,4 +1,5 @@
 pub mod NumberLemmas
+mod BigLemmas
 mod BinaryLemmas
 mod TenLemmas
 pub mod LeadingLemmas
