@@ -5,11 +5,12 @@
 
 mod big;
 pub mod binary;
-pub mod decimal;
+// pub mod decimal;
 pub mod float;
 pub mod integer;
 pub mod laws;
 pub mod leading;
+mod long;
 pub mod nearest;
 pub mod numeral;
 pub mod parts;
