@@ -1,5 +1,6 @@
 pub mod NumberLemmas
 mod BigLemmas
+mod NearLemmas
 mod BinaryLemmas
 mod TenLemmas
 pub mod LeadingLemmas

@@ -5,7 +5,7 @@
 
 mod big;
 pub mod binary;
-// pub mod decimal;
+pub mod decimal;
 pub mod float;
 pub mod integer;
 pub mod laws;
