@@ -8,7 +8,6 @@ pub mod binary;
 pub mod decimal;
 pub mod float;
 pub mod integer;
-pub mod laws;
 pub mod leading;
 mod long;
 pub mod nearest;
