@@ -92,13 +92,13 @@ pub(crate) const fn nearest_to_word(double: bool, word: u64, more: bool, up: u12
     settle(double, word, more, dropped, exponent)
 }
 
-// Returns the leading 58 bits of a number, whether some of the others are not 0, and by how many bits the number was
-// shifted before 70 were dropped.
+// Returns the leading 56 bits of a number, whether some of the others are not 0, and by how many bits the number was
+// shifted before 72 were dropped.
 #[inline(always)]
 const fn leading_word(digits: u128, more: bool) -> (u64, bool, u64) {
     let zeros = digits.leading_zeros() as u64;
     let lifted = digits << zeros;
-    ((lifted >> 70) as u64, more | (lifted % (1 << 70) != 0), zeros)
+    ((lifted >> 72) as u64, more | (lifted % (1 << 72) != 0), zeros)
 }
 
 /// Returns the bits of the float nearest to `digits * 2 ^ up / 2 ^ down`, or to a number that is above this, if `more` is
@@ -109,5 +109,5 @@ pub const fn nearest_bits(double: bool, digits: u128, more: bool, up: u128, down
         return 0;
     }
     let (word, more, zeros) = leading_word(digits, more);
-    nearest_to_word(double, word, more, up + 70, down + zeros as u128)
+    nearest_to_word(double, word, more, up + 72, down + zeros as u128)
 }

@@ -1,4 +1,4 @@
--- The word has enough bits for a significand, and at least 4 more.
+-- The word has enough bits for a significand, and at least 3 more.
 use Rattle.core.specs.Prelude.{◌≡◌, ℕ, suc, ◌+◌, ◌^◌, ◌<◌, ◌≤◌}
 use mathlib.Core.Path.{ap}
 use native.Mathlib.Omega.{arith}
@@ -10,12 +10,12 @@ use Rattle.lexical_number.proofs.BinaryLemmas.{significand_at, cut_at}
 use Rattle.lexical_number.proofs.binary.nearest_to_word.Goals as goal
 
 -- The highest bit, and the zeros above it.
-top : (word : ℕ) → 2 ^ 57 ≤ word → word < 2 ^ 64
-    → (j : ℕ) × (j + 1 + count_leading_zeros 64 word ≡ 64) × (2 ^ j ≤ word) × (word < 2 ^ (j + 1)) × (57 ≤ j)
+top : (word : ℕ) → 2 ^ 55 ≤ word → word < 2 ^ 64
+    → (j : ℕ) × (j + 1 + count_leading_zeros 64 word ≡ 64) × (2 ^ j ≤ word) × (word < 2 ^ (j + 1)) × (55 ≤ j)
 top word from fits =
     let t = leading_top 64 word (omega (arith, from)) fits in
     let less : word < 2 ^ (t.0 + 1) = omega (arith, t.3, ap (λ k. 2 ^ k) {x = suc t.0} {y = t.0 + 1} (omega arith)) in
-    (t.0, omega (arith, t.1), t.2, less, (let far : 57 < t.0 + 1 = lt_of_not-le (λ (g : t.0 + 1 ≤ 57). omega (arith, pow_mono {i = t.0 + 1} {j = 57} g)) in omega (arith, far)))
+    (t.0, omega (arith, t.1), t.2, less, (let far : 55 < t.0 + 1 = lt_of_not-le (λ (g : t.0 + 1 ≤ 55). omega (arith, pow_mono {i = t.0 + 1} {j = 55} g)) in omega (arith, far)))
 
 pub overflow_sub-least-2 : goal.overflow_sub-least-2
 overflow_sub-least-2 c =
