@@ -35,8 +35,8 @@
  * If a call succeeds, a peltzivar_error, a peltzivar_value_status or a peltzivar_write_status is 0, a bool is true, and
  * peltzivar_read_settings returns 0. No function depends on the locale.
  *
- * Each function that ends in _text, and peltzivar_source, write a null-terminated ASCII string to a buffer of len
- * bytes, as snprintf does. If the string and its null terminator do not fit, they write only the beginning of the
+ * Each function that ends in _text, and peltzivar_source, peltzivar_sentence, peltzivar_grammar and peltzivar_regex,
+ * write a null-terminated ASCII string to a buffer of len bytes, as snprintf does. If the string and its null terminator do not fit, they write only the beginning of the
  * string and a null terminator. If len is 0, they write nothing. They always return the length of the whole string, not
  * counting the null terminator. A function that returns a const char * returns a null-terminated ASCII string that
  * lasts as long as the program. A string is empty if nothing has the number or index that is passed.
@@ -86,8 +86,8 @@ typedef uint8_t peltzivar_setter;
 typedef uint32_t peltzivar_error;
 #define PELTZIVAR_NO_SETTER 255
 
-/* The number of fields, and the sizes of buffers for any string of peltzivar_source, and of any other function whose
- * name ends in `_text`. */
+/* The number of fields, and the sizes of buffers for any string of peltzivar_source, peltzivar_sentence,
+ * peltzivar_grammar and peltzivar_regex, and of any function whose name ends in `_text`. */
 #define PELTZIVAR_FIELD_COUNT 37
 #define PELTZIVAR_SOURCE_SIZE 2048
 #define PELTZIVAR_TEXT_SIZE 256
@@ -152,6 +152,15 @@ peltzivar_error peltzivar_check_syntax(const peltzivar_syntax *syntax);
 /* Writes why peltzivar_check_syntax refuses a syntax as a sentence, such as "the exponent character 'e' is a digit in
  * radix 16". If it accepts the syntax, writes an empty string. */
 size_t peltzivar_syntax_error_text(const peltzivar_syntax *syntax, char *text, size_t len);
+
+/* Write a syntax in other words, or an empty string if peltzivar_check_syntax refuses it. The first writes a sentence on
+ * what differs from decimal digits with an optional sign, point and exponent, such as "decimal; no `+`; NaN". The others
+ * write the literals, without special values: as a grammar in the notation of W3C, with a rule a line, the first of
+ * which is "Literal", and as a regular expression for whole texts, of at most 500 characters, the same for Python,
+ * JavaScript and Rust. */
+size_t peltzivar_sentence(const peltzivar_syntax *syntax, char *text, size_t len);
+size_t peltzivar_grammar(const peltzivar_syntax *syntax, char *text, size_t len);
+size_t peltzivar_regex(const peltzivar_syntax *syntax, char *text, size_t len);
 
 /* LITERALS
  *

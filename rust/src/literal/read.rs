@@ -44,7 +44,7 @@ impl Syntax {
     // Returns whether the integer of the literal `text` is in groups, if the syntax requires it.
     #[inline(always)]
     const fn has_groups(&self, text: &[u8], counts: [usize; 9]) -> bool {
-        let grammar = self.grammar();
+        let grammar = self.as_grammar();
         match grammar.conditions.get(Condition::IntegerGroupSize) {
             None => true,
             Some(size) => {
@@ -70,7 +70,7 @@ impl Syntax {
     #[inline(always)]
     pub(crate) const fn grouped(&self, text: &[u8], found: Found) -> Result<(), ReadError> {
         let front = front_of(text, found.size);
-        match self.grammar().conditions.get(Condition::IntegerGroupSize) {
+        match self.as_grammar().conditions.get(Condition::IntegerGroupSize) {
             Some(size) if !self.has_groups(front, found.counts) => self.ungrouped(front, size),
             _ => Ok(()),
         }
@@ -80,7 +80,7 @@ impl Syntax {
     // `text`, may not be said to be one, which takes less time.
     #[inline(always)]
     pub(crate) const fn begin(&self, text: &[u8], fronts: bool) -> Counted {
-        plain(self.grammar(), text, fronts)
+        plain(self.as_grammar(), text, fronts)
     }
 
     // Returns whether all of `text` is a literal that has been read.
@@ -127,7 +127,7 @@ impl Syntax {
     // Returns the role of the byte that follows, and what has been read with it, or `None` if reading stops at `at`.
     #[inline(always)]
     const fn step(&self, text: &[u8], at: At) -> Option<(Role, At)> {
-        let grammar = self.grammar();
+        let grammar = self.as_grammar();
         let At { size, read } = at;
         if size == text.len() {
             return None;
@@ -161,7 +161,7 @@ impl Syntax {
     // Returns the longest front of `text` that is a literal, and the lengths of its parts, if there is one.
     #[cold]
     const fn longest(&self, text: &[u8]) -> Option<Found> {
-        let grammar = self.grammar();
+        let grammar = self.as_grammar();
         let mut at = BEGIN;
         let mut counts = [0; 9];
         let mut found = None;
@@ -180,14 +180,14 @@ impl Syntax {
     // Returns whether what has been read is a literal.
     #[inline(always)]
     const fn is_complete(&self, read: Summary) -> bool {
-        is_complete(self.grammar(), read)
+        is_complete(self.as_grammar(), read)
     }
 
     // Returns why `text`, of which reading stopped at `stop`, is not a literal, as the result of the caller, which takes less
     // time than to copy an error.
     #[inline(always)]
     pub(crate) const fn refuse<T>(&self, text: &[u8], stop: At) -> Result<T, ReadError> {
-        match self.grammar().conditions.get(Condition::IntegerGroupSize) {
+        match self.as_grammar().conditions.get(Condition::IntegerGroupSize) {
             Some(size) if stop.size == text.len() && self.is_complete(stop.read) => self.ungrouped(text, size),
             _ => self.refuse_byte(text, stop),
         }
@@ -197,7 +197,7 @@ impl Syntax {
     #[cold]
     const fn ungrouped<T>(&self, text: &[u8], size: u8) -> Result<T, ReadError> {
         let counts = self.count(text);
-        let grammar = self.grammar();
+        let grammar = self.as_grammar();
         let parts = cut(text, counts);
         let before = parts.sign.len() + parts.prefix.len();
         let (start, end) = wrong_group(grammar, size, parts.integer);
@@ -216,7 +216,7 @@ impl Syntax {
     // Returns why the byte that follows is not allowed, or what is missing.
     #[cold]
     const fn refuse_byte<T>(&self, text: &[u8], stop: At) -> Result<T, ReadError> {
-        let grammar = self.grammar();
+        let grammar = self.as_grammar();
         let size = stop.size;
         let byte = byte_at(text, size);
         Err(ReadError {
