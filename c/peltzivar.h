@@ -112,8 +112,8 @@ typedef struct {
     peltzivar_word format;
     uint8_t exponent, decimal_point;
     bool required_base_prefix, required_base_suffix, no_negative_mantissa_sign;
-    uint8_t integer_group_size;
-    uint8_t reserved[10];
+    uint8_t integer_group_size, higher_group_size, fraction_group_size;
+    uint8_t reserved[8];
 } peltzivar_syntax;
 
 /* Settings build a syntax. A text, such as a file, has one setting a line, NAME=VALUE, of a field, a group, an option
@@ -302,7 +302,9 @@ enum {
     PELTZIVAR_CONDITION_REQUIRED_BASE_PREFIX = 1,
     PELTZIVAR_CONDITION_REQUIRED_BASE_SUFFIX = 2,
     PELTZIVAR_CONDITION_NO_NEGATIVE_MANTISSA_SIGN = 4,
-    PELTZIVAR_CONDITION_INTEGER_GROUP_SIZE = 8
+    PELTZIVAR_CONDITION_INTEGER_GROUP_SIZE = 8,
+    PELTZIVAR_CONDITION_HIGHER_GROUP_SIZE = 16,
+    PELTZIVAR_CONDITION_FRACTION_GROUP_SIZE = 32
 };
 
 /* Writes why a text is not a literal to *out and returns true. If no call has written *error, or if the syntax, the

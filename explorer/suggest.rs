@@ -61,9 +61,7 @@ impl State {
 
     /// Returns why each condition that does not fit a lawful word does not.
     pub fn misfits(self) -> impl Iterator<Item = ConditionsError> {
-        let syntax = Format::new(self.word).ok().map(Syntax::integers);
-        let only = move |it| Conditions::NONE.with(it, self.conditions.number(it));
-        Condition::ALL.iter().filter_map(move |&it| syntax?.with_conditions(only(it)).err())
+        Format::new(self.word).ok().into_iter().flat_map(move |it| Syntax::integers(it).contradictions(self.conditions))
     }
 
     fn with_condition(self, condition: Condition, number: u8) -> Self {

@@ -266,7 +266,9 @@ class _Syntax(Structure):
         ("required_base_suffix", c_bool),
         ("no_negative_mantissa_sign", c_bool),
         ("integer_group_size", c_uint8),
-        ("reserved", c_uint8 * 10),
+        ("higher_group_size", c_uint8),
+        ("fraction_group_size", c_uint8),
+        ("reserved", c_uint8 * 8),
     ]
 
 
@@ -1339,6 +1341,8 @@ class Syntax:
     required_base_suffix: bool = False
     no_negative_mantissa_sign: bool = False
     integer_group_size: Optional[int] = None
+    higher_group_size: Optional[int] = None
+    fraction_group_size: Optional[int] = None
     # End
     # What calls read by.
     _by: Any = field(init=False, repr=False, compare=False)
@@ -1427,6 +1431,8 @@ class Syntax:
         required_base_suffix: bool = _KEPT,
         no_negative_mantissa_sign: bool = _KEPT,
         integer_group_size: Optional[int] = _KEPT,
+        higher_group_size: Optional[int] = _KEPT,
+        fraction_group_size: Optional[int] = _KEPT,
         # End
     ) -> Syntax:
         """Returns the syntax that settings make, such as the lines of a file, and then keyword arguments. Raises
@@ -1505,6 +1511,8 @@ class Syntax:
         required_base_suffix: bool = _KEPT,
         no_negative_mantissa_sign: bool = _KEPT,
         integer_group_size: Optional[int] = _KEPT,
+        higher_group_size: Optional[int] = _KEPT,
+        fraction_group_size: Optional[int] = _KEPT,
         # End
     ) -> Tuple[Note, ...]:
         """Returns the notes on settings that later ones override, the first 32 alone, and on those that have no effect,

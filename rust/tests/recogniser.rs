@@ -355,7 +355,7 @@ fn compare(word: u128, options: Option<(u8, u8)>, required: u128, bytes: &[u8], 
 fn possible(word: u128) -> u128 {
     let has_byte = |bit: u32| u128::from(word >> bit & 0xFF != 0);
     let conditions = has_byte(88) | has_byte(96) << 1 | 1 << 2;
-    conditions << CONDITIONS | u128::from(is_set(word, 32)) << (GROUP_SIZE + 1)
+    conditions << CONDITIONS | has_byte(64) * u128::from(is_set(word, 32)) << (GROUP_SIZE + 1)
 }
 
 /// Compares the syntaxes of the languages, with their conditions and with all that are possible, and random words with

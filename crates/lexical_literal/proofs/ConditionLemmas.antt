@@ -138,7 +138,7 @@ module _ (m : Notation) (h : HasRoles m) where
             sym (some_bytes l.suffix) ∙ ap (nat_lt 0) (sym (suffix_length l)) ∙ met.1 set
         each l text whole spelled is lengths met conditions.NegativeSign set =
             positive l.sign _ spelled.sign set (subst (Accepts C m (Some start)) whole is)
-        each l text whole spelled is lengths met conditions.IntegerGroupSize set = refl
+        each l text whole spelled is lengths met _ set = refl
 
   -- A LITERAL IS ACCEPTED
 

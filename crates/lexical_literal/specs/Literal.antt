@@ -92,7 +92,7 @@ abbrev pub condition : Condition → Literal → Bool
 condition conditions.BasePrefix l = is_present l.prefix
 condition conditions.BaseSuffix l = is_present l.suffix
 condition conditions.NegativeSign l = is_absent l.sign || is_plus l.sign
-condition conditions.IntegerGroupSize l = true
+condition _ l = true
 
 -- `IsSpelled m l` holds if each part of `l` is spelled as the notation `m` allows, if the parts go together, and if they
 -- are as each flag that is set requires.

@@ -106,12 +106,17 @@ impl ReadError {
                 (shown(ShortText::of("expected the suffix "), base_suffix(grammar.word)), " requires")
             }
             Condition::NegativeSign => (ShortText::of("unexpected minus sign"), " forbids"),
-            Condition::IntegerGroupSize => {
-                (ShortText::of("expected groups of ").decimal(number as usize).and(" digits"), " requires")
-            }
+            Condition::IntegerGroupSize => (groups("expected groups of ", number), " requires"),
+            Condition::HigherGroupSize => (groups("expected higher groups of ", number), " requires"),
+            Condition::FractionGroupSize => (groups("expected fraction groups of ", number), " requires"),
         };
         text.and(", which ").and(condition.name()).and(verb)
     }
+}
+
+/// Returns the beginning of the sentence for a size of groups.
+const fn groups(text: &str, size: u8) -> ShortText {
+    ShortText::of(text).decimal(size as usize).and(" digits")
 }
 
 /// Appends a byte as it is or, if it is not visible, in decimal.
