@@ -55,7 +55,8 @@ def syntax_of(**fields):
 
 def grammar_regex(grammar):
     """Returns a regular expression for the first rule of a grammar in the notation of W3C."""
-    rules = dict(re.fullmatch(r"(\w+) +::= (.*)", line).groups() for line in grammar.splitlines())
+    rows = [re.fullmatch(r"(\w+) +::= (.*)", line).groups() for line in grammar.splitlines()]
+    rules = dict(rows)
     used = {"Literal"}
 
     def translated(word):
@@ -69,7 +70,7 @@ def grammar_regex(grammar):
         return "".join(map(translated, re.findall(WORD, rules[name])))
 
     found = expression("Literal")
-    assert used == set(rules), grammar
+    assert sorted(used) == sorted(name for name, _ in rows) and rows[0][0] == "Literal", grammar
     return found
 
 

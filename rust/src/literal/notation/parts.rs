@@ -1,221 +1,113 @@
-//! The parts of a literal as expressions, for a grammar and for a regular expression.
+//! The parts of a literal as expressions.
 
-use core::fmt::{self, Display, Formatter};
-
-use super::expression::{Expression, Notation, Pool};
-use crate::literal::steps::{allows_minus, allows_plus, is_digit, is_exponent_character, is_point, is_separator};
+use super::expression::{Expression, Pool};
+use crate::literal::steps::{self, allows_minus, allows_plus, is_digit, is_separator, needs_exponent};
 use crate::literal::syntax::{Condition, Conditions, Grammar};
-use crate::literal::{steps, Syntax};
 use crate::word::Part;
 
-/// The grammar of a syntax.
-pub(super) struct Rules(pub(super) Syntax);
-
-/// The regular expression of a syntax.
-pub(super) struct Regex(pub(super) Syntax);
-
-impl Display for Rules {
-    fn fmt(&self, f: &mut Formatter<'_>) -> fmt::Result {
-        let pool = Pool::new();
-        let literal = literal(&pool, self.0.as_grammar()).named("Literal");
-        for name in ["Literal", "Prefix", "Integer", "Fraction", "Exponent", "Digit", "ExponentDigit"] {
-            if let Some(rule) = literal.rule(name) {
-                write!(f, "{name:8} ::= ")?;
-                rule.write(f, Notation::Grammar)?;
-                f.write_str("\n")?;
-            }
-        }
-        Ok(())
-    }
+/// Returns the sizes of groups, if there are any: of the last of the integer, of its others, and of those of the fraction.
+pub(super) fn group_sizes(conditions: Conditions) -> [Option<u8>; 3] {
+    let size = conditions.get(Condition::IntegerGroupSize);
+    [size, conditions.get(Condition::HigherGroupSize).or(size), conditions.get(Condition::FractionGroupSize)]
 }
 
-impl Display for Regex {
-    fn fmt(&self, f: &mut Formatter<'_>) -> fmt::Result {
-        literal(&Pool::new(), self.0.as_grammar()).write(f, Notation::Regex)
+/// Returns whether leading zeros are forbidden in integers, and whether in floats. Both are the same if no literal is an
+/// integer, or none a float.
+pub(super) fn leading_zeros(grammar: Grammar) -> [bool; 2] {
+    let flags = [grammar.view().no_integer_leading_zeros(), grammar.view().no_float_leading_zeros()];
+    let [integers, floats] = flags.map(|is_set| is_set && !grammar.conditions.has(Condition::BasePrefix));
+    match grammar.options {
+        None => [integers, integers],
+        Some(_) if needs_exponent(grammar) => [floats, floats],
+        Some(_) => [integers, floats],
     }
 }
 
 /// Returns the literals.
-fn literal(pool: &Pool, grammar: Grammar) -> Expression<'_> {
-    let suffix = pool.byte(|it| grammar.view().is_base_suffix(it));
-    let suffix = if grammar.conditions.has(Condition::BaseSuffix) { suffix } else { suffix.optional() };
-    let parts = Parts::of(pool, grammar);
-    let (zeros, float_zeros) = leading_zeros(grammar);
-    let number = if float_zeros || !zeros { parts.numbers(zeros, float_zeros) } else { parts.floats() | parts.strict() };
-    sign(pool, grammar, Part::Integer) + number + suffix
-}
-
-/// Returns whether leading zeros are forbidden in integers, and whether in floats. Where there is neither, they are as in
-/// the others.
-pub(super) fn leading_zeros(grammar: Grammar) -> (bool, bool) {
-    let may_be = !grammar.conditions.has(Condition::BasePrefix);
-    let integers = may_be && grammar.view().no_integer_leading_zeros();
-    let floats = may_be && grammar.view().no_float_leading_zeros();
-    match grammar.options {
-        None => (integers, integers),
-        Some(_) if steps::needs_exponent(grammar) => (floats, floats),
-        Some(_) => (integers, floats),
-    }
-}
-
-/// Returns the sign of the mantissa or the exponent.
-fn sign(pool: &Pool, grammar: Grammar, part: Part) -> Expression<'_> {
-    let is_required = match part {
-        Part::Exponent => grammar.view().required_exponent_sign(),
-        _ => grammar.view().required_mantissa_sign(),
+pub(super) fn literal(pool: &Pool, grammar: Grammar) -> Expression<'_> {
+    let (view, conditions, is_float) = (grammar.view(), grammar.conditions, grammar.options.is_some());
+    let has_exponent = is_float && !view.no_exponent_notation();
+    let sign =
+        |part| pool.byte(|it| it == b'+' && allows_plus(grammar, part) || it == b'-' && allows_minus(grammar, part));
+    let digit = pool.byte(|it| is_digit(grammar, Part::Integer, it)).named("Digit");
+    let exponent_digit = match view.exponent_radix() == view.mantissa_radix() {
+        true => digit,
+        false => pool.byte(|it| is_digit(grammar, Part::Exponent, it)).when(has_exponent).named("ExponentDigit"),
     };
-    let sign = pool.byte(|it| it == b'+' && allows_plus(grammar, part) || it == b'-' && allows_minus(grammar, part));
-    if is_required {
-        sign
-    } else {
-        sign.optional()
-    }
+    let mark = pool.byte(|it| steps::is_exponent_character(grammar, it)).when(has_exponent);
+    let prefix = (pool.byte(|it| it == b'0') + pool.byte(|it| view.is_base_prefix(it))).named("Prefix");
+    let front = prefix.required(conditions.has(Condition::BasePrefix));
+    let [exponent, ..] = runs(pool, grammar, Part::Exponent, [prefix, exponent_digit]);
+    let exponent = sign(Part::Exponent).required(view.required_exponent_sign())
+        + exponent.required(view.required_exponent_digits());
+    let exponent = (mark + exponent).named("Exponent");
+    let [fraction, ..] = runs(pool, grammar, Part::Fraction, [prefix, digit]);
+    let fraction = fraction.when(is_float).named("Fraction");
+    let point = pool.byte(|it| steps::is_point(grammar, it));
+    let [integer, strict, led] = runs(pool, grammar, Part::Integer, [prefix, digit]);
+    let number = match leading_zeros(grammar) {
+        [false, false] => front + numbers(grammar, [front.times(0, Some(0)), integer, point, fraction, exponent]),
+        [true, false] => front + floats(grammar, [integer, point, fraction, exponent]) | strict,
+        [zeros, true] => numbers(grammar, [front, strict, point, fraction, exponent]) | led.when(!zeros),
+    };
+    let suffix = pool.byte(|it| view.is_base_suffix(it)).required(conditions.has(Condition::BaseSuffix));
+    sign(Part::Integer).required(view.required_mantissa_sign()) + number + suffix
 }
 
-/// The digits of a part, and the separators among them.
-struct Run<'a> {
-    digit: Expression<'a>,
-    leading: Expression<'a>,
-    internal: Expression<'a>,
-    trailing: Expression<'a>,
-    /// What is behind the first group, and the most digits that this has.
-    groups: Expression<'a>,
-    first: u8,
-}
-
-impl<'a> Run<'a> {
-    /// Returns the digits of a part. The integer can have a last group of `size` digits, and others of `higher`.
-    fn of(pool: &'a Pool, grammar: Grammar, part: Part, digit: Expression<'a>, sizes: Option<(u8, u8)>) -> Self {
-        let separator = pool.byte(|it| is_separator(grammar, it));
-        let allowed = grammar.view().separators(part);
-        let free = if allowed.consecutive { separator.once_or_more() } else { separator };
-        let at = |is_allowed: bool| free.when(is_allowed && sizes.is_none());
-        let (size, first) = sizes.unwrap_or((1, 1));
-        let [last, higher] = [size, first].map(|count| separator + digit.times(count, Some(count)));
-        let groups = if size == first { last.once_or_more() } else { higher.times(0, None) + last };
-        Run {
-            digit,
-            leading: at(allowed.leading).optional(),
-            internal: at(allowed.internal),
-            trailing: at(allowed.trailing).optional(),
-            groups: groups.when(sizes.is_some()),
-            first,
+/// Returns the digits of a part, with separators; those without a leading zero, or behind the prefix; and those with one.
+fn runs<'a>(pool: &'a Pool, grammar: Grammar, part: Part, [prefix, digit]: [Expression<'a>; 2]) -> [Expression<'a>; 3] {
+    let separator = pool.byte(|it| is_separator(grammar, it));
+    let exactly = |size| digit.times(size, Some(size));
+    // What is in groups, and what is behind its first digit.
+    let groups = match (part, group_sizes(grammar.conditions)) {
+        (Part::Integer, [Some(size), Some(higher), _]) => {
+            let last = separator + exactly(size);
+            let behind = (separator + exactly(higher)).times(0, None) + last;
+            let behind = if size == higher { last.times(1, None) } else { behind };
+            Some([digit.times(1, Some(higher)) + behind, digit.times(0, Some(higher - 1)) + behind])
         }
-    }
-
-    /// Returns `least` digits or more, with the separators among them, where `before` digits are before these.
-    fn digits(&self, before: u8, least: u8) -> Expression<'a> {
-        let more = (self.internal + self.digit.once_or_more()).times(0, None);
-        let first = self.digit.times(1 - before, Some(self.first - before));
-        self.digit.times(least, None) + more | first + self.groups
-    }
-
-    fn whole(&self) -> Expression<'a> {
-        self.leading + self.digits(0, 1) + self.trailing
-    }
-}
-
-/// The parts of a number. What it cannot have is no text.
-struct Parts<'a> {
-    grammar: Grammar,
-    pool: &'a Pool,
-    prefix: Expression<'a>,
-    integer: Run<'a>,
-    point: Expression<'a>,
-    fraction: Expression<'a>,
-    exponent: Expression<'a>,
-}
-
-impl<'a> Parts<'a> {
-    fn of(pool: &'a Pool, grammar: Grammar) -> Self {
-        let view = grammar.view();
-        let digit = pool.byte(|it| is_digit(grammar, Part::Integer, it)).named("Digit");
-        let exponent_digit = match view.exponent_radix() == view.mantissa_radix() {
-            true => digit,
-            false => pool.byte(|it| is_digit(grammar, Part::Exponent, it)).named("ExponentDigit"),
-        };
-        let zero = pool.byte(|it| it == b'0');
-        let mark = pool.byte(|it| is_exponent_character(grammar, it));
-        let exponent = Run::of(pool, grammar, Part::Exponent, exponent_digit, None).whole();
-        let exponent = if view.required_exponent_digits() { exponent } else { exponent.optional() };
-        let exponent = mark + sign(pool, grammar, Part::Exponent) + exponent;
-        Parts {
-            grammar,
-            pool,
-            prefix: (zero + pool.byte(|it| view.is_base_prefix(it))).named("Prefix"),
-            integer: Run::of(pool, grammar, Part::Integer, digit, group_sizes(grammar.conditions).0),
-            point: pool.byte(|it| is_point(grammar, it)),
-            fraction: Run::of(pool, grammar, Part::Fraction, digit, None).whole().named("Fraction"),
-            exponent: exponent.when(!view.no_exponent_notation()).named("Exponent"),
+        (Part::Fraction, [.., Some(size)]) => {
+            Some([(exactly(size) + separator).times(1, None) + digit.times(1, Some(size)); 2])
         }
-    }
-
-    /// Returns the prefix, if it is required or not.
-    fn front(&self) -> Expression<'a> {
-        match self.grammar.conditions.has(Condition::BasePrefix) {
-            true => self.prefix,
-            false => self.prefix.optional(),
-        }
-    }
-
-    /// Returns the numbers, if floats have no leading zeros, or integers may have them, too.
-    fn numbers(&self, zeros: bool, float_zeros: bool) -> Expression<'a> {
-        let (view, empty) = (self.grammar.view(), self.pool.empty());
-        let (needs_exponent, needs_point) = (steps::needs_exponent(self.grammar), view.no_exponent_without_fraction());
-        let exponent = if needs_exponent { self.exponent } else { self.exponent.optional() };
-        let (after_point, at_end) = if needs_point { (exponent, empty) } else { (empty, exponent) };
-        let some = self.fraction.optional();
-        let fraction = if view.required_fraction_digits() { self.fraction } else { some };
-        let alone = if view.required_mantissa_digits() { self.fraction } else { fraction };
-        let (front, own_front, integer) = match float_zeros {
-            true => (empty, self.front(), self.strict()),
-            false => (self.front(), empty, self.integer.whole()),
-        };
-        let rest = self.point + fraction + after_point;
-        let rest = if needs_exponent && needs_point { rest } else { rest.optional() };
-        let no_integer = own_front + self.point + alone + after_point;
-        let number = integer.named("Integer") + rest | no_integer.when(!view.required_integer_digits());
-        let may_be_bare = !view.required_integer_digits() && !view.required_mantissa_digits() && !needs_point;
-        let bare = (own_front + self.exponent).when(may_be_bare);
-        front + (number + at_end | bare) | self.leading_zero().when(float_zeros && !zeros)
-    }
-
-    /// Returns the floats, if they may have leading zeros.
-    fn floats(&self) -> Expression<'a> {
-        let view = self.grammar.view();
-        let integer = self.integer.whole().named("Integer");
-        let before = |is_required: bool| if is_required { integer } else { integer.optional() };
-        let needs_integer = view.required_integer_digits();
-        let point = self.point.when(!view.required_fraction_digits());
-        let no_fraction = match view.no_exponent_without_fraction() {
-            true => point + self.exponent.optional(),
-            false => point | point.optional() + self.exponent,
-        };
-        let with_fraction = before(needs_integer) + self.point + self.fraction + self.exponent.optional();
-        self.front() + (with_fraction | before(needs_integer || view.required_mantissa_digits()) + no_fraction)
-    }
-
-    /// Returns the prefix and the integer without leading zeros.
-    fn strict(&self) -> Expression<'a> {
-        let Run { digit, leading, trailing, .. } = self.integer;
-        let nonzero = self.pool.byte(|it| it != b'0' && is_digit(self.grammar, Part::Integer, it));
-        let first = self.prefix + leading + digit | leading + nonzero;
-        (first + self.integer.digits(1, 0) | leading + self.zero()) + trailing
-    }
-
-    /// Returns the integer with leading zeros, without a prefix.
-    fn leading_zero(&self) -> Expression<'a> {
-        let Run { leading, internal, trailing, .. } = self.integer;
-        leading + self.zero() + internal.optional() + self.integer.digits(1, 1) + trailing
-    }
-
-    fn zero(&self) -> Expression<'a> {
-        self.pool.byte(|it| it == b'0')
-    }
+        _ => None,
+    };
+    let allowed = grammar.view().separators(part);
+    let some = if allowed.consecutive { separator.times(1, None) } else { separator };
+    let [before, between, after] = [allowed.leading, allowed.internal, allowed.trailing]
+        .map(|is_allowed| some.when(is_allowed && groups.is_none()));
+    let (before, after) = (before.required(false), after.required(false));
+    let [whole, rest] = groups.unwrap_or([digit.when(false); 2]);
+    let digits = |least| digit.times(least, None) + (between + digit.times(1, None)).times(0, None);
+    let zero = before + pool.byte(|it| it == b'0');
+    let first = prefix + before + digit | before + pool.byte(|it| it != b'0' && is_digit(grammar, part, it));
+    let led = zero + between.required(false) + (digits(1) | rest) + after;
+    [before + (digits(1) | whole) + after, (first + (digits(0) | rest) | zero) + after, led]
 }
 
-/// Returns the sizes of the last group of the integer and of the others, and that of the groups of the fraction.
-pub(super) fn group_sizes(conditions: Conditions) -> (Option<(u8, u8)>, Option<u8>) {
-    let size = conditions.get(Condition::IntegerGroupSize);
-    (size.map(|size| (size, size)), None)
+/// Returns the numbers, if a float has such an integer, or none behind `front`. Integers may have others.
+fn numbers<'a>(grammar: Grammar, [front, integer, point, fraction, exponent]: [Expression<'a>; 5]) -> Expression<'a> {
+    let (view, needs_exponent) = (grammar.view(), needs_exponent(grammar));
+    let (needs_point, needs_digits) = (view.no_exponent_without_fraction(), view.required_mantissa_digits());
+    let exponents = exponent.required(needs_exponent);
+    let none = exponents.times(0, Some(0));
+    let (after_point, at_end) = if needs_point { (exponents, none) } else { (none, exponents) };
+    let fractions = fraction.required(view.required_fraction_digits());
+    let alone = if needs_digits { fraction } else { fractions };
+    let rest = (point + fractions + after_point).required(needs_exponent && needs_point);
+    let no_integer = (front + point + alone + after_point).when(!view.required_integer_digits());
+    let no_digits = (front + exponent).when(!view.required_integer_digits() && !needs_digits && !needs_point);
+    (integer.named("Integer") + rest | no_integer) + at_end | no_digits
+}
+
+/// Returns the floats without the prefix, if they may have leading zeros.
+fn floats<'a>(grammar: Grammar, [integer, point, fraction, exponent]: [Expression<'a>; 4]) -> Expression<'a> {
+    let (view, integer) = (grammar.view(), integer.named("Integer"));
+    let no_digit = point.when(!view.required_fraction_digits());
+    let no_fraction = match view.no_exponent_without_fraction() {
+        true => no_digit + exponent.required(false),
+        false => no_digit | no_digit.required(false) + exponent,
+    };
+    let any = integer.required(view.required_integer_digits());
+    let some = integer.required(view.required_integer_digits() || view.required_mantissa_digits());
+    any + point + fraction + exponent.required(false) | some + no_fraction
 }
