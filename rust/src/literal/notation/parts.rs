@@ -5,10 +5,11 @@ use crate::literal::steps::{self, allows_minus, allows_plus, is_digit, is_separa
 use crate::literal::syntax::{Condition, Conditions, Grammar};
 use crate::word::Part;
 
-/// Returns the sizes of groups, if there are any: of the last of the integer, of its others, and of those of the fraction.
-pub(super) fn group_sizes(conditions: Conditions) -> [Option<u8>; 3] {
-    let size = conditions.get(Condition::IntegerGroupSize);
-    [size, conditions.get(Condition::HigherGroupSize).or(size), conditions.get(Condition::FractionGroupSize)]
+/// Returns the sizes of the last group of the integer, of its others, and of those of the fraction. None is 0.
+pub(super) fn group_sizes(conditions: Conditions) -> [u8; 3] {
+    let sizes = [Condition::IntegerGroupSize, Condition::HigherGroupSize, Condition::FractionGroupSize];
+    let [last, higher, fraction] = sizes.map(|it| conditions.number(it));
+    [last, if higher == 0 { last } else { higher }, fraction]
 }
 
 /// Returns whether leading zeros are forbidden in integers, and whether in floats. Both are the same if no literal is an
@@ -60,13 +61,12 @@ fn runs<'a>(pool: &'a Pool, grammar: Grammar, part: Part, [prefix, digit]: [Expr
     let exactly = |size| digit.times(size, Some(size));
     // What is in groups, and what is behind its first digit.
     let groups = match (part, group_sizes(grammar.conditions)) {
-        (Part::Integer, [Some(size), Some(higher), _]) => {
-            let last = separator + exactly(size);
-            let behind = (separator + exactly(higher)).times(0, None) + last;
-            let behind = if size == higher { last.times(1, None) } else { behind };
+        (Part::Integer, [last @ 1.., higher, _]) => {
+            let [lowest, others] = [last, higher].map(|size| separator + exactly(size));
+            let behind = if last == higher { lowest.times(1, None) } else { others.times(0, None) + lowest };
             Some([digit.times(1, Some(higher)) + behind, digit.times(0, Some(higher - 1)) + behind])
         }
-        (Part::Fraction, [.., Some(size)]) => {
+        (Part::Fraction, [.., size @ 1..]) => {
             Some([(exactly(size) + separator).times(1, None) + digit.times(1, Some(size)); 2])
         }
         _ => None,

@@ -16,7 +16,7 @@ pub(super) fn write(syntax: Syntax, f: &mut Formatter<'_>) -> fmt::Result {
     let [e, dot, s, x, h] = [exponent, point, separator, prefix, suffix].map(shown);
     let has_exponent = floats && !view.no_exponent_notation();
     let optional = |condition| if conditions.has(condition) { "" } else { "optional " };
-    let [last, higher, small] = group_sizes(conditions).map(Option::unwrap_or_default);
+    let [last, higher, small] = group_sizes(conditions);
     let words = ["", "", "two", "three", "four", "five", "six", "seven", "eight"];
     let [last_word, higher_word, small_word] =
         [last, higher, small].map(|it| words.get(usize::from(it)).unwrap_or(&""));
