@@ -61,12 +61,12 @@ fn runs<'a>(pool: &'a Pool, grammar: Grammar, part: Part, [prefix, digit]: [Expr
     let exactly = |size| digit.times(size, Some(size));
     // What is in groups, and what is behind its first digit.
     let groups = match (part, group_sizes(grammar.conditions)) {
-        (Part::Integer, [last @ 1.., higher, _]) => {
+        (Part::Integer, [last @ 1..=u8::MAX, higher, _]) => {
             let [lowest, others] = [last, higher].map(|size| separator + exactly(size));
             let behind = if last == higher { lowest.times(1, None) } else { others.times(0, None) + lowest };
             Some([digit.times(1, Some(higher)) + behind, digit.times(0, Some(higher - 1)) + behind])
         }
-        (Part::Fraction, [.., size @ 1..]) => {
+        (Part::Fraction, [.., size @ 1..=u8::MAX]) => {
             Some([(exactly(size) + separator).times(1, None) + digit.times(1, Some(size)); 2])
         }
         _ => None,
