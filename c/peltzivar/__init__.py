@@ -1558,8 +1558,8 @@ class Syntax:
 
             >>> print(Syntax.integers(Format.of(radix=16, base_prefix="x")).grammar(), end="")
             Literal  ::= [+-]? Prefix? Integer
-            Prefix   ::= "0" [Xx]
             Integer  ::= Digit+
+            Prefix   ::= "0" [Xx]
             Digit    ::= [0-9A-Fa-f]
         """
         return _text(_library.grammar, self._by, size=_SOURCE_SIZE)

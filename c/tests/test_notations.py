@@ -5,10 +5,13 @@
     EVERY=1 PELTZIVAR_LIBRARY=.. python3 c/tests/test_notations.py
 """
 import itertools
+import json
 import os
 import pathlib
 import random
 import re
+import shutil
+import subprocess
 import sys
 import time
 import unittest
@@ -29,6 +32,58 @@ PIECES = r"(?:\[(?:\\[tnvfr\\\]\[^]|[^\\\]\[^])+\]|\(\?:|\)|[?*+|]|\{\d(?:,\d)?\
 WORD = r"\[.*?\]|\"[^\"]*\"|'[^']*'|#x\w+|\w+|."
 # All kinds of a byte, of which the last are not visible or have to be escaped.
 BYTES = "_',.~eExXhHpPzZ#&-\"`/ \\[]^\t\n\v\f\r"
+
+# For settings, what the sentence has beside "decimal" and "NaN", or lacks. All bytes that they need are set.
+PHRASES = {
+    "required_integer_digits=true": ["digits required before `.`"],
+    "required_fraction_digits=true": ["digits required after `.`"],
+    "required_exponent_digits=false": ["digits optional after `e`"],
+    "required_mantissa_digits=false": ["mantissa digits optional"],
+    "required_mantissa_digits=false required_integer_digits=true": ["digits required before `.`"],
+    "no_positive_mantissa_sign=true": ["no `+`"],
+    "required_mantissa_sign=true": ["sign required"],
+    "no_exponent_notation=true": ["no exponent"],
+    "no_positive_exponent_sign=true": ["no `+` after `e`"],
+    "required_exponent_sign=true": ["sign required after `e`"],
+    "no_exponent_without_fraction=true": ["no exponent without `.`"],
+    "no_special=true": ["NaN"],
+    "case_sensitive_special=true": ["NaN", "case-sensitive NaN"],
+    "no_integer_leading_zeros=true": ["no leading zeros in integers"],
+    "no_float_leading_zeros=true": ["no leading zeros in floats"],
+    "no_integer_leading_zeros=true no_float_leading_zeros=true": ["no leading zeros"],
+    "no_integer_leading_zeros=true required_exponent_notation=true": ["exponent required"],
+    "required_exponent_notation=true": ["exponent required"],
+    "case_sensitive_exponent=true": ["no `E`"],
+    "case_sensitive_exponent=true exponent=94": ["exponent `^`"],
+    "case_sensitive_base_prefix=true base_prefix='x'": ["optional prefix `0x`", "no `0X`"],
+    "case_sensitive_base_suffix=true base_suffix='H'": ["optional suffix `H`", "no `h`"],
+    "integer_internal_digit_separator=true": ["`_` between digits in the integer"],
+    "fraction_internal_digit_separator=true": ["`_` between digits in the fraction"],
+    "exponent_internal_digit_separator=true": ["`_` between digits in the exponent"],
+    "internal_digit_separator=true": ["`_` between digits"],
+    "internal_digit_separator=true no_exponent_notation=true": ["`_` between digits", "no exponent"],
+    "integer_leading_digit_separator=true": ["`_` before digits in the integer"],
+    "fraction_leading_digit_separator=true": ["`_` before digits in the fraction"],
+    "exponent_leading_digit_separator=true": ["`_` before digits in the exponent"],
+    "integer_trailing_digit_separator=true": ["`_` after digits in the integer"],
+    "fraction_trailing_digit_separator=true": ["`_` after digits in the fraction"],
+    "exponent_trailing_digit_separator=true": ["`_` after digits in the exponent"],
+    "leading_digit_separator=true integer_consecutive_digit_separator=true": ["`_` before digits", "several `_` in a row in the integer"],
+    "leading_digit_separator=true fraction_consecutive_digit_separator=true": ["`_` before digits", "several `_` in a row in the fraction"],
+    "leading_digit_separator=true exponent_consecutive_digit_separator=true": ["`_` before digits", "several `_` in a row in the exponent"],
+    "special_digit_separator=true": ["`_` in NaN"],
+    "mantissa_radix=16 exponent='p'": ["decimal", "hexadecimal", "exponent `p`", "exponent base 16", "hexadecimal exponent digits"],
+    "mantissa_radix=2 exponent_base=2 exponent_radix=10 base_suffix='b'": ["decimal", "binary", "optional suffix `b`", "exponent base 2"],
+    "mantissa_radix=12 exponent=none point=none": ["decimal", "radix-12 integers"],
+    "point=','": ["point `,`"],
+    "point=9 digit_separator=96 integer_internal_digit_separator=true": ["point `byte 9`", "`byte 96` between digits in the integer"],
+    "base_prefix='b' required_base_prefix=true no_integer_leading_zeros=true": ["prefix `0b`"],
+    "base_suffix='h' required_base_suffix=true": ["suffix `h`"],
+    "no_negative_mantissa_sign=true": ["no `-`"],
+    "internal_digit_separator=true integer_group_size=4": ["`_` between groups of four", "`_` between digits in the fraction and the exponent"],
+    "integer_internal_digit_separator=true integer_group_size=3 higher_group_size=2": ["`_` between groups of two and a last one of three"],
+    "fraction_internal_digit_separator=true fraction_group_size=5": ["`_` between groups of five in the fraction"],
+}
 
 
 def changes():
@@ -112,7 +167,7 @@ def random_syntax(at):
         fields.update(dict(zip(("digit_separator", "base_prefix", "base_suffix", "exponent", "point"), at.sample(BYTES, 5))))
         fields["mantissa_radix"], fields["exponent_radix"] = at.choice([2, 8, 10, 10, 11, 16, 36]), at.choice([0, 10, 16])
         for change in at.sample(CONDITIONS, at.choice([0, 0, 1, 2])):
-            fields.update(change)
+            fields.update({name: it if it is True else at.choice([2, 3, 4]) for name, it in change.items()})
         syntax = syntax_of(**fields)
         if syntax:
             return syntax
@@ -183,6 +238,29 @@ class Notations(unittest.TestCase):
         for syntax in FORMS:
             texts = [it.encode() for it in ROWS] + [random_text(syntax, at) for _ in range(1000 if EVERY else 100)]
             Texts(syntax).compare(texts)
+
+    def test_sentences_state_each_difference(self):
+        for settings, phrases in PHRASES.items():
+            lines = settings.split()
+            separator = ["digit_separator=95"] * ("digit_separator=true" in settings and "digit_separator=96" not in settings)
+            sentence = Syntax.of(*lines, *separator).sentence()
+            self.assertEqual({*sentence.split("; ")} ^ {"decimal", "NaN"}, {*phrases}, settings)
+        self.assertEqual([it for it, _ in FLAGS if f"{it}=" not in " ".join(PHRASES)], [])
+        flags = ("no_integer_leading_zeros", "no_positive_mantissa_sign", "integer_internal_digit_separator")
+        syntax = Syntax.of(digit_separator="'", integer_group_size=3, **dict.fromkeys(flags, True))
+        self.assertEqual(syntax.sentence(), "decimal; `'` between groups of three; no `+`; NaN; no leading zeros in integers")
+
+    @unittest.skipUnless(shutil.which("node"), "node is missing")
+    def test_javascript_matches_the_same_texts(self):
+        at = random.Random(3)
+        syntaxes = FORMS + [random_syntax(at) for _ in range(1000 if EVERY else 100)]
+        rows = [(it, [random_text(it, at) for _ in range(100)]) for it in syntaxes]
+        code = "console.log(JSON.stringify(JSON.parse(require('fs').readFileSync(0)).map(([it, texts]) => texts.map("
+        code += "text => +new RegExp(`^(?:${it})$`).test(text)))))"
+        text = json.dumps([(it.regex(), [text.decode() for text in texts]) for it, texts in rows])
+        found = json.loads(subprocess.run(["node", "-e", code], input=text, capture_output=True, text=True, check=True).stdout)
+        for (syntax, texts), answers in zip(rows, found):
+            self.assertEqual(answers, [int(Texts(syntax).reads(text)) for text in texts], syntax)
 
     def test_no_regular_expression_has_more_than_500_characters(self):
         places = ("digit_separator_flags", "internal_digit_separator")
