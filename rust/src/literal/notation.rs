@@ -6,6 +6,7 @@ use crate::literal::Syntax;
 use {expression::Pool, parts::literal};
 
 mod expression;
+#[allow(clippy::precedence, reason = "as in a grammar, what is behind another binds closest")]
 mod parts;
 mod sentence;
 
