@@ -83,6 +83,7 @@ PHRASES = {
     "internal_digit_separator=true integer_group_size=4": ["`_` between groups of four", "`_` between digits in the fraction and the exponent"],
     "integer_internal_digit_separator=true integer_group_size=3 higher_group_size=2": ["`_` between groups of two and a last one of three"],
     "fraction_internal_digit_separator=true fraction_group_size=5": ["`_` between groups of five in the fraction"],
+    "fraction_internal_digit_separator=true fraction_group_size=5 exponent=none point=none": ["decimal", "decimal integers"],
 }
 
 
