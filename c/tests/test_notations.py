@@ -262,7 +262,7 @@ class Notations(unittest.TestCase):
         text = json.dumps([(it.regex(), [text.decode() for text in texts]) for it, texts in rows])
         found = json.loads(subprocess.run(["node", "-e", code], input=text, capture_output=True, text=True, check=True).stdout)
         for (syntax, texts), answers in zip(rows, found):
-            self.assertEqual(answers, [int(Texts(syntax).reads(text)) for text in texts], syntax)
+            self.assertEqual(answers, [*map(Texts(syntax, False).reads, texts)], syntax)
 
     def test_no_regular_expression_has_more_than_500_characters(self):
         places = ("digit_separator_flags", "internal_digit_separator")
@@ -288,7 +288,7 @@ class Notations(unittest.TestCase):
             self.assertIsNone(match(text))
             return time.process_time() - start
 
-        for syntax in {*FORMS, *map(lambda it: syntax_of(**it), CHANGES)}:
+        for syntax in {*FORMS[:: 1 if EVERY else 5], *map(lambda it: syntax_of(**it), CHANGES)}:
             match, separator = re.compile(syntax.regex().encode()).fullmatch, (syntax.format.digit_separator or "").encode()
             for digits in (b"1", b"0", b"1" + separator, b"111" + separator):
                 short, long = (digits * (count // len(digits)) + b"\0" for count in (50_000, 100_000))
