@@ -1748,8 +1748,8 @@ class Language(_Named):
     C: C's integer and floating constants (C23, 6.4.4.1 and 6.4.4.2). A format cannot accept `1u`, `1L` and `1.0f`.
         Forms: decimal; octal; hexadecimal; binary; hexadecimal float.
 
-    CSV_DE: Numbers in CSV, as German spreadsheets write cells of the format `#.##0,00` (RFC 4180): `1.234,50`. Forms:
-        decimal.
+    CSV_DE: Numbers in CSV, as German spreadsheets write cells of the format `#.##0,00` (RFC 4180): `1.234,50`. The
+        cause of `0.123` is its leading zero, since its groups are right. Forms: decimal.
 
     CSV_EN: Numbers in CSV, as English spreadsheets write cells of the format `#,##0.00`, in quotes (RFC 4180):
         `"1,234.50"`. A format cannot accept the minus sign U+2212 of Gnumeric: replace it by `-`. Forms: decimal.

@@ -307,7 +307,3 @@ module _ (g : Grammar) (text : List ℕ) (s : Summary) (tail : List ℕ) (k : Ma
         span = ap (λ k. span_of n k next b.kind (lowest b.mask) c) same;
         code = λ j. error_of n (same j) b.kind (lowest b.mask) c (span_of n k next b.kind (lowest b.mask) c).0;
       }
-
--- A mask as the flags of a notation.
-pub as_bare : (m : Notation) (mask : ℕ) → ((f : Flag) → (raw mask).flag f ≡ (bare m).flag f) → with_rules m (raw mask).flag no_condition ≡ bare m
-as_bare m mask each = λ j. with_rules m (λ f. each f j) no_condition

@@ -27,4 +27,7 @@ mod PartOfLemmas
 mod OneCauseLemmas
 mod FormLemmas
 mod GroupLemmas
+mod SizeLemmas
+mod FitLemmas
+mod DecideLemmas
 mod SpanLemmas

@@ -13,7 +13,8 @@ use lib.ListN.{length-append}
 use Rattle.lexical_util.specs.Digits.{byte_value, digit_of}
 use Rattle.lexical_util.specs.Record.{raw}
 use Rattle.lexical_util.specs.declared.format_flags.Part.{Part}
-use Rattle.lexical_literal.specs.Notation.{Notation, notation_of, radix_of}
+use Rattle.lexical_literal.specs.Notation.{Notation, radix_of}
+use Rattle.lexical_literal.specs.Additions.Sizes.{steps_of}
 use Rattle.lexical_literal.specs.Additions.Plain.{HasRoles, IsDigitAt, IsReadOn, IsRunOn, IsSeparated, between, digits_in, at_stage}
 use Rattle.lexical_literal.specs.Additions.Summary.{digits_piece, is_run, part_of}
 use Rattle.lexical_literal.specs.declared.plain.Run.{Run}
@@ -137,10 +138,10 @@ pub behind_digit : (m : Notation) (radix : ℕ) (text : List ℕ) (part : Part) 
 behind_digit m radix text part run stage v one last digit same on = both_runs m radix text part run (record one { stage = stage }) last
     (subst (λ (one : Run). IsRunOn m radix text part run (record one { stage = stage })) (sym same) (one_digit m radix text part run stage v digit on))
 
-module _ (g : Grammar) (text : List ℕ) (part : Part) (run : Run) (v : ℕ) (h : HasRoles (notation_of g)) (is : is_run run.stage ≡ true)
+module _ (g : Grammar) (text : List ℕ) (part : Part) (run : Run) (v : ℕ) (h : HasRoles (steps_of g)) (is : is_run run.stage ≡ true)
     (in_part : part_of run.stage ≡ part) where
   abbrev m : Notation
-  m = notation_of g
+  m = steps_of g
 
   abbrev radix : ℕ
   radix = radix_of (raw g.word) part

@@ -3,4 +3,5 @@ pub mod Plain
 pub mod Longest
 pub mod Forms
 pub mod Causes
+pub mod Sizes
 pub mod Explained

@@ -83,13 +83,6 @@ kept C N = record { numbers = map (λ d. if C d then N d else 0) all_conditions 
 abbrev pub no_conditions : Conditions
 no_conditions = record { numbers = map (λ d. 0) all_conditions }
 
--- `get c d` is the number of `d`, or `None` if it is not one of the conditions `c`, and `integer_group_size c` that of groups of digits.
-abbrev pub get : Conditions → Condition → Option ℕ
-get c d = if has c d then Some (number_of c d) else None
-
-abbrev pub integer_group_size : Conditions → Option ℕ
-integer_group_size c = get c conditions.IntegerGroupSize
-
 -- `notation_of g` is the notation of the format, the options and the conditions of `g`.
 abbrev pub notation_of : Grammar → Notation
 notation_of g = record {

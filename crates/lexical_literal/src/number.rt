@@ -1,6 +1,7 @@
 //! Calls that read literals.
 
-ghost use Rattle.lexical_literal.specs.Additions.Plain.{IsBegun};
+ghost use Rattle.lexical_literal.specs.Additions.Longest.{IsUnderway};
+ghost use Rattle.lexical_literal.specs.declared.groups.Group.{Group};
 ghost use Rattle.lexical_literal.specs.Notation.{notation_of};
 ghost use Rattle.lexical_literal.specs.Forms.{IsFrontByForms, IsReadByForms};
 ghost use Rattle.lexical_literal.specs.Parts.{IsRead, IsReadPrefix};
@@ -42,7 +43,7 @@ impl Syntax {
     // Returns what `read` returns, where `at` has been read.
     #[inline(never)]
     fn read_slowly<'a>(&self, text: &'a [u8], at: At) -> Result<Parts<'a>, ReadError>
-        requires { IsBegun (notation_of self.now) text.now at }
+        requires { (group : Group) × IsUnderway (notation_of self.now) text.now at group }
         ensures { IsRead self.now text.now result }
     {
         let stop = self.stop(text, at);
@@ -53,26 +54,22 @@ impl Syntax {
     }
 
     /// Returns the longest front of `text` that is a literal. What follows it may be anything. No byte behind the first
-    /// character that no literal can have is looked at. Groups of digits are tested last: they do not end a front.
+    /// character that no literal can have is looked at.
     ///
     /// # Errors
     ///
-    /// If no front of `text` is a literal, returns the error of [`read`][Self::read]. If the integer of the longest front is
-    /// not in groups, returns its error.
+    /// If no front of `text` is a literal, returns the error of [`read`][Self::read].
     pub fn read_prefix<'a>(&self, text: &'a [u8]) -> Result<Front<'a>, ReadError>
         ensures { IsReadPrefix self.now text.now result }
     {
         let (stop, found) = self.front(text);
         match found {
             None => self.refuse(text, stop),
-            Some(found) => match self.grouped(text, found) {
-                Ok(()) => {
-                    let Found { size, counts } = found;
-                    let parts = cut(front_of(text, size), counts);
-                    Ok(Front { parts, size })
-                }
-                Err(error) => Err(error),
-            },
+            Some(found) => {
+                let Found { size, counts } = found;
+                let parts = cut(front_of(text, size), counts);
+                Ok(Front { parts, size })
+            }
         }
     }
 }

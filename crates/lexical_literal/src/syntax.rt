@@ -7,10 +7,11 @@ ghost use Rattle.std.specs.Result.{OkIff};
 ghost use Rattle.lexical_util.specs.NormalForm.{normal_form_of};
 ghost use Rattle.lexical_util.specs.Options.{OptionsFit, IsOptionsError};
 ghost use Rattle.lexical_util.specs.declared.lawful.Rejected.TheVariants as rejected;
-ghost use Rattle.lexical_literal.specs.Additions.Plain.{IsReady};
+ghost use Rattle.lexical_literal.specs.Additions.Plain.{HasSizes, IsReady};
+ghost use Rattle.lexical_literal.specs.Additions.Sizes.{steps_of};
 ghost use Rattle.lexical_literal.specs.declared.syntax.Condition.{Condition};
 ghost use Rattle.lexical_literal.specs.declared.syntax.Options.{Options};
-ghost use Rattle.lexical_literal.specs.Notation.{all_conditions, get, has, is_same, kept, no_conditions, notation_of, number_of, IsOnlyRole};
+ghost use Rattle.lexical_literal.specs.Notation.{all_conditions, has, is_same, kept, no_conditions, notation_of, number_of, IsOnlyRole};
 ghost use Rattle.lexical_literal.specs.Syntax.{IsSyntax, contradiction, fault, limits, missing};
 
 use crate::steps::role_at;
@@ -139,16 +140,6 @@ impl Conditions {
         ensures { result ≡ kept (is_same condition) (number_of self) }
     {
         Conditions::NONE.with(condition, self.number(condition))
-    }
-
-    // Returns the number of `condition`, or `None` if it is not one of them.
-    pub(crate) const fn get(self, condition: Condition) -> Option<u8>
-        ensures { result ≡ get self condition }
-    {
-        match self.number(condition) {
-            0 => None,
-            number => Some(number),
-        }
     }
 }
 
@@ -328,7 +319,8 @@ impl Syntax {
     // Returns the format, the options and the conditions.
     pub(crate) const fn grammar(&self) -> Grammar
         ensures value { result ≡ self.now }
-        ensures ready { IsReady (notation_of self.now) }
+        ensures ready { IsReady (steps_of self.now) }
+        ensures sizes { HasSizes (notation_of self.now) }
     {
         role_facts();
         Grammar {

@@ -111,14 +111,6 @@ impl Conditions {
     pub(crate) const fn only(self, condition: Condition) -> Conditions {
         Conditions::NONE.with(condition, self.number(condition))
     }
-
-    // Returns the number of `condition`, or `None` if it is not one of them.
-    pub(crate) const fn get(self, condition: Condition) -> Option<u8> {
-        match self.number(condition) {
-            0 => None,
-            number => Some(number),
-        }
-    }
 }
 
 /// Why a syntax cannot have a condition. A lawful format that requires a sign allows `+`, so it can forbid `-`.

@@ -1,6 +1,6 @@
 -- An exponent is read, where its character follows.
 use Rattle.std.proofs.Common.{◌≡◌, true, false, sym, subst, ◌∙◌}
-use Rattle.lexical_literal.specs.Notation.{notation_of}
+use Rattle.lexical_literal.specs.Additions.Sizes.{steps_of}
 use Rattle.lexical_literal.specs.Additions.Summary.{takes}
 use Rattle.lexical_literal.specs.declared.plain.At.{At}
 use Rattle.lexical_util.specs.declared.feature_format.roles.Role.TheVariants as roles
@@ -9,7 +9,7 @@ use Rattle.lexical_literal.proofs.plain.behind_mantissa.Goals as goal
 
 pub exponent-requires-clause-at : goal.exponent-requires-clause-at
 exponent-requires-clause-at c =
-    let m = notation_of c.args.grammar in
+    let m = steps_of c.args.grammar in
     mark_at m c.args.text.now c.requires.ready.roles c.args.sizes c.args.run.size c.args.run.stage c.if-run-text.true
     (sym c.is_exponent_character.ensures ∙ c.if-is_exponent_character.true)
     (subst (λ (at : At). takes m at.read false roles.Exponent ≡ true) c.at_stage-at.ensures (sym c.takes.ensures

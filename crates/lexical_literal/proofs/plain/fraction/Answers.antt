@@ -1,6 +1,6 @@
 -- The fraction, and what follows it.
 use Rattle.std.proofs.Common.{◌≡◌, ◌+◌, sym, subst, true, false}
-use Rattle.lexical_literal.specs.Notation.{notation_of}
+use Rattle.lexical_literal.specs.Additions.Sizes.{steps_of}
 use Rattle.lexical_literal.specs.Additions.Plain.{IsReadOn, is_free, at_stage}
 use Rattle.lexical_literal.specs.Additions.Summary.{after_point, has_digit, is_signed, part_of}
 use Rattle.lexical_literal.specs.declared.steps.Piece.TheVariants as pieces
@@ -10,23 +10,23 @@ use Rattle.lexical_literal.proofs.plain.fraction.Goals as goal
 
 pub digits-run-requires-clause-none : goal.digits-run-requires-clause-none
 digits-run-requires-clause-none c =
-    subst (λ stage. has_digit stage ≡ false) (sym c.after_point-stage.ensures) (behind_point (notation_of c.args.grammar) (has_digit c.args.integer.stage)).0
+    subst (λ stage. has_digit stage ≡ false) (sym c.after_point-stage.ensures) (behind_point (steps_of c.args.grammar) (has_digit c.args.integer.stage)).0
 
 pub digits-run-requires-clause-signed : goal.digits-run-requires-clause-signed
-digits-run-requires-clause-signed c = subst (λ stage. is_signed (notation_of c.args.grammar) parts.Fraction stage ≡ true) (sym c.after_point-stage.ensures)
-    (behind_point (notation_of c.args.grammar) (has_digit c.args.integer.stage)).1
+digits-run-requires-clause-signed c = subst (λ stage. is_signed (steps_of c.args.grammar) parts.Fraction stage ≡ true) (sym c.after_point-stage.ensures)
+    (behind_point (steps_of c.args.grammar) (has_digit c.args.integer.stage)).1
 
 pub digits-run-requires-clause-free : goal.digits-run-requires-clause-free
-digits-run-requires-clause-free c = subst (λ stage. is_free (notation_of c.args.grammar) stage ≡ true) (sym c.after_point-stage.ensures)
-    (behind_point (notation_of c.args.grammar) (has_digit c.args.integer.stage)).3
+digits-run-requires-clause-free c = subst (λ stage. is_free (steps_of c.args.grammar) stage ≡ true) (sym c.after_point-stage.ensures)
+    (behind_point (steps_of c.args.grammar) (has_digit c.args.integer.stage)).3
 
 pub digits-run-requires-clause-part : goal.digits-run-requires-clause-part
 digits-run-requires-clause-part c = subst (λ stage. part_of stage ≡ parts.Fraction) (sym c.after_point-stage.ensures)
-    (behind_point (notation_of c.args.grammar) (has_digit c.args.integer.stage)).2
+    (behind_point (steps_of c.args.grammar) (has_digit c.args.integer.stage)).2
 
 pub behind_mantissa-requires-clause-at : goal.behind_mantissa-requires-clause-at
 behind_mantissa-requires-clause-at c =
-    let m = notation_of c.args.grammar in
+    let m = steps_of c.args.grammar in
     let text = c.args.text.now in
     let run = c.digits-run.result in
     let from = c.args.integer.size + 1 in

@@ -1,6 +1,6 @@
 -- The integer, and what follows it.
 use Rattle.std.proofs.Common.{◌≡◌, ◌-◌, sym, subst, ◌∙◌, refl, true, false}
-use Rattle.lexical_literal.specs.Notation.{notation_of}
+use Rattle.lexical_literal.specs.Additions.Sizes.{steps_of}
 use Rattle.lexical_literal.specs.Additions.Summary.{takes}
 use Rattle.lexical_literal.specs.declared.plain.At.{At}
 use Rattle.lexical_literal.specs.declared.plain.Sizes.{Sizes}
@@ -10,7 +10,7 @@ use Rattle.lexical_literal.proofs.plain.integer.Goals as goal
 
 pub fraction-requires-clause-at : goal.fraction-requires-clause-at
 fraction-requires-clause-at c =
-    let m = notation_of c.args.grammar in
+    let m = steps_of c.args.grammar in
     let text = c.args.text.now in
     let run = c.digits-run.result in
     let o = c.args.opening in
@@ -20,5 +20,5 @@ fraction-requires-clause-at c =
     (integer_at m text o c.requires.opened run.size run.stage c.digits-run.ensures.run.on)
 
 pub behind_mantissa-requires-clause-at : goal.behind_mantissa-requires-clause-at
-behind_mantissa-requires-clause-at c = integer_at (notation_of c.args.grammar) c.args.text.now c.args.opening c.requires.opened c.digits-run.result.size
+behind_mantissa-requires-clause-at c = integer_at (steps_of c.args.grammar) c.args.text.now c.args.opening c.requires.opened c.digits-run.result.size
     c.digits-run.result.stage c.digits-run.ensures.run.on
