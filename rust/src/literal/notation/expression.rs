@@ -121,12 +121,12 @@ impl Expression<'_> {
 
 impl Display for Expression<'_> {
     fn fmt(&self, f: &mut Formatter<'_>) -> fmt::Result {
-        let Expression(pool @ Pool { is_regex, .. }, _) = *self;
-        let (open, behind, or) = if *is_regex { ("(?:", "", "|") } else { ("(", " ", " | ") };
+        let (pool, is_regex) = (self.0, self.0.is_regex);
+        let (open, behind, or) = if is_regex { ("(?:", "", "|") } else { ("(", " ", " | ") };
         let of = |at| Expression(pool, at);
         match self.node() {
             Node::Never | Node::Empty => Ok(()),
-            Node::Byte(set) => write_set(f, *is_regex, set),
+            Node::Byte(set) => write_set(f, is_regex, set),
             Node::Named(name, _) => f.write_str(name),
             Node::Group(at) => write!(f, "{open}{})", of(at)),
             Node::Both(one, two) => write!(f, "{}{behind}{}", of(one), of(two)),
@@ -134,8 +134,8 @@ impl Display for Expression<'_> {
             Node::Times(at, 0, Some(1)) => write!(f, "{}?", of(at)),
             Node::Times(at, 0, None) => write!(f, "{}*", of(at)),
             Node::Times(at, _, None) => write!(f, "{}+", of(at)),
-            Node::Times(at, least, Some(most)) if *is_regex && least == most => write!(f, "{}{{{most}}}", of(at)),
-            Node::Times(at, least, Some(most)) if *is_regex => write!(f, "{}{{{least},{most}}}", of(at)),
+            Node::Times(at, least, Some(most)) if is_regex && least == most => write!(f, "{}{{{most}}}", of(at)),
+            Node::Times(at, least, Some(most)) if is_regex => write!(f, "{}{{{least},{most}}}", of(at)),
             Node::Times(at, least, Some(most)) => (0..most).try_for_each(|index| {
                 write!(f, "{}{}{}", if index > 0 { " " } else { "" }, of(at), if index < least { "" } else { "?" })
             }),

@@ -7,6 +7,7 @@ use crate::literal::{Condition, Syntax};
 use crate::{short_text::ShortText, view::Separators, word::Part};
 
 /// Writes a phrase for each difference that has an effect.
+#[rustfmt::skip]
 pub(super) fn write(syntax: Syntax, f: &mut Formatter<'_>) -> fmt::Result {
     let (view, conditions, floats) = (syntax.format.view(), syntax.conditions, syntax.options.is_some());
     let [zeros, float_zeros] = leading_zeros(syntax.as_grammar());
@@ -18,8 +19,7 @@ pub(super) fn write(syntax: Syntax, f: &mut Formatter<'_>) -> fmt::Result {
     let optional = |condition| if conditions.has(condition) { "" } else { "optional " };
     let [last, higher, small] = group_sizes(conditions);
     let words = ["", "", "two", "three", "four", "five", "six", "seven", "eight"];
-    let [last_word, higher_word, small_word] =
-        [last, higher, small].map(|it| words.get(usize::from(it)).unwrap_or(&""));
+    let [last_word, higher_word, small_word] = [last, higher, small].map(|it| words.get(usize::from(it)).unwrap_or(&""));
     let (has_part, is_free) = ([true, floats, has_exponent], [last == 0, small == 0, true]);
     let at = |is_allowed: fn(Separators) -> bool| {
         let parts = [Part::Integer, Part::Fraction, Part::Exponent].map(|part| is_allowed(view.separators(part)));
@@ -28,8 +28,7 @@ pub(super) fn write(syntax: Syntax, f: &mut Formatter<'_>) -> fmt::Result {
     };
     let (between, before, after) = (at(|it| it.internal), at(|it| it.leading), at(|it| it.trailing));
     let several = at(|it| it.consecutive);
-    #[rustfmt::skip]
-    let phrases = [
+    for (index, (_, phrase)) in [
         (true, format_args!("{}{}", radix(view.mantissa_radix()), if floats { "" } else { " integers" })),
         (prefix != 0, format_args!("{}prefix `0{x}`", optional(Condition::BasePrefix))),
         (suffix != 0, format_args!("{}suffix `{h}`", optional(Condition::BaseSuffix))),
@@ -63,9 +62,10 @@ pub(super) fn write(syntax: Syntax, f: &mut Formatter<'_>) -> fmt::Result {
         (view.case_sensitive_base_prefix() && prefix.is_ascii_alphabetic(), format_args!("no `0{}`", shown(prefix ^ 32))),
         (view.case_sensitive_base_suffix() && suffix.is_ascii_alphabetic(), format_args!("no `{}`", shown(suffix ^ 32))),
         (!view.no_special() && view.special_digit_separator(), format_args!("`{s}` in NaN")),
-    ];
-    let mut shown = phrases.iter().filter(|it| it.0).enumerate();
-    shown.try_for_each(|(index, it)| write!(f, "{}{}", if index > 0 { "; " } else { "" }, it.1))
+    ].into_iter().filter(|it| it.0).enumerate() {
+        write!(f, "{}{phrase}", if index > 0 { "; " } else { "" })?;
+    }
+    Ok(())
 }
 
 /// Returns the names of `parts`, unless they are all.
