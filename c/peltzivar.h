@@ -36,10 +36,11 @@
  * peltzivar_read_settings returns 0. No function depends on the locale.
  *
  * Each function that ends in _text, and peltzivar_source, peltzivar_sentence, peltzivar_grammar and peltzivar_regex,
- * write a null-terminated ASCII string to a buffer of len bytes, as snprintf does. If the string and its null terminator do not fit, they write only the beginning of the
- * string and a null terminator. If len is 0, they write nothing. They always return the length of the whole string, not
- * counting the null terminator. A function that returns a const char * returns a null-terminated ASCII string that
- * lasts as long as the program. A string is empty if nothing has the number or index that is passed.
+ * write a null-terminated ASCII string to a buffer of len bytes, as snprintf does. If the string and its null
+ * terminator do not fit, they write only the beginning of the string and a null terminator. If len is 0, they write
+ * nothing. They always return the length of the whole string, not counting the null terminator. A function that returns
+ * a const char * returns a null-terminated ASCII string that lasts as long as the program. A string is empty if nothing
+ * has the number or index that is passed.
  *
  * An argument that is a word, an edit, a syntax, a number or a byte may have any value. A pointer that is passed with a
  * length must point to an array of at least that many elements, but it may be null if the length is 0. An input array
@@ -154,11 +155,11 @@ peltzivar_error peltzivar_check_syntax(const peltzivar_syntax *syntax);
  * radix 16". If it accepts the syntax, writes an empty string. */
 size_t peltzivar_syntax_error_text(const peltzivar_syntax *syntax, char *text, size_t len);
 
-/* Write a syntax in other words, or an empty string if peltzivar_check_syntax refuses it. The first writes a sentence on
- * what differs from decimal digits with an optional sign, point and exponent, such as "decimal; no `+`; NaN". The others
- * write the literals, without special values: as a grammar in the notation of W3C, with a rule a line, the first of
- * which is "Literal", and as a regular expression for whole texts, of at most 500 characters, the same for Python,
- * JavaScript and Rust. */
+/* Write a syntax in other words, or an empty string if peltzivar_check_syntax refuses it. The sentence states what
+ * differs from decimal digits with an optional sign, point and exponent, such as "decimal; no `+`; NaN". The grammar is
+ * in the notation of W3C, with a rule a line, and begins with "Literal". The regular expression matches a whole text if
+ * and only if it is a literal. It is the same for Python, JavaScript and Rust, and has at most 500 characters. Both leave
+ * out special values. */
 size_t peltzivar_sentence(const peltzivar_syntax *syntax, char *text, size_t len);
 size_t peltzivar_grammar(const peltzivar_syntax *syntax, char *text, size_t len);
 size_t peltzivar_regex(const peltzivar_syntax *syntax, char *text, size_t len);

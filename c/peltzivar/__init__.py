@@ -1565,8 +1565,8 @@ class Syntax:
         return _text(_library.grammar, self._by, size=_SOURCE_SIZE)
 
     def regex(self) -> str:
-        """Returns a regular expression, of at most 500 characters, for `re.fullmatch`. JavaScript and Rust take it, too,
-        between `^(?:` and `)$`. It matches a text if and only if this is a literal. Special values are left out.
+        """Returns a regular expression for `re.fullmatch`, of at most 500 characters. It matches a text if and only if
+        this is a literal. Special values are left out. JavaScript and Rust take it, too, between `^(?:` and `)$`.
 
             >>> Syntax.integers(Format.of(radix=16, base_prefix="x")).regex()
             '[+-]?(?:[0][Xx])?[0-9A-Fa-f]+'

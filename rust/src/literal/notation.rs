@@ -20,8 +20,8 @@ impl Display for Notation {
 }
 
 impl Syntax {
-    /// Returns what differs from decimal digits with an optional sign, point and exponent, as a sentence: first the digits
-    /// and all that can be among them, and then what flags require or forbid, in their order. `NaN` stands for all special
+    /// Returns a sentence that states what differs from decimal digits with an optional sign, point and exponent: first
+    /// digits, other bytes and separators, and then requirements, in the order of the flags. NaN stands for all special
     /// values.
     ///
     /// ```
@@ -33,8 +33,8 @@ impl Syntax {
         Notation(*self, sentence::write)
     }
 
-    /// Returns a grammar of the literals in the [notation of W3C](https://www.w3.org/TR/xml/#sec-notation), a rule a line.
-    /// The first rule is `Literal`. Special values are left out.
+    /// Returns a grammar of the literals in the [notation of W3C](https://www.w3.org/TR/xml/#sec-notation), a rule a
+    /// line. The first rule is `Literal`. Special values are left out.
     ///
     /// ```
     /// let json = r#"
@@ -55,11 +55,11 @@ impl Syntax {
         })
     }
 
-    /// Returns a regular expression that matches a whole text if and only if it is a literal. Special values are left out.
+    /// Returns a regular expression that matches a whole text if and only if it is a literal. Special values are left
+    /// out. It is the same for Python, JavaScript and Rust, and has at most 500 characters.
     ///
-    /// It is for Python, JavaScript and Rust. It has at most 500 characters, and neither anchors nor flags: call
-    /// `re.fullmatch` in Python, and elsewhere write it between `^(?:` and `)$`. It matches a text in one way at most, so
-    /// the time for a text grows as its length.
+    /// It has neither anchors nor flags: call `re.fullmatch` in Python, and elsewhere write it between `^(?:` and `)$`.
+    /// It matches a text in at most one way, so the time for a text grows as its length.
     ///
     /// ```
     /// let json = "[-]?(?:[1-9][0-9]*|[0])(?:[.][0-9]+)?(?:[Ee][+-]?[0-9]+)?";

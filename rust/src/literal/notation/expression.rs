@@ -4,18 +4,17 @@ use core::cell::Cell;
 use core::fmt::{self, Display, Formatter, Write};
 use core::ops::{Add, BitOr};
 
-/// What an expression is made of: one of a set of ASCII bytes, what a grammar names or what is in parentheses, two of which
-/// one is behind the other or either is there, and one so many times, at least and at most. A `usize` is another's index.
+/// What an expression is made of. A `usize` is the index of another one.
 #[derive(Clone, Copy)]
 enum Node {
     Never,
     Empty,
-    Byte(u128),
-    Named(&'static str, usize),
-    Group(usize),
-    Both(usize, usize),
-    Either(usize, usize),
-    Times(usize, u8, Option<u8>),
+    Byte(u128),                   // One byte of a set of ASCII bytes.
+    Named(&'static str, usize),   // What a grammar names.
+    Group(usize),                 // What is in parentheses.
+    Both(usize, usize),           // One, and behind it the other.
+    Either(usize, usize),         // One or the other.
+    Times(usize, u8, Option<u8>), // One, so many times at least and, if there is a limit, at most.
 }
 
 /// The expressions of a syntax. No lawful one has more than 169.

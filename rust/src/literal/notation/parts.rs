@@ -12,8 +12,8 @@ pub(super) fn group_sizes(conditions: Conditions) -> [u8; 3] {
     [last, if higher == 0 { last } else { higher }, fraction]
 }
 
-/// Returns whether leading zeros are forbidden in integers, and whether in floats. Both are the same if no literal is an
-/// integer, or none a float.
+/// Returns whether leading zeros are forbidden in integers, and whether in floats. Both are the same if no literal is
+/// an integer, or none a float.
 pub(super) fn leading_zeros(grammar: Grammar) -> [bool; 2] {
     let flags = [grammar.view().no_integer_leading_zeros(), grammar.view().no_float_leading_zeros()];
     let [integers, floats] = flags.map(|is_set| is_set && !grammar.conditions.has(Condition::BasePrefix));
@@ -55,7 +55,8 @@ pub(super) fn literal(pool: &Pool, grammar: Grammar) -> Expression<'_> {
     sign(Part::Integer).required(view.required_mantissa_sign()) + number + suffix
 }
 
-/// Returns the digits of a part, with separators; those without a leading zero, or behind the prefix; and those with one.
+/// Returns the digits of a part with its separators, those without a leading zero or behind the prefix, and those with
+/// a leading zero.
 fn runs<'a>(pool: &'a Pool, grammar: Grammar, part: Part, [prefix, digit]: [Expression<'a>; 2]) -> [Expression<'a>; 3] {
     let separator = pool.byte(|it| is_separator(grammar, it));
     let exactly = |size| digit.times(size, Some(size));
@@ -84,7 +85,7 @@ fn runs<'a>(pool: &'a Pool, grammar: Grammar, part: Part, [prefix, digit]: [Expr
     [before + (digits(1) | whole) + after, (first + (digits(0) | rest) | zero) + after, led]
 }
 
-/// Returns the numbers, if a float has such an integer, or none behind `front`. Integers may have others.
+/// Returns the numbers whose integer is `integer`, and the floats that have none behind `front`.
 fn numbers<'a>(grammar: Grammar, [front, integer, point, fraction, exponent]: [Expression<'a>; 5]) -> Expression<'a> {
     let (view, needs_exponent) = (grammar.view(), needs_exponent(grammar));
     let (needs_point, needs_digits) = (view.no_exponent_without_fraction(), view.required_mantissa_digits());
