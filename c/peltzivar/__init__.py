@@ -1328,9 +1328,10 @@ class Syntax:
         (-12.0, '8', '3')
 
     The conditions are that a literal has the base prefix or the base suffix, that its sign is not `-`, and that the
-    digit separators of its integer, if it has any, make groups of 2 to 8 digits, as in `1,234`. The format is in normal
-    form, so equivalent formats have the same syntax. Raises OptionsError if the exponent character or the decimal point
-    does not fit the normal form, if only one of them is None, or if the format contradicts a condition.
+    digit separators of its integer or its fraction, if there are any, make groups of 2 to 8 digits, as in `1,234`, with
+    groups before the last of `higher_group_size`, as in `12,34,567`. The format is in normal form, so equivalent formats
+    have the same syntax. Raises OptionsError if the exponent character or the decimal point does not fit the normal
+    form, if only one of them is None, or if the format contradicts a condition.
     """
 
     format: Format
@@ -1584,8 +1585,8 @@ class Syntax:
 
         Takes an int, a float, a Decimal, a `Literal`, or an object with `__index__` or `__float__`, as those of numpy,
         but no bool. Of a float, the digits are those of `repr`. `group` is the number of integer digits in a group, if
-        the format allows separators between them, or 0 for no groups. If the syntax has an `integer_group_size`, this
-        replaces any `group` but 0. `without_base` leaves out the base prefix and the base suffix, unless conditions
+        the format allows separators between them, or 0 for no groups. If the syntax has an `integer_group_size`, its
+        sizes replace any `group` but 0. `without_base` leaves out the base prefix and the base suffix, unless conditions
         require them. Raises ValueError for NaN and infinity, for a sign `-`, a decimal point or an exponent if no
         literal has one, for an int if each literal has an exponent, for an int of more than 4300 digits in radix 10, as
         `str` does, for another mantissa radix than that of the syntax, which is 10 for a float and a Decimal, and, of a

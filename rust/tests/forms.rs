@@ -1,6 +1,6 @@
 //! Numbers of several forms: which form has a text, and which has its error.
 
-use peltzivar::literal::{Conditions, Language, Number, ReadErrorKind, Readers, Special, Specials, Spelling, Syntax};
+use peltzivar::literal::{Language, Number, Readers, Special, Specials, Spelling, Syntax};
 use peltzivar::{Format, NumberFormatBuilder};
 
 /// Asserts that a text has a value, by a form.

@@ -37,7 +37,7 @@ module _ (m : Notation) where
   -- TEXTS THAT FIT
 
   -- `is_calm g` is true if a separator is before `g`, and its part has a size.
-  abbrev is_sized : Group → Bool
+  abbrev pub is_sized : Group → Bool
   is_sized g = g.separated && has_size m g.part
 
   grown_or : (P : Option Group → Type 0) (t f : Bool) (g next : Group) → f ≡ true → P (Some g) → P (Some next)
@@ -50,7 +50,7 @@ module _ (m : Notation) where
   no_separator part b other role = false≢true (sym other ∙ as_role m part b roles.Separator role)
 
   -- Behind a group that need not be filled, all bytes but separators fit.
-  calm_ends : (g : Group) (text : List ℕ) → is_sized g ≡ false → list_any m.separator text ≡ false → ends m (group_after m (Some g) text) ≡ true
+  pub calm_ends : (g : Group) (text : List ℕ) → is_sized g ≡ false → list_any m.separator text ≡ false → ends m (group_after m (Some g) text) ≡ true
   calm_ends g [] calm joined = fit g.separated (has_size m g.part) _ calm where
     fit : (separated size last : Bool) → (separated && size) ≡ false → (not size || (not separated || last)) ≡ true
     fit separated size last calm = grind arith

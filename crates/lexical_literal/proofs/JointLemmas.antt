@@ -134,9 +134,9 @@ module _ (m : Notation) where
   led _ none = absurd (false≢true (sym none))
 
   -- What is allowed with the flags `B`, which allow no separator that `u` refuses, and with each requirement alone.
-  module _ (B : Flag → Bool) where
+  module _ (B : Flag → Bool) (D : Condition → Bool) where
     abbrev b : Notation
-    b = with_rules m B no_condition
+    b = with_rules m B D
 
     abbrev Kept : Part → Type 0
     Kept part = KeepsPlaces b u.flag no_condition part
@@ -251,10 +251,10 @@ module _ (m : Notation) where
     same = λ j n. sym (allows_is n s next unended) j
 
     -- What no flag refuses alone, a flag on leading zeros refuses with another flag, or where groups have sizes.
-    pub joint : (B : Flag → Bool) → Kept B (part_of s.stage) → Alone (λ n. free_allows n s next) → free_allows (b B) s next ≡ true
-        → free_allows u s next ≡ false → leads ≡ true
-    joint B kept = subst (λ P. Alone P → P (b B) ≡ true → P u ≡ false → leads ≡ true) same
-        (joint_role B (part_of s.stage) kept s.stage s.gap (is_plus_next next) o)
+    pub joint : (B : Flag → Bool) (D : Condition → Bool) → Kept B D (part_of s.stage) → Alone (λ n. free_allows n s next)
+        → free_allows (b B D) s next ≡ true → free_allows u s next ≡ false → leads ≡ true
+    joint B D kept = subst (λ P. Alone P → P (b B D) ≡ true → P u ≡ false → leads ≡ true) same
+        (joint_role B D (part_of s.stage) kept s.stage s.gap (is_plus_next next) o)
 
   -- A flag that allows the byte is of the place and the part.
   pub at_next : (f : Flag) (s : Summary) (byte : ℕ) → is_one_of number_separator_flags f ≡ true → free_allows (bare m) s (Some byte) ≡ false

@@ -31,3 +31,4 @@ mod SizeLemmas
 mod FitLemmas
 mod DecideLemmas
 mod SpanLemmas
+mod StopLemmas

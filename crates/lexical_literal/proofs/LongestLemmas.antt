@@ -1,23 +1,24 @@
 -- Fronts of a text, and where the loop is left.
-use Rattle.std.proofs.Common.{ℕ, Bool, IsNone, Option, if◌then◌else◌, ◌≡◌, ◌<◌, ◌≤◌, ◌+◌, ◌&&◌, ◌⊎◌, not, inl, inr, true, false, List, [], ◌∷◌, ◌++◌, length}
+use Rattle.std.proofs.Common.{ℕ, Bool, IsNone, Option, if◌then◌else◌, ◌≡◌, ◌<◌, ◌≤◌, ◌+◌, ◌&&◌, ◌||◌, ◌⊎◌, not, inl, inr, true, false, List, [], ◌∷◌, ◌++◌, length}
 use Rattle.std.proofs.Common.{get_or, replicate, take, drop, Some, None, refl, sym, ap, subst, append_assoc, append-nil, take-append-drop, ◌∙◌, arith}
 use Rattle.std.specs.Prelude.{is_some, slice_get}
-use Rattle.std.proofs.lemmas.Bool.{false≢true, and_from, and_parts, cases_Bool, cases_lt, false_from_ne_true}
+use Rattle.std.proofs.lemmas.Bool.{false≢true, and_from, and_parts, cases_Bool, cases_lt, false_from_ne_true, or_parts}
 use Rattle.std.proofs.lemmas.Option.{slice_get-get_or, slice_get_past}
-use Rattle.std.proofs.lemmas.List.{take-take, take_more, take_all}
+use Rattle.std.proofs.lemmas.List.{length-take-le, take-take, take_more, take_all}
 use Rattle.lexical_literal.specs.Notation.{Notation}
 use Rattle.lexical_literal.specs.Literal.{Literal, IsLiteral, Reads}
 use Rattle.lexical_literal.specs.Additions.Summary.{count, cuts_of, role_at, scan, step, is_accepted, is_complete, part_of, tally, start, no_cuts, HasLengths}
 use Rattle.lexical_literal.specs.Front.{IsFront, IsValidUpTo, NoFront, NoLiteral, ReadsFront}
-use Rattle.lexical_literal.specs.Additions.Longest.{HasBegun, HasFound, IsCountedFront, IsFronted, IsLongest, IsStopped, IsUnderway}
+use Rattle.lexical_literal.specs.Additions.Longest.{HasBegun, HasFound, IsCountedFront, IsFronted, IsLongest, IsMeasured, IsStopped, IsUnderway}
 use Rattle.lexical_literal.specs.Additions.Sizes.{first_group, fits, goes, group_after, grow, grown, unsized}
 use Rattle.lexical_literal.specs.Groups.{has_sizes}
-use Rattle.lexical_literal.specs.Additions.Plain.{HasRoles, HasSizes, IsReady, IsAt, IsBegun}
+use Rattle.lexical_literal.specs.Additions.Plain.{HasRoles, HasSizes, IsReady, IsAt, IsBegun, IsRefused}
 use Rattle.lexical_literal.specs.declared.read.Found.{Found}
 use Rattle.lexical_literal.specs.declared.plain.At.{At}
 use Rattle.lexical_literal.specs.declared.plain.Counted.{Counted}
 use Rattle.lexical_literal.specs.declared.groups.Group.{Group}
 use Rattle.lexical_literal.specs.declared.steps.Summary.{Summary}
+use Rattle.lexical_literal.specs.declared.syntax.Condition.TheVariants as conditions
 use Rattle.lexical_literal.proofs.ScanLemmas.{scan_append, tally_append}
 use Rattle.lexical_literal.proofs.ConditionLemmas.{has_lengths, literal_from, literal_arrives}
 use Rattle.lexical_literal.proofs.LiteralLemmas.{all_cuts}
@@ -25,7 +26,7 @@ use Rattle.lexical_literal.proofs.CountLemmas.{no_counts, small_at_first}
 use Rattle.lexical_util.specs.declared.feature_format.roles.Role.{Role}
 use Rattle.lexical_literal.proofs.FitLemmas.{front_fits, front_is_read_of, front_of, linked_there}
 use Rattle.lexical_literal.proofs.RefusalLemmas.{other_roles}
-use Rattle.lexical_literal.proofs.SizeLemmas.{as_sized, as_unsized, ends, group_append}
+use Rattle.lexical_literal.proofs.SizeLemmas.{all_end, as_sized, as_unsized, ends, group_append, small_after}
 
 front_shorter : (m : Notation) (text : List ℕ) (k n : ℕ) → k ≤ n → IsFront m (take n text) → IsFront m (take k text)
 front_shorter m text k n below is = record {
@@ -70,6 +71,16 @@ module _ (m : Notation) (text : List ℕ) where
       reads = reads;
       no_longer = λ more past below k other. absurd (let low = no_longer_than stop.size is.valid more below k other in omega (arith, past, low));
     }
+
+    -- If what was read is not all of the text, or not a literal, then the text is not a literal.
+    pub none_whole : (stop.size ≡ length text → goes m stop.read is.group None ≡ false) → NoLiteral m text
+    none_whole partial l reads = let all = all_right l reads in is.incomplete (partial (omega (arith, all, is.valid.within))) l (whole_front l reads)
+
+    -- If it is all of the text, and a literal, then the text has the lengths that are counted.
+    pub whole_measured : (counts : List ℕ) → stop.size ≡ length text → goes m stop.read is.group None ≡ true
+        → ((l : Literal) → Reads m l text → HasLengths l (cuts_of counts)) → IsMeasured m text counts
+    whole_measured counts all ends counted = let l = is.complete ends in
+        record { literal = (l.0, subst (Reads m l.0) (take_all stop.size text (omega (arith, all))) l.1); counted = counted }
 
     -- If the text is not a literal, what was read does not allow what follows.
     pub refused_there : NoLiteral m text → goes m stop.read is.group (slice_get text stop.size) ≡ false
@@ -131,6 +142,16 @@ found_there m text counted has complete stop is same = let l = has.literal compl
   counted = λ k reads. has.lengths complete k (subst (λ n. Reads m k (take n text)) same reads);
 }
 
+-- A literal that has been found, and is all of the text.
+pub found_whole : (m : Notation) (text : List ℕ) (counted : Counted) → HasBegun m text counted → counted.complete ≡ true → counted.at.size ≡ length text
+    → IsMeasured m text counted.counts
+found_whole m text counted has complete all =
+    let l = has.literal complete in
+    let same = take_all counted.at.size text (omega (arith, all)) in record {
+      literal = (l.0, subst (Reads m l.0) same l.1);
+      counted = λ k reads. has.lengths complete k (subst (Reads m k) (sym same) reads);
+    }
+
 -- What a pass finds that seeks the longest front.
 pub fronted : (m : Notation) (text : List ℕ) (stop : At) (found : Found) → IsStopped m text stop → IsCountedFront m text found
     → IsFronted m text stop (Some found)
@@ -181,6 +202,10 @@ module _ (m : Notation) (ready : IsReady m) (text : List ℕ) where
             let head : b ≡ c = cc in
             let more = same_part x y X Y (omega (arith, same)) cc in ((λ j. head j ∷ more.0 j), more.1)
         same_part _ _ X Y same e = cc
+
+-- What has been read has one last group.
+pub same_group : (m : Notation) (text : List ℕ) (at : At) (a b : Group) → IsUnderway m text at a → IsUnderway m text at b → a ≡ b
+same_group m text at a b is also = let first = is.grouped in let second = also.grouped in cc
 
 -- WITH SIZES
 
@@ -239,6 +264,10 @@ module _ (m : Notation) (ready : IsReady (unsized m)) (sizes : HasSizes m) (text
       | inl sized ↦ ap (grow m group) (ap (λ part. role_at m part b) (linked_there m sized (take at.size text) at.read group is.begun.read is.grouped) ∙ plays)
       | inr none ↦ rw (none) refl
     ]
+
+    -- A group has no more digits than bytes have been read.
+    pub small_group : group.digits ≤ at.size
+    small_group = omega (arith, small_after m first_group group (take at.size text) is.grouped, length-take-le at.size text is.begun.within)
 
     -- One more byte.
     pub underway_more : (t : Summary) (g : Group) (role : Role) → at.size < length text → step_of ≡ Some t
@@ -347,3 +376,33 @@ module _ (m : Notation) (ready : IsReady (unsized m)) (sizes : HasSizes m) (text
           longest = longer more counted complete is;
         }
 
+  -- Where reading has stopped, if the byte that follows is refused.
+  pub refused_at : (at : At) (group : Group) → IsUnderway m text at group → IsRefused u text at → IsStopped m text at
+  refused_at at group is refused = stops_at at group is (λ _. inl refused.1)
+
+  -- What has been found without sizes, if its groups fit.
+  pub begun_with : (counted : Counted) → HasFound u text counted → (group : Group) → group_after m (Some first_group) (take counted.at.size text) ≡ Some group
+      → (counted.complete ≡ true → fits m group None ≡ true) → HasBegun m text counted
+  begun_with counted found group grouped ends_there = record {
+    group = group;
+    begun = record { begun = found.begun; grouped = grouped };
+    literal = λ yes. let l = found.literal yes in
+        (l.0, as_sized m h sizes l.0 (take counted.at.size text) l.1 (ap (ends m) grouped ∙ ends_there yes));
+    lengths = λ yes l reads. found.lengths yes l (as_unsized m h sizes l (take counted.at.size text) reads).0;
+    exact = λ yes. let refused = found.exact yes in
+        (refused.0, refused_at counted.at group (record { begun = found.begun; grouped = grouped }) refused);
+  }
+
+  pub begun_free : (counted : Counted) → HasFound u text counted → has_sizes m ≡ false → HasBegun m text counted
+  begun_free counted found none = begun_with counted found first_group (all_end m none first_group (take counted.at.size text))
+      (λ _. ap (λ t. not t || true) (or_parts (m.condition conditions.IntegerGroupSize) _ none).0)
+
+  -- Nothing has been found.
+  pub begun_none : (counts : List ℕ) → HasBegun m text (record { at = record { size = 0; read = start }; counts = counts; complete = false; exact = false })
+  begun_none counts = record {
+    group = first_group;
+    begun = record { begun = record { within = omega arith; read = refl }; grouped = refl };
+    literal = λ yes. absurd (false≢true yes);
+    lengths = λ yes. absurd (false≢true yes);
+    exact = λ yes. absurd (false≢true yes);
+  }

@@ -223,7 +223,7 @@ module _ (m : Notation) where
   as_spelled : (l : Literal) → IsSpelled u l → IsSpelled m l
   as_spelled = spelled_too u m.flag m.condition required (λ f set. or_left _ _ (kept_flag f set))
 
-  keeps : (part : Part) → has_size m part ≡ false → KeepsPlaces m u.flag u.condition part
+  pub keeps : (part : Part) → has_size m part ≡ false → KeepsPlaces m u.flag u.condition part
   keeps parts.Integer none =
       record { leading = λ set. rw (none) set; internal = λ set. set; trailing = λ set. rw (none) set; consecutive = λ set. rw (none) set }
   keeps parts.Fraction none =

@@ -104,7 +104,7 @@ impl Syntax {
         ensures none { IsNone result → NoLiteral (notation_of self.now) text.now }
     {
         let group = self.group_at(text, stop);
-        if stop.size == text.len() && self.ends(stop, group) {
+        if stop.size == text.len() && ends(self.grammar(), stop, group) {
             Some(self.count(text))
         } else {
             None
@@ -208,6 +208,7 @@ impl Syntax {
     const fn longest(&self, text: &[u8]) -> Option<Found>
         ensures { IsLongest (notation_of self.now) text.now (length text.now) result }
     {
+        let grammar = self.grammar();
         let mut at = BEGIN;
         let mut last = FIRST;
         let mut counts = [0; 9];
@@ -217,21 +218,12 @@ impl Syntax {
             counts = more;
             at = next;
             last = group;
-            if self.ends(at, last) {
+            if ends(grammar, at, last) {
                 let size = at.size;
                 found = Some(Found { size, counts });
             }
         }
         found
-    }
-
-    // Returns whether what has been read is a literal.
-    #[inline(always)]
-    const fn ends(&self, at: At, group: Group) -> bool
-        ensures { result ≡ goes (notation_of self.now) at.read group None }
-    {
-        let grammar = self.grammar();
-        is_complete(grammar, at.read) && fits(grammar, group, None)
     }
 
     // Returns why `text`, of which reading stopped at `stop`, is not a literal, as the result of the caller, which takes less
@@ -258,7 +250,15 @@ impl Syntax {
     }
 }
 
-// Returns the same where groups have sizes, or that nothing has been read if a group has a wrong one.
+// Returns whether what has been read, with the last group `group`, is a literal.
+#[inline(always)]
+const fn ends(grammar: Grammar, at: At, group: Group) -> bool
+    ensures { result ≡ goes (notation_of grammar) at.read group None }
+{
+    is_complete(grammar, at.read) && fits(grammar, group, None)
+}
+
+// Returns what has been found without sizes of groups, or that nothing has been read if a group has not the right size.
 #[cold]
 const fn sized(grammar: Grammar, text: &[u8], counted: Counted) -> Counted
     requires ready { IsReady (steps_of grammar) }

@@ -100,40 +100,40 @@ module _ (m : Notation) (radix separator : ℕ) (group : Groups) (digit : (d : �
 
     pub state : (d : ℕ) (digits : List ℕ) → AllBelowBase radix (d ∷ digits) → State (length (d ∷ digits)) (sizes (d ∷ digits))
     state d [] all = let is = digit d all.0 in rw is (refl, omega arith, omega arith)
-    state d (e ∷ digits) all = 
+    state d (e ∷ digits) all =
         subst (λ k. State k (sizes (d ∷ e ∷ digits))) (omega arith) (go (sizes (e ∷ digits)) refl (state e digits all.1)) where
-      n : ℕ
-      n = length (e ∷ digits)
+          n : ℕ
+          n = length (e ∷ digits)
 
-      go : (counts : List ℕ) → sizes (e ∷ digits) ≡ counts → State n counts → State (n + 1) (sizes (d ∷ e ∷ digits))
-      go [] are is = absurd is
-      go (count ∷ []) are is =
-          elim (cases_lt n group.last) [
-            | inl part ↦
-              let inside : ends_group group n ≡ false = grind (arith, nat_tests) in
-              subst (State (n + 1)) (sym (next_inside d (e ∷ digits) all.0 inside ∙ ap one_more are))
-              (omega (arith, is.0), omega arith, omega (arith, part))
-            | inr whole ↦
-              let same : n ≡ 0 * group.higher + 0 + group.last = omega (arith, whole, is.2) in
-              let fits : (count == m.number conditions.IntegerGroupSize) ≡ true = let first = is.0 in grind (arith, nat_tests) in
-              subst (State (n + 1)) (sym (next_outside d (e ∷ digits) all.0 (ends 0 0 n same (refl)) ∙ ap (λ counts. 1 ∷ counts) are))
-              (record { inner = 0; within = (omega arith, omega arith); total = omega (arith, same); rest = fits })
-          ]
-      go (count ∷ next ∷ counts) are is =
-          elim (cases_lt count group.higher) [
-            | inl part ↦
-              let place : (n - group.last) % group.higher ≡ count =
-              ap (λ n. n % group.higher) {y = is.inner * group.higher + count} (omega (arith, is.total)) ∙ mod-mul-add is.inner group.higher count part in
-              let inside : ends_group group n ≡ false = let positive = is.within.0 in grind (arith, nat_tests) in
-              subst (State (n + 1)) (sym (next_inside d (e ∷ digits) all.0 inside ∙ ap one_more are))
-              (record { inner = is.inner; within = (omega arith, omega (arith, part)); total = omega (arith, is.total); rest = is.rest })
-            | inr whole ↦
-              let full : count ≡ group.higher = omega (arith, whole, is.within.1) in
-              let same : n ≡ (is.inner + 1) * group.higher + 0 + group.last = omega (arith, is.total, full, step is.inner) in
-              let fits : (count == higher m) ≡ true = grind (arith, nat_tests) in
-              subst (State (n + 1)) (sym (next_outside d (e ∷ digits) all.0 (ends (is.inner + 1) 0 n same refl) ∙ ap (λ counts. 1 ∷ counts) are))
-              (record { inner = is.inner + 1; within = (omega arith, omega arith); total = omega (arith, same); rest = and_from _ _ fits is.rest })
-          ]
+          go : (counts : List ℕ) → sizes (e ∷ digits) ≡ counts → State n counts → State (n + 1) (sizes (d ∷ e ∷ digits))
+          go [] are is = absurd is
+          go (count ∷ []) are is =
+              elim (cases_lt n group.last) [
+                | inl part ↦
+                    let inside : ends_group group n ≡ false = grind (arith, nat_tests) in
+                    subst (State (n + 1)) (sym (next_inside d (e ∷ digits) all.0 inside ∙ ap one_more are))
+                    (omega (arith, is.0), omega arith, omega (arith, part))
+                | inr whole ↦
+                    let same : n ≡ 0 * group.higher + 0 + group.last = omega (arith, whole, is.2) in
+                    let fits : (count == m.number conditions.IntegerGroupSize) ≡ true = let first = is.0 in grind (arith, nat_tests) in
+                    subst (State (n + 1)) (sym (next_outside d (e ∷ digits) all.0 (ends 0 0 n same (refl)) ∙ ap (λ counts. 1 ∷ counts) are))
+                    (record { inner = 0; within = (omega arith, omega arith); total = omega (arith, same); rest = fits })
+              ]
+          go (count ∷ next ∷ counts) are is =
+              elim (cases_lt count group.higher) [
+                | inl part ↦
+                    let place : (n - group.last) % group.higher ≡ count =
+                    ap (λ n. n % group.higher) {y = is.inner * group.higher + count} (omega (arith, is.total)) ∙ mod-mul-add is.inner group.higher count part in
+                    let inside : ends_group group n ≡ false = let positive = is.within.0 in grind (arith, nat_tests) in
+                    subst (State (n + 1)) (sym (next_inside d (e ∷ digits) all.0 inside ∙ ap one_more are))
+                    (record { inner = is.inner; within = (omega arith, omega (arith, part)); total = omega (arith, is.total); rest = is.rest })
+                | inr whole ↦
+                    let full : count ≡ group.higher = omega (arith, whole, is.within.1) in
+                    let same : n ≡ (is.inner + 1) * group.higher + 0 + group.last = omega (arith, is.total, full, step is.inner) in
+                    let fits : (count == higher m) ≡ true = grind (arith, nat_tests) in
+                    subst (State (n + 1)) (sym (next_outside d (e ∷ digits) all.0 (ends (is.inner + 1) 0 n same refl) ∙ ap (λ counts. 1 ∷ counts) are))
+                    (record { inner = is.inner + 1; within = (omega arith, omega arith); total = omega (arith, same); rest = and_from _ _ fits is.rest })
+              ]
 
     fit : (n : ℕ) (counts : List ℕ) → State n counts → all_fit m parts.Integer counts ≡ true
     fit n [] is = absurd is

@@ -1,6 +1,6 @@
 -- What is laid out is a literal with the digits of the amount.
-use Rattle.std.proofs.Common.{ℕ, ◌≡◌, ◌<◌, ◌≤◌, ◌==◌, ◌&&◌, ◌||◌, not, if◌then◌else◌, Bool, true, false, IsTrue, List, []}
-use Rattle.std.proofs.Common.{inl, inr, cond, Option, Some, None, Result, Ok, Err, IfOk, is_some, option_to_list, unwrap_or, refl, sym, subst, ap, ◌∙◌, arith}
+use Rattle.std.proofs.Common.{ℕ, ◌≡◌, ◌<◌, ◌≤◌, ◌==◌, ◌&&◌, ◌||◌, not, if◌then◌else◌, Bool, true, false, IsTrue, List, [], ◌∷◌}
+use Rattle.std.proofs.Common.{drop, inl, inr, cond, Option, Some, None, Result, Ok, Err, IfOk, is_some, option_to_list, unwrap_or, refl, sym, subst, ap, ◌∙◌, arith}
 use Rattle.std.proofs.lemmas.Bool.{cases_lt, false_from_ne_true, false≢true, lt-ltb, ltb-true, or_left, or_right, and_right}
 use Rattle.std.proofs.lemmas.Bool.Decides.{nat_tests}
 use Rattle.std.proofs.lemmas.Int.Digits.{all_below_base_digits_of, number_digits_of}
@@ -17,13 +17,15 @@ use Rattle.lexical_util.specs.declared.format_flags.Part.TheVariants as parts
 use Rattle.lexical_base.proofs.ValueLemmas.{byte_value-digit_character}
 use Rattle.lexical_literal.specs.Literal.{IsSpelled, Literal, Reads, condition, has_leading_zero, is_absent, is_none_or_one, is_plus}
 use Rattle.lexical_literal.specs.Literal.{is_none_or_prefix, is_present, requirement, text_of}
-use Rattle.lexical_literal.specs.Notation.{Notation, has, lacks_options, notation_of, number_of, point_of, exponent_character_of, radix_of}
+use Rattle.lexical_literal.specs.Notation.{Notation, all_conditions, has, lacks_options, notation_of, number_of, point_of, exponent_character_of, radix_of}
 use Rattle.lexical_literal.specs.Groups.{higher, is_grouped}
 use Rattle.lexical_literal.specs.Run.{is_run}
-use Rattle.lexical_literal.specs.Syntax.{IsSyntax, FitIfAny, contradiction, fault}
+use Rattle.lexical_literal.specs.Syntax.{IsSyntax, FitIfAny, contradiction, fault, first_fault, limits}
 use Rattle.lexical_literal.specs.declared.syntax.Condition.{Condition}
 use Rattle.lexical_literal.specs.declared.syntax.Condition.TheVariants as conditions
 use Rattle.lexical_literal.specs.declared.syntax.Conditions.{Conditions}
+use Rattle.lexical_literal.specs.declared.syntax.ConditionsError.{ConditionsError}
+use Rattle.std.specs.Option.{option_or}
 use Rattle.lexical_literal.specs.declared.syntax.Grammar.{Grammar}
 use Rattle.lexical_literal.specs.declared.syntax.Options.{Options}
 use Rattle.lexical_literal.proofs.RunLemmas.{rest_of_none}
@@ -55,13 +57,27 @@ unfolding fault
 no_contradiction r c none = (grind (arith, nat_tests), grind (arith, nat_tests))
 
 -- Groups have the sizes that conditions require, which are at least 2.
-sizes_last : (r : Record) (c : Conditions) → contradiction r c ≡ None → has c conditions.IntegerGroupSize ≡ true → 2 ≤ number_of c conditions.IntegerGroupSize
-unfolding fault
-sizes_last r c none set = grind (arith, nat_tests)
+first_none : (r : Record) (c : Conditions) (d : Condition) (ds : List Condition) → first_fault r c (d ∷ ds) ≡ None
+    → (fault r c d ≡ None) × (first_fault r c ds ≡ None)
+first_none r c d ds none = either_none (fault r c d) (first_fault r c ds) none where
+  either_none : (a b : Option ConditionsError) → option_or a b ≡ None → (a ≡ None) × (b ≡ None)
+  either_none None b none = (refl, none)
+  either_none (Some x) b none = cc
 
-sizes_higher : (r : Record) (c : Conditions) → contradiction r c ≡ None → has c conditions.HigherGroupSize ≡ true → 2 ≤ number_of c conditions.HigherGroupSize
+at_least_2 : (r : Record) (c : Conditions) (d : Condition) → limits d ≡ (2, 8) → fault r c d ≡ None → has c d ≡ true → 2 ≤ number_of c d
 unfolding fault
-sizes_higher r c none set = grind (arith, nat_tests)
+at_least_2 r c d two none set = grind (arith, nat_tests)
+
+least : (r : Record) (c : Conditions) → contradiction r c ≡ None
+    → (has c conditions.IntegerGroupSize ≡ true → 2 ≤ number_of c conditions.IntegerGroupSize)
+    × (has c conditions.HigherGroupSize ≡ true → 2 ≤ number_of c conditions.HigherGroupSize)
+least r c none =
+    let prefix = first_none r c conditions.BasePrefix (drop 1 all_conditions) none in
+    let suffix = first_none r c conditions.BaseSuffix (drop 2 all_conditions) prefix.1 in
+    let sign = first_none r c conditions.NegativeSign (drop 3 all_conditions) suffix.1 in
+    let last = first_none r c conditions.IntegerGroupSize (drop 4 all_conditions) sign.1 in
+    let higher = first_none r c conditions.HigherGroupSize (drop 5 all_conditions) last.1 in
+    (at_least_2 r c conditions.IntegerGroupSize refl last.0, at_least_2 r c conditions.HigherGroupSize refl higher.0)
 
 record AreRequired (m : Notation) (group : Groups) : Type 0 where
   last : group.last ≡ m.number conditions.IntegerGroupSize
@@ -72,8 +88,8 @@ record AreRequired (m : Notation) (group : Groups) : Type 0 where
 required : (g : Grammar) (style : Style) → contradiction (raw g.word) g.conditions ≡ None → has g.conditions conditions.IntegerGroupSize ≡ true
     → 0 < (groups_of (raw g.word) g.conditions style).higher → AreRequired (notation_of g) (groups_of (raw g.word) g.conditions style)
 required g style none set groups =
-    let least = sizes_last (raw g.word) g.conditions none set in
-    let least_higher = sizes_higher (raw g.word) g.conditions none in
+    let last_least = (least (raw g.word) g.conditions none).0 set in
+    let higher_least = (least (raw g.word) g.conditions none).1 in
     record { last = grind (arith, nat_tests); size = grind (arith, nat_tests); two = grind (arith, nat_tests); some = grind (arith, nat_tests) }
 
 -- Punctuation is not 0.
@@ -242,8 +258,8 @@ module _ (g : Grammar) (style : Style) (amount : Amount) (is : IsSyntax g)
       (all_below_base_digits_of radix (size_of radix amount.integer) (radixes g.word is.lawful parts.Integer).0) in
       elim (cases_lt 0 group.higher) [
         | inl some ↦
-          let are = required g style is.conditions set some in
-          right_groups m radix separator group no_separator (between some).0 are.last are.size are.two are.some digits all
+            let are = required g style is.conditions set some in
+            right_groups m radix separator group no_separator (between some).0 are.last are.size are.two are.some digits all
         | inr none ↦ single_fits m radix separator group no_separator parts.Integer digits all (omega (arith, none))
       ]
 

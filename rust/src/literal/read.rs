@@ -76,7 +76,7 @@ impl Syntax {
     #[inline(always)]
     pub(crate) const fn lengths(&self, text: &[u8], stop: At) -> Option<[usize; 9]> {
         let group = self.group_at(text, stop);
-        if stop.size == text.len() && self.ends(stop, group) {
+        if stop.size == text.len() && ends(self.as_grammar(), stop, group) {
             Some(self.count(text))
         } else {
             None
@@ -159,6 +159,7 @@ impl Syntax {
     // Returns the longest front of `text` that is a literal, and the lengths of its parts, if there is one.
     #[cold]
     const fn longest(&self, text: &[u8]) -> Option<Found> {
+        let grammar = self.as_grammar();
         let mut at = BEGIN;
         let mut last = FIRST;
         let mut counts = [0; 9];
@@ -168,19 +169,12 @@ impl Syntax {
             counts = more;
             at = next;
             last = group;
-            if self.ends(at, last) {
+            if ends(grammar, at, last) {
                 let size = at.size;
                 found = Some(Found { size, counts });
             }
         }
         found
-    }
-
-    // Returns whether what has been read is a literal.
-    #[inline(always)]
-    const fn ends(&self, at: At, group: Group) -> bool {
-        let grammar = self.as_grammar();
-        is_complete(grammar, at.read) && fits(grammar, group, None)
     }
 
     // Returns why `text`, of which reading stopped at `stop`, is not a literal, as the result of the caller, which takes less
@@ -203,7 +197,13 @@ impl Syntax {
     }
 }
 
-// Returns the same where groups have sizes, or that nothing has been read if a group has a wrong one.
+// Returns whether what has been read, with the last group `group`, is a literal.
+#[inline(always)]
+const fn ends(grammar: Grammar, at: At, group: Group) -> bool {
+    is_complete(grammar, at.read) && fits(grammar, group, None)
+}
+
+// Returns what has been found without sizes of groups, or that nothing has been read if a group has not the right size.
 #[cold]
 const fn sized(grammar: Grammar, text: &[u8], counted: Counted) -> Counted {
     match group_after(grammar, text, counted.at.size) {

@@ -40,12 +40,6 @@ pub record IsFoundFrontForm (forms : List Grammar) (text : List ℕ) (result : R
   pub none : IsErr result → All (λ g. NoFront (notation_of g) text) forms
   pub error : IfErr result (IsFormError forms text)
 
--- `IsLongestForm forms text form found` holds if `found` is the longest front of `text` that is a literal of a form, and `form`
--- the index of the first form of equals.
-pub record IsLongestForm (forms : List Grammar) (text : List ℕ) (form : ℕ) (found : Found) : Type 0 where
-  pub greatest : IsGreatest (HasFront text) forms form found.size
-  pub here : IsSomeAnd (slice_get forms form) (λ g. IsCountedFront (notation_of g) text found)
-
 -- `GoesTo text g size` holds if some literal of the form `g` begins with the first `size` bytes of `text`, and none with more.
 abbrev pub GoesTo : List ℕ → Grammar → ℕ → Type 0
 GoesTo text g size = IsValidUpTo (notation_of g) text size

@@ -1,42 +1,47 @@
 -- What has been read decides what may follow, and so why what follows is refused.
-use Rattle.std.proofs.Common.{◌≡◌, false, sym, ap, subst, ◌∙◌, take}
-use Rattle.lexical_literal.specs.Additions.Causes.{IsReadOf}
-use Rattle.lexical_literal.specs.Additions.Summary.{start}
+use Rattle.std.proofs.Common.{◌≡◌, refl, sym, ap, subst, ◌∙◌, take}
+use Rattle.std.specs.Prelude.{slice_get}
 use Rattle.lexical_literal.specs.Additions.Explained.{refusal_of}
+use Rattle.lexical_literal.specs.Additions.Sizes.{goes}
 use Rattle.lexical_literal.specs.Cause.{IsRefusal, marks_of}
 use Rattle.lexical_literal.specs.Notation.{notation_of}
+use Rattle.lexical_literal.specs.declared.cause.Marks.{Marks}
 use Rattle.lexical_literal.specs.declared.cause.Spot.{Spot}
+use Rattle.lexical_literal.specs.declared.groups.Group.{Group}
 use Rattle.lexical_literal.specs.declared.syntax.Grammar.{Grammar}
 use Rattle.lexical_literal.proofs.BlameLemmas.{refusal_at}
-use Rattle.lexical_literal.proofs.PartOfLemmas.{ends_in}
-use Rattle.lexical_literal.proofs.RefusalLemmas.{decided}
-use Rattle.lexical_literal.proofs.syntax.Syntax.refuse_byte.Goals as goal
+use Rattle.lexical_literal.proofs.LongestLemmas.{refused_there}
+use Rattle.lexical_literal.proofs.StopLemmas.{goes_too, is_read_of}
+use Rattle.lexical_literal.proofs.syntax.Syntax.refuse.Goals as goal
 
 pub returns : goal.returns
 returns _ c =
     let g = c.args.self.now in
     let m = notation_of g in
+    let text = c.args.text.now in
     let size = c.args.stop.size in
-    let front = take size c.args.text.now in
+    let front = take size text in
     let s = c.args.stop.read in
     let stopped = c.requires.stopped in
-    let is_ready = c.grammar-grammar.ensures.ready in
-    let is_read : IsReadOf m s front = record {
-      decides = λ next A D weaker. decided m A D is_ready weaker front s stopped.read next;
-      part = ends_in m is_ready.roles start front s stopped.read;
-    } in
-    let same = c.grammar-grammar.ensures.value in
-    let is_marks = subst (λ h. c.marks.result ≡ marks_of (notation_of h) front) same
-    (c.marks.ensures ∙ ap (marks_of (notation_of c.grammar-grammar.result)) c.front_of.ensures) in
-    let spot : Grammar → Spot = λ h. record {
+    let of = c.grammar-grammar.ensures in
+    let group = c.group_at.result in
+    let read = c.group_at.ensures.begun.read in
+    let grouped = c.group_at.ensures.grouped in
+    let one_group : stopped.group ≡ group = let other = stopped.read.grouped in cc in
+    let refused = sym (goes_too m of.ready of.sizes front s group read grouped (slice_get text size))
+    ∙ ap (λ (group : Group). goes m s group (slice_get text size)) (sym one_group) ∙ refused_there m text c.args.stop stopped c.requires.refused in
+    let is_marks : c.marks.result ≡ marks_of m front =
+    c.marks.ensures ∙ (λ j. marks_of (notation_of (of.value j)) (c.front_of.ensures j)) in
+    let spot : Grammar → Marks → Spot = λ h k. record {
       grammar = h;
-      read = c.args.stop.read;
+      read = s;
       byte = c.byte_at-byte.result;
       tail = c.tail_at.result;
-      marks = c.marks.result;
-      is_ungrouped = false;
+      marks = k;
+      separated = group.separated;
     } in
-    let h = c.grammar-grammar.result in
-    subst (λ h. IsRefusal m c.args.text.now (refusal_of (notation_of h) (spot h))) (sym same)
-    (refusal_at g c.args.text.now c.args.stop.read c.tail_at.result c.marks.result size stopped.valid.within stopped.valid is_read c.requires.refused
-    c.byte_at-byte.result c.byte_at-byte.ensures c.tail_at.ensures is_marks)
+    subst (λ h. IsRefusal m text (refusal_of (notation_of h) (spot h c.marks.result))) (sym of.value)
+    (subst (λ k. IsRefusal m text (refusal_of m (spot g k))) (sym is_marks)
+    (refusal_at g text s group.separated c.tail_at.result (marks_of m front) size stopped.valid.within stopped.valid
+    (is_read_of m of.ready of.sizes front s group read grouped) refused
+    c.byte_at-byte.result c.byte_at-byte.ensures c.tail_at.ensures refl))
