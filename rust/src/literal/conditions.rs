@@ -54,8 +54,8 @@ conditions! {
     /// Requires groups of as many integer digits, from 2 to 8, counted from the right, if there are separators. With 3, a
     /// reader accepts `1234` and `1,234`, and refuses `12,34`.
     IntegerGroupSize: integer_group_size(number);
-    /// Requires groups of as many digits, from 2 to 8, before the last group of the integer, whose size is `integer_group_size`.
-    /// With 2 and 3, a reader accepts `12,34,567`, and refuses `123,456`.
+    /// Requires groups of as many digits before the last one of the integer, from 2 to 8. The last one has the size of
+    /// `integer_group_size`: with 2 and 3, a reader accepts `12,34,567`, and refuses `123,456`.
     HigherGroupSize: higher_group_size(number);
     /// Requires groups of as many fraction digits, from 2 to 8, counted from the left, if there are separators. With 3, a
     /// reader accepts `0.1234` and `0.123,4`, and refuses `0.12,345`.

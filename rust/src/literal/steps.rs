@@ -316,7 +316,6 @@ const fn finishes(conditions: Conditions, read: Summary) -> bool {
 // Returns whether some literal goes on with a byte that has the role `role`, and is a plus sign if `plus` is true.
 #[inline(always)]
 pub(crate) const fn takes(grammar: Grammar, read: Summary, plus: bool, role: Role) -> bool {
-    let format = grammar.view();
     let Summary { stage, .. } = read;
     let part = part_of(stage);
     let digit = has_digit(stage);
