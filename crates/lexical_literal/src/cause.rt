@@ -431,7 +431,7 @@ impl Stop {
         unmet
     }
 
-    // Returns whether the syntax has a condition, and it alone refuses what cannot follow.
+    // Returns whether the syntax has a condition that alone refuses what cannot follow.
     const fn is_unmet(self, condition: Condition) -> bool
         ensures { result ≡ unmet (notation_of self.grammar) self.read self.group self.byte condition }
     {

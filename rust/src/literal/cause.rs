@@ -333,7 +333,7 @@ impl Stop {
         unmet
     }
 
-    // Returns whether the syntax has a condition, and it alone refuses what cannot follow.
+    // Returns whether the syntax has a condition that alone refuses what cannot follow.
     const fn is_unmet(self, condition: Condition) -> bool {
         self.grammar.conditions.has(condition)
             && self.is_free()
