@@ -7,7 +7,6 @@ mod bytes;
 #[allow(clippy::needless_range_loop, reason = "Rattle has no `iter_mut`")]
 mod edits;
 mod errors;
-mod groups;
 mod reasons;
 mod roles;
 mod rules;
