@@ -16,6 +16,7 @@ mod ExampleLemmas
 mod CountLemmas
 mod PlainLemmas
 mod SumLemmas
+mod MantissaLemmas
 mod JoinLemmas
 mod SpecialLemmas
 mod NumberLemmas

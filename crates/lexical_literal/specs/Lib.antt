@@ -2,6 +2,7 @@ pub mod Notation
 pub mod Run
 pub mod Literal
 pub mod Front
+pub mod Read
 pub mod Parts
 pub mod Readings
 pub mod Syntax

@@ -1,4 +1,5 @@
 pub mod NumberLemmas
+pub mod WordLemmas
 mod BinaryLemmas
 mod TenLemmas
 pub mod LeadingLemmas

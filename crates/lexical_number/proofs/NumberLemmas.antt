@@ -22,7 +22,7 @@ module _ (radix n i : ℕ) (bytes : List ℕ) (inside : i < length bytes) where
   next : drop i bytes ≡ get_or bytes i 0 ∷ drop (i + 1) bytes
   next = drop-cons bytes i 0 inside ∙ ap (λ k. get_or bytes i 0 ∷ drop k bytes) {x = suc i} {y = i + 1} (omega arith)
 
-  at : (o : Option ℕ) → digit_of (get_or bytes i 0) radix ≡ o
+  pub at : (o : Option ℕ) → digit_of (get_or bytes i 0) radix ≡ o
       → number_after radix n (drop i bytes) ≡ number_from_digits_after radix n (cons_option o (digits_in radix (drop (i + 1) bytes)))
   at o e = ap (number_after radix n) next ∙ ap (λ d. number_from_digits_after radix n (cons_option d (digits_in radix (drop (i + 1) bytes)))) e
 
