@@ -23,11 +23,11 @@ use Rattle.lexical_literal.proofs.SumLemmas.{after_same}
 use Rattle.lexical_number.specs.Number.{digits_in, number, places}
 
 -- Digits of one run, and then of another.
-both_digits : (radix : ℕ) (xs ys : List ℕ) (first second : ℕ) → first ≡ places radix xs → second ≡ first + places radix ys → second ≡ places radix (xs ++ ys)
+pub both_digits : (radix : ℕ) (xs ys : List ℕ) (first second : ℕ) → first ≡ places radix xs → second ≡ first + places radix ys → second ≡ places radix (xs ++ ys)
 both_digits radix xs ys first second F S =
     S ∙ (λ j. F j + places radix ys) ∙ sym (length-append (digits_in radix xs) (digits_in radix ys)) ∙ ap length (sym (filter_map-append _ xs ys))
 
-both_sums : (radix : ℕ) (xs ys : List ℕ) (first second : ℕ) → first % 2 ^ 64 ≡ number radix xs % 2 ^ 64
+pub both_sums : (radix : ℕ) (xs ys : List ℕ) (first second : ℕ) → first % 2 ^ 64 ≡ number radix xs % 2 ^ 64
     → second % 2 ^ 64 ≡ number_from_digits_after radix first (digits_in radix ys) % 2 ^ 64 → second % 2 ^ 64 ≡ number radix (xs ++ ys) % 2 ^ 64
 both_sums radix xs ys first second F S =
     S ∙ after_same radix first (number radix xs) (digits_in radix ys) F
@@ -106,3 +106,12 @@ module _ (m : Notation) (r : Record) (text : List ℕ) where
           value = is.sum ∙ ap (λ bytes. number radix bytes % 2 ^ 64) here;
         };
       }
+
+-- The sums of parts are those of the literal with these parts.
+pub made_sums : (r : Record) (radix e : ℕ) (l k : Literal) (sums : Sums) → radix ≡ r.byte layout.mantissa_radix → e ≡ effective_exponent_radix r → l ≡ k
+    → IsSum radix (l.integer ++ l.fraction) sums.mantissa → sums.places ≡ places radix l.fraction → IsSum e l.exponent sums.exponent → AreSums r k sums
+made_sums r radix e l k sums R E same mantissa fraction scale = subst (λ (k : Literal). AreSums r k sums) same record {
+  sum = subst (λ n. IsSum n (l.integer ++ l.fraction) sums.mantissa) R mantissa;
+  fraction = fraction ∙ ap (λ n. places n l.fraction) R;
+  scale = subst (λ n. IsSum n l.exponent sums.exponent) E scale;
+}

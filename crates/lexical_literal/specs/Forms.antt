@@ -4,20 +4,20 @@ use Rattle.std.specs.Prelude.{slice_get, take}
 use Rattle.lexical_literal.specs.Front.{ReadsFront}
 use Rattle.lexical_literal.specs.Literal.{Literal}
 use Rattle.lexical_literal.specs.Notation.{notation_of}
-use Rattle.lexical_literal.specs.Parts.{literal_of}
+use Rattle.lexical_literal.specs.Read.{Read}
 use Rattle.lexical_literal.specs.Takes.{AreGroups, IsError, IsUngroupedFront, NoFront, Refuses, Takes}
 use Rattle.lexical_literal.specs.declared.cause.ReadErrorKind.{ReadErrorKind}
 use Rattle.lexical_literal.specs.declared.cause.ReadErrorKind.TheVariants as causes
 use Rattle.lexical_literal.specs.declared.cause.Refusal.{Refusal}
 use Rattle.lexical_literal.specs.declared.list.FormError.{FormError}
 use Rattle.lexical_literal.specs.declared.number.FormFront.{FormFront}
-use Rattle.lexical_literal.specs.declared.number.FormParts.{FormParts}
+use Rattle.lexical_literal.specs.declared.number.FormLiteral.{FormLiteral}
 use Rattle.lexical_literal.specs.declared.syntax.Grammar.{Grammar}
 
--- `IsFirst forms text form l` holds if the form with the index `form` takes `text` with the parts of `l`, and no form before
--- it takes `text`.
-pub record IsFirst (forms : List Grammar) (text : List ℕ) (form : ℕ) (l : Literal) : Type 0 where
-  pub takes : IsSomeAnd (slice_get forms form) (λ g. Takes g l text)
+-- `IsFirst forms text form read` holds if the form with the index `form` takes `text` as the literal `read`, and no form before it
+-- takes `text`.
+pub record IsFirst (forms : List Grammar) (text : List ℕ) (form : ℕ) (read : Read) : Type 0 where
+  pub takes : IsSomeAnd (slice_get forms form) (λ g. (read.format ≡ g.word) × Takes g read.literal text)
   pub before : All (λ g. Refuses g text) (take form forms)
 
 -- `IsGreatest P forms form size` holds if `P` holds of the form with the index `form` and of `size`, of no form before it and
@@ -51,10 +51,10 @@ pub record IsFormError (forms : List Grammar) (text : List ℕ) (error : FormErr
   pub furthest : IsGreatest (Reaches text) forms error.form (reach error.error.refusal)
   pub refusal : IsSomeAnd (slice_get forms error.form) (λ g. IsError g text error.error.refusal)
 
--- `IsReadByForms forms text result` holds if `result` has the first form that takes `text`, with the parts, or the error of a
--- text that no form takes.
-pub record IsReadByForms (forms : List Grammar) (text : List ℕ) (result : Result FormParts FormError) : Type 0 where
-  pub found : IfOk result (λ number. IsFirst forms text number.form (literal_of number.parts))
+-- `IsReadByForms forms text result` holds if `result` has the first form that takes `text`, and the literal, or the error of a text
+-- that no form takes.
+pub record IsReadByForms (forms : List Grammar) (text : List ℕ) (result : Result FormLiteral FormError) : Type 0 where
+  pub found : IfOk result (λ number. IsFirst forms text number.form number.literal)
   pub none : IsErr result → All (λ g. Refuses g text) forms
   pub error : IfErr result (IsFormError forms text)
 
@@ -70,6 +70,7 @@ IsFormFrontError forms text error = (All (NoFront text) forms × IsFormError for
 pub record IsFrontByForms (forms : List Grammar) (text : List ℕ) (result : Result FormFront FormError) : Type 0 where
   pub longest : IfOk result (λ front. IsGreatest (HasFront text) forms front.form front.size)
   pub found : IfOk result (λ front.
-      IsSomeAnd (slice_get forms front.form) (λ g. ReadsFront (notation_of g) (literal_of front.parts) text front.size))
-  pub grouped : IfOk result (λ front. IsSomeAnd (slice_get forms front.form) (λ g. AreGroups g (literal_of front.parts)))
+      IsSomeAnd (slice_get forms front.form)
+      (λ g. (front.literal.format ≡ g.word) × ReadsFront (notation_of g) front.literal.literal text front.size))
+  pub grouped : IfOk result (λ front. IsSomeAnd (slice_get forms front.form) (λ g. AreGroups g front.literal.literal))
   pub error : IfErr result (IsFormFrontError forms text)

@@ -6,6 +6,7 @@ ghost use Rattle.lexical_literal.specs.Forms.{IsFormError};
 ghost use Rattle.lexical_literal.specs.Takes.{Refuses};
 
 use crate::cause::ReadError;
+use crate::literal::Literal;
 use crate::plain::{At, BEGIN};
 use crate::read::Found;
 use crate::syntax::Syntax;
@@ -60,8 +61,8 @@ impl<'a> SyntaxList<'a> {
         self.syntaxes
     }
 
-    // Returns the index of the first form that takes `text`, and the lengths of its parts, or why no form takes it.
-    pub(crate) fn find(&self, text: &[u8]) -> Result<(usize, [usize; 9]), FormError>
+    // Returns the index of the first form that takes `text`, and the literal, or why no form takes it.
+    pub(crate) fn find<'t>(&self, text: &'t [u8]) -> Result<(usize, Literal<'t>), FormError>
         ensures { IsFoundForm self.now text.now result }
     {
         let mut furthest = None;
@@ -70,12 +71,11 @@ impl<'a> SyntaxList<'a> {
             let syntax = &self.syntaxes[form];
             let counted = syntax.begin(text, false);
             if syntax.is_whole(text, counted) {
-                let counts = counted.counts;
-                return Ok((form, counts));
+                return Ok((form, syntax.literal(text, counted.counts, counted.sums)));
             }
             let stop = syntax.reach(text, counted);
             match syntax.lengths(text, stop) {
-                Some(counts) => return Ok((form, counts)),
+                Some(counts) => return Ok((form, syntax.summed(text, counts))),
                 None => furthest = further(furthest, form, stop),
             }
             form += 1;

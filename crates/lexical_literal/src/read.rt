@@ -5,11 +5,13 @@ ghost use Rattle.std.specs.Prelude.{[], false, get_or, true, length, slice_get, 
 ghost use Rattle.lexical_literal.specs.Additions.Explained.{tail_byte};
 ghost use Rattle.lexical_literal.specs.Additions.Longest.{HasFound, IsCountedFront, IsFronted, IsGrouped, IsLongest, IsMeasured, IsStopped};
 ghost use Rattle.lexical_literal.specs.Additions.Plain.{IsBegun};
+ghost use Rattle.lexical_literal.specs.Additions.Read.{IsSummed};
 ghost use Rattle.lexical_literal.specs.Additions.Summary.{HasLengths, count, cuts_of, is_complete, part_of, role_at};
 ghost use Rattle.lexical_literal.specs.Additions.Causes.{lets};
 ghost use Rattle.lexical_literal.specs.Cause.{IsRefusal, tail_of, tail_size};
 ghost use Rattle.lexical_literal.specs.Literal.{Literal, Reads, text_of};
 ghost use Rattle.lexical_literal.specs.Notation.{integer_group_size, notation_of};
+ghost use Rattle.lexical_util.specs.Record.{raw};
 ghost use Rattle.lexical_literal.specs.Parts.{literal_of};
 ghost use Rattle.lexical_literal.specs.Takes.{IsError, IsUngrouped, Refuses};
 
@@ -105,7 +107,8 @@ impl Syntax {
     // `text`, may not be said to be one, which takes less time.
     #[inline(always)]
     pub(crate) const fn begin(&self, text: &[u8], fronts: bool) -> Counted
-        ensures { HasFound (notation_of self.now) text.now result }
+        ensures found { HasFound (notation_of self.now) text.now result }
+        ensures summed { IsSummed (raw self.now.word) text.now result }
     {
         plain(self.grammar(), text, fronts)
     }

@@ -131,3 +131,8 @@ long_word radix bytes low long = record {
         pow-le-pow_right {n = radix} (omega (arith, low)) {i = length ds - leading_zeros ds} {j = k} few in
         omega (arith, grows, fits)
   ]
+
+pub fitting_word : (radix digits sum : ℕ) (bytes : List ℕ) → radix ^ digits ≤ 2 ^ 64 → digits ≡ places radix bytes → sum ≡ number radix bytes % 2 ^ 64
+    → IsWord radix (number radix bytes) (Some sum)
+fitting_word radix digits sum bytes fits all = short_word radix digits sum bytes fits
+    (subst (λ k. number radix bytes < radix ^ k) (sym all) (number_lt radix (digits_in radix bytes) (below radix bytes)))
