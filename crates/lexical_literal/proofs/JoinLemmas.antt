@@ -66,6 +66,7 @@ module _ (m : Notation) (text : List ℕ) where
   pub opened : (sign : ℕ) → IsSign m text parts.Integer 0 sign → m.condition conditions.BasePrefix ≡ false
       → IsOpened m text (record { sign = sign; prefix = 0; size = sign; stage = behind_sign parts.Integer sign })
   opened sign is free = record {
+    size = omega arith;
     at = sign_at sign is;
     signed = is.signed;
     free = grind arith;
@@ -79,6 +80,7 @@ module _ (m : Notation) (text : List ℕ) where
       → IsAt m text (at_stage (sign + 2) stages.Prefixed) (with_prefix c))
       → IsOpened m text (record { sign = sign; prefix = 2; size = sign + 2; stage = stages.Prefixed })
   opened_prefix h sign is prefix = record {
+    size = refl;
     at = subst (IsAt m text (at_stage (sign + 2) stages.Prefixed))
         (λ j other. count_prefix sign other j)
         (prefix (behind_sign parts.Integer sign) (cuts_of (sign ∷ 0 ∷ 0 ∷ 0 ∷ 0 ∷ 0 ∷ 0 ∷ 0 ∷ 0 ∷ [])) (begun_behind sign) is.signed (sign_at sign is));

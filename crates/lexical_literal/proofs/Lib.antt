@@ -16,6 +16,8 @@ mod ExampleLemmas
 mod CountLemmas
 mod PlainLemmas
 mod SumLemmas
+mod MantissaLemmas
+mod PieceLemmas
 mod JoinLemmas
 mod SpecialLemmas
 mod NumberLemmas

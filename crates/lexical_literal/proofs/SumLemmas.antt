@@ -4,18 +4,19 @@ use Rattle.std.proofs.Common.{get_or, length, take, drop, refl, sym, ap, subst, 
 use Rattle.std.proofs.lemmas.Int.Digits.{number_after_append}
 use Rattle.std.proofs.lemmas.List.Elements.{filter_map-append}
 use Rattle.std.proofs.lemmas.List.{drop-drop, get_or-drop, length-drop, take_more}
-use Rattle.std.proofs.lemmas.Nat.{mul-mod_first}
 use Rattle.std.proofs.Math.Nat.{mod-add-mod, mod-mod}
 use Rattle.std.proofs.Math.Seq.{take-add}
 use Rattle.std.specs.Int.Digits.{number_from_digits_after}
 use Rattle.std.specs.List.{cons_option}
 use lib.ListN.{length-append}
 use Rattle.lexical_util.specs.Digits.{byte_value, digit_of}
+use Rattle.lexical_number.proofs.WordLemmas.{push_same}
 use Rattle.lexical_util.specs.Record.{raw}
 use Rattle.lexical_util.specs.declared.format_flags.Part.{Part}
 use Rattle.lexical_literal.specs.Notation.{Notation, radix_of}
 use Rattle.lexical_literal.specs.Additions.Sizes.{steps_of}
-use Rattle.lexical_literal.specs.Additions.Plain.{HasRoles, IsDigitAt, IsReadOn, IsRunOn, IsSeparated, between, digits_in, at_stage}
+use Rattle.lexical_literal.specs.Additions.Plain.{HasRoles, IsDigitAt, IsReadOn, IsRunOn, IsSeparated, between, at_stage}
+use Rattle.lexical_number.specs.Number.{digits_in}
 use Rattle.lexical_literal.specs.Additions.Summary.{digits_piece, is_run, part_of}
 use Rattle.lexical_literal.specs.declared.plain.Run.{Run}
 use Rattle.lexical_literal.specs.declared.steps.Stage.{Stage}
@@ -42,13 +43,7 @@ no_value : (radix b : ℕ) → nat_lt (byte_value b) radix ≡ false → digit_o
 no_value radix b other = ap (λ test. cond test (Some (byte_value b)) None) other
 
 -- Digits behind a number are those behind each number that is the same modulo `2 ^ 64`.
-push_same : (radix s t v : ℕ) → s % 2 ^ 64 ≡ t % 2 ^ 64 → (s * radix + v) % 2 ^ 64 ≡ (t * radix + v) % 2 ^ 64
-push_same radix s t v same =
-    let product : s * radix % 2 ^ 64 ≡ t * radix % 2 ^ 64 =
-    sym (mul-mod_first s radix (2 ^ 64)) ∙ ap (λ n. n * radix % 2 ^ 64) same ∙ mul-mod_first t radix (2 ^ 64) in
-    sym (mod-add-mod (s * radix) (2 ^ 64) v) ∙ ap (λ n. (n + v) % 2 ^ 64) product ∙ mod-add-mod (t * radix) (2 ^ 64) v
-
-after_same : (radix s t : ℕ) (ds : List ℕ) → s % 2 ^ 64 ≡ t % 2 ^ 64 → number_from_digits_after radix s ds % 2 ^ 64 ≡ number_from_digits_after radix t ds %
+pub after_same : (radix s t : ℕ) (ds : List ℕ) → s % 2 ^ 64 ≡ t % 2 ^ 64 → number_from_digits_after radix s ds % 2 ^ 64 ≡ number_from_digits_after radix t ds %
     2 ^ 64
 after_same radix s t [] same = same
 after_same radix s t (v ∷ ds) same = after_same radix (s * radix + v) (t * radix + v) ds (push_same radix s t v same)

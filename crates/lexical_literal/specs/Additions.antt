@@ -1,5 +1,6 @@
 pub mod Summary
 pub mod Plain
+pub mod Read
 pub mod Longest
 pub mod Forms
 pub mod Causes

@@ -5,19 +5,19 @@ use Rattle.lexical_literal.specs.Cause.{IsRefusal}
 use Rattle.lexical_literal.specs.Front.{NoFront, NoLiteral, ReadsFront}
 use Rattle.lexical_literal.specs.Literal.{Literal, Reads}
 use Rattle.lexical_literal.specs.Notation.{notation_of}
-use Rattle.lexical_literal.specs.Parts.{literal_of}
+use Rattle.lexical_literal.specs.Read.{Read}
 use Rattle.lexical_literal.specs.declared.cause.ReadErrorKind.{ReadErrorKind}
 use Rattle.lexical_literal.specs.declared.cause.ReadErrorKind.TheVariants as causes
 use Rattle.lexical_literal.specs.declared.cause.Refusal.{Refusal}
 use Rattle.lexical_literal.specs.declared.list.FormError.{FormError}
 use Rattle.lexical_literal.specs.declared.number.FormFront.{FormFront}
-use Rattle.lexical_literal.specs.declared.number.FormParts.{FormParts}
+use Rattle.lexical_literal.specs.declared.number.FormLiteral.{FormLiteral}
 use Rattle.lexical_literal.specs.declared.syntax.Grammar.{Grammar}
 
--- `IsFirst forms text form l` holds if `text` is a literal of the form with the index `form`, with the parts of `l`, and of no
--- form before it.
-pub record IsFirst (forms : List Grammar) (text : List ℕ) (form : ℕ) (l : Literal) : Type 0 where
-  pub reads : IsSomeAnd (slice_get forms form) (λ g. Reads (notation_of g) l text)
+-- `IsFirst forms text form read` holds if `text` is the literal `read` of the form with the index `form`, and a literal of no form
+-- before it.
+pub record IsFirst (forms : List Grammar) (text : List ℕ) (form : ℕ) (read : Read) : Type 0 where
+  pub reads : IsSomeAnd (slice_get forms form) (λ g. (read.format ≡ g.word) × Reads (notation_of g) read.literal text)
   pub before : All (λ g. NoLiteral (notation_of g) text) (take form forms)
 
 -- `IsGreatest P forms form size` holds if `P` holds of the form with the index `form` and of `size`, of no form before it and
@@ -50,10 +50,10 @@ pub record IsFormError (forms : List Grammar) (text : List ℕ) (error : FormErr
   pub furthest : IsGreatest (Reaches text) forms error.form (reach error.error.refusal)
   pub refusal : IsSomeAnd (slice_get forms error.form) (λ g. IsRefusal (notation_of g) text error.error.refusal)
 
--- `IsReadByForms forms text result` holds if `result` has the first form of which `text` is a literal, with the parts, or the
--- error of a text that is a literal of no form.
-pub record IsReadByForms (forms : List Grammar) (text : List ℕ) (result : Result FormParts FormError) : Type 0 where
-  pub found : IfOk result (λ number. IsFirst forms text number.form (literal_of number.parts))
+-- `IsReadByForms forms text result` holds if `result` has the first form of which `text` is a literal, and the literal, or the error
+-- of a text that is a literal of no form.
+pub record IsReadByForms (forms : List Grammar) (text : List ℕ) (result : Result FormLiteral FormError) : Type 0 where
+  pub found : IfOk result (λ number. IsFirst forms text number.form number.literal)
   pub none : IsErr result → All (λ g. NoLiteral (notation_of g) text) forms
   pub error : IfErr result (IsFormError forms text)
 
@@ -62,6 +62,7 @@ pub record IsReadByForms (forms : List Grammar) (text : List ℕ) (result : Resu
 pub record IsFrontByForms (forms : List Grammar) (text : List ℕ) (result : Result FormFront FormError) : Type 0 where
   pub longest : IfOk result (λ front. IsGreatest (HasFront text) forms front.form front.size)
   pub found : IfOk result (λ front.
-      IsSomeAnd (slice_get forms front.form) (λ g. ReadsFront (notation_of g) (literal_of front.parts) text front.size))
+      IsSomeAnd (slice_get forms front.form)
+      (λ g. (front.literal.format ≡ g.word) × ReadsFront (notation_of g) front.literal.literal text front.size))
   pub none : IsErr result → All (λ g. NoFront (notation_of g) text) forms
   pub error : IfErr result (IsFormError forms text)

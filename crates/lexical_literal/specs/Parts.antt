@@ -1,9 +1,10 @@
--- What reading returns: the parts of a literal, or an error.
+-- What reading returns: a literal, or an error.
 use Rattle.std.specs.Prelude.{ℕ, ◌≡◌, IfErr, IfOk, IsErr, IsOkAnd, List, Result}
 use Rattle.lexical_literal.specs.Cause.{Explained, IsRefusal}
 use Rattle.lexical_literal.specs.Front.{NoFront, ReadsFront}
 use Rattle.lexical_literal.specs.Literal.{Literal, Reads}
 use Rattle.lexical_literal.specs.Notation.{notation_of}
+use Rattle.lexical_literal.specs.Read.{Read}
 use Rattle.lexical_literal.specs.declared.syntax.Grammar.{Grammar}
 use Rattle.lexical_literal.specs.declared.number.Front.{Front}
 use Rattle.lexical_literal.specs.declared.read.Parts.{Parts}
@@ -22,13 +23,13 @@ literal_of parts = record {
   suffix = parts.suffix.now;
 }
 
--- `IsRead g text result` holds if `result` has the only parts of the literal `text`, or is the error of a text that is
--- not a literal.
-pub record IsRead (g : Grammar) (text : List ℕ) (result : Result Parts Explained) : Type 0 where
+-- `IsRead g text result` holds if `result` is the literal `text`, with the format of `g` and its only parts, or the error of a text
+-- that is not a literal.
+pub record IsRead (g : Grammar) (text : List ℕ) (result : Result Read Explained) : Type 0 where
   -- The text is a literal with the parts that are returned.
-  pub found : IfOk result (λ parts. Reads (notation_of g) (literal_of parts) text)
+  pub found : IfOk result (λ read. (read.format ≡ g.word) × Reads (notation_of g) read.literal text)
   -- A literal has no other parts, and they are returned.
-  pub only : (l : Literal) → Reads (notation_of g) l text → IsOkAnd result (λ parts. literal_of parts ≡ l)
+  pub only : (l : Literal) → Reads (notation_of g) l text → IsOkAnd result (λ read. read.literal ≡ l)
   -- An error says how far the text is right, why it is not a literal, and which bytes to show.
   pub error : IfErr result (λ error. IsRefusal (notation_of g) text error.refusal)
 
@@ -36,7 +37,7 @@ pub record IsRead (g : Grammar) (text : List ℕ) (result : Result Parts Explain
 -- error of a text for which there is no such front.
 pub record IsReadPrefix (g : Grammar) (text : List ℕ) (result : Result Front Explained) : Type 0 where
   -- A front of the text is a literal with the parts that are returned, and no longer front is a literal.
-  pub found : IfOk result (λ front. ReadsFront (notation_of g) (literal_of front.parts) text front.size)
+  pub found : IfOk result (λ front. (front.literal.format ≡ g.word) × ReadsFront (notation_of g) front.literal.literal text front.size)
   -- If no front is a literal, an error says why the text is not one.
   pub none : IsErr result → NoFront (notation_of g) text
   pub error : IfErr result (λ error. IsRefusal (notation_of g) text error.refusal)

@@ -8,6 +8,7 @@ pub mod cause;
 mod groups;
 pub mod laws;
 pub mod list;
+pub mod literal;
 pub mod number;
 mod plain;
 pub mod read;

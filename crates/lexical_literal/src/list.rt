@@ -8,6 +8,7 @@ ghost use Rattle.lexical_literal.specs.Notation.{notation_of};
 
 use crate::cause::ReadError;
 use crate::groups::FIRST;
+use crate::literal::Literal;
 use crate::plain::{At, BEGIN};
 use crate::read::Found;
 use crate::syntax::Syntax;
@@ -62,8 +63,8 @@ impl<'a> SyntaxList<'a> {
         self.syntaxes
     }
 
-    // Returns the index of the first form of which `text` is a literal, and the lengths of its parts, or why it is one of no form.
-    pub(crate) fn find(&self, text: &[u8]) -> Result<(usize, [usize; 9]), FormError>
+    // Returns the index of the first form of which `text` is a literal, and the literal, or why it is one of no form.
+    pub(crate) fn find<'t>(&self, text: &'t [u8]) -> Result<(usize, Literal<'t>), FormError>
         ensures { IsFoundForm self.now text.now result }
     {
         let mut furthest = None;
@@ -72,12 +73,11 @@ impl<'a> SyntaxList<'a> {
             let syntax = &self.syntaxes[form];
             let counted = syntax.begin(text, false);
             if syntax.is_whole(text, counted) {
-                let counts = counted.counts;
-                return Ok((form, counts));
+                return Ok((form, syntax.literal(text, counted.counts, counted.sums)));
             }
             let stop = syntax.reach(text, counted);
             match syntax.lengths(text, stop) {
-                Some(counts) => return Ok((form, counts)),
+                Some(counts) => return Ok((form, syntax.summed(text, counts))),
                 None => furthest = further(furthest, form, stop),
             }
             form += 1;

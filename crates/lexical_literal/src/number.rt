@@ -8,31 +8,32 @@ ghost use Rattle.lexical_literal.specs.Parts.{IsRead, IsReadPrefix};
 
 use crate::cause::ReadError;
 use crate::list::{FormError, SyntaxList};
+use crate::literal::Literal;
 use crate::plain::At;
-use crate::read::{Found, Parts, cut, front_of};
+use crate::read::{Found, front_of};
 use crate::syntax::Syntax;
 
 /// A leading piece of a text that is a literal.
-#[derive(Debug, Clone, Copy, PartialEq, Eq, Hash)]
+#[derive(Drop)]
 pub struct Front<'a> {
-    /// The parts of the literal.
-    pub parts: Parts<'a>,
+    /// The literal.
+    pub literal: Literal<'a>,
     /// The number of bytes of the literal.
     pub size: usize,
 }
 
 impl Syntax {
-    /// Returns the parts of the literal `text`.
+    /// Returns `text` as a literal.
     ///
     /// # Errors
     ///
     /// If `text` is not a literal, returns why, and how far it is right.
-    pub fn read<'a>(&self, text: &'a [u8]) -> Result<Parts<'a>, ReadError>
+    pub fn read<'a>(&self, text: &'a [u8]) -> Result<Literal<'a>, ReadError>
         ensures { IsRead self.now text.now result }
     {
         let counted = self.begin(text, false);
         if self.is_whole(text, counted) {
-            Ok(cut(text, counted.counts))
+            Ok(self.literal(text, counted.counts, counted.sums))
         } else if counted.exact {
             self.refuse(text, counted.at)
         } else {
@@ -42,13 +43,13 @@ impl Syntax {
 
     // Returns what `read` returns, where `at` has been read.
     #[inline(never)]
-    fn read_slowly<'a>(&self, text: &'a [u8], at: At) -> Result<Parts<'a>, ReadError>
+    fn read_slowly<'a>(&self, text: &'a [u8], at: At) -> Result<Literal<'a>, ReadError>
         requires { (group : Group) × IsUnderway (notation_of self.now) text.now at group }
         ensures { IsRead self.now text.now result }
     {
         let stop = self.stop(text, at);
         match self.lengths(text, stop) {
-            Some(counts) => Ok(cut(text, counts)),
+            Some(counts) => Ok(self.summed(text, counts)),
             None => self.refuse(text, stop),
         }
     }
@@ -67,49 +68,45 @@ impl Syntax {
             None => self.refuse(text, stop),
             Some(found) => {
                 let Found { size, counts } = found;
-                let parts = cut(front_of(text, size), counts);
-                Ok(Front { parts, size })
+                let literal = self.summed(front_of(text, size), counts);
+                Ok(Front { literal, size })
             }
         }
     }
 }
 
 /// A literal of one of several forms.
-#[derive(Debug, Clone, Copy, PartialEq, Eq, Hash)]
-pub struct FormParts<'a> {
+#[derive(Drop)]
+pub struct FormLiteral<'a> {
     /// The index of the form.
     pub form: usize,
-    /// The parts of the literal.
-    pub parts: Parts<'a>,
+    /// The literal.
+    pub literal: Literal<'a>,
 }
 
 /// A leading piece of a text that is a literal of one of several forms.
-#[derive(Debug, Clone, Copy, PartialEq, Eq, Hash)]
+#[derive(Drop)]
 pub struct FormFront<'a> {
     /// The index of the form.
     pub form: usize,
-    /// The parts of the literal.
-    pub parts: Parts<'a>,
+    /// The literal.
+    pub literal: Literal<'a>,
     /// The number of bytes of the literal.
     pub size: usize,
 }
 
 impl<'s> SyntaxList<'s> {
-    /// Returns the parts of `text`, and the index of the first form of which it is a literal.
+    /// Returns `text` as a literal of the first form of which it is one, and the index of this form.
     ///
     /// # Errors
     ///
     /// If `text` is not a literal of any form, returns the error of the form for which most of it is right. Of several, it is
     /// the first whose cause is not a wrong byte, or the first if the cause of each is one.
-    pub fn read<'a>(&self, text: &'a [u8]) -> Result<FormParts<'a>, FormError>
+    pub fn read<'a>(&self, text: &'a [u8]) -> Result<FormLiteral<'a>, FormError>
         ensures { IsReadByForms self.now text.now result }
     {
         match self.find(text) {
-            Ok(found) => {
-                let (form, counts) = found;
-                let parts = cut(text, counts);
-                Ok(FormParts { form, parts })
-            }
+            Ok((form, literal)) => Ok(FormLiteral { form, literal }),
             Err(error) => Err(error),
         }
     }
@@ -126,8 +123,12 @@ impl<'s> SyntaxList<'s> {
         match self.find_front(text) {
             Ok((form, found)) => {
                 let Found { size, counts } = found;
-                let parts = cut(front_of(text, size), counts);
-                Ok(FormFront { form, parts, size })
+                let literal = self.syntaxes()[form].summed(front_of(text, size), counts);
+                Ok(FormFront {
+                    form,
+                    literal,
+                    size,
+                })
             }
             Err(error) => Err(error),
         }

@@ -9,6 +9,7 @@ ghost use Rattle.lexical_literal.specs.Additions.Longest.{HasFound};
 ghost use Rattle.lexical_literal.specs.Additions.Plain.{IsAt, IsBegun, IsDigitAt, IsOpened, IsOver, IsPassed, IsReadOn, IsReady, IsRefused, IsRunOn, IsSeparated, IsSign};
 ghost use Rattle.lexical_literal.specs.Additions.Plain.{behind_sign, counts_of, fresh, is_free, at_stage};
 ghost use Rattle.lexical_literal.specs.Additions.Sizes.{steps_of};
+ghost use Rattle.lexical_literal.specs.Additions.Read.{AreSums, IsMantissa, IsSummed, cut};
 ghost use Rattle.lexical_literal.specs.Additions.Summary.{Cuts, after_mark, after_point, awaits_integer, cuts_of, has_digit, is_bare, is_fresh};
 ghost use Rattle.lexical_literal.specs.Additions.Summary.{is_run, is_signed, part_of, piece_of, with_prefix};
 ghost use Rattle.lexical_literal.specs.declared.steps.Piece.TheVariants as pieces;
@@ -29,12 +30,29 @@ pub(crate) struct At {
     pub(crate) read: Summary,
 }
 
-// What has been read of a text. If `complete` is true, it is a literal, and its parts have the lengths `counts`. If `exact` is
-// true, the byte that follows is refused.
+// The number of digits, and the number that they represent, modulo `2 ^ 64`.
+#[derive(Clone, Copy)]
+pub(crate) struct Sum {
+    pub(crate) digits: usize,
+    pub(crate) value: u64,
+}
+
+// The sums of the digits of a literal: of those of the integer and the fraction together, and of those of the exponent. There are
+// `places` digits of the fraction.
+#[derive(Clone, Copy)]
+pub(crate) struct Sums {
+    pub(crate) mantissa: Sum,
+    pub(crate) places: usize,
+    pub(crate) exponent: Sum,
+}
+
+// What has been read of a text. If `complete` is true, it is a literal, and its parts have the lengths `counts`, and its digits the
+// sums. If `exact` is true, the byte that follows is refused.
 #[derive(Clone, Copy)]
 pub(crate) struct Counted {
     pub(crate) at: At,
     pub(crate) counts: [usize; 9],
+    pub(crate) sums: Sums,
     pub(crate) complete: bool,
     pub(crate) exact: bool,
 }
@@ -49,7 +67,7 @@ pub(crate) struct Run {
     pub(crate) sum: u64,
 }
 
-// The lengths of the parts up to the fraction.
+// The lengths of the parts up to the fraction, and the number of the digits of the fraction.
 #[derive(Clone, Copy)]
 pub(crate) struct Sizes {
     pub(crate) sign: usize,
@@ -57,6 +75,7 @@ pub(crate) struct Sizes {
     pub(crate) integer: usize,
     pub(crate) point: usize,
     pub(crate) fraction: usize,
+    pub(crate) places: usize,
 }
 
 // What comes before the digits of the integer: the lengths of the sign and of the prefix, the index behind them, and the stage
@@ -73,6 +92,12 @@ pub(crate) struct Opening {
 pub(crate) const BEGIN: At = At {
     size: 0,
     read: START,
+};
+
+// The sum of no digits.
+const NOTHING: Sum = Sum {
+    digits: 0,
+    value: 0,
 };
 
 // Returns where `size` bytes have been read, of which the last is no separator and no suffix.
@@ -95,11 +120,17 @@ const fn at_stage(size: usize, stage: Stage) -> At
 const fn stopped(_grammar: Grammar, _text: &[u8], at: At, exact: bool) -> Counted
     requires begun { IsBegun (steps_of _grammar) _text.now at }
     requires exact { IsTrue exact → IsRefused (steps_of _grammar) _text.now at }
-    ensures { HasFound (steps_of _grammar) _text.now result }
+    ensures found { HasFound (steps_of _grammar) _text.now result }
+    ensures summed { IsSummed (raw _grammar.word) _text.now result }
 {
     Counted {
         at,
         counts: [0; 9],
+        sums: Sums {
+            mantissa: NOTHING,
+            places: 0,
+            exponent: NOTHING,
+        },
         complete: false,
         exact,
     }
@@ -246,6 +277,7 @@ const fn groups(grammar: Grammar, text: &[u8], part: Part, begun: Run) -> Run
     requires digits { begun.digits ≤ begun.size }
     requires run { is_run begun.stage ≡ true }
     requires part { part_of begun.stage ≡ part }
+    ensures digits { result.digits ≤ result.size }
     ensures stage { result.stage ≡ begun.stage }
     ensures run { IsRunOn (steps_of grammar) (radix_of (raw grammar.word) part) text.now part begun result }
     ensures over { IsOver (steps_of grammar) text.now part result }
@@ -260,39 +292,27 @@ const fn groups(grammar: Grammar, text: &[u8], part: Part, begun: Run) -> Run
     }
 }
 
-// Reads the digits of `part` that begin at `from`, behind `stage`, and separators between them.
+// Reads the digits of `part` that follow, and separators between them.
 #[inline(always)]
-const fn digits(
-    grammar: Grammar,
-    text: &[u8],
-    part: Part,
-    from: usize,
-    stage: Stage,
-    before: u64,
-) -> Run
+const fn digits(grammar: Grammar, text: &[u8], part: Part, begun: Run) -> Run
     requires ready { IsReady (steps_of grammar) }
-    requires within { from ≤ length text.now }
-    requires none { has_digit stage ≡ false }
-    requires signed { is_signed (steps_of grammar) part stage ≡ true }
-    requires part { part_of stage ≡ part }
-    requires free { is_free (steps_of grammar) stage ≡ true }
+    requires within { begun.size ≤ length text.now }
+    requires digits { begun.digits ≤ begun.size }
+    requires none { has_digit begun.stage ≡ false }
+    requires signed { is_signed (steps_of grammar) part begun.stage ≡ true }
+    requires part { part_of begun.stage ≡ part }
+    requires free { is_free (steps_of grammar) begun.stage ≡ true }
     ensures free { is_free (steps_of grammar) result.stage ≡ true }
-    ensures run { IsRunOn (steps_of grammar) (radix_of (raw grammar.word) part) text.now part
-        (record { size = from; stage = stage; digits = 0; sum = before }) result }
+    ensures run { IsRunOn (steps_of grammar) (radix_of (raw grammar.word) part) text.now part begun result }
+    ensures digits { result.digits ≤ result.size }
     ensures over { IsOver (steps_of grammar) text.now part result }
     ensures part { part_of result.stage ≡ part }
 {
-    let none = Run {
-        size: from,
-        stage,
-        digits: 0,
-        sum: before,
+    let Some(value) = value_at(grammar, text, part, begun.size) else {
+        return begun;
     };
-    let Some(value) = value_at(grammar, text, part, from) else {
-        return none;
-    };
-    let one = push(grammar, part, none, value, 1);
-    if text[from] == b'0' && awaits_integer(stage) {
+    let one = push(grammar, part, begun, value, 1);
+    if text[begun.size] == b'0' && awaits_integer(begun.stage) {
         let stage = Stage::Bare;
         behind_zero(grammar, text, Run { stage, ..one })
     } else {
@@ -309,6 +329,7 @@ const fn behind_zero(grammar: Grammar, text: &[u8], zero: Run) -> Run
     requires digits { zero.digits ≤ zero.size }
     requires bare { zero.stage ≡ Stage.Bare }
     requires free { is_free (steps_of grammar) Stage.Bare ≡ true }
+    ensures digits { result.digits ≤ result.size }
     ensures free { is_free (steps_of grammar) result.stage ≡ true }
     ensures run { IsRunOn (steps_of grammar) (radix_of (raw grammar.word) Part.Integer) text.now Part.Integer zero result }
     ensures over { IsOver (steps_of grammar) text.now Part.Integer result }
@@ -329,7 +350,8 @@ const fn behind_zero(grammar: Grammar, text: &[u8], zero: Run) -> Run
 #[inline(always)]
 pub(crate) const fn plain(grammar: Grammar, text: &[u8], fronts: bool) -> Counted
     requires ready { IsReady (steps_of grammar) }
-    ensures { HasFound (steps_of grammar) text.now result }
+    ensures found { HasFound (steps_of grammar) text.now result }
+    ensures summed { IsSummed (raw grammar.word) text.now result }
 {
     let Some(sign) = sign(grammar, text, Part::Integer, 0) else {
         return stopped(grammar, text, BEGIN, false);
@@ -383,7 +405,8 @@ const fn misses_prefix(grammar: Grammar, text: &[u8], size: usize) -> bool
 const fn without_prefix(grammar: Grammar, text: &[u8], sign: usize) -> Counted
     requires ready { IsReady (steps_of grammar) }
     requires sign { IsSign (steps_of grammar) text.now Part.Integer 0 sign }
-    ensures { HasFound (steps_of grammar) text.now result }
+    ensures found { HasFound (steps_of grammar) text.now result }
+    ensures summed { IsSummed (raw grammar.word) text.now result }
 {
     if sign < text.len() && text[sign] == b'0' {
         stopped(
@@ -407,7 +430,8 @@ const fn without_prefix(grammar: Grammar, text: &[u8], sign: usize) -> Counted
 const fn integer(grammar: Grammar, text: &[u8], fronts: bool, opening: Opening) -> Counted
     requires ready { IsReady (steps_of grammar) }
     requires opened { IsOpened (steps_of grammar) text.now opening }
-    ensures { HasFound (steps_of grammar) text.now result }
+    ensures found { HasFound (steps_of grammar) text.now result }
+    ensures summed { IsSummed (raw grammar.word) text.now result }
 {
     let Opening {
         sign,
@@ -415,7 +439,13 @@ const fn integer(grammar: Grammar, text: &[u8], fronts: bool, opening: Opening) 
         size,
         stage,
     } = opening;
-    let run = digits(grammar, text, Part::Integer, size, stage, 0);
+    let begun = Run {
+        size,
+        stage,
+        digits: 0,
+        sum: 0,
+    };
+    let run = digits(grammar, text, Part::Integer, begun);
     if run.size == size {
         return stopped(grammar, text, at_stage(size, stage), false);
     }
@@ -425,6 +455,7 @@ const fn integer(grammar: Grammar, text: &[u8], fronts: bool, opening: Opening) 
         integer: run.size - size,
         point: 0,
         fraction: 0,
+        places: 0,
     };
     let at = at_stage(run.size, run.stage);
     if run.size < text.len()
@@ -449,18 +480,27 @@ const fn fraction(
     requires inside { integer.size < length text.now }
     requires at { IsAt (steps_of grammar) text.now (at_stage (integer.size + 1) (after_point (has_digit integer.stage)))
         (cuts_of (counts_of (record sizes { point = 1 }) 0 0 0 0)) }
-    requires none { sizes.fraction ≡ 0 }
-    ensures { HasFound (steps_of grammar) text.now result }
+    requires none { (sizes.point ≡ 0) × (sizes.fraction ≡ 0) }
+    requires digits { integer.digits ≤ integer.size }
+    requires mantissa { IsMantissa (raw grammar.word) text.now sizes integer }
+    ensures found { HasFound (steps_of grammar) text.now result }
+    ensures summed { IsSummed (raw grammar.word) text.now result }
 {
     let from = integer.size + 1;
     let stage = after_point(integer.stage);
-    let run = digits(grammar, text, Part::Fraction, from, stage, integer.sum);
+    let begun = Run {
+        size: from,
+        stage,
+        ..integer
+    };
+    let run = digits(grammar, text, Part::Fraction, begun);
     if run.size == from {
         return stopped(grammar, text, at_stage(from, stage), false);
     }
     let sizes = Sizes {
         point: 1,
         fraction: run.size - from,
+        places: run.digits - integer.digits,
         ..sizes
     };
     behind_mantissa(grammar, text, fronts, sizes, run)
@@ -480,41 +520,91 @@ const fn behind_mantissa(
     requires free { is_free (steps_of grammar) run.stage ≡ true }
     requires over { IsOver (steps_of grammar) text.now (part_of run.stage) run }
     requires point { IsPassed (steps_of grammar) text.now (at_stage run.size run.stage) Role.Point }
-    ensures { HasFound (steps_of grammar) text.now result }
+    requires mantissa { IsMantissa (raw grammar.word) text.now sizes run }
+    ensures found { HasFound (steps_of grammar) text.now result }
+    ensures summed { IsSummed (raw grammar.word) text.now result }
 {
     let at = at_stage(run.size, run.stage);
     if run.size < text.len()
         && is_exponent_character(grammar, text[run.size])
         && takes(grammar, at.read, false, Role::Exponent)
     {
-        exponent(grammar, text, fronts, sizes, run.size + 1)
+        exponent(grammar, text, fronts, sizes, run)
     } else {
-        end(grammar, text, fronts, at, sizes, [0; 3])
+        end(
+            grammar,
+            text,
+            fronts,
+            at,
+            sizes,
+            [0; 3],
+            all_sums(sizes, run, NOTHING),
+        )
+    }
+}
+
+// Returns the sums of the digits of the mantissa and of the exponent.
+#[inline(always)]
+const fn all_sums(sizes: Sizes, mantissa: Run, exponent: Sum) -> Sums
+    ensures { result ≡ record {
+      mantissa = record { digits = mantissa.digits; value = mantissa.sum };
+      places = sizes.places;
+      exponent = exponent;
+    } }
+{
+    Sums {
+        mantissa: Sum {
+            digits: mantissa.digits,
+            value: mantissa.sum,
+        },
+        places: sizes.places,
+        exponent,
     }
 }
 
 // Reads the exponent behind its character, and what follows it.
 #[inline(always)]
-const fn exponent(grammar: Grammar, text: &[u8], fronts: bool, sizes: Sizes, size: usize) -> Counted
+const fn exponent(
+    grammar: Grammar,
+    text: &[u8],
+    fronts: bool,
+    sizes: Sizes,
+    mantissa: Run,
+) -> Counted
     requires ready { IsReady (steps_of grammar) }
-    requires within { size ≤ length text.now }
-    requires at { IsAt (steps_of grammar) text.now (at_stage size Stage.Mark) (cuts_of (counts_of sizes 1 0 0 0)) }
-    ensures { HasFound (steps_of grammar) text.now result }
+    requires within { mantissa.size < length text.now }
+    requires at { IsAt (steps_of grammar) text.now (at_stage (mantissa.size + 1) Stage.Mark) (cuts_of (counts_of sizes 1 0 0 0)) }
+    requires mantissa { IsMantissa (raw grammar.word) text.now sizes mantissa }
+    ensures found { HasFound (steps_of grammar) text.now result }
+    ensures summed { IsSummed (raw grammar.word) text.now result }
 {
+    let size = mantissa.size + 1;
     let Some(sign) = sign(grammar, text, Part::Exponent, size) else {
         return stopped(grammar, text, at_stage(size, Stage::Mark), false);
     };
     let from = size + sign;
-    let run = digits(
+    let begun = Run {
+        size: from,
+        stage: behind_sign(Part::Exponent, sign),
+        digits: 0,
+        sum: 0,
+    };
+    let run = digits(grammar, text, Part::Exponent, begun);
+    let at = at_stage(run.size, run.stage);
+    let exponent = Sum {
+        digits: run.digits,
+        value: run.sum,
+    };
+    let scale = [1, sign, run.size - from];
+    end(
         grammar,
         text,
-        Part::Exponent,
-        from,
-        behind_sign(Part::Exponent, sign),
-        0,
-    );
-    let at = at_stage(run.size, run.stage);
-    end(grammar, text, fronts, at, sizes, [1, sign, run.size - from])
+        fronts,
+        at,
+        sizes,
+        scale,
+        all_sums(sizes, mantissa, exponent),
+    )
 }
 
 // Returns whether `byte` is neither a digit nor a separator, and no base prefix, and follows digits.
@@ -546,6 +636,7 @@ const fn end(
     at: At,
     sizes: Sizes,
     scale: [usize; 3],
+    sums: Sums,
 ) -> Counted
     requires ready { IsReady (steps_of grammar) }
     requires at { IsAt (steps_of grammar) text.now at (cuts_of (counts_of sizes (get_or scale 0 0) (get_or scale 1 0) (get_or scale 2 0) 0)) }
@@ -555,7 +646,10 @@ const fn end(
         → (steps_of grammar).digit (part_of at.read.stage) (get_or text.now at.size 0) ≡ false }
     requires point { IsPassed (steps_of grammar) text.now at Role.Point }
     requires exponent { IsPassed (steps_of grammar) text.now at Role.Exponent }
-    ensures { HasFound (steps_of grammar) text.now result }
+    requires sums { AreSums (raw grammar.word)
+        (cut text.now (cuts_of (counts_of sizes (get_or scale 0 0) (get_or scale 1 0) (get_or scale 2 0) 0))) sums }
+    ensures found { HasFound (steps_of grammar) text.now result }
+    ensures summed { IsSummed (raw grammar.word) text.now result }
 {
     let Sizes {
         sign,
@@ -563,6 +657,7 @@ const fn end(
         integer,
         point,
         fraction,
+        ..
     } = sizes;
     let At { size, read } = at;
     if size < text.len()
@@ -581,6 +676,7 @@ const fn end(
             counts: [
                 sign, prefix, integer, point, fraction, scale[0], scale[1], scale[2], 1,
             ],
+            sums,
             complete: is_complete(grammar, read),
             exact: false,
         };
@@ -594,6 +690,7 @@ const fn end(
         counts: [
             sign, prefix, integer, point, fraction, scale[0], scale[1], scale[2], 0,
         ],
+        sums,
         complete: is_complete(grammar, read),
         exact: false,
     }

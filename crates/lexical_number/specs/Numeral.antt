@@ -1,31 +1,29 @@
--- Digits with a sign, as a value of an integer type.
-use Rattle.std.specs.Prelude.{ℕ, ◌≡◌, ◌-◌, ◌^◌, ◌≤◌, Bool, false, IsSome, if◌then◌else◌, ℤ, pos, neg_ℤ}
-use Rattle.std.specs.List.{AllByRecursion}
-use Rattle.lexical_base.specs.Digits.{digit_of}
+-- Numbers with a sign, as values of an integer type.
+use Rattle.std.specs.Prelude.{ℕ, ◌-◌, ◌^◌, ◌≤◌, Bool, if◌then◌else◌, ℤ, pos, neg_ℤ}
 use Rattle.lexical_number.specs.Number.{number}
+use Rattle.lexical_number.specs.declared.numeral.Magnitude.TheVariants as magnitudes
+use Rattle.lexical_number.specs.declared.numeral.Magnitude.{Magnitude}
 use Rattle.lexical_number.specs.declared.numeral.Numeral.{Numeral}
 
 -- `with_sign negative n` is `-n` if `negative` is true, and `n` otherwise.
 abbrev pub with_sign : Bool → ℕ → ℤ
 with_sign negative n = if negative then neg_ℤ (pos n) else pos n
 
--- `size_of numeral` is the number that the digits of `numeral` represent, without its sign.
+-- `size_of numeral` is the number of `numeral` without its sign, itself or by its digits.
+abbrev pub magnitude_size : Magnitude → ℕ
+magnitude_size (magnitudes.Word word) = word
+magnitude_size (magnitudes.Digits bytes radix) = number radix bytes.now
+
 abbrev pub size_of : Numeral → ℕ
-size_of numeral = number numeral.radix numeral.bytes.now
+size_of numeral = magnitude_size numeral.magnitude
 
 -- `value_of numeral` is the integer that the sign and the digits of `numeral` represent.
 abbrev pub value_of : Numeral → ℤ
 value_of numeral = with_sign numeral.negative (size_of numeral)
 
--- `HasDigitsAlone numeral` holds if each byte of `numeral` is a digit.
-abbrev pub HasDigitsAlone : Numeral → Type 0
-HasDigitsAlone numeral = AllByRecursion (λ byte. IsSome (digit_of byte numeral.radix)) numeral.bytes.now
-
--- `Fits least largest numeral` holds if the value of `numeral` is between `-least` and `largest`, and if `numeral` has
--- digits alone, unless it may have separators.
-pub record Fits (least largest : ℕ) (numeral : Numeral) : Type 0 where
-  pub within : size_of numeral ≤ (if numeral.negative then least else largest)
-  pub digits : numeral.separated ≡ false → HasDigitsAlone numeral
+-- `Fits least largest numeral` holds if the value of `numeral` is between `-least` and `largest`.
+abbrev pub Fits : ℕ → ℕ → Numeral → Type 0
+Fits least largest numeral = size_of numeral ≤ (if numeral.negative then least else largest)
 
 -- `Range T` states which integers the values of the type `T` are: `value` of each, from `-least` to `largest`.
 pub record Range (T : Type 0) : Type 0 where

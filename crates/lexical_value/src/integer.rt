@@ -1,18 +1,18 @@
 //! The value of a literal as a value of an integer type.
 
-ghost use Rattle.std.specs.Prelude.{◌≡◌, ◌↔◌, if◌then◌else◌, true, IfSome, IsNone, IsTrue, MatchResult};
-ghost use Rattle.lexical_util.specs.Layout as layout;
+ghost use Rattle.std.specs.Prelude.{◌≡◌, ◌↔◌, if◌then◌else◌, [], IfSome, IsNone, IsTrue, MatchResult};
 ghost use Rattle.lexical_util.specs.Record.{raw};
 ghost use Rattle.lexical_literal.specs.Literal.{is_float};
 ghost use Rattle.lexical_literal.specs.Parts.{literal_of};
-ghost use Rattle.lexical_value.specs.Integer.{IsInteger, IsNoInteger};
+ghost use Rattle.lexical_number.specs.Numeral.{magnitude_size, size_of};
+ghost use Rattle.lexical_value.specs.Integer.{IsInteger, IsNoInteger, integer_size};
 ghost use Rattle.lexical_value.specs.Value.{is_minus};
 ghost use Rattle.lexical_value.specs.declared.integer.ValueErrorKind.TheVariants as kinds;
 
+use lexical_literal::literal::Literal;
 use lexical_literal::read::Parts;
 use lexical_number::integer::Integer;
-use lexical_number::numeral::Numeral;
-use lexical_util::format::NumberFormat;
+use lexical_number::numeral::{Magnitude, Numeral};
 
 /// Why a number has no value in a type.
 #[derive(Debug, Clone, Copy, PartialEq, Eq, Hash)]
@@ -43,16 +43,17 @@ impl ValueErrorKind {
     }
 }
 
-/// Returns the value of a literal of `format` as a value of an integer type. The value of `-0` is 0.
+/// Returns the value of a literal as a value of an integer type. The value of `-0` is 0.
 ///
 /// # Errors
 ///
 /// If the literal has a decimal point or an exponent, or if its value is not in the range of the type, returns which.
-pub fn to_integer<T: Integer>(format: NumberFormat, parts: &Parts) -> Result<T, ValueErrorKind>
-    ensures { MatchResult result (λ value. IsInteger (raw format) (literal_of parts.now) (T.range.value value))
-        (IsNoInteger T.range.least T.range.largest (raw format) (literal_of parts.now)) }
+#[inline(always)]
+pub fn to_integer<T: Integer>(literal: &Literal) -> Result<T, ValueErrorKind>
+    ensures { MatchResult result (λ value. IsInteger (raw literal.now.format) literal.now.literal (T.range.value value))
+        (IsNoInteger T.range.least T.range.largest (raw literal.now.format) literal.now.literal) }
 {
-    let Some(numeral) = integer_digits(format, parts) else {
+    let Some(numeral) = integer_digits(literal) else {
         return Err(ValueErrorKind::Float);
     };
     match T::from_numeral(&numeral) {
@@ -61,27 +62,42 @@ pub fn to_integer<T: Integer>(format: NumberFormat, parts: &Parts) -> Result<T, 
     }
 }
 
-// Returns the sign and the digits of a literal, or `None` if it has a decimal point or an exponent.
+// Returns the sign and the number of a literal, or `None` if it has a decimal point or an exponent.
 #[inline(always)]
-pub(crate) const fn integer_digits<'a>(
-    format: NumberFormat,
-    parts: &Parts<'a>,
-) -> Option<Numeral<'a>>
-    ensures float { IsTrue (is_float (literal_of parts.now)) ↔ IsNone result }
-    ensures negative { IfSome result (λ numeral. numeral.negative ≡ is_minus (literal_of parts.now).sign) }
-    ensures bytes { IfSome result (λ numeral. numeral.bytes.now ≡ (literal_of parts.now).integer) }
-    ensures radix { IfSome result (λ numeral. numeral.radix ≡ (raw format).byte layout.mantissa_radix) }
-    ensures separated { IfSome result (λ numeral. numeral.separated ≡ true) }
+pub(crate) fn integer_digits<'a>(literal: &Literal<'a>) -> Option<Numeral<'a>>
+    ensures float { IsTrue (is_float literal.now.literal) ↔ IsNone result }
+    ensures negative { IfSome result (λ numeral. numeral.negative ≡ is_minus literal.now.literal.sign) }
+    ensures size { IfSome result (λ numeral. size_of numeral ≡ integer_size (raw literal.now.format) literal.now.literal) }
 {
-    if !matches!(parts.point, []) || !matches!(parts.exponent_character, []) {
+    let parts = literal.cut();
+    if is_float(&parts) {
         return None;
     }
     Some(Numeral {
         negative: is_minus(parts.sign),
-        bytes: parts.integer,
-        radix: format.mantissa_radix(),
-        separated: true,
+        magnitude: magnitude(literal, parts.integer),
     })
+}
+
+// Returns whether there is a decimal point or an exponent.
+#[inline(always)]
+const fn is_float(parts: &Parts) -> bool
+    ensures { result ≡ is_float (literal_of parts.now) }
+{
+    !matches!(parts.point, []) || !matches!(parts.exponent_character, [])
+}
+
+// Returns the number that the digits of the integer represent, by itself if it is known.
+#[inline(always)]
+fn magnitude<'a>(literal: &Literal<'a>, integer: &'a [u8]) -> Magnitude<'a>
+    requires integer { integer.now ≡ literal.now.literal.integer }
+    requires fraction { literal.now.literal.fraction ≡ [] }
+    ensures { magnitude_size result ≡ integer_size (raw literal.now.format) literal.now.literal }
+{
+    match literal.mantissa() {
+        Some(size) => Magnitude::Word(size),
+        None => Magnitude::Digits(integer, literal.format().mantissa_radix()),
+    }
 }
 
 // Returns whether a sign is a minus sign.

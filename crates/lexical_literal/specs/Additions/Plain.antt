@@ -2,8 +2,8 @@
 use Rattle.std.specs.Prelude.{ℕ, ◌≡◌, ◌<◌, ◌≤◌, ◌+◌, ◌-◌, ◌%◌, ◌^◌, ◌==◌, ◌&&◌, if◌then◌else◌, Bool, not, IsTrue, List, [], ◌∷◌, None, Some, true, false, drop}
 use Rattle.std.specs.Prelude.{get_or, length, take}
 use Rattle.std.specs.Int.Digits.{number_from_digits_after}
-use Rattle.std.specs.List.{filter_map}
 use Rattle.lexical_util.specs.Digits.{digit_of}
+use Rattle.lexical_number.specs.Number.{digits_in}
 use Rattle.lexical_util.specs.Layout as layout
 use Rattle.lexical_util.specs.Layout.{separators_in}
 use Rattle.lexical_util.specs.declared.feature_format.roles.Role.{Role}
@@ -101,10 +101,6 @@ is_free m stage = not (m.condition conditions.BasePrefix && lacks_prefix stage)
 abbrev pub between : List ℕ → ℕ → ℕ → List ℕ
 between text from end = take (end - from) (drop from text)
 
--- `digits_in radix bytes` lists the values of the digits of `radix` among `bytes`.
-abbrev pub digits_in : ℕ → List ℕ → List ℕ
-digits_in radix bytes = filter_map (λ byte. digit_of byte radix) bytes
-
 -- `IsDigitAt radix text index value` holds if the byte at `index` is the digit of `radix` with this value.
 abbrev pub IsDigitAt : ℕ → List ℕ → ℕ → ℕ → Type 0
 IsDigitAt radix text index value = (index < length text) × (digit_of (get_or text index 0) radix ≡ Some value)
@@ -137,6 +133,7 @@ counts_of s mark sign exponent suffix = s.sign ∷ s.prefix ∷ s.integer ∷ s.
 
 -- `IsOpened m text opening` holds if `opening` has the sign and the base prefix that `text` begins with, and if a digit may follow.
 pub record IsOpened (m : Notation) (text : List ℕ) (opening : Opening) : Type 0 where
+  pub size : opening.size ≡ opening.sign + opening.prefix
   pub at : IsAt m text (at_stage opening.size opening.stage)
       (cuts_of (opening.sign ∷ opening.prefix ∷ 0 ∷ 0 ∷ 0 ∷ 0 ∷ 0 ∷ 0 ∷ 0 ∷ []))
   pub signed : is_signed m parts.Integer opening.stage ≡ true

@@ -2,29 +2,30 @@
 
 //! The value of a literal as a value of a float type.
 
-use crate::literal::read::Parts;
+use crate::literal::literal::Literal;
 use crate::literal::value::integer::{is_minus, ValueErrorKind};
-use crate::number::decimal::decimal_to_float;
+use crate::number::decimal::{decimal_to_float, digits_to_float};
 use crate::number::float::Float;
 use crate::number::leading::{push_all, saturating, Leading};
-use crate::number::parts::{bits_of, count, raised_bits};
+use crate::number::parts::{bits_of, raised_bits};
 use crate::word::FormatView;
 
-/// Returns the value of a literal of `format` as a value of a float type: rounded once to the nearest float, or to the even
-/// one if two are as near. The value is infinite if it is that large. Its sign is that of the literal, also for 0.
+/// Returns the value of a literal as a value of a float type: rounded once to the nearest float, or to the even one if two
+/// are as near. The value is infinite if it is that large. Its sign is that of the literal, also for 0.
 ///
 /// # Errors
 ///
 /// If the mantissa radix and the exponent base are neither both 10 nor both powers of two, of any literal.
-pub fn to_float<F: Float>(format: FormatView, parts: &Parts) -> Result<F, ValueErrorKind> {
-    let size = if has_decimal_floats(format) {
-        decimal_size(format, parts)
-    } else if let Some(bits) = binary_size(F::DOUBLE, format, parts) {
+#[inline(always)]
+pub fn to_float<F: Float>(literal: &Literal) -> Result<F, ValueErrorKind> {
+    let size = if has_decimal_floats(literal.format()) {
+        decimal_size(literal)
+    } else if let Some(bits) = binary_size(F::DOUBLE, literal) {
         F::from_magnitude(bits)
     } else {
         return Err(ValueErrorKind::UnsupportedRadix);
     };
-    Ok(signed(size, is_minus(parts.sign)))
+    Ok(signed(size, is_minus(literal.cut().sign)))
 }
 
 // Returns a float with a sign.
@@ -52,14 +53,41 @@ const fn has_decimal_floats(format: FormatView) -> bool {
 }
 
 // Returns the float nearest to a decimal literal, without its sign.
-fn decimal_size<F: Float>(format: FormatView, parts: &Parts) -> F {
+#[inline(always)]
+fn decimal_size<F: Float>(literal: &Literal) -> F {
+    match short_size(literal) {
+        Some(size) => size,
+        None => long_size(literal),
+    }
+}
+
+// Returns the float nearest to a decimal literal, without its sign, if its numbers are known and decide it.
+#[inline(always)]
+fn short_size<F: Float>(literal: &Literal) -> Option<F> {
+    let parts = literal.cut();
+    let (Some(digits), Some(exponent)) = (literal.mantissa(), literal.scale()) else {
+        return None;
+    };
+    let places = literal.places();
+    if exponent > 9999 || places > parts.fraction.len() {
+        return None;
+    }
     let negative = is_minus(parts.exponent_sign);
-    let exponent = saturating(parts.exponent, format.exponent_radix());
+    digits_to_float(digits, places as u64, negative, exponent)
+}
+
+// Returns the float nearest to a decimal literal, without its sign, by its digits.
+#[cold]
+fn long_size<F: Float>(literal: &Literal) -> F {
+    let parts = literal.cut();
+    let negative = is_minus(parts.exponent_sign);
+    let exponent = saturating(parts.exponent, literal.format().exponent_radix());
     decimal_to_float(parts.integer, parts.fraction, negative, exponent)
 }
 
 // Returns the bits of the float nearest to a literal, without its sign, or `None` if a radix is not a power of two.
-pub(crate) const fn binary_size(double: bool, format: FormatView, parts: &Parts) -> Option<u64> {
+pub(crate) const fn binary_size(double: bool, literal: &Literal) -> Option<u64> {
+    let format = literal.format();
     let radix = format.mantissa_radix();
     let Some(radix_bits) = bits_of(radix) else {
         return None;
@@ -67,9 +95,34 @@ pub(crate) const fn binary_size(double: bool, format: FormatView, parts: &Parts)
     let Some(base_bits) = bits_of(format.exponent_base()) else {
         return None;
     };
-    let leading = push_all(push_all(Leading::ZERO, radix, parts.integer), radix, parts.fraction);
-    let places = count(parts.fraction, radix) as u64;
-    let negative = is_minus(parts.exponent_sign);
-    let exponent = saturating(parts.exponent, format.exponent_radix());
+    let leading = leading(literal, radix);
+    let places = literal.places() as u64;
+    let negative = is_minus(literal.cut().exponent_sign);
+    let exponent = scale(literal);
     Some(raised_bits(double, leading, radix_bits, places, negative, exponent, base_bits))
+}
+
+// Returns all digits of a number as its leading digits.
+const fn whole(size: u64) -> Leading {
+    Leading { digits: size as u128, ..Leading::ZERO }
+}
+
+// Returns the leading digits of the mantissa, all of them if it is known.
+const fn leading(literal: &Literal, radix: u32) -> Leading {
+    match literal.mantissa() {
+        Some(size) => whole(size),
+        None => {
+            let parts = literal.cut();
+            let integer = push_all(Leading::ZERO, radix, parts.integer);
+            push_all(integer, radix, parts.fraction)
+        }
+    }
+}
+
+// Returns the exponent, or `2 ^ 90` if that is less.
+const fn scale(literal: &Literal) -> u128 {
+    match literal.scale() {
+        Some(exponent) => exponent as u128,
+        None => saturating(literal.cut().exponent, literal.format().exponent_radix()),
+    }
 }

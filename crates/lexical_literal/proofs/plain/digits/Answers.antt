@@ -14,8 +14,8 @@ use Rattle.lexical_literal.proofs.PlainLemmas.{read_first}
 use Rattle.lexical_literal.proofs.StepLemmas.{awaited_part}
 use Rattle.lexical_literal.proofs.SumLemmas.{behind_digit, is_digit, pushed, same_run}
 use Rattle.lexical_literal.proofs.plain.digits.Goals as goal
-use Rattle.lexical_literal.proofs.plain.digits.Goals.{else-text-from-eq48-via-then-text-from-eq48+else-awaits_integer}
-use Rattle.lexical_literal.proofs.plain.digits.Goals.{else-text-from-eq48-via-else-text-from-eq48}
+use Rattle.lexical_literal.proofs.plain.digits.Goals.{else-text-begun-eq48-via-then-text-begun-eq48+else-awaits_integer}
+use Rattle.lexical_literal.proofs.plain.digits.Goals.{else-text-begun-eq48-via-else-text-begun-eq48}
 
 first_digit : (g : Grammar) (text : List ℕ) (part : Part) (none one last : Run) (v : ℕ) (stage : Stage) (leads : Bool) → HasRoles (steps_of g)
     → part_of none.stage ≡ part → has_digit none.stage ≡ false → is_signed (steps_of g) part none.stage ≡ true → is_free (steps_of g) none.stage ≡ true
@@ -41,25 +41,24 @@ returns-then-awaits_integer-clause-run c =
     let g = c.args.grammar in
     let text = c.args.text.now in
     let part = c.args.part in
-    let naught : (get_or text c.args.from 0 == 48) ≡ true = ap (λ b. b == 48) c.if-text-from-eq48.true in
-    let begun : awaits_integer c.args.stage ≡ true = sym c.awaits_integer.ensures ∙ c.if-awaits_integer.true in
+    let naught : (get_or text c.args.begun.size 0 == 48) ≡ true = ap (λ b. b == 48) c.if-text-begun-eq48.true in
+    let begun : awaits_integer c.args.begun.stage ≡ true = sym c.awaits_integer.ensures ∙ c.if-awaits_integer.true in
     first_digit g text part _ c.push-one.result c.behind_zero.result c.in-Some.value stages.Bare true c.requires.ready.roles c.requires.part c.requires.none
     c.requires.signed c.requires.free c.in-Some.ensures.some c.push-one.ensures (λ j. naught j && begun j) refl
     (subst (λ part. IsRunOn (steps_of g) (radix_of (raw g.word) part) text part (record c.push-one.result { stage = stages.Bare }) c.behind_zero.result)
-    (sym (awaited_part c.args.stage begun) ∙ c.requires.part) c.behind_zero.ensures.run)
+    (sym (awaited_part c.args.begun.stage begun) ∙ c.requires.part) c.behind_zero.ensures.run)
 
-pub returns-else-text-from-eq48-clause-run : goal.returns-else-text-from-eq48-clause-run
-returns-else-text-from-eq48-clause-run c =
+pub returns-else-text-begun-eq48-clause-run : goal.returns-else-text-begun-eq48-clause-run
+returns-else-text-begun-eq48-clause-run c =
     let text = c.args.text.now in
-    let other : ((get_or text c.args.from 0 == 48) && awaits_integer c.args.stage) ≡ false = elim c.else-text-from-eq48.branch [
-      | else-text-from-eq48-via-then-text-from-eq48+else-awaits_integer w ↦
-          begun_later (get_or text c.args.from 0 == 48) _ (sym w.awaits_integer.ensures ∙ w.if-awaits_integer.false)
-      | else-text-from-eq48-via-else-text-from-eq48 w ↦ no_zero (get_or text c.args.from 0) _ w.if-text-from-eq48.false
+    let other : ((get_or text c.args.begun.size 0 == 48) && awaits_integer c.args.begun.stage) ≡ false = elim c.else-text-begun-eq48.branch [
+      | else-text-begun-eq48-via-then-text-begun-eq48+else-awaits_integer w ↦
+          begun_later (get_or text c.args.begun.size 0 == 48) _ (sym w.awaits_integer.ensures ∙ w.if-awaits_integer.false)
+      | else-text-begun-eq48-via-else-text-begun-eq48 w ↦ no_zero (get_or text c.args.begun.size 0) _ w.if-text-begun-eq48.false
     ] in
     first_digit c.args.grammar text c.args.part _ c.push-one.result c.groups.result c.in-Some.value c.digits_of-stage.result false c.requires.ready.roles
     c.requires.part c.requires.none c.requires.signed c.requires.free c.in-Some.ensures.some c.push-one.ensures other (sym c.digits_of-stage.ensures)
     c.groups.ensures.run
 
 pub returns-in_default-clause-run : goal.returns-in_default-clause-run
-returns-in_default-clause-run c = same_run (steps_of c.args.grammar) (radix_of (raw c.args.grammar.word) c.args.part) c.args.text.now c.args.part
-    (record { size = c.args.from; stage = c.args.stage; digits = 0; sum = c.args.before })
+returns-in_default-clause-run c = same_run (steps_of c.args.grammar) (radix_of (raw c.args.grammar.word) c.args.part) c.args.text.now c.args.part c.args.begun

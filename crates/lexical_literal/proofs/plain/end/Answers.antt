@@ -14,8 +14,8 @@ use Rattle.lexical_literal.proofs.plain.end.Goals.{else-size-text-via-then-size-
 use Rattle.lexical_literal.proofs.plain.end.Goals.{else-size-text-via-then-size-text+else-is_base_suffix}
 use Rattle.lexical_literal.proofs.plain.end.Goals.{else-size-text-via-else-size-text}
 
-pub returns-then-takes : goal.returns-then-takes
-returns-then-takes c =
+pub returns-then-takes-clause-found : goal.returns-then-takes-clause-found
+returns-then-takes-clause-found c =
     let m = steps_of c.args.grammar in
     let text = c.args.text.now in
     let at = c.args.at in
@@ -23,8 +23,14 @@ returns-then-takes c =
     (subst (λ w. suffix (raw w) (get_or text at.size 0) ≡ true) c.view.ensures (sym c.is_base_suffix.ensures ∙ c.if-is_base_suffix.true))
     c.requires.going (sym c.takes.ensures ∙ c.if-takes.true) c.requires.free c.requires.at) c.is_complete.ensures refl
 
-pub returns : goal.returns
-returns c = complete_at _ c.requires.ready _ _ c.requires.at c.is_complete-2.ensures refl
+pub returns-clause-found : goal.returns-clause-found
+returns-clause-found c = complete_at _ c.requires.ready _ _ c.requires.at c.is_complete-2.ensures refl
+
+pub returns-then-takes-clause-summed : goal.returns-then-takes-clause-summed
+returns-then-takes-clause-summed c _ = c.requires.sums
+
+pub returns-clause-summed : goal.returns-clause-summed
+returns-clause-summed c _ = c.requires.sums
 
 pub stopped-requires-clause-exact : goal.stopped-requires-clause-exact
 stopped-requires-clause-exact c holds =

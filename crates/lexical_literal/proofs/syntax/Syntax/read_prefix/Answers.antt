@@ -1,13 +1,14 @@
 -- A text of which no front is a literal is none.
-use Rattle.std.proofs.Common.{ℕ, List, Result, Ok, Err, IsErrAnd, ap, is_some, sym, subst, ◌∙◌}
+use Rattle.std.proofs.Common.{ℕ, List, Result, Ok, Err, IsErrAnd, ap, is_some}
 use Rattle.std.proofs.lemmas.Bool.{false≢true}
 use Rattle.lexical_literal.specs.Cause.{Explained, IsRefusal}
-use Rattle.lexical_literal.specs.Front.{NoFront, ReadsFront}
+use Rattle.lexical_literal.specs.Front.{NoFront}
 use Rattle.lexical_literal.specs.Notation.{notation_of}
 use Rattle.lexical_literal.specs.Parts.{IsReadPrefix}
 use Rattle.lexical_literal.specs.declared.number.Front.{Front}
 use Rattle.lexical_literal.specs.declared.syntax.Grammar.{Grammar}
 use Rattle.lexical_literal.proofs.FormLemmas.{none_whole}
+use Rattle.lexical_literal.proofs.PieceLemmas.{front_cut, front_read}
 use Rattle.lexical_literal.proofs.syntax.Syntax.read_prefix.Goals as goal
 
 refused : (g : Grammar) (text : List ℕ) (r : Result Front Explained) → NoFront (notation_of g) text
@@ -25,15 +26,14 @@ returns-in-None c =
 pub front_of-requires : goal.front_of-requires
 front_of-requires c = (c.front-found.ensures.longest c.in-Some.found c.in-Some.is).reads.within
 
-pub cut-parts-requires : goal.cut-parts-requires
-cut-parts-requires c = let is = c.front-found.ensures.longest c.in-Some.found c.in-Some.is in
-    (is.literal, c.front_of.ensures ∙ is.reads.reads.whole, is.counted is.literal is.reads.reads)
+pub summed-literal-requires : goal.summed-literal-requires
+summed-literal-requires c = front_cut c.args.self.now c.args.text.now c.front_of.result.now c.in-Some.found.size c.in-Some.found.counts c.front_of.ensures
+    (c.front-found.ensures.longest c.in-Some.found c.in-Some.is)
 
 pub returns-in-Some : goal.returns-in-Some
-returns-in-Some c =
-    let is = c.front-found.ensures.longest c.in-Some.found c.in-Some.is in
-    let same = c.cut-parts.ensures is.literal (c.front_of.ensures ∙ is.reads.reads.whole) (is.counted is.literal is.reads.reads) in record {
-      found = subst (λ l. ReadsFront (notation_of c.args.self.now) l c.args.text.now c.in-Some.found.size) (sym same) is.reads;
-      none = λ err. absurd (false≢true err);
-      error = tt;
-    }
+returns-in-Some c = record {
+  found = front_read c.args.self.now c.args.text.now c.front_of.result.now c.in-Some.found.size c.in-Some.found.counts c.front_of.ensures
+      (c.front-found.ensures.longest c.in-Some.found c.in-Some.is) c.summed-literal.result c.summed-literal.ensures;
+  none = λ err. absurd (false≢true err);
+  error = tt;
+}

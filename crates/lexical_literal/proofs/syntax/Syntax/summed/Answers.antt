@@ -1,0 +1,19 @@
+-- The parts that were cut are those of the literal.
+use Rattle.std.proofs.Common.{ap, ◌∙◌}
+use Rattle.lexical_util.specs.Layout as layout
+use Rattle.lexical_util.specs.Record.{effective_exponent_radix, raw}
+use Rattle.lexical_literal.specs.Additions.Read.{cut}
+use Rattle.lexical_literal.specs.Additions.Summary.{cuts_of}
+use Rattle.lexical_literal.specs.Parts.{literal_of}
+use Rattle.lexical_literal.proofs.MantissaLemmas.{made_sums}
+use Rattle.lexical_literal.proofs.syntax.Syntax.summed.Goals as goal
+
+pub literal-requires-clause-sums : goal.literal-requires-clause-sums
+literal-requires-clause-sums c =
+    let same = c.cut.ensures (cut c.args.text.now (cuts_of c.args.counts)) c.requires.reads.whole c.requires.lengths in
+    let word = c.view-view.ensures.word ∙ c.format.ensures.word in
+    let sums = c.sums_of-sums.ensures in
+    made_sums (raw c.args.self.now.word) c.mantissa_radix.result c.exponent_radix.result (literal_of c.cut.result)
+    (cut c.args.text.now (cuts_of c.args.counts)) c.sums_of-sums.result
+    (c.mantissa_radix.ensures.value ∙ ap (λ w. (raw w).byte layout.mantissa_radix) word)
+    (c.exponent_radix.ensures.value ∙ ap (λ w. effective_exponent_radix (raw w)) word) same sums.mantissa sums.places sums.exponent

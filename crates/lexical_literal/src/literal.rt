@@ -1,0 +1,208 @@
+//! Literals that were read, and the numbers that their digits represent.
+
+ghost use Rattle.std.specs.Prelude.{◌≡◌, ◌++◌, ◌%◌, ◌^◌, ℕ, IfSome, IsSome, List};
+ghost use Rattle.lexical_literal.specs.Additions.Read.{AreSums, IsCut, IsSum, cut};
+ghost use Rattle.lexical_literal.specs.Additions.Summary.{cuts_of};
+ghost use Rattle.lexical_literal.specs.Literal.{Reads};
+ghost use Rattle.lexical_literal.specs.Notation.{Notation, notation_of};
+ghost use Rattle.lexical_literal.specs.Parts.{literal_of};
+ghost use Rattle.lexical_literal.specs.Read.{exponent, mantissa};
+ghost use Rattle.lexical_literal.specs.Syntax.{IsSyntax};
+ghost use Rattle.lexical_literal.specs.declared.syntax.Grammar.{Grammar};
+ghost use Rattle.lexical_number.specs.Number.{number, places};
+ghost use Rattle.lexical_number.specs.Word.{IsShort, IsWord};
+ghost use Rattle.lexical_util.specs.Layout as layout;
+ghost use Rattle.lexical_util.specs.Record.{effective_exponent_radix, raw};
+ghost use Rattle.lexical_util.specs.Rules.{IsRadix};
+
+use crate::plain::{Sum, Sums};
+use crate::read::{Parts, cut};
+use crate::syntax::Syntax;
+use lexical_number::parts::count;
+use lexical_number::word::{add_all, fits, word};
+use lexical_util::format::NumberFormat;
+use std::marker::Model;
+
+/// A text that was read as a literal: its parts, and the numbers that its digits represent.
+#[derive(Drop)]
+pub struct Literal<'a> {
+    text: &'a [u8],
+    counts: [usize; 9],
+    view: NumberFormat,
+    mantissa: Option<u64>,
+    places: usize,
+    exponent: Option<u64>,
+}
+
+impl<'a> Model for Literal<'a> {
+    ghost use Rattle.lexical_literal.specs.Read.{Read};
+
+    ghost Value = { Read };
+
+    ghost use Rattle.lexical_literal.specs.Additions.Read.{IsMade, cut};
+    ghost use Rattle.lexical_literal.specs.Additions.Summary.{cuts_of};
+
+    ghost view = { λ it. record { format = it.view; literal = cut it.text.now (cuts_of it.counts) } };
+
+    ghost invariant = { λ it. IsMade it.view it.text.now (cuts_of it.counts) it.mantissa it.places it.exponent };
+}
+
+impl<'a> Literal<'a> {
+    /// Returns the format by which the literal was read.
+    #[must_use]
+    #[inline(always)]
+    pub const fn format(&self) -> NumberFormat
+        ensures { result ≡ self.now.format }
+    {
+        self.view
+    }
+
+    /// Returns the parts.
+    #[must_use]
+    #[inline(always)]
+    pub fn cut(&self) -> Parts<'a>
+        ensures parts { literal_of result ≡ self.now.literal }
+        // They are those of a literal of a syntax with this format.
+        ensures literal { (g : Grammar) × IsSyntax g × (g.word ≡ self.now.format) × (text : List ℕ) × Reads (notation_of g) self.now.literal text }
+    {
+        cut(self.text, self.counts)
+    }
+
+    /// Returns the number that the digits of the integer and the fraction represent together, if they are so few behind their
+    /// leading zeros that each number of so many digits is below `2 ^ 64`: 19 in radix 10, and 16 in radix 16.
+    #[must_use]
+    #[inline(always)]
+    pub const fn mantissa(&self) -> Option<u64>
+        ensures some { IsShort ((raw self.now.format).byte layout.mantissa_radix) (mantissa (raw self.now.format) self.now.literal)
+            → IsSome result }
+        ensures value { IfSome result (λ m. m ≡ mantissa (raw self.now.format) self.now.literal) }
+    {
+        self.mantissa
+    }
+
+    /// Returns the number of digits of the fraction.
+    #[must_use]
+    #[inline(always)]
+    pub const fn places(&self) -> usize
+        ensures { result ≡ places ((raw self.now.format).byte layout.mantissa_radix) self.now.literal.fraction }
+    {
+        self.places
+    }
+
+    /// Returns the number that the digits of the exponent represent, if they are so few, as [`mantissa`][Self::mantissa] does.
+    #[must_use]
+    #[inline(always)]
+    pub const fn scale(&self) -> Option<u64>
+        ensures some { IsShort (effective_exponent_radix (raw self.now.format)) (exponent (raw self.now.format) self.now.literal)
+            → IsSome result }
+        ensures value { IfSome result (λ e. e ≡ exponent (raw self.now.format) self.now.literal) }
+    {
+        self.exponent
+    }
+}
+
+impl Syntax {
+    // Returns the literal `text`, of which the parts have the lengths `counts`, and the digits these sums.
+    #[inline(always)]
+    pub(crate) fn literal<'a>(
+        &self,
+        text: &'a [u8],
+        counts: [usize; 9],
+        sums: Sums,
+    ) -> Literal<'a>
+        requires cut { IsCut (notation_of self.now) text.now (cuts_of counts) }
+        requires sums { AreSums (raw self.now.word) (cut text.now (cuts_of counts)) sums }
+        ensures { result ≡ record { format = self.now.word; literal = cut text.now (cuts_of counts) } }
+    {
+        let view = self.format().view();
+        let Sums {
+            mantissa: Sum { digits, value },
+            places,
+            exponent: Sum {
+                digits: exponent_digits,
+                value: exponent_value,
+            },
+        } = sums;
+        Literal {
+            text,
+            counts,
+            view,
+            mantissa: mantissa(view.mantissa_radix(), text, counts, digits, value),
+            places,
+            exponent: exponent(
+                view.exponent_radix(),
+                text,
+                counts,
+                exponent_digits,
+                exponent_value,
+            ),
+        }
+    }
+
+    // Returns the literal `text`, of which the parts have the lengths `counts`.
+    #[cold]
+    pub(crate) fn summed<'a>(&self, text: &'a [u8], counts: [usize; 9]) -> Literal<'a>
+        requires { IsCut (notation_of self.now) text.now (cuts_of counts) }
+        ensures { result ≡ record { format = self.now.word; literal = cut text.now (cuts_of counts) } }
+    {
+        let view = self.format().view();
+        let sums = sums_of(
+            view.mantissa_radix(),
+            view.exponent_radix(),
+            &cut(text, counts),
+        );
+        self.literal(text, counts, sums)
+    }
+}
+
+// Returns the sums of the digits of `parts`.
+fn sums_of(radix: u32, exponent_radix: u32, parts: &Parts) -> Sums
+    ensures mantissa { IsSum radix (parts.now.integer.now ++ parts.now.fraction.now) result.mantissa }
+    ensures places { result.places ≡ places radix parts.now.fraction.now }
+    ensures exponent { IsSum exponent_radix parts.now.exponent.now result.exponent }
+{
+    let places = count(parts.fraction, radix);
+    Sums {
+        mantissa: Sum {
+            digits: count(parts.integer, radix) + places,
+            value: add_all(add_all(0, parts.integer, radix), parts.fraction, radix),
+        },
+        places,
+        exponent: Sum {
+            digits: count(parts.exponent, exponent_radix),
+            value: add_all(0, parts.exponent, exponent_radix),
+        },
+    }
+}
+
+// Returns the number that the digits of the integer and the fraction represent together, if they are few. There are `digits` of
+// them, and `sum` is the number modulo `2 ^ 64`.
+#[inline(always)]
+fn mantissa(radix: u32, text: &[u8], counts: [usize; 9], digits: usize, sum: u64) -> Option<u64>
+    requires radix { IsRadix radix }
+    requires cut { (m : Notation) × IsCut m text.now (cuts_of counts) }
+    requires digits { digits ≡ places radix ((cut text.now (cuts_of counts)).integer ++ (cut text.now (cuts_of counts)).fraction) }
+    requires sum { sum % 2 ^ 64 ≡ number radix ((cut text.now (cuts_of counts)).integer ++ (cut text.now (cuts_of counts)).fraction) % 2 ^ 64 }
+    ensures { IsWord radix (number radix ((cut text.now (cuts_of counts)).integer ++ (cut text.now (cuts_of counts)).fraction)) result }
+{
+    if fits(radix, digits) {
+        return Some(sum);
+    }
+    let parts = cut(text, counts);
+    word(radix, parts.integer, parts.fraction, digits, sum)
+}
+
+// Returns the number that the digits of the exponent represent, if they are few, as `mantissa` does.
+#[inline(always)]
+fn exponent(radix: u32, text: &[u8], counts: [usize; 9], digits: usize, sum: u64) -> Option<u64>
+    requires radix { IsRadix radix }
+    requires cut { (m : Notation) × IsCut m text.now (cuts_of counts) }
+    requires digits { digits ≡ places radix (cut text.now (cuts_of counts)).exponent }
+    requires sum { sum % 2 ^ 64 ≡ number radix (cut text.now (cuts_of counts)).exponent % 2 ^ 64 }
+    ensures { IsWord radix (number radix (cut text.now (cuts_of counts)).exponent) result }
+{
+    if fits(radix, digits) {
+        return Some(sum);
+    }
+    word(radix, cut(text, counts).exponent, &[], digits, sum)
+}
