@@ -1,7 +1,7 @@
 -- Grouped digits.
 use Rattle.std.proofs.Common.{ℕ, ◌≡◌, ◌<◌, ◌≤◌, ◌==◌, ◌&&◌, Bool, true, false, get_or, zero, suc, List, [], ◌∷◌, length, refl, subst, sym, ap, ◌∙◌, arith}
-use Rattle.std.proofs.Common.{◌+◌, ◌*◌, ◌%◌, inl, inr, not}
-use Rattle.std.proofs.lemmas.Bool.{cases_lt, false≢true, or_right}
+use Rattle.std.proofs.Common.{◌+◌, ◌-◌, ◌*◌, ◌%◌, inl, inr, nat_le, nat_lt}
+use Rattle.std.proofs.lemmas.Bool.{and_from, cases_lt, false≢true}
 use Rattle.std.proofs.lemmas.Bool.Decides.{nat_tests}
 use Rattle.std.proofs.lemmas.Nat.{mod-mul-add}
 use Rattle.std.specs.Int.Digits.{AllBelowBase}
