@@ -60,7 +60,7 @@ COPIED = {
     "lexical_tests/src/*.rt": "tests/known",
     "numfmt/src/tests/rows.rt": "numfmt/tests/program",
 }
-NOT_COPIED = {"lib.rt", "example.rt", "values.rt"}
+NOT_COPIED = {"lib.rt", "example.rt", "groups.rt", "values.rt"}
 
 # The forms of tests in Rattle, and in plain Rust.
 TEST_FORMS = [
@@ -92,6 +92,7 @@ REPLACED = [
     # Calls with these names are written by hand: they return a byte, a `Literal` or a range.
     ("syntax.rt", "pub const fn options(&self)", "pub(crate) const fn options(&self)"),
     ("cause.rt", "pub const fn span(&self)", "#[doc(hidden)] pub const fn bounds(&self)"),
+    ("syntax.rt", "pub(crate) const fn grammar(&self)", "pub(crate) const fn as_grammar(&self)"),
 ]
 
 # Files in which each function is const in plain Rust. Rattle's `split_at` is not, nor is what calls it.
@@ -99,6 +100,7 @@ CONST = ("read.rt", "list.rt", "span.rt")
 
 # Texts that plain Rust replaces in every file, wherever they occur.
 EVERYWHERE = [
+    (".grammar()", ".as_grammar()"),
     ("fn fmt<W: fmt::Write>(&self, f: &mut fmt::Formatter<W>)", "fn fmt(&self, f: &mut fmt::Formatter<'_>)"),
     ("rattlefmt::skip", "rustfmt::skip"),
 ]
@@ -132,6 +134,8 @@ REPLACED += [
     ("feature_format.rt", "#[derive(Clone, Copy)]", f"#[derive({COMPARED})]"),
     # Only in plain Rust do public calls return this type. The documentation hides the traits of a hidden type.
     ("short_text.rt", "#[derive(Drop)]\n#[doc(hidden)]", "#[derive(Clone,\nCopy)]"),
+    ("big.rt", "#[derive(Drop)]\n", ""),
+    ("long.rt", "#[derive(Drop)]\n", ""),
     ("list.rt", "#[derive(Drop)]", "#[derive(Debug, Clone, Copy, PartialEq, Eq)]"),
     ("sink.rt", "#[derive(Drop)]", "#[derive(Debug)]"),
     # `Debug` prints the answers.

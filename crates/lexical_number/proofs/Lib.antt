@@ -1,9 +1,8 @@
 pub mod NumberLemmas
+mod BigLemmas
+mod NearLemmas
 mod BinaryLemmas
 mod TenLemmas
 pub mod LeadingLemmas
 mod PartsLemmas
-mod ScaledLemmas
-mod StickyLemmas
-mod TakenLemmas
 mod PowersLemmas

@@ -2,4 +2,4 @@ pub mod Number
 pub mod Numeral
 pub mod Binary
 pub mod Leading
-pub mod Decimal
+pub mod Nearest
