@@ -12,5 +12,5 @@ pub mod leading;
 pub mod nearest;
 pub mod numeral;
 pub mod parts;
-pub mod word;
 mod powers;
+pub mod word;
