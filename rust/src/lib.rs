@@ -96,8 +96,8 @@ mod number {
     pub(crate) mod nearest;
     pub(crate) mod numeral;
     pub(crate) mod parts;
-    pub(crate) mod word;
     pub(crate) mod powers;
+    pub(crate) mod word;
 }
 mod numeral;
 #[doc(hidden)]
