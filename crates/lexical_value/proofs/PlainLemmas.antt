@@ -94,28 +94,28 @@ module _ (g : Grammar) (sign integer point fraction character exponent_sign expo
         → IsTrue (is_none_or_one m.exponent_character character) → IsTrue (is_none_or_one signs exponent_sign)
         → (IsTrue (m.flag layout.no_positive_exponent_sign) → is_plus exponent_sign ≡ false) → AllIn (m.digit parts.Exponent) exponent → Reads m plain text
     reads text rest whole is signed plus pointed fractions marked exponent_signed exponent_plus exponent_digits = record {
-        whole = whole ∙ ap (λ t. sign ++ t) (is ∙ (λ i. integer ++ (point ++ (fraction ++ (character ++ (exponent_sign ++ sym (append-nil exponent) i))))));
-        literal = record {
-          conditions = λ c set. admitted c set signed;
-          spelled = record {
-            sign = signed;
-            prefix = refl;
-            integer = all_fit m parts.Integer [] integer digits;
-            point = pointed;
-            fraction = all_fit m parts.Fraction [] fraction fractions;
-            exponent_character = marked;
-            exponent_sign = exponent_signed;
-            exponent = all_fit m parts.Exponent [] exponent exponent_digits;
-            suffix = refl;
-            after_point = λ is. absent fraction (spelled.fraction ∙ is);
-            after_character = λ is. (
-              absent exponent_sign (let either = spelled.exponent_sign in grind arith),
-              absent exponent (spelled.exponent ∙ is),
-            );
-            some_number = let some = present integer spelled.integer in grind arith;
-            requirements = met plus exponent_plus;
-          };
+      whole = whole ∙ ap (λ t. sign ++ t) (is ∙ (λ i. integer ++ (point ++ (fraction ++ (character ++ (exponent_sign ++ sym (append-nil exponent) i))))));
+      literal = record {
+        conditions = λ c set. admitted c set signed;
+        spelled = record {
+          sign = signed;
+          prefix = refl;
+          integer = all_fit m parts.Integer [] integer digits;
+          point = pointed;
+          fraction = all_fit m parts.Fraction [] fraction fractions;
+          exponent_character = marked;
+          exponent_sign = exponent_signed;
+          exponent = all_fit m parts.Exponent [] exponent exponent_digits;
+          suffix = refl;
+          after_point = λ is. absent fraction (spelled.fraction ∙ is);
+          after_character = λ is. (
+            absent exponent_sign (let either = spelled.exponent_sign in grind arith),
+            absent exponent (spelled.exponent ∙ is),
+          );
+          some_number = let some = present integer spelled.integer in grind arith;
+          requirements = met plus exponent_plus;
         };
+      };
     }
 
 -- Behind its sign, the text of a literal without a prefix and a suffix has its other parts.
