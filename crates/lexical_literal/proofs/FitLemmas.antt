@@ -180,6 +180,11 @@ module _ (m : Notation) where
       → group_after m (Some first_group) text ≡ Some g → g.part ≡ part_of s.stage
   linked_there sized text s g read grouped = (linked_all sized start first_group text s g first_linked read grouped).part
 
+  pub some_size : (part : Part) → has_size m part ≡ true → has_sizes m ≡ true
+  some_size parts.Integer is = or_left _ _ is
+  some_size parts.Fraction is = or_right _ _ is
+  some_size parts.Exponent is = absurd (false≢true is)
+
   -- FRONTS
 
   module _ (ready : IsReady u) (sizes : HasSizes m) where
@@ -192,11 +197,6 @@ module _ (m : Notation) where
       grouped : group_after m (Some first_group) text ≡ Some g
       separated : g.separated ≡ true
       sized : has_size m g.part ≡ true
-
-    some_size : (part : Part) → has_size m part ≡ true → has_sizes m ≡ true
-    some_size parts.Integer is = or_left _ _ is
-    some_size parts.Fraction is = or_right _ _ is
-    some_size parts.Exponent is = absurd (false≢true is)
 
     module _ (text : List ℕ) (s : Summary) (g : Group) (is : Filling text s g) where
       linked : Linked s g
