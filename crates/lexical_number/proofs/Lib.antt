@@ -1,10 +1,9 @@
 pub mod NumberLemmas
 pub mod WordLemmas
+mod BigLemmas
+mod NearLemmas
 mod BinaryLemmas
 mod TenLemmas
 pub mod LeadingLemmas
 mod PartsLemmas
-mod ScaledLemmas
-mod StickyLemmas
-mod TakenLemmas
 mod PowersLemmas
