@@ -12,9 +12,10 @@ use Rattle.lexical_util.specs.NormalForm.{SameFormat}
 use Rattle.lexical_util.specs.Record.{Record, effective_exponent_base, effective_exponent_radix}
 use Rattle.lexical_literal.specs.Literal.{Literal, Reads, is_float}
 use Rattle.lexical_literal.specs.Notation.{Notation}
+use Rattle.lexical_literal.specs.Read.{mantissa}
 use Rattle.lexical_number.specs.Number.{digits_in, number}
 use Rattle.lexical_value.specs.Integer.{integer_size}
-use Rattle.lexical_value.specs.Value.{SameDigits, SameValue, mantissa, numerator, power, spelled}
+use Rattle.lexical_value.specs.Value.{SameDigits, SameValue, numerator, power, spelled}
 
 -- The value depends on the mantissa radix, and on the effective exponent base and radix.
 pub same_word : (r s : Record) (l : Literal) → SameFormat r s → SameValue r l s l
