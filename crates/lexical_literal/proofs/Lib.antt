@@ -17,6 +17,7 @@ mod CountLemmas
 mod PlainLemmas
 mod SumLemmas
 mod MantissaLemmas
+mod PieceLemmas
 mod JoinLemmas
 mod SpecialLemmas
 mod NumberLemmas

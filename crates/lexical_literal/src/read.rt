@@ -117,7 +117,8 @@ impl Syntax {
     #[inline(always)]
     pub(crate) fn is_whole(&self, text: &[u8], counted: Counted) -> bool
         requires { HasFound (notation_of self.now) text.now counted }
-        ensures { IsTrue result → IsMeasured self.now text.now counted.counts true }
+        ensures measured { IsTrue result → IsMeasured self.now text.now counted.counts true }
+        ensures complete { IsTrue result → IsTrue counted.complete }
     {
         if counted.complete && counted.at.size == text.len() {
             self.has_groups(text, counted.counts)

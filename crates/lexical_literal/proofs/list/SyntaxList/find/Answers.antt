@@ -1,24 +1,35 @@
 -- The first form that reads the text, or the error of the one that goes furthest.
-use Rattle.std.proofs.Common.{◌+◌, IsSomeAnd, refl, sym, subst}
+use Rattle.std.proofs.Common.{◌≡◌, ◌+◌, IsSomeAnd, refl, sym, subst}
 use Rattle.std.proofs.lemmas.Bool.{false≢true}
 use Rattle.std.proofs.lemmas.List.Elements.{All-more}
 use Rattle.std.proofs.lemmas.Option.{slice_get-get_or}
 use Rattle.lexical_literal.specs.Takes.{Refuses, Takes}
 use Rattle.lexical_literal.proofs.FormLemmas.{IsBest, all_tried, best_more, furthest_is, goes}
+use Rattle.lexical_literal.proofs.PieceLemmas.{measured_cut, whole_read}
 use Rattle.lexical_literal.proofs.list.SyntaxList.find.Goals as goal
+
+pub literal-requires-clause-cut : goal.literal-requires-clause-cut
+literal-requires-clause-cut c = measured_cut _ c.args.text.now c.begin-counted.result.counts
+    (c.is_whole.ensures.measured c.if-is_whole.true)
+
+pub literal-requires-clause-sums : goal.literal-requires-clause-sums
+literal-requires-clause-sums c = c.begin-counted.ensures.summed (c.is_whole.ensures.complete c.if-is_whole.true)
+
+pub summed-requires : goal.summed-requires
+summed-requires c = measured_cut _ c.args.text.now c.in-Some.counts c.in-Some.ensures.some
 
 pub returns-then-is_whole : goal.returns-then-is_whole
 returns-then-is_whole c =
     let forms = c.self.inside.syntaxes.now in
-    let is = c.is_whole.ensures c.if-is_whole.true in
-    let l = is.takes refl in
+    let read = c.literal.result in
+    let is = whole_read _ c.args.text.now c.begin-counted.result.counts (c.is_whole.ensures.measured c.if-is_whole.true)
+    read c.literal.ensures in
     let here = slice_get-get_or forms c.loop-form.form c.index-self-form.result c.loop-form-test.true in
     rw (← c.self.view_is) (record {
-      found = (
-        l.0,
-        record { takes = subst (λ o. IsSomeAnd o (λ g. Takes g l.0 c.args.text.now)) (sym here) l.1; before = c.loop-form.invariant.none },
-        is.counted l.0 l.1,
-      );
+      found = record {
+        takes = subst (λ o. IsSomeAnd o (λ g. (read.format ≡ g.word) × Takes g read.literal c.args.text.now)) (sym here) is;
+        before = c.loop-form.invariant.none;
+      };
       none = λ err. absurd (false≢true err);
       error = tt;
     })
@@ -26,15 +37,14 @@ returns-then-is_whole c =
 pub returns-in-Some : goal.returns-in-Some
 returns-in-Some c =
     let forms = c.self.inside.syntaxes.now in
-    let is = c.in-Some.ensures.some in
-    let l = is.takes refl in
+    let read = c.summed.result in
+    let is = whole_read _ c.args.text.now c.in-Some.counts c.in-Some.ensures.some read c.summed.ensures in
     let here = slice_get-get_or forms c.loop-form.form c.index-self-form.result c.loop-form-test.true in
     rw (← c.self.view_is) (record {
-      found = (
-        l.0,
-        record { takes = subst (λ o. IsSomeAnd o (λ g. Takes g l.0 c.args.text.now)) (sym here) l.1; before = c.loop-form.invariant.none },
-        is.counted l.0 l.1,
-      );
+      found = record {
+        takes = subst (λ o. IsSomeAnd o (λ g. (read.format ≡ g.word) × Takes g read.literal c.args.text.now)) (sym here) is;
+        before = c.loop-form.invariant.none;
+      };
       none = λ err. absurd (false≢true err);
       error = tt;
     })

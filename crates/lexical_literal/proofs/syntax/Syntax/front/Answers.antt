@@ -6,7 +6,7 @@ use Rattle.lexical_literal.proofs.syntax.Syntax.front.Goals as goal
 
 pub returns-then-stop-at : goal.returns-then-stop-at
 returns-then-stop-at c = fronted _ _ _ _ c.stop-stop.ensures
-    (found_there _ _ c.begin-complete.result c.begin-complete.ensures c.if-complete.true c.stop-stop.result c.stop-stop.ensures c.if-stop-at.true)
+    (found_there _ _ c.begin-complete.result c.begin-complete.ensures.found c.if-complete.true c.stop-stop.result c.stop-stop.ensures c.if-stop-at.true)
 
 pub returns : goal.returns
 returns c = record {
