@@ -106,13 +106,14 @@ fn leading_of(literal: &Literal) -> Leading
         result.digits result.more result.dropped }
     ensures dropped { result.dropped ≤ 2 ^ 65 }
 {
+    let radix = literal.format().mantissa_radix();
     if let Some(mantissa) = literal.mantissa() {
         return Leading {
             digits: mantissa as u128,
             ..Leading::ZERO
         };
     }
-    let (parts, radix) = (literal.cut(), literal.format().mantissa_radix());
+    let parts = literal.cut();
     let integer = push_all(Leading::ZERO, radix, parts.integer);
     push_all(integer, radix, parts.fraction)
 }

@@ -35,7 +35,8 @@ pub fn format_literal<'a>(
     ensures parts { (parts : Parts) × (literal_of parts ≡ literal.now.literal)
         × IsConverted (raw literal.now.format) parts syntax.now style result }
 {
-    let amount = amount_of(literal.format(), &literal.cut(), syntax.format().view())?;
+    let (format, parts) = (literal.format(), literal.cut());
+    let amount = amount_of(format, &parts, syntax.format().view())?;
     amount.lay_out(syntax, style)
 }
 
