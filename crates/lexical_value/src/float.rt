@@ -96,7 +96,12 @@ fn decimal_size<F: Float>(literal: &Literal) -> F
     if let (Some(mantissa), Some(exponent)) = (literal.mantissa(), literal.scale()) {
         return digits_to_float(mantissa, literal.places() as u64, negative, exponent);
     }
-    decimal_to_float(parts.integer, parts.fraction, negative, exponent_of(literal))
+    decimal_to_float(
+        parts.integer,
+        parts.fraction,
+        negative,
+        exponent_of(literal),
+    )
 }
 
 // Returns the leading digits of the number that the integer and fraction digits of a literal represent together.

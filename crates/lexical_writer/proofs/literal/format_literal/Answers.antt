@@ -25,6 +25,9 @@ returns-clause-parts c =
     let g = c.args.syntax.now in
     let parts = c.cut-parts.result in
     let is : amount_of (raw c.args.literal.now.format) parts (raw g.word) ≡ Ok c.in_ok-amount.amount =
-    (λ i. amount_of (raw (sym c.format-format.ensures i)) parts (raw (sym word i))) ∙ sym c.amount_of.ensures ∙ c.in_ok-amount.was in
-    (parts, c.cut-parts.ensures.parts, subst (λ amount. MatchResult amount (λ amount. IsLaidOut g c.args.style amount c.lay_out.result)
-    (λ error. c.lay_out.result ≡ Err error)) (sym is) c.lay_out.ensures.parts)
+    (λ i. amount_of (raw (sym c.format-format.ensures i)) parts (raw (sym word i))) ∙ sym c.amount_of.ensures ∙ c.in_ok-amount.was in (
+      parts,
+      c.cut-parts.ensures.parts,
+      subst (λ amount. MatchResult amount (λ amount. IsLaidOut g c.args.style amount c.lay_out.result)
+          (λ error. c.lay_out.result ≡ Err error)) (sym is) c.lay_out.ensures.parts,
+    )
