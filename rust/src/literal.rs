@@ -57,6 +57,8 @@ mod groups;
 mod language;
 #[allow(clippy::len_zero, reason = "as it is proved")]
 mod list;
+#[allow(clippy::module_inception, reason = "as it is proved")]
+mod literal;
 mod number;
 mod plain;
 #[allow(clippy::needless_lifetimes, dead_code, reason = "as it is proved")]
@@ -82,7 +84,8 @@ mod writer;
 pub use cause::{Place, ReadError, ReadErrorKind};
 pub use language::{Form, Language};
 pub use list::FormError;
-pub use number::{Digits, Literal};
+pub use literal::Literal;
+pub use number::Digits;
 pub use readers::{Number, Readers};
 pub use specials::{Sign, Special, Specials, Spelling};
 pub use syntax::{Condition, Conditions, ConditionsError, ConditionsErrorKind, Syntax};

@@ -95,7 +95,7 @@ REPLACED = [
 ]
 
 # Files in which each function is const in plain Rust. Rattle's `split_at` is not, nor is what calls it.
-CONST = ("read.rt", "list.rt", "span.rt")
+CONST = ("lexical_literal/src/read.rt", "list.rt", "span.rt", "lexical_literal/src/literal.rt")
 
 # Texts that plain Rust replaces in every file, wherever they occur.
 EVERYWHERE = [
@@ -135,6 +135,21 @@ REPLACED += [
     ("big.rt", "#[derive(Drop)]\n", ""),
     ("long.rt", "#[derive(Drop)]\n", ""),
     ("list.rt", "#[derive(Drop)]", "#[derive(Debug, Clone, Copy, PartialEq, Eq)]"),
+    # Its other calls are written by hand. Their results depend on what is compared.
+    ("lexical_literal/src/literal.rt", "#[derive(Drop)]", "#[derive(Clone, Copy, PartialEq, Eq, Hash)]"),
+    ("lexical_literal/src/literal.rt", "    text: &'a [u8],\n    counts", "    pub(crate) text: &'a [u8],\n    pub(crate) counts"),
+    ("lexical_literal/src/literal.rt", "    view: NumberFormat,", "    pub(crate) view: NumberFormat,"),
+    ("lexical_literal/src/literal.rt", "pub const fn format(&self)", "pub(crate) const fn format(&self)"),
+    ("lexical_literal/src/literal.rt", "pub const fn cut(&self)", "pub(crate) const fn cut(&self)"),
+    ("lexical_literal/src/literal.rt", "pub const fn mantissa(&self)", "pub(crate) const fn mantissa(&self)"),
+    ("lexical_literal/src/literal.rt", "pub const fn places(&self)", "pub(crate) const fn places(&self)"),
+    ("lexical_literal/src/literal.rt", "pub const fn scale(&self)", "pub(crate) const fn scale(&self)"),
+    # Calls for constants.
+    ("lexical_value/src/integer.rt", "pub(crate) fn integer_numeral", "pub(crate) const fn integer_numeral"),
+    ("lexical_value/src/integer.rt", "\nfn magnitude", "\nconst fn magnitude"),
+    ("lexical_value/src/float.rt", "pub(crate) fn binary_size", "pub(crate) const fn binary_size"),
+    ("lexical_value/src/float.rt", "\nfn leading_of", "\nconst fn leading_of"),
+    ("lexical_value/src/float.rt", "\nfn exponent_of", "\nconst fn exponent_of"),
     ("sink.rt", "#[derive(Drop)]", "#[derive(Debug)]"),
     # `Debug` prints the answers.
     ("cause.rt", "#[derive(Debug, Clone, Copy, PartialEq, Eq, Hash)]\npub struct ReadError {", "#[derive(Clone, Copy, PartialEq, Eq, Hash)]\npub struct ReadError {"),
@@ -263,7 +278,7 @@ class Source:
 def replaced(path):
     """Returns a source after the replacements. Each keeps the number of lines, so lines keep their numbers."""
     text = path.read_text()
-    text = re.sub(r"(?<!const )\bfn (?=\w+[<(])", "const fn ", text) if path.name in CONST else text
+    text = re.sub(r"(?<!const )\bfn (?=\w+[<(])", "const fn ", text) if any(path.match(it) for it in CONST) else text
     for file, old, new in REPLACED:
         if path.match(file):
             if text.count(old) != 1:

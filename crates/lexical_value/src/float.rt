@@ -104,25 +104,6 @@ fn decimal_size<F: Float>(literal: &Literal) -> F
     )
 }
 
-// Returns the leading digits of the number that the integer and fraction digits of a literal represent together.
-#[inline(always)]
-fn leading_of(literal: &Literal) -> Leading
-    ensures value { Leads ((raw literal.now.format).byte layout.mantissa_radix) (mantissa (raw literal.now.format) literal.now.literal)
-        result.digits result.more result.dropped }
-    ensures dropped { result.dropped ≤ 2 ^ 65 }
-{
-    let radix = literal.format().mantissa_radix();
-    if let Some(mantissa) = literal.mantissa() {
-        return Leading {
-            digits: mantissa as u128,
-            ..Leading::ZERO
-        };
-    }
-    let parts = literal.cut();
-    let integer = push_all(Leading::ZERO, radix, parts.integer);
-    push_all(integer, radix, parts.fraction)
-}
-
 // Returns the bits of the float nearest to a literal, without its sign, or `None` if a radix is not a power of two.
 pub(crate) fn binary_size(double: bool, literal: &Literal) -> Option<u64>
     ensures some { IsTrue (is_binary (raw literal.now.format)) ↔ IsSome result }
@@ -130,21 +111,46 @@ pub(crate) fn binary_size(double: bool, literal: &Literal) -> Option<u64>
         (denominator (raw literal.now.format) literal.now.literal) bits) }
 {
     let format = literal.format();
-    let Some(radix_bits) = bits_of(format.mantissa_radix()) else {
+    let radix = format.mantissa_radix();
+    let Some(radix_bits) = bits_of(radix) else {
         return None;
     };
     let Some(base_bits) = bits_of(format.exponent_base()) else {
         return None;
     };
+    let leading = leading_of(literal, radix);
     let places = literal.places() as u64;
     let negative = is_minus(literal.cut().exponent_sign);
+    let exponent = exponent_of(literal);
     Some(raised_bits(
-        double,
-        leading_of(literal),
-        radix_bits,
-        places,
-        negative,
-        exponent_of(literal),
-        base_bits,
+        double, leading, radix_bits, places, negative, exponent, base_bits,
     ))
+}
+
+// Returns all digits of a number as its leading digits.
+const fn whole(size: u64) -> Leading
+    ensures leads { (radix : ℕ) → 1 ≤ radix → Leads radix size result.digits result.more result.dropped }
+    ensures dropped { result.dropped ≡ 0 }
+{
+    Leading {
+        digits: size as u128,
+        ..Leading::ZERO
+    }
+}
+
+// Returns the leading digits of the mantissa, all of them if it is known.
+fn leading_of(literal: &Literal, radix: u32) -> Leading
+    requires some { 1 ≤ radix }
+    requires radix { radix ≡ (raw literal.now.format).byte layout.mantissa_radix }
+    ensures leads { Leads radix (mantissa (raw literal.now.format) literal.now.literal) result.digits result.more result.dropped }
+    ensures dropped { result.dropped ≤ 2 ^ 65 }
+{
+    match literal.mantissa() {
+        Some(size) => whole(size),
+        None => {
+            let parts = literal.cut();
+            let integer = push_all(Leading::ZERO, radix, parts.integer);
+            push_all(integer, radix, parts.fraction)
+        }
+    }
 }

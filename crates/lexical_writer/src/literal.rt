@@ -5,9 +5,8 @@ ghost use Rattle.lexical_util.specs.Record.{raw};
 ghost use Rattle.lexical_literal.specs.Literal.{text_of};
 ghost use Rattle.lexical_literal.specs.Takes.{Takes};
 ghost use Rattle.lexical_literal.specs.Parts.{literal_of};
-ghost use Rattle.lexical_literal.specs.declared.read.Parts.{Parts};
 ghost use Rattle.lexical_value.specs.Value.{is_minus};
-ghost use Rattle.lexical_writer.specs.Conversion.{IsConverted, SameFraction, amount_of, fraction_of, has_power, power_of, source_of};
+ghost use Rattle.lexical_writer.specs.Conversion.{IsConverted, IsWritten, SameFraction, amount_of, fraction_of, has_power, power_of, source_of};
 ghost use Rattle.lexical_writer.specs.Layout.{literal_of as written};
 
 use crate::layout::{Amount, Layout, Power, Style, WriteError};
@@ -32,11 +31,24 @@ pub fn format_literal<'a>(
     ensures literal { IfOk result (λ layout. Takes syntax.now (written layout) (text_of (written layout))) }
     ensures value { IfOk result (λ layout.
         SameFraction (raw literal.now.format) literal.now.literal (raw syntax.now.word) (written layout)) }
-    ensures parts { (parts : Parts) × (literal_of parts ≡ literal.now.literal)
-        × IsConverted (raw literal.now.format) parts syntax.now style result }
+    ensures parts { IsWritten literal.now syntax.now style result }
 {
-    let (format, parts) = (literal.format(), literal.cut());
-    let amount = amount_of(format, &parts, syntax.format().view())?;
+    convert(literal.format(), &literal.cut(), syntax, style)
+}
+
+// Returns how a literal of `format` with these parts is written as a literal of `syntax`, or why it cannot be.
+fn convert<'a>(
+    format: NumberFormat,
+    parts: &Parts<'a>,
+    syntax: &Syntax,
+    style: Style,
+) -> Result<Layout<'a>, WriteError>
+    ensures literal { IfOk result (λ layout. Takes syntax.now (written layout) (text_of (written layout))) }
+    ensures value { IfOk result (λ layout.
+        SameFraction (raw format) (literal_of parts.now) (raw syntax.now.word) (written layout)) }
+    ensures parts { IsConverted (raw format) parts.now syntax.now style result }
+{
+    let amount = amount_of(format, parts, syntax.format().view())?;
     amount.lay_out(syntax, style)
 }
 

@@ -110,12 +110,12 @@ pub struct Stop {
 pub type ReadError = Made<Stop, Refusal<literal::ReadError>, 12>;
 
 /// A literal, with its parts. It borrows its text.
-pub type Literal<'a> = Made<Parts, literal::Literal<'a>, 14>;
+pub type Literal<'a> = Made<Parts, literal::Literal<'a>, 18>;
 
 // The sizes and the alignment in the header.
 const _: () = assert!(size_of::<Syntax>() == 32);
 const _: () = assert!(size_of::<ReadError>() == 128 && align_of::<ReadError>() <= 16);
-const _: () = assert!(size_of::<Literal>() == 288 && align_of::<Literal>() <= 16);
+const _: () = assert!(size_of::<Literal>() == 320 && align_of::<Literal>() <= 16);
 
 /// Why a call refuses what it checks: a sentence on its arguments, or the error of the library.
 pub enum Refusal<E> {

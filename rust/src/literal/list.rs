@@ -3,6 +3,7 @@
 //! Lists of syntaxes: the numbers of a language that has several forms, such as `10`, `0x1F` and `0b1`.
 
 use crate::literal::cause::ReadError;
+use crate::literal::literal::Literal;
 use crate::literal::plain::{At, BEGIN};
 use crate::literal::read::Found;
 use crate::literal::syntax::Syntax;
@@ -41,20 +42,19 @@ impl<'a> SyntaxList<'a> {
         self.syntaxes
     }
 
-    // Returns the index of the first form that takes `text`, and the lengths of its parts, or why no form takes it.
-    pub(crate) const fn find(&self, text: &[u8]) -> Result<(usize, [usize; 9]), FormError> {
+    // Returns the index of the first form that takes `text`, and the literal, or why no form takes it.
+    pub(crate) const fn find<'t>(&self, text: &'t [u8]) -> Result<(usize, Literal<'t>), FormError> {
         let mut furthest = None;
         let mut form = 0;
         while form < self.syntaxes.len() {
             let syntax = &self.syntaxes[form];
             let counted = syntax.begin(text, false);
             if syntax.is_whole(text, counted) {
-                let counts = counted.counts;
-                return Ok((form, counts));
+                return Ok((form, syntax.literal(text, counted.counts, counted.sums)));
             }
             let stop = syntax.reach(text, counted);
             match syntax.lengths(text, stop) {
-                Some(counts) => return Ok((form, counts)),
+                Some(counts) => return Ok((form, syntax.summed(text, counts))),
                 None => furthest = further(furthest, form, stop),
             }
             form += 1;

@@ -6,9 +6,8 @@ use core::{iter::FusedIterator, slice};
 use crate::digit::char_to_valid_digit_const;
 use crate::format_flags::Part;
 use crate::literal::plain::At;
-use crate::literal::read::{cut, Found, Parts};
-use crate::literal::{ReadError, Syntax};
-use crate::view::FormatView;
+use crate::literal::read::Found;
+use crate::literal::{Literal, ReadError, Syntax};
 
 impl Syntax {
     /// Returns the exponent character, or `None` if literals are integers.
@@ -40,9 +39,15 @@ impl Syntax {
 
     /// Returns what [`read`][Self::read] returns, also in a constant.
     pub const fn read_bytes<'t>(&self, text: &'t [u8]) -> Result<Literal<'t>, ReadError> {
+        self.read_here(text)
+    }
+
+    /// Returns what [`read`][Self::read] returns, to a caller that needs a part of it.
+    #[inline(always)]
+    pub(super) const fn read_here<'t>(&self, text: &'t [u8]) -> Result<Literal<'t>, ReadError> {
         let counted = self.begin(text, false);
         if self.is_whole(text, counted) {
-            Ok(self.literal(text, counted.counts))
+            Ok(self.literal(text, counted.counts, counted.sums))
         } else if counted.exact {
             self.refuse(text, counted.at)
         } else {
@@ -55,7 +60,7 @@ impl Syntax {
     const fn read_slowly<'t>(&self, text: &'t [u8], at: At) -> Result<Literal<'t>, ReadError> {
         let stop = self.stop(text, at);
         match self.lengths(text, stop) {
-            Some(counts) => Ok(self.literal(text, counts)),
+            Some(counts) => Ok(self.summed(text, counts)),
             None => self.refuse(text, stop),
         }
     }
@@ -96,21 +101,14 @@ impl Syntax {
                 Ok(()) => {
                     let Found { size, counts } = found;
                     let (text, rest) = text.split_at(size);
-                    Ok((self.literal(text, counts), rest))
+                    Ok((self.summed(text, counts), rest))
                 }
                 Err(error) => Err(error),
             },
         }
     }
-
-    /// Returns the literal `text`, whose parts have these lengths.
-    pub(super) const fn literal<'t>(&self, text: &'t [u8], counts: [usize; 9]) -> Literal<'t> {
-        Literal { text, counts, view: self.format().view() }
-    }
 }
 
-/// A text that was read as a literal: its parts, and the values of its digits.
-///
 /// A part that is absent has no bytes. All bytes are ASCII. Two literals are equal if they have the same format, up to
 /// its [normal form][crate::Format::normal_form], and the same parts.
 ///
@@ -131,21 +129,7 @@ impl Syntax {
 /// assert_eq!(f64::try_from(literal)?, 1234.5);
 /// # Ok::<(), ParseError>(())
 /// ```
-#[derive(Clone, Copy, PartialEq, Eq, Hash)]
-pub struct Literal<'a> {
-    pub(super) text: &'a [u8],
-    /// The lengths of the parts, by which [`cut`] finds a part when it is asked for.
-    pub(super) counts: [usize; 9],
-    /// The format, in normal form.
-    pub(super) view: FormatView,
-}
-
 impl<'a> Literal<'a> {
-    #[inline]
-    pub(super) const fn cut(&self) -> Parts<'a> {
-        cut(self.text, self.counts)
-    }
-
     /// Returns the lengths of the nine parts, in the order of the text.
     #[doc(hidden)]
     #[must_use]

@@ -2,10 +2,10 @@
 
 //! The value of a literal as a value of an integer type.
 
+use crate::literal::literal::Literal;
 use crate::literal::read::Parts;
 use crate::number::integer::Integer;
-use crate::number::numeral::Numeral;
-use crate::word::FormatView;
+use crate::number::numeral::{Magnitude, Numeral};
 
 /// Why a number has no value in a type.
 #[derive(Debug, Clone, Copy, PartialEq, Eq, Hash)]
@@ -35,13 +35,13 @@ impl ValueErrorKind {
     }
 }
 
-/// Returns the value of a literal of `format` as a value of an integer type. The value of `-0` is 0.
+/// Returns the value of a literal as a value of an integer type. The value of `-0` is 0.
 ///
 /// # Errors
 ///
 /// If the literal has a decimal point or an exponent, or if its value is not in the range of the type, returns which.
-pub fn to_integer<T: Integer>(format: FormatView, parts: &Parts) -> Result<T, ValueErrorKind> {
-    let Some(numeral) = integer_digits(format, parts) else {
+pub fn to_integer<T: Integer>(literal: &Literal) -> Result<T, ValueErrorKind> {
+    let Some(numeral) = integer_numeral(literal) else {
         return Err(ValueErrorKind::Float);
     };
     match T::from_numeral(&numeral) {
@@ -50,18 +50,29 @@ pub fn to_integer<T: Integer>(format: FormatView, parts: &Parts) -> Result<T, Va
     }
 }
 
-// Returns the sign and the digits of a literal, or `None` if it has a decimal point or an exponent.
+// Returns the sign and the number of a literal, or `None` if it has a decimal point or an exponent.
 #[inline(always)]
-pub(crate) const fn integer_digits<'a>(format: FormatView, parts: &Parts<'a>) -> Option<Numeral<'a>> {
-    if !matches!(parts.point, []) || !matches!(parts.exponent_character, []) {
+pub(crate) const fn integer_numeral<'a>(literal: &Literal<'a>) -> Option<Numeral<'a>> {
+    let parts = literal.cut();
+    if is_float(&parts) {
         return None;
     }
-    Some(Numeral {
-        negative: is_minus(parts.sign),
-        bytes: parts.integer,
-        radix: format.mantissa_radix(),
-        separated: true,
-    })
+    Some(Numeral { negative: is_minus(parts.sign), magnitude: magnitude(literal, parts.integer) })
+}
+
+// Returns whether there is a decimal point or an exponent.
+#[inline(always)]
+const fn is_float(parts: &Parts) -> bool {
+    !matches!(parts.point, []) || !matches!(parts.exponent_character, [])
+}
+
+// Returns the number that the digits of the integer represent or, if they are many, these digits.
+#[inline(always)]
+const fn magnitude<'a>(literal: &Literal<'a>, integer: &'a [u8]) -> Magnitude<'a> {
+    match literal.mantissa() {
+        Some(size) => Magnitude::Word(size),
+        None => Magnitude::Digits(integer, literal.format().mantissa_radix()),
+    }
 }
 
 // Returns whether a sign is a minus sign.

@@ -1,31 +1,26 @@
 -- The leading digits and the exponent make the value.
-use Rattle.std.proofs.Common.{◌≡◌, ◌^◌, ap, ◌∙◌, sym, refl}
+use Rattle.std.proofs.Common.{◌^◌, ap, ◌∙◌, sym, refl}
 use Rattle.core.specs.Dec2flt.Rounding.{IsNearestBits}
 use Rattle.lexical_util.specs.Layout as layout
 use Rattle.lexical_util.specs.Record.{effective_exponent_base, raw}
 use Rattle.lexical_literal.specs.Literal.{Literal}
 use Rattle.lexical_literal.specs.Read.{exponent, mantissa}
 use Rattle.lexical_number.specs.Binary.{format_of}
-use Rattle.lexical_number.specs.Leading.{Leads}
 use Rattle.lexical_value.specs.Value.{is_minus}
 use Rattle.lexical_value.proofs.FloatLemmas.{by_bits, of_value}
 use Rattle.lexical_value.proofs.float.binary_size.Goals as goal
 
 pub raised_bits-requires-clause-leading : goal.raised_bits-requires-clause-leading
-raised_bits-requires-clause-leading c =
-    let radix = sym (c.mantissa_radix.ensures.value ∙ ap (λ w. (raw w).byte layout.mantissa_radix) c.format-format.ensures) ∙ c.in-Some.ensures.some.0 in
-    (_, by_bits _ _ _ _ _ _ radix c.leading_of.ensures.value)
+raised_bits-requires-clause-leading c = (_, by_bits _ _ _ _ _ _ c.in-Some.ensures.some.0 c.leading_of-leading.ensures.leads)
 
 pub returns-clause-value : goal.returns-clause-value
 returns-clause-value c =
     let r = raw c.args.literal.now.format in
     let l = c.args.literal.now.literal in
-    let radix : r.byte layout.mantissa_radix ≡ 2 ^ c.in-Some.radix_bits =
-    sym (c.mantissa_radix.ensures.value ∙ ap (λ w. (raw w).byte layout.mantissa_radix) c.format-format.ensures) ∙ c.in-Some.ensures.some.0 in
     of_value (λ num den. IsNearestBits (format_of c.args.double) num den c.raised_bits.result) r l (mantissa r l) _ _ (exponent r l) _ _ refl
-    (sym radix)
+    (sym c.in-Some.ensures.some.0 ∙ c.mantissa_radix-radix.ensures.value ∙ ap (λ w. (raw w).byte layout.mantissa_radix) c.format-format.ensures)
     (sym c.in-Some-bits_of.ensures.some.0 ∙ c.exponent_base.ensures.value ∙ ap (λ w. effective_exponent_base (raw w)) c.format-format.ensures)
     refl c.places-places.ensures
     (c.is_minus-negative.ensures ∙ ap (λ (l : Literal). is_minus l.exponent_sign) c.cut.ensures.parts)
-    (c.raised_bits.ensures (mantissa r l) (exponent r l) (by_bits _ _ _ _ _ _ radix c.leading_of.ensures.value)
-    c.exponent_of.ensures)
+    (c.raised_bits.ensures (mantissa r l) (exponent r l) (by_bits _ _ _ _ _ _ c.in-Some.ensures.some.0 c.leading_of-leading.ensures.leads)
+    c.exponent_of-exponent.ensures)
