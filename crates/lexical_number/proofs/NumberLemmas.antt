@@ -1,6 +1,6 @@
 -- The number that digits represent when they follow those of another number.
 use Rattle.std.proofs.Common.{◌≡◌, ℕ, suc, ◌+◌, ◌*◌, ◌%◌, ◌^◌, ◌<◌, ◌≤◌, List, ◌∷◌, length, drop, get_or, nat_lt}
-use Rattle.std.proofs.Common.{Bool, true, false, cond, refl}
+use Rattle.std.proofs.Common.{Bool, true, false, cond, refl, ◌==◌, ◌||◌, not}
 use Rattle.std.proofs.lemmas.Bool.Decides.{nat_tests}
 use Rattle.std.proofs.Common.{Option, Some, None, IsSome, sym, ap, subst, ◌∙◌, arith, drop-cons, [], ◌++◌}
 use Rattle.std.proofs.lemmas.List.Elements.{filter_map-append}
@@ -10,8 +10,10 @@ use Rattle.std.specs.List.{AllByRecursion, cons_option}
 use Rattle.std.proofs.Math.Nat.{mul-le-mul_left, mul-le-mul_right, pow-le-pow_right, pow-suc}
 use lib.ListN.{length-append}
 use Rattle.lexical_base.specs.Digits.{byte_value, digit_of}
-use Rattle.lexical_number.specs.Leading.{number_after}
-use Rattle.lexical_number.specs.Number.{digits_in}
+use lib.Pow.{pow-add}
+use Rattle.lexical_number.specs.Leading.{IsCutTo, number_after}
+use Rattle.lexical_number.specs.Number.{digits_in, number, places}
+use Rattle.lexical_number.proofs.LeadingLemmas.{cut_by}
 
 -- `AreDigits radix bytes` holds if each of `bytes` is a digit.
 abbrev pub AreDigits : ℕ → List ℕ → Type 0
@@ -87,3 +89,33 @@ zeros_skipped i bytes inside zero = at 10 0 i bytes inside (Some 0) (ap (λ byte
 pub same_before : (xs zs ys : List ℕ) → number_after 10 0 zs ≡ number_after 10 0 xs → number_after 10 0 (xs ++ ys) ≡ number_after 10 0 (zs ++ ys)
 same_before xs zs ys same =
     number_after-append 10 0 xs ys ∙ ap (λ n. number_after 10 n ys) (sym same) ∙ sym (number_after-append 10 0 zs ys)
+
+-- Digits behind others, as a sum.
+after_is : (n : ℕ) (ds : List ℕ) → number_from_digits_after 10 n ds ≡ n * 10 ^ length ds + number_from_digits_after 10 0 ds
+after_is n [] = omega arith
+after_is n (d ∷ ds) =
+    omega (arith, after_is (n * 10 + d) ds, after_is (0 * 10 + d) ds, ap (λ x. n * x) (pow-suc 10 (length ds)))
+
+below_places : (n : ℕ) (bytes : List ℕ) → number_after 10 n bytes < (n + 1) * 10 ^ places 10 bytes
+below_places n [] = omega arith
+below_places n (byte ∷ bytes) = go (λ m. below_places m bytes) (nat_lt (byte_value byte) 10) refl
+  where
+    go : ((m : ℕ) → number_after 10 m bytes < (m + 1) * 10 ^ places 10 bytes) → (test : Bool) → nat_lt (byte_value byte) 10 ≡ test
+        → number_from_digits_after 10 n (cons_option (cond test (Some (byte_value byte)) None) (digits_in 10 bytes))
+        < (n + 1) * 10 ^ length (cons_option (cond test (Some (byte_value byte)) None) (digits_in 10 bytes))
+    go rest true is =
+        let digit : byte_value byte < 10 = grind (arith, nat_tests) in
+        let least : (n * 10 + byte_value byte + 1) * 10 ^ places 10 bytes ≤ (n + 1) * 10 * 10 ^ places 10 bytes =
+        (let small : n * 10 + byte_value byte + 1 ≤ (n + 1) * 10 = omega arith in mul-le-mul_right (10 ^ places 10 bytes) small) in
+        omega (arith, rest (n * 10 + byte_value byte), least, ap (λ x. (n + 1) * x) (pow-suc 10 (places 10 bytes)))
+    go rest false is = rest n
+
+-- The digits of a text are dropped.
+pub rest_dropped : {n digits : ℕ} {more : Bool} (k : ℕ) (bytes : List ℕ) → IsCutTo n digits more (10 ^ k)
+    → IsCutTo (number_after 10 n bytes) digits (more || not (number 10 bytes == 0)) (10 ^ (k + places 10 bytes))
+rest_dropped {n = n} {digits = digits} {more = more} k bytes cut =
+    let whole = after_is n (digits_in 10 bytes) in
+    let less : number 10 bytes < 10 ^ places 10 bytes = omega (arith, below_places 0 bytes) in
+    subst (λ m. IsCutTo m digits (more || not (number 10 bytes == 0)) (10 ^ (k + places 10 bytes))) (sym whole)
+    (subst (IsCutTo (n * 10 ^ places 10 bytes + number 10 bytes) digits (more || not (number 10 bytes == 0))) (sym (pow-add 10 k (places 10 bytes)))
+    (cut_by (10 ^ places 10 bytes) (number 10 bytes) less cut))

@@ -3,4 +3,4 @@ pub mod Numeral
 pub mod Word
 pub mod Binary
 pub mod Leading
-pub mod Decimal
+pub mod Nearest

@@ -104,30 +104,30 @@ pub(crate) const fn nearest_to_word(
     up: u128,
     down: u128,
 ) -> u64
-    requires top { 2 ^ 62 ≤ word }
+    requires top { 2 ^ 55 ≤ word }
     requires scale { (up < 2 ^ 125) × (down < 2 ^ 125) }
     ensures { (num den : ℕ) → 0 < den → IsCutTo (num * 2 ^ down) word more (den * 2 ^ up) → IsNearestBits (format_of double) num den result }
 {
-    let least = 63 + (word >> 63) - precision(double);
+    let least = 64 - word.leading_zeros() as u64 - precision(double);
     let (dropped, exponent) = dropped(least, up + lowest(double) as u128, down);
     settle(double, word, more, dropped, exponent)
 }
 
-// Returns the leading 63 bits of a number, whether some of the others are not 0, and by how many bits the number was
-// shifted before 65 were dropped.
+// Returns the leading 56 bits of a number, whether some of the others are not 0, and by how many bits the number was
+// shifted before 72 were dropped.
 #[inline(always)]
 const fn leading_word(digits: u128, more: bool) -> (u64, bool, u64)
     requires digits { 0 < digits }
-    requires more { more ≡ true → 2 ^ 62 ≤ digits }
-    ensures top { 2 ^ 62 ≤ result.0 }
-    ensures value { (n unit : ℕ) → 0 < unit → IsCutTo n digits more unit → IsCutTo (n * 2 ^ result.2) result.0 result.1 (unit * 2 ^ 65) }
+    requires more { more ≡ true → 2 ^ 55 ≤ digits }
+    ensures top { 2 ^ 55 ≤ result.0 }
+    ensures value { (n unit : ℕ) → 0 < unit → IsCutTo n digits more unit → IsCutTo (n * 2 ^ result.2) result.0 result.1 (unit * 2 ^ 72) }
     ensures range { result.2 < 128 }
 {
     let zeros = digits.leading_zeros() as u64;
     let lifted = digits << zeros;
     (
-        (lifted >> 65) as u64,
-        more | (lifted % (1 << 65) != 0),
+        (lifted >> 72) as u64,
+        more | (lifted % (1 << 72) != 0),
         zeros,
     )
 }
@@ -136,7 +136,7 @@ const fn leading_word(digits: u128, more: bool) -> (u64, bool, u64)
 /// true, and below the same with `digits + 1`.
 #[must_use]
 pub const fn nearest_bits(double: bool, digits: u128, more: bool, up: u128, down: u128) -> u64
-    requires more { more ≡ true → 2 ^ 62 ≤ digits }
+    requires more { more ≡ true → 2 ^ 55 ≤ digits }
     requires scale { (up < 2 ^ 120) × (down < 2 ^ 120) }
     ensures { (num den : ℕ) → 0 < den → IsCutTo (num * 2 ^ down) digits more (den * 2 ^ up) → IsNearestBits (format_of double) num den result }
 {
@@ -144,5 +144,5 @@ pub const fn nearest_bits(double: bool, digits: u128, more: bool, up: u128, down
         return 0;
     }
     let (word, more, zeros) = leading_word(digits, more);
-    nearest_to_word(double, word, more, up + 65, down + zeros as u128)
+    nearest_to_word(double, word, more, up + 72, down + zeros as u128)
 }

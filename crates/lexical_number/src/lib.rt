@@ -3,12 +3,13 @@
 //! This crate knows digits and bytes, and nothing of formats and literals. No function allocates memory.
 #![tactic(auto)]
 
+mod big;
 pub mod binary;
 pub mod decimal;
 pub mod float;
 pub mod integer;
-pub mod laws;
 pub mod leading;
+mod long;
 pub mod nearest;
 pub mod numeral;
 pub mod parts;

@@ -8,7 +8,7 @@ ghost use Rattle.lexical_number.specs.Number.{number, places};
 
 use crate::binary::{infinity, nearest_bits};
 use crate::leading::Leading;
-use lexical_base::digit::char_is_digit;
+use lexical_base::digit::char_is_digit_const;
 
 /// Returns the number of digits of `radix` among `bytes`.
 #[must_use]
@@ -19,7 +19,7 @@ pub const fn count(bytes: &[u8], radix: u32) -> usize
     let mut count = 0;
     let mut index = 0;
     while index < bytes.len() {
-        if char_is_digit(bytes[index], radix) {
+        if char_is_digit_const(bytes[index], radix) {
             count += 1;
         }
         index += 1;

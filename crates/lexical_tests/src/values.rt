@@ -101,6 +101,13 @@ fn floats_are_rounded_once(rt: HostRuntime) {
     assert!(rt; bits(DECIMAL, "9007199254740993") == Some((0x4340_0000_0000_0000, 0x5A00_0000)));
     let above = "9007199254740993.00001";
     assert!(rt; bits(DECIMAL, above) == Some((0x4340_0000_0000_0001, 0x5A00_0000)));
+    // Ties of more than 19 digits, and numbers beside them.
+    let tie = "11417981541647680316116887983825362587765178368";
+    assert!(rt; bits(DECIMAL, tie) == Some((0x4980_0000_0000_0000, 0x7F80_0000)));
+    let tie = "8796093022208.0029296875";
+    assert!(rt; bits(DECIMAL, tie) == Some((0x42A0_0000_0000_0002, 0x5500_0000)));
+    let below = "8796093022208.00292968749999999999";
+    assert!(rt; bits(DECIMAL, below) == Some((0x42A0_0000_0000_0001, 0x5500_0000)));
     // A tie in hexadecimal is even, unless a digit follows.
     let tie = "20_0000_0000_0001";
     assert!(rt; bits(HEXADECIMAL, tie) == Some((0x4340_0000_0000_0000, 0x5A00_0000)));
@@ -117,6 +124,18 @@ fn floats_are_rounded_once(rt: HostRuntime) {
     assert!(rt; bits(BASE_4, "-1.8^3") == Some((0xC058_0000_0000_0000, 0xC2C0_0000)));
     // The literal has no float in this radix.
     assert!(rt; integer::<u8>(TERNARY, "12").is_some() && bits(TERNARY, "12").is_none());
+}
+
+#[test]
+fn the_last_of_1000_digits_breaks_a_tie(rt: HostRuntime) -> Result<(), Fail> {
+    let mut text = [b'0'; 1000];
+    text[..17].copy_from_slice(b"9007199254740993.");
+    let tie = std::str::from_utf8(&text).ok().ok_or("a text")?;
+    assert!(rt; bits(DECIMAL, tie) == Some((0x4340_0000_0000_0000, 0x5A00_0000)));
+    text[999] = b'1';
+    let above = std::str::from_utf8(&text).ok().ok_or("a text")?;
+    assert!(rt; bits(DECIMAL, above) == Some((0x4340_0000_0000_0001, 0x5A00_0000)));
+    Ok(())
 }
 
 const PLAIN: Style = Style {

@@ -87,18 +87,18 @@ const fn dropped(least: u64, above: u128, below: u128) -> (u128, u128) {
 // true, and below the same with `word + 1`.
 #[inline(always)]
 pub(crate) const fn nearest_to_word(double: bool, word: u64, more: bool, up: u128, down: u128) -> u64 {
-    let least = 63 + (word >> 63) - precision(double);
+    let least = 64 - word.leading_zeros() as u64 - precision(double);
     let (dropped, exponent) = dropped(least, up + lowest(double) as u128, down);
     settle(double, word, more, dropped, exponent)
 }
 
-// Returns the leading 63 bits of a number, whether some of the others are not 0, and by how many bits the number was
-// shifted before 65 were dropped.
+// Returns the leading 56 bits of a number, whether some of the others are not 0, and by how many bits the number was
+// shifted before 72 were dropped.
 #[inline(always)]
 const fn leading_word(digits: u128, more: bool) -> (u64, bool, u64) {
     let zeros = digits.leading_zeros() as u64;
     let lifted = digits << zeros;
-    ((lifted >> 65) as u64, more | (lifted % (1 << 65) != 0), zeros)
+    ((lifted >> 72) as u64, more | (lifted % (1 << 72) != 0), zeros)
 }
 
 /// Returns the bits of the float nearest to `digits * 2 ^ up / 2 ^ down`, or to a number that is above this, if `more` is
@@ -109,5 +109,5 @@ pub const fn nearest_bits(double: bool, digits: u128, more: bool, up: u128, down
         return 0;
     }
     let (word, more, zeros) = leading_word(digits, more);
-    nearest_to_word(double, word, more, up + 65, down + zeros as u128)
+    nearest_to_word(double, word, more, up + 72, down + zeros as u128)
 }

@@ -2,7 +2,7 @@
 
 //! The float nearest to digits with an exponent, if both are in radixes that are powers of two.
 
-use crate::digit::char_is_digit;
+use crate::digit::char_is_digit_const;
 use crate::number::binary::{infinity, nearest_bits};
 use crate::number::leading::Leading;
 
@@ -12,7 +12,7 @@ pub const fn count(bytes: &[u8], radix: u32) -> usize {
     let mut count = 0;
     let mut index = 0;
     while index < bytes.len() {
-        if char_is_digit(bytes[index], radix) {
+        if char_is_digit_const(bytes[index], radix) {
             count += 1;
         }
         index += 1;

@@ -1,26 +1,37 @@
--- The word has enough bits for a significand, and at least 10 more.
-use Rattle.core.specs.Prelude.{◌≡◌, ℕ, ◌+◌, ◌/◌, ◌^◌, ◌<◌, ◌≤◌}
-use mathlib.Core.Path.{subst, sym}
-use mathlib.Core.Logic.{inl, inr}
+-- The word has enough bits for a significand, and at least 3 more.
+use Rattle.core.specs.Prelude.{◌≡◌, ℕ, suc, ◌+◌, ◌^◌, ◌<◌, ◌≤◌}
+use mathlib.Core.Path.{ap}
 use native.Mathlib.Omega.{arith}
-use native.Mathlib.Nat.{eq-zero-or-pos}
+use native.Mathlib.Nat.{lt_of_not-le}
+use lib.Count.{count_leading_zeros, leading_top}
+use lib.Pow.{pow_mono}
 use Rattle.lexical_number.specs.Binary.{format_of}
 use Rattle.lexical_number.proofs.BinaryLemmas.{significand_at, cut_at}
 use Rattle.lexical_number.proofs.binary.nearest_to_word.Goals as goal
 
-length_of : (word : ℕ) → 2 ^ 62 ≤ word → word < 2 ^ 64 → (2 ^ (62 + word / 2 ^ 63) ≤ word) × (word < 2 ^ (62 + word / 2 ^ 63 + 1))
-length_of word from below = elim (eq-zero-or-pos (word / 2 ^ 63)) [
-  | inl z ↦ subst (λ k. (2 ^ (62 + k) ≤ word) × (word < 2 ^ (62 + k + 1))) (sym z) (from, omega arith)
-  | inr p ↦ (let one : 1 ≡ word / 2 ^ 63 = omega arith in subst (λ k. (2 ^ (62 + k) ≤ word) × (word < 2 ^ (62 + k + 1))) one (omega arith, below))
-]
+-- The highest bit, and the zeros above it.
+top : (word : ℕ) → 2 ^ 55 ≤ word → word < 2 ^ 64
+    → (j : ℕ) × (j + 1 + count_leading_zeros 64 word ≡ 64) × (2 ^ j ≤ word) × (word < 2 ^ (j + 1)) × (55 ≤ j)
+top word from fits =
+    let t = leading_top 64 word (omega (arith, from)) fits in
+    let less : word < 2 ^ (t.0 + 1) = omega (arith, t.3, ap (λ k. 2 ^ k) {x = suc t.0} {y = t.0 + 1} (omega arith)) in
+    (t.0, omega (arith, t.1), t.2, less, (let far : 55 < t.0 + 1 = lt_of_not-le (λ (g : t.0 + 1 ≤ 55). omega (arith, pow_mono {i = t.0 + 1} {j = 55} g)) in omega (arith, far)))
+
+pub overflow_sub-least-2 : goal.overflow_sub-least-2
+overflow_sub-least-2 c =
+    let t = top c.args.word c.requires.top (omega arith) in
+    omega (arith, c.precision.ensures.range, t.1, t.4)
 
 pub settle-requires-clause-dropped : goal.settle-requires-clause-dropped
-settle-requires-clause-dropped c = omega (arith, c.dropped-dropped.ensures.least, c.precision.ensures.range)
+settle-requires-clause-dropped c =
+    let t = top c.args.word c.requires.top (omega arith) in
+    omega (arith, c.dropped-dropped.ensures.least, c.precision.ensures.range, t.1, t.4)
 
 pub settle-requires-clause-kept : goal.settle-requires-clause-kept
 settle-requires-clause-kept c =
-    significand_at (format_of c.args.double) _ _ _ _ (length_of c.args.word c.requires.top (omega arith))
-    (omega (arith, c.dropped-dropped.ensures.least, c.precision.ensures)) (λ K. omega (arith, c.dropped-dropped.ensures.normal K, c.precision.ensures))
+    let t = top c.args.word c.requires.top (omega arith) in
+    significand_at (format_of c.args.double) _ t.0 _ _ (t.2, t.3)
+    (omega (arith, c.dropped-dropped.ensures.least, c.precision.ensures, t.1)) (λ K. omega (arith, c.dropped-dropped.ensures.normal K, c.precision.ensures, t.1, t.4))
 
 pub returns : goal.returns
 returns c num den D cut =
