@@ -104,16 +104,17 @@ typedef struct {
  *
  * A syntax is what texts are read by: a lawful word with an exponent character and a decimal point, or with 0 for both.
  * If both are 0, numbers are integers. The other members are conditions: that a number has the base prefix or the base
- * suffix, that its sign is not `-`, and that the digit separators of its integer, if it has any, make groups of 2 to 8
- * digits, as in `1,234`. Members that an initialiser leaves out are 0 or false, which is no condition. A later version
- * may have conditions in `reserved`, so a syntax is refused if one of these bytes is not 0. peltzivar_read_settings and
- * peltzivar_form_syntax write a syntax. Check one of your own with peltzivar_check_syntax. */
+ * suffix, that its sign is not `-`, and that the digit separators of its integer or its fraction, if there are any, make
+ * groups of 2 to 8 digits, as in `1,234`. Groups of the integer before the last have higher_group_size digits, if this
+ * is not 0, as in `12,34,567`. Members that an initialiser leaves out are 0 or false, which is no condition. A later
+ * version may have conditions in `reserved`, so a syntax is refused if one of these bytes is not 0.
+ * peltzivar_read_settings and peltzivar_form_syntax write a syntax. Check one of your own with peltzivar_check_syntax. */
 typedef struct {
     peltzivar_word format;
     uint8_t exponent, decimal_point;
     bool required_base_prefix, required_base_suffix, no_negative_mantissa_sign;
-    uint8_t integer_group_size;
-    uint8_t reserved[10];
+    uint8_t integer_group_size, higher_group_size, fraction_group_size;
+    uint8_t reserved[8];
 } peltzivar_syntax;
 
 /* Settings build a syntax. A text, such as a file, has one setting a line, NAME=VALUE, of a field, a group, an option
@@ -187,10 +188,9 @@ typedef struct {
 } peltzivar_literal;
 
 /* Where reading stopped. The first `valid_up_to` bytes are the longest beginning of the text that some literal begins
- * with. If these are all of its bytes, bytes are missing, and a longer text may be a literal. integer_group_size is
- * tested last: a text that it alone refuses is valid up to its end, and a longer text may not be a literal. `form` is
- * the form of a language for which this beginning is the longest, and otherwise 0. Of several such forms, it is the
- * first whose kind is not PELTZIVAR_KIND_BYTE, or the first if the kind of each is this one. */
+ * with. If these are all of its bytes, bytes are missing, and a longer text may be a literal. `form` is the form of a
+ * language for which this beginning is the longest, and otherwise 0. Of several such forms, it is the first whose kind
+ * is not PELTZIVAR_KIND_BYTE, or the first if the kind of each is this one. */
 typedef struct {
     PELTZIVAR_ALIGNED uint64_t magic;
     size_t valid_up_to;
@@ -205,9 +205,8 @@ PELTZIVAR_MUST_USE bool peltzivar_read(const peltzivar_syntax *syntax, const cha
     peltzivar_literal *literal, peltzivar_read_error *error);
 
 /* Does the same for the longest beginning of the text that is a literal. What follows it may be anything. If there is
- * none, *error is that of peltzivar_read. integer_group_size is tested last: if the groups of this beginning are wrong,
- * it is refused. Reads no byte behind the first that cannot follow or, if it begins a character of UTF-8, behind this
- * character. */
+ * none, *error is that of peltzivar_read. Reads no byte behind the first that cannot follow or, if it begins a
+ * character of UTF-8, behind this character. */
 PELTZIVAR_MUST_USE bool peltzivar_read_prefix(const peltzivar_syntax *syntax, const char *text, size_t len,
     peltzivar_literal *literal, peltzivar_read_error *error);
 
@@ -293,7 +292,9 @@ enum {
     PELTZIVAR_CONDITION_REQUIRED_BASE_PREFIX = 1,
     PELTZIVAR_CONDITION_REQUIRED_BASE_SUFFIX = 2,
     PELTZIVAR_CONDITION_NO_NEGATIVE_MANTISSA_SIGN = 4,
-    PELTZIVAR_CONDITION_INTEGER_GROUP_SIZE = 8
+    PELTZIVAR_CONDITION_INTEGER_GROUP_SIZE = 8,
+    PELTZIVAR_CONDITION_HIGHER_GROUP_SIZE = 16,
+    PELTZIVAR_CONDITION_FRACTION_GROUP_SIZE = 32
 };
 
 /* Writes why a text is not a literal to *out and returns true. If no call has written *error, or if the syntax, the
@@ -359,9 +360,9 @@ PELTZIVAR_MUST_USE bool peltzivar_form_syntax(const peltzivar_forms *forms, size
  * Reading the text returns the same value. */
 
 /* How numbers are written where a syntax leaves a choice: the number of integer digits in a group, if the format allows
- * separators between them, or 0 for no groups, and whether the base prefix and the base suffix are left out. A
- * condition comes first: integer_group_size replaces any group but 0, and a required prefix or suffix is written. A
- * null pointer is the same as zeros. */
+ * separators between them, or 0 for no groups, and whether the base prefix and the base suffix are left out. Conditions
+ * come first: the sizes of a syntax replace any group but 0, and a required prefix or suffix is written. A null pointer
+ * is the same as zeros. */
 typedef struct {
     uint8_t group;
     bool without_base;

@@ -113,7 +113,8 @@ def fields():
 def conditions():
     """Returns the conditions: the name of each, what it does, a text that it refuses, and its least and greatest number."""
     text, syntax = ((TOP / f"rust/src/literal/{name}.rs").read_text() for name in ("conditions", "syntax"))
-    limits = {it: [int(least), int(most)] for it, least, most in re.findall(r"Condition::(\w+) => \((\d+), (\d+)\)", syntax)}
+    arms = re.findall(r"((?:Condition::\w+[|\s]+)+)=> \((\d+), (\d+)\)", syntax)
+    limits = {it: [int(least), int(most)] for arm, least, most in arms for it in re.findall(r"::(\w+)", arm)}
     for comment, condition, name in re.findall(r"((?: +///.*\n)+) +(\w+): (\w+)\(\w+\);", text):
         does, *_ = re.split(r"\. |, from ", " ".join(comment.replace("///", "").split()))
         refused = re.findall(r"refuses `([^`]*)`", comment)

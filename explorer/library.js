@@ -66,12 +66,18 @@ class Library {
         };
         const [reasons, options, notes] = ["reasons", "options", "notes"].map((name) => answer[name].map(named));
         const conditions = answer.conditions.map(({ text, condition, mask }) => {
-            const flags = this.flags.filter((flag) => flag.mask & BigInt(mask)).map(({ name }) => name);
             const { name, mask: bits } = this.conditions[condition];
+            const others = this.conditions.filter((it) => it.name !== name && text.includes(it.name));
+            const fields = this.namesOf(BigInt(mask));
             const fitted = this.put(state.word, "digit_separator", this.get(state.word, "digit_separator") || 95);
-            const repairs = flags.map((name) => ({ ...state, word: this.put(fitted, name, 1) }));
-            repairs.unshift({ ...state, conditions: state.conditions & ~bits });
-            return { text, fields: [name, ...flags], rules: [], repairs };
+            const flags = this.flags.filter((flag) => fields.includes(flag.name));
+            const words = fields.includes("digit_separator") ? [fitted] : flags.map((flag) => this.put(fitted, flag.name, 1));
+            const repairs = [
+                { ...state, conditions: state.conditions & ~bits },
+                ...words.map((word) => ({ ...state, word })),
+                ...others.map(({ shift }) => ({ ...state, conditions: state.conditions | (3n << shift) })),
+            ];
+            return { text, fields: [name, ...fields, ...others.map((it) => it.name)], rules: [], repairs };
         });
         const taken = "numfmt options and is_valid_options_punctuation refuse this, but a reader takes it: no flag allows it as a separator";
         if (answer.fits) notes.push(...options.splice(0).map((it) => ({ ...it, text: `${it.text}: ${taken}` })));

@@ -6,7 +6,9 @@ use peltzivar::format::{
     BASE_PREFIX, BASE_SUFFIX, CONSECUTIVE_DIGIT_SEPARATOR, DIGIT_SEPARATOR, DIGIT_SEPARATOR_FLAG_MASK, EXPONENT_BASE,
     EXPONENT_RADIX, FLAG_MASK, MANTISSA_RADIX, SPECIAL_DIGIT_SEPARATOR,
 };
-use peltzivar::literal::{Condition, Conditions, ConditionsError, ReadError, ReadErrorKind, Specials, Syntax};
+use peltzivar::literal::{
+    Condition, Conditions, ConditionsError, ConditionsErrorKind, ReadError, ReadErrorKind, Specials, Syntax,
+};
 use peltzivar::reasons::Byte;
 use peltzivar::{Cause, Format, FormatView, Reason, Rule};
 
@@ -61,9 +63,7 @@ impl State {
 
     /// Returns why each condition that does not fit a lawful word does not.
     pub fn misfits(self) -> impl Iterator<Item = ConditionsError> {
-        let syntax = Format::new(self.word).ok().map(Syntax::integers);
-        let only = move |it| Conditions::NONE.with(it, self.conditions.number(it));
-        Condition::ALL.iter().filter_map(move |&it| syntax?.with_conditions(only(it)).err())
+        Format::new(self.word).ok().into_iter().flat_map(move |it| Syntax::integers(it).contradictions(self.conditions))
     }
 
     fn with_condition(self, condition: Condition, number: u8) -> Self {
@@ -74,7 +74,15 @@ impl State {
     fn with_numbers(self, condition: Condition) -> impl Iterator<Item = Self> {
         let (least, most) = condition.limits();
         let usual = Some(USUAL_SIZE).filter(|&size| least < size && size < most);
-        usual.into_iter().chain(least..=most).map(move |number| self.with_condition(condition, number))
+        let with = move |number| self.with_condition(condition, number);
+        // Higher groups need a last one.
+        let whole = |it: Self| match it.misfits().next() {
+            Some(error) if error.kind == ConditionsErrorKind::NoIntegerGroupSize => {
+                it.with_condition(Condition::IntegerGroupSize, USUAL_SIZE)
+            }
+            _ => it,
+        };
+        usual.into_iter().chain(least..=most).map(with).map(whole)
     }
 
     /// Returns the syntax without the conditions that do not fit, if the word is lawful and the options fit.

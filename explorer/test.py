@@ -45,13 +45,14 @@ TEXTS = r"""1 1\5 1'5 1"5 -0 12 1F inf nan 9007199254740993 12345678901234567 12
 0.30000000000000004 1.2345678901234567890 170141183460469231731687303715884105727 170141183460469231731687303715884105728
 340282366920938463463374607431768211455 340282366920938463463374607431768211456 -170141183460469231731687303715884105729
 1e400 -1e-400 1,5 0x1_0,8p+1h 0x1_000h 0x1_00h 0x1 1h -0x1h NaN +nan -inf INFINITY Infinity .nan .NaN -.INF""".split()
-# Returns all texts that are tried and, for STATES, the last one with each condition and with all of them, and each form of
+# Returns all texts that are tried and, for STATES, the last one with each condition that fits and with all, and each form of
 # a language: its link, that of the page, its normal form, the code in three languages, and what is told of each text.
 SHOWN = """const [shown, tried] = arguments;
     const { library, trial, data } = page;
     const states = shown.map(([word, exponent, point]) => [{ word: BigInt(word), exponent, point, conditions: 0n }, ""]);
     const each = library.conditions.map(({ isNumber, shift }) => (isNumber ? 3n : 1n) << shift);
-    const all = [...each, each.reduce((all, it) => all | it)].map((conditions) => [{ ...states.at(-1)[0], conditions }, ""]);
+    const all = [...each, each.reduce((all, it) => all | it)].map((conditions) => [{ ...states.at(-1)[0], conditions }, ""])
+        .filter(([state]) => !library.explain(state).conditions.length);
     const forms = data.languages.flatMap(({ name, forms }) => forms.map((form) => [stateOf(form), name]));
     const texts = [...new Set([...tried, ...data.languages.flatMap((it) => it.numbers.replaceAll("!", "").split("\\n"))])];
     return [texts, [...states, ...all, ...forms].map(([state, language]) => {

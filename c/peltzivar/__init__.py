@@ -266,7 +266,9 @@ class _Syntax(Structure):
         ("required_base_suffix", c_bool),
         ("no_negative_mantissa_sign", c_bool),
         ("integer_group_size", c_uint8),
-        ("reserved", c_uint8 * 10),
+        ("higher_group_size", c_uint8),
+        ("fraction_group_size", c_uint8),
+        ("reserved", c_uint8 * 8),
     ]
 
 
@@ -1323,9 +1325,10 @@ class Syntax:
         (-12.0, '8', '3')
 
     The conditions are that a literal has the base prefix or the base suffix, that its sign is not `-`, and that the
-    digit separators of its integer, if it has any, make groups of 2 to 8 digits, as in `1,234`. The format is in normal
-    form, so equivalent formats have the same syntax. Raises OptionsError if the exponent character or the decimal point
-    does not fit the normal form, if only one of them is None, or if the format contradicts a condition.
+    digit separators of its integer or its fraction, if there are any, make groups of 2 to 8 digits, as in `1,234`, with
+    groups before the last of `higher_group_size`, as in `12,34,567`. The format is in normal form, so equivalent formats
+    have the same syntax. Raises OptionsError if the exponent character or the decimal point does not fit the normal
+    form, if only one of them is None, or if the format contradicts a condition.
     """
 
     format: Format
@@ -1336,6 +1339,8 @@ class Syntax:
     required_base_suffix: bool = False
     no_negative_mantissa_sign: bool = False
     integer_group_size: Optional[int] = None
+    higher_group_size: Optional[int] = None
+    fraction_group_size: Optional[int] = None
     # End
     # What calls read by.
     _by: Any = field(init=False, repr=False, compare=False)
@@ -1424,6 +1429,8 @@ class Syntax:
         required_base_suffix: bool = _KEPT,
         no_negative_mantissa_sign: bool = _KEPT,
         integer_group_size: Optional[int] = _KEPT,
+        higher_group_size: Optional[int] = _KEPT,
+        fraction_group_size: Optional[int] = _KEPT,
         # End
     ) -> Syntax:
         """Returns the syntax that settings make, such as the lines of a file, and then keyword arguments. Raises
@@ -1502,6 +1509,8 @@ class Syntax:
         required_base_suffix: bool = _KEPT,
         no_negative_mantissa_sign: bool = _KEPT,
         integer_group_size: Optional[int] = _KEPT,
+        higher_group_size: Optional[int] = _KEPT,
+        fraction_group_size: Optional[int] = _KEPT,
         # End
     ) -> Tuple[Note, ...]:
         """Returns the notes on settings that later ones override, the first 32 alone, and on those that have no effect,
@@ -1544,8 +1553,8 @@ class Syntax:
 
         Takes an int, a float, a Decimal, a `Literal`, or an object with `__index__` or `__float__`, as those of numpy,
         but no bool. Of a float, the digits are those of `repr`. `group` is the number of integer digits in a group, if
-        the format allows separators between them, or 0 for no groups. If the syntax has an `integer_group_size`, this
-        replaces any `group` but 0. `without_base` leaves out the base prefix and the base suffix, unless conditions
+        the format allows separators between them, or 0 for no groups. If the syntax has an `integer_group_size`, its
+        sizes replace any `group` but 0. `without_base` leaves out the base prefix and the base suffix, unless conditions
         require them. Raises ValueError for NaN and infinity, for a sign `-`, a decimal point or an exponent if no
         literal has one, for an int if each literal has an exponent, for an int of more than 4300 digits in radix 10, as
         `str` does, for another mantissa radix than that of the syntax, which is 10 for a float and a Decimal, and, of a
@@ -1708,8 +1717,8 @@ class Language(_Named):
     C: C's integer and floating constants (C23, 6.4.4.1 and 6.4.4.2). A format cannot accept `1u`, `1L` and `1.0f`.
         Forms: decimal; octal; hexadecimal; binary; hexadecimal float.
 
-    CSV_DE: Numbers in CSV, as German spreadsheets write cells of the format `#.##0,00` (RFC 4180): `1.234,50`. Forms:
-        decimal.
+    CSV_DE: Numbers in CSV, as German spreadsheets write cells of the format `#.##0,00` (RFC 4180): `1.234,50`. The
+        cause of `0.123` is its leading zero, since its groups are right. Forms: decimal.
 
     CSV_EN: Numbers in CSV, as English spreadsheets write cells of the format `#,##0.00`, in quotes (RFC 4180):
         `"1,234.50"`. A format cannot accept the minus sign U+2212 of Gnumeric: replace it by `-`. Forms: decimal.

@@ -114,9 +114,9 @@ static void test_words(void) {
 }
 
 static void test_syntaxes(void) {
-    static const peltzivar_syntax integers = {PELTZIVAR_STANDARD_INIT, 0, 0, false, false, false, 0, {0}};
-    static const peltzivar_syntax wrong[] = {{{0, 0}, 0, 0, false, false, false, 0, {0}},
-        {PELTZIVAR_STANDARD_INIT, 'e', 0, false, false, false, 0, {0}}, {PELTZIVAR_STANDARD_INIT, 0, 0, true, false, false, 0, {0}}};
+    static const peltzivar_syntax integers = {PELTZIVAR_STANDARD_INIT, 0, 0, false, false, false, 0, 0, 0, {0}};
+    static const peltzivar_syntax wrong[] = {{{0, 0}, 0, 0, false, false, false, 0, 0, 0, {0}},
+        {PELTZIVAR_STANDARD_INIT, 'e', 0, false, false, false, 0, 0, 0, {0}}, {PELTZIVAR_STANDARD_INIT, 0, 0, true, false, false, 0, 0, 0, {0}}};
     static const peltzivar_error errors[] = {PELTZIVAR_INVALID_MANTISSA_RADIX, PELTZIVAR_INVALID_DECIMAL_POINT, PELTZIVAR_INVALID_BASE_PREFIX};
     static const peltzivar_specials specials = {"1", "1", "1"};
     peltzivar_literal literal;
@@ -151,30 +151,58 @@ static void test_syntaxes(void) {
 static void test_errors(void) {
     static const char *const refused[] = {".5", "1.", "1e", ".", "+1", "1", "1e5", "1e+5", "1e5", "1e5", NULL, NULL, "01", "01.5", "1", "1E5",
         "0X1", "1H", "1_1", "1.5_5", "1e5_5", "_1", "1._5", "1e_5", "1_.5", "1.5_e5", "1e5_h", "1__1", "1.5__5", "1e5__5",
-        "1h", "0x1", "-1", "1_1", "", "1._", "1e_", "1x"};
+        "1h", "0x1", "-1", "1_1", "1.1_1", "", "1._", "1e_", "1x"};
     static const char *const others[] = {"required_base_prefix=true", "required_base_suffix=true", "no_negative_mantissa_sign=true",
-        "integer_group_size=3", "", "", "", ""};
-    char sentences[38][PELTZIVAR_TEXT_SIZE] = {""};
+        "integer_group_size=3", "fraction_group_size=3", "", "", "", ""};
+    static const int conditions[] = {PELTZIVAR_CONDITION_REQUIRED_BASE_PREFIX, PELTZIVAR_CONDITION_REQUIRED_BASE_SUFFIX,
+        PELTZIVAR_CONDITION_NO_NEGATIVE_MANTISSA_SIGN, PELTZIVAR_CONDITION_INTEGER_GROUP_SIZE, PELTZIVAR_CONDITION_FRACTION_GROUP_SIZE};
+    char sentences[39][PELTZIVAR_TEXT_SIZE] = {""};
     peltzivar_syntax syntax;
     peltzivar_read_error error, copied;
     peltzivar_explanation why;
-    for (int i = 0; i < 38; i++) {
+    for (int i = 0; i < 39; i++) {
         const int flag = i < 18 ? i : i < 30 ? i + 14 : PELTZIVAR_NO_SETTER;
         const int kind = i < 15 ? PELTZIVAR_KIND_REQUIREMENT : i < 18 ? PELTZIVAR_KIND_CASE : i < 30 ? PELTZIVAR_KIND_SEPARATOR
-            : i < 34 ? PELTZIVAR_KIND_REQUIREMENT : i < 37 ? PELTZIVAR_KIND_MISSING : PELTZIVAR_KIND_BYTE;
+            : i < 35 ? PELTZIVAR_KIND_REQUIREMENT : i < 38 ? PELTZIVAR_KIND_MISSING : PELTZIVAR_KIND_BYTE;
         if (!refused[i]) continue;
         snprintf(text, sizeof text, "digit_separator='_'\ndigit_separator_flags=true\nbase_prefix='x'\nbase_suffix='h'\n%s%s",
             i < 30 ? peltzivar_setter_name((peltzivar_setter)flag) : others[i - 30], i < 18 ? "=true" : i < 30 ? "=false" : "");
         CHECK(make_syntax(text, &syntax) && !peltzivar_read(&syntax, refused[i], strlen(refused[i]), NULL, &error));
         CHECK(peltzivar_explain(&error, &why) && why.kind == kind && why.number == flag && !why.mask.low == (i >= 30));
-        CHECK(why.conditions == (30 <= i && i < 34 ? 1 << (i - 30) : 0));
-        CHECK(why.part == (kind == PELTZIVAR_KIND_SEPARATOR ? i % 3 : kind == PELTZIVAR_KIND_MISSING ? i - 34 : PELTZIVAR_NO_PART));
+        CHECK(why.conditions == (30 <= i && i < 35 ? conditions[i - 30] : 0));
+        CHECK(why.part == (kind == PELTZIVAR_KIND_SEPARATOR ? i % 3 : kind == PELTZIVAR_KIND_MISSING ? i - 35 : PELTZIVAR_NO_PART));
         CHECK(peltzivar_read_error_text(&error, sentences[i], sizeof sentences[i]));
         for (int j = 0; j < i; j++) CHECK(strcmp(sentences[i], sentences[j]));
     }
     memcpy(&copied, &error, sizeof error), memset(&error, 0, sizeof error);
     CHECK(peltzivar_explain(&copied, &why) && peltzivar_explain(&copied, NULL) && copied.valid_up_to == 1);
     CHECK(why.span.start == 1 && why.span.end == 2 && why.index == 1 && why.code == PELTZIVAR_INVALID_DIGIT);
+}
+
+/* The rows of docs/EXPLANATIONS.md on groups: where reading stops, the cause, the conditions and the lowest flag, and the span. */
+static void test_groups(void) {
+    static const char *const kinds[] = {"requirement", "separator", "case", "byte", "missing"};
+    char name[4096], row[512], literal[32], settings[256], cause[64];
+    int rows = 0;
+    snprintf(name, sizeof name, "%.*s/../../docs/EXPLANATIONS.md", (int)(strrchr(__FILE__, '/') - __FILE__), __FILE__);
+    FILE *const page = fopen(name, "r");
+    CHECK(page);
+    while (page && fgets(row, sizeof row, page)) {
+        peltzivar_syntax syntax;
+        peltzivar_read_error error;
+        peltzivar_explanation why;
+        size_t end, span[2];
+        if (sscanf(row, "| `%31[^`]` | `%255[^`]` | %63[^|] | %zu | %zu..%zu |", literal, settings, cause, &end, &span[0], &span[1]) != 6) continue;
+        if (!strstr(settings, "group_size")) continue;
+        for (char *it = settings; *it; it++) *it = *it == ' ' ? '\n' : *it;
+        CHECK(make_syntax(settings, &syntax) && !peltzivar_read(&syntax, literal, strlen(literal), NULL, &error));
+        CHECK(peltzivar_explain(&error, &why) && error.valid_up_to == end && why.span.start == span[0] && why.span.end == span[1]);
+        CHECK(!strncmp(cause, kinds[why.kind - 1], strlen(kinds[why.kind - 1])) && (!why.mask.low || atoi(strchr(cause, ' ')) == why.number));
+        CHECK(why.conditions == (strstr(cause, "integer_group") ? PELTZIVAR_CONDITION_INTEGER_GROUP_SIZE
+            : strstr(cause, "fraction_group") ? PELTZIVAR_CONDITION_FRACTION_GROUP_SIZE : 0));
+        rows++;
+    }
+    CHECK(rows > 9 && !fclose(page));
 }
 
 /* The values of the limits of each integer type, and beyond, in decimal and behind a prefix, and why there is none. */
@@ -280,7 +308,7 @@ static void test_languages(void) {
  * that is longer than an object can be is not read. */
 static void test_null(void) {
     peltzivar_fields fields = PELTZIVAR_NEW_FIELDS;
-    peltzivar_syntax syntax = {{1, 2}, 3, 4, true, true, true, 7, {0}};
+    peltzivar_syntax syntax = {{1, 2}, 3, 4, true, true, true, 7, 0, 0, {0}};
     peltzivar_word word = {1, 2};
     peltzivar_edit edit = {104, 16};
     size_t to[] = {7, 7};
@@ -313,8 +341,8 @@ static void test_null(void) {
 
 static void *test_all(void *unused) {
     for (int i = 0; i < 5; i++) {
-        test_constants(), test_setters(), test_words(), test_syntaxes(), test_errors(), test_values(), test_writing();
-        test_languages(), test_null();
+        test_constants(), test_setters(), test_words(), test_syntaxes(), test_errors(), test_groups(), test_values();
+        test_writing(), test_languages(), test_null();
     }
     return unused;
 }

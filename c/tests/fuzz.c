@@ -100,13 +100,18 @@ static char *copy(size_t len) {
     return memcpy(bytes, text, len);
 }
 
+/* Returns a size of groups, most often 0, which is no condition. */
+static uint8_t draw_size(void) {
+    return (uint8_t)(draw() % 4 ? 0 : draw() % 9);
+}
+
 /* Writes a syntax of a word, sometimes with other bits, and returns whether it is lawful. */
 static bool draw_syntax(peltzivar_word word, peltzivar_syntax *syntax) {
     static const uint8_t options[][2] = {{'e', '.'}, {'e', '.'}, {'p', '.'}, {'^', ','}, {0, 0}, {0, 0}, {'e', 0}, {'_', 'E'}};
     while (peltzivar_check(word) && draw() % 9) word = draw_word();
     const uint8_t *const drawn = options[draw() % 8];
     const peltzivar_syntax of = {word, drawn[0], drawn[1], draw() % 8 == 0, draw() % 8 == 0, draw() % 8 == 0,
-        (uint8_t)(draw() % 4 ? 0 : draw() % 9), {0}};
+        draw_size(), draw_size(), draw_size(), {0}};
     *syntax = of;
     /* Other bytes, of which several may be the same. Most have the radixes as before. */
     for (uint64_t count = draw() % 2 ? 0 : draw() % 48, all = draw(); count > 0; count--) {
@@ -234,7 +239,7 @@ static void test_lines(void) {
     }
     if (len && draw() % 4 == 0) text[draw() % len] = (char)draw();
     char *const from = copy(len);
-    peltzivar_syntax syntax = {{1, 2}, 3, 4, true, true, true, 7, {0}};
+    peltzivar_syntax syntax = {{1, 2}, 3, 4, true, true, true, 7, 0, 0, {0}};
     const size_t problems = peltzivar_read_settings(from, len, &syntax);
     CHECK(problems ? syntax.format.low == 1 && syntax.integer_group_size == 7 : !peltzivar_check_syntax(&syntax));
     for (size_t index = 0; index == 0 || *text; index++) {

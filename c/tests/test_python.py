@@ -259,8 +259,8 @@ class Literals(unittest.TestCase):
 
     def test_conditions(self):
         fields = {"base_prefix": "x", "base_suffix": "h", "digit_separator": ",", "internal_digit_separator": True}
-        conditions = {"required_base_prefix": "1h", "required_base_suffix": "0x1", "no_negative_mantissa_sign": "-0x1h", "integer_group_size": "0x12,34h"}
-        settings = {name: 3 if name == "integer_group_size" else True for name in conditions}
+        conditions = {"required_base_prefix": "1h", "required_base_suffix": "0x1", "no_negative_mantissa_sign": "-0x1h", "integer_group_size": "0x12,34h", "fraction_group_size": "0x1.2,3h"}
+        settings = {name: 3 if "group" in name else True for name in peltzivar._CONDITIONS}
         syntax = Syntax.of(**fields, **settings)
         for it in (syntax, eval(repr(syntax)), pickle.loads(pickle.dumps(syntax)), Syntax(Format.of(**fields), **settings)):
             self.assertEqual((it, it.read("0x1,234.5e-1h").value), (syntax, 123.45))
@@ -312,26 +312,28 @@ class Literals(unittest.TestCase):
         for text, settings, cause, blamed, *numbers in CAUSES:
             for given in (text, text.encode()):
                 with self.assertRaises(LiteralError) as caught:
-                    Syntax(FormatView.of(*settings.split()).check()).read(given)
+                    Syntax.of(*settings.split()).read(given)
                 error = pickle.loads(pickle.dumps(caught.exception))
                 got = error.text, error.kind, [error.valid_up_to, *error.span]
                 self.assertEqual(got, (given, ReadErrorKind[cause.upper()], [*map(int, numbers)]), settings)
                 if cause == "missing":
                     self.assertEqual((error.part, error.edits), (Part[blamed.upper()], ()))
                 else:
-                    edits = tuple(Edit.of(Setter(int(flag)), cause == "separator") for flag in blamed.split())
-                    self.assertEqual((error.edits, error.part is None), (edits, cause != "separator"), (text, settings))
+                    flags = [Setter(int(it)) for it in blamed.split() if it.isdecimal()]
+                    edits = tuple(Edit.of(flag, cause == "separator") for flag in flags)
+                    self.assertEqual((error.edits, error.conditions), (edits, tuple(blamed.split()[len(flags) :])), (text, settings))
+                    self.assertEqual(error.part is None, cause != "separator", (text, settings))
 
     def test_each_status_error_and_cause_has_a_sentence_of_its_own(self):
         header, causes = (TESTS.parent / "peltzivar.h").read_text(), set()
         descriptions = [getattr(CALLS, f"{kind.lower()}_description")(int(number)) for kind, number in re.findall(r"PELTZIVAR_(VALUE|WRITE)_\w+ = ([1-9]\d*)", header)]
-        names = {it.name.lower() for it in Setter if it.value < 64 and "SPECIAL" not in it.name} | {*peltzivar._CONDITIONS}
+        names = {it.name.lower() for it in Setter if it.value < 64 and "SPECIAL" not in it.name} | {*peltzivar._CONDITIONS} - {"higher_group_size"}
         texts = ". + 01 1E5 1e5 1e+5 1e .5 1. +1 -1 01.5 _1 1_ 1__1 1_1 1._5 1.5_ 1.5__5 1e_5 1e5_ 1e5__5 0X1 1H 0x1 1e_ 1._"
         for name, internal, text in itertools.product(names, (False, True), texts.split()):
             internal |= "consecutive" in name or "group" in name  # These need another flag.
             fields = {"base_prefix": "x", "base_suffix": "h", "digit_separator": "_", "internal_digit_separator": internal}
             try:
-                Syntax.of(**fields, **{name: 3 if name == "integer_group_size" else True}).read(text)
+                Syntax.of(**fields, **{name: 3 if "group" in name else True}).read(text)
             except LiteralError as error:
                 blamed = (*(it.name for it in error.edits), *error.conditions)[: 2 if error.part else 1]
                 causes.add((error.kind, error.part, *blamed, str(error)))

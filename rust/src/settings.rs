@@ -232,8 +232,7 @@ impl Settings {
     /// Returns each condition that contradicts the format, if that is lawful.
     fn contradictions(&self) -> impl Iterator<Item = Finding> + Clone + '_ {
         let syntax = self.build_format().ok().map(Syntax::integers);
-        let each = self.conditions.iter().map(|(condition, number)| Conditions::NONE.with(condition, number));
-        let errors = each.filter_map(move |it| syntax?.with_conditions(it).err());
+        let errors = syntax.into_iter().flat_map(|it| it.contradictions(self.conditions));
         errors.filter_map(|error| {
             let mask = Mask { word: error.mask(), ..Name::Condition(error.condition).mask() };
             self.finding(FindingKind::Conditions(error), mask)

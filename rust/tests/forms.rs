@@ -1,6 +1,6 @@
 //! Numbers of several forms: which form has a text, and which has its error.
 
-use peltzivar::literal::{Conditions, Language, Number, ReadErrorKind, Readers, Special, Specials, Spelling, Syntax};
+use peltzivar::literal::{Language, Number, Readers, Special, Specials, Spelling, Syntax};
 use peltzivar::{Format, NumberFormatBuilder};
 
 /// Asserts that a text has a value, by a form.
@@ -81,7 +81,7 @@ fn special_values_come_after_all_forms() {
     assert!(Readers::new(&[]).is_none());
 }
 
-/// Groups are tested last, and decide which of two forms has a text: `1,234.50` is English, and `1.234,50` German.
+/// Groups decide which of two forms has a text, and where a front of it ends: `1,234.50` is English, and `1.234,50` German.
 #[test]
 fn cells_are_in_groups() {
     let forms = [Language::CSV_EN, Language::CSV_DE].map(|it| it.forms()[0].syntax);
@@ -91,13 +91,7 @@ fn cells_are_in_groups() {
     {
         let number = both.read(text).unwrap();
         assert_eq!((number.form(), number.to_f64(), both.parse(text)), (Some(form), value, Ok(value)), "{text}");
+        assert_eq!(both.read_prefix(&[text, ";"].concat()), Ok((number, &b";"[..])), "{text}");
     }
-    let groups = Conditions::NONE.integer_group_size(Some(3));
-    for (text, span) in [("12,34", 3..5), ("-1234,567.8", 1..5), ("1,2345", 2..6)] {
-        let error = forms[0].read(text).unwrap_err();
-        assert_eq!((error.kind(), error.mask(), error.conditions()), (ReadErrorKind::Requirement, 0, groups), "{text}");
-        assert_eq!((error.valid_up_to(), error.span(), error.byte()), (text.len(), span, None), "{text}");
-        assert_eq!(format!("{error:#}"), "expected groups of 3 digits", "{text}");
-        assert_eq!(forms[0].read_prefix(&[text, ";"].concat()).unwrap_err(), error, "{text}");
-    }
+    assert_eq!(forms[0].read_prefix("12,34;"), Ok((forms[0].read("12").unwrap(), &b",34;"[..])));
 }

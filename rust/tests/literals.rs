@@ -1,7 +1,7 @@
 //! Literals that are read, over the tables of docs/FORMAT.md and docs/EXPLANATIONS.md, and the grammars of languages.
 
 use peltzivar::format::{CASE_SENSITIVE_SPECIAL, DIGIT_SEPARATOR_FLAG_MASK, NO_SPECIAL};
-use peltzivar::literal::{Form, Language, Literal, ReadError, ReadErrorKind, Specials, Syntax};
+use peltzivar::literal::{Condition, Form, Language, Literal, ReadError, ReadErrorKind, Specials, Syntax};
 use peltzivar::{Edit, FlagSetter, Format, NumberFormatBuilder, Part, Settings};
 use std::collections::HashSet;
 
@@ -179,6 +179,8 @@ fn causes_are_those_of_the_page() {
         };
         let blamed = (0..128).filter(|bit| error.mask() >> bit & 1 == 1);
         blamed.for_each(|bit| found += &format!(" {bit}"));
+        let conditions = Condition::ALL.iter().filter(|&&it| error.conditions().has(it));
+        conditions.for_each(|it| found += &format!(" {}", it.name()));
         let found = [found, error.valid_up_to().to_string(), format!("{:?}", error.span())];
         assert_eq!(found, [cause, valid_up_to, span], "{settings}: {text}");
     }
@@ -205,6 +207,9 @@ fn sentences_name_what_is_seen() {
         ("base_prefix='x' required_base_prefix=true", "-01", "expected the prefix 0x, which required_base_prefix requires", ""),
         ("base_suffix='h' required_base_suffix=true", "1.0", "expected the suffix h, which required_base_suffix requires", ""),
         ("no_negative_mantissa_sign=true", "-1", "unexpected minus sign, which no_negative_mantissa_sign forbids", "-"),
+        ("digit_separator=',' internal_digit_separator=true integer_group_size=3", "12,34", "expected groups of 3 digits, which integer_group_size requires", "34"),
+        ("digit_separator=',' internal_digit_separator=true integer_group_size=3 higher_group_size=2", "123,456", "expected groups of 2 digits and a last one of 3, which integer_group_size requires", "123"),
+        ("digit_separator=',' internal_digit_separator=true fraction_group_size=3", "0.12,3", "expected groups of 3 fraction digits, which fraction_group_size requires", "12"),
         // A flag and a condition are both to blame.
         ("base_prefix='x' required_base_prefix=true required_mantissa_sign=true", "1", "expected a sign, which required_mantissa_sign requires", ""),
     ];

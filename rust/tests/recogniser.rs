@@ -6,7 +6,7 @@
 //!     cargo test --release --test recogniser -- --ignored
 
 use core::{array, iter, mem, ops::Range};
-use peltzivar::literal::{self, Conditions, Language, Literal, Place, ReadError, ReadErrorKind};
+use peltzivar::literal::{self, Condition, Conditions, Language, Literal, Place, ReadError, ReadErrorKind};
 use peltzivar::{format::FLAG_MASK, Error, Format, Part, Role};
 use std::collections::BTreeSet;
 use {Error::*, Piece::*};
@@ -26,30 +26,35 @@ type Pieces = [Range<usize>; 9];
 /// Why a text is not a literal: `valid_up_to`, the cause, its mask and conditions, its span, its code and the wrong byte.
 type Failure = (usize, ReadErrorKind, u128, Conditions, Range<usize>, Error, Option<u8>);
 
-/// The number that the first condition has in a word of this file, as if it were a flag.
-const CONDITIONS: u32 = 45;
-const CONDITION_MASK: u128 = 7 << CONDITIONS;
-const GROUP_SIZE: u32 = CONDITIONS + 3;
+/// The numbers that the conditions have in a word of this file, as if they were flags. A size has four bits.
+const CONDITIONS: [u32; 6] = [45, 46, 47, GROUPS, HIGHER, FRACTION_GROUPS];
+const GROUPS: u32 = 48;
+const HIGHER: u32 = 52;
+const FRACTION_GROUPS: u32 = 56;
 
 /// Returns the conditions in a mask.
 fn conditions(word: u128) -> Conditions {
-    let [prefix, suffix, sign] = [0, 1, 2].map(|at| is_set(word, CONDITIONS + at));
-    let flags = Conditions::NONE.required_base_prefix(prefix).required_base_suffix(suffix);
-    flags.no_negative_mantissa_sign(sign).integer_group_size(group_size(word))
+    let set = |all: Conditions, (&number, &it)| all.with(it, size(word, number) as u8);
+    CONDITIONS.iter().zip(Condition::ALL).fold(Conditions::NONE, set)
 }
 
-/// Returns the size of integer groups in a mask, whose four bits follow the conditions.
-fn group_size(word: u128) -> Option<u8> {
-    Some((word >> GROUP_SIZE) as u8 & 15).filter(|&size| size != 0)
+/// Returns the bits of a flag or a condition.
+fn bits(number: u32) -> u128 {
+    (if number < GROUPS { 1 } else { 15 }) << number
 }
 
-fn is_set(word: u128, flag: u32) -> bool {
-    word >> flag & 1 == 1
+/// Returns the size that a word has, or 0.
+fn size(word: u128, number: u32) -> usize {
+    ((word & bits(number)) >> number) as usize
 }
 
-/// Returns the mask of the flags with the property `has`.
-fn mask(flags: Range<u32>, mut has: impl FnMut(u32) -> bool) -> u128 {
-    flags.filter(|&flag| has(flag)).map(|flag| 1 << flag).sum()
+fn is_set(word: u128, number: u32) -> bool {
+    word & bits(number) != 0
+}
+
+/// Returns the mask of the flags or conditions with the property `has`.
+fn mask(numbers: impl IntoIterator<Item = u32>, mut has: impl FnMut(u32) -> bool) -> u128 {
+    numbers.into_iter().filter(|&number| has(number)).map(bits).sum()
 }
 
 /// Returns whether `byte` is a digit of the mantissa or the exponent.
@@ -84,7 +89,7 @@ impl Syntax {
             _ if matches(byte, suffix, 17) => Some(Role::Suffix),
             _ => None,
         };
-        let [has_prefix, has_suffix, is_positive] = [0, 1, 2].map(|at| is_set(required, CONDITIONS + at));
+        let [has_prefix, has_suffix, is_positive, ..] = CONDITIONS.map(|number| is_set(required, number));
         let mut more: Vec<Vec<u8>> = vec![vec![]];
         let mut extend = |pieces: &[&[u8]]| {
             let longer = |text: &Vec<u8>| pieces.iter().map(|piece| [text, *piece].concat()).collect::<Vec<_>>();
@@ -94,7 +99,14 @@ impl Syntax {
         if has_prefix {
             extend(&[&[prefix], &[b'0', prefix]]);
         }
-        for byte in [b'0', point, b'0', exponent, b'-', b'0'].into_iter().filter(|&byte| byte != 0) {
+        // The digits of the last group of an integer, or of the one before it, which the last follows.
+        let groups = [GROUPS, HIGHER].map(|number| size(required, number));
+        let digits: Vec<_> = (1..=groups[0].max(groups[1]).max(1)).map(|count| vec![b'0'; count]).collect();
+        extend(&digits.iter().map(Vec::as_slice).collect::<Vec<_>>());
+        if groups[0] > 0 {
+            extend(&[&[&[separator], &vec![b'0'; groups[0]][..]].concat()]);
+        }
+        for byte in [point, b'0', exponent, b'-', b'0'].into_iter().filter(|&byte| byte != 0) {
             extend(&[&[byte]]);
         }
         if has_suffix {
@@ -143,7 +155,7 @@ impl Syntax {
     fn split(&self, word: u128, text: &[u8], at: usize, start: usize, pieces: &mut Pieces, found: &mut Vec<Pieces>) {
         let Some(&piece) = PIECES.get(at) else {
             let has_number = [Integer, Point, Character].iter().any(|&piece| !pieces[piece as usize].is_empty());
-            let satisfies = || self.requirements(text, pieces, 0).iter().all(|row| row.1 || !is_set(word, row.0));
+            let satisfies = || self.requirements(word, text, pieces, 0).iter().all(|row| row.1 || !is_set(word, row.0));
             let is_literal = start == text.len() && has_number && satisfies();
             return found.extend(is_literal.then(|| pieces.clone()));
         };
@@ -155,9 +167,40 @@ impl Syntax {
         }
     }
 
+    /// Returns whether the separators of a run, if it has any, are between groups of the sizes of `word`: of an integer that
+    /// of the last group and that of the others, and of a fraction that of each group but the last.
+    fn is_grouped(&self, word: u128, run: &[u8], number: u32) -> bool {
+        let sizes = Vec::from_iter(run.split(|&byte| self.plays(byte, Role::Separator)).map(<[u8]>::len));
+        let most = match size(word, HIGHER) {
+            higher if number == GROUPS && higher > 0 => higher,
+            _ => size(word, number),
+        };
+        match &sizes[..] {
+            [] | [_] => true,
+            [first, inner @ .., last] if number == GROUPS => {
+                (1..=most).contains(first) && inner.iter().all(|&it| it == most) && *last == size(word, GROUPS)
+            }
+            [inner @ .., last] => inner.iter().all(|&it| it == most) && (1..=most).contains(last),
+        }
+    }
+
+    /// Returns the group of the run `run` before `end`, with the byte there if that is a digit.
+    fn group(&self, text: &[u8], run: &Range<usize>, end: usize) -> Range<usize> {
+        let is_separator = |&at: &usize| self.plays(text[at], Role::Separator);
+        let start = (run.start..run.end.min(end)).rev().find(is_separator).map_or(run.start, |at| at + 1);
+        let digits = (start..run.end.min(end + 1)).take_while(|at| !is_separator(at)).count();
+        start..start + digits
+    }
+
     /// Returns the flag of each requirement, whether the parts of `text` satisfy it, and the span and the code if they do
     /// not and `end` is `valid_up_to`.
-    fn requirements(&self, text: &[u8], pieces: &Pieces, end: usize) -> [(u32, bool, Range<usize>, Error); 16] {
+    fn requirements(
+        &self,
+        word: u128,
+        text: &[u8],
+        pieces: &Pieces,
+        end: usize,
+    ) -> [(u32, bool, Range<usize>, Error); 18] {
         let [sign, prefix, integer, point, fraction, character, exponent_sign, exponent, suffix] = pieces;
         let (is_plus, here) = (|sign: &Range<usize>| &text[sign.clone()] == b"+", || end..end);
         let [has_point, has_exponent] = [!point.is_empty(), !character.is_empty()];
@@ -168,6 +211,11 @@ impl Syntax {
         let zeros = || first..digits.iter().rfind(|&&at| at <= end).map_or(first, |last| last + 1);
         let positive = if self.is_integers { InvalidPositiveSign } else { InvalidPositiveMantissaSign };
         let missing = if self.is_integers { MissingSign } else { MissingMantissaSign };
+        let groups = |number, run: &Range<usize>| {
+            let group = self.group(text, run, end);
+            let is_grouped = !is_set(word, number) || self.is_grouped(word, &text[run.clone()], number);
+            (number, is_grouped, group.clone(), InvalidDigit(group.start))
+        };
         [
             (0, !integer.is_empty(), here(), EmptyInteger(end)),
             (1, !has_point || !fraction.is_empty(), here(), EmptyFraction(end)),
@@ -182,9 +230,11 @@ impl Syntax {
             (12, is_float || !has_leading_zero, zeros(), InvalidLeadingZeros(first)),
             (13, !is_float || !has_leading_zero, zeros(), InvalidLeadingZeros(first)),
             (14, has_exponent || self.is_integers, here(), MissingExponent(end)),
-            (CONDITIONS, !prefix.is_empty(), sign.end..sign.end, InvalidDigit(sign.end)),
-            (CONDITIONS + 1, !suffix.is_empty(), here(), InvalidDigit(end)),
-            (CONDITIONS + 2, &text[sign.clone()] != b"-", sign.clone(), InvalidNegativeSign(sign.start)),
+            (45, !prefix.is_empty(), sign.end..sign.end, InvalidDigit(sign.end)),
+            (46, !suffix.is_empty(), here(), InvalidDigit(end)),
+            (47, &text[sign.clone()] != b"-", sign.clone(), InvalidNegativeSign(sign.start)),
+            groups(GROUPS, integer),
+            groups(FRACTION_GROUPS, fraction),
         ]
     }
 
@@ -194,23 +244,6 @@ impl Syntax {
         self.split(word, text, 0, 0, &mut array::from_fn(|_| 0..0), &mut found);
         assert!(found.len() < 2, "{} in {word:#034X} has the parts {found:?}", text.escape_ascii());
         found.pop()
-    }
-
-    /// Returns why a text is not a literal that is one apart from its groups. The first group has up to as many digits as are
-    /// required, and each other group as many.
-    fn wrong_group(&self, text: &[u8], pieces: &Pieces) -> Option<Failure> {
-        let (size, integer) = (usize::from(group_size(self.word)?), &pieces[Integer as usize]);
-        let (mut start, mut least) = (integer.start, 1);
-        let groups = text[integer.clone()].split(|&byte| self.plays(byte, Role::Separator)).map(|group| {
-            let (own, is_right) = (start..start + group.len(), (least..=size).contains(&group.len()));
-            (start, least) = (own.end + 1, size);
-            (own, is_right)
-        });
-        let groups = Vec::from_iter(groups);
-        let (group, _) = groups.iter().find(|(_, is_right)| groups.len() > 1 && !is_right)?.clone();
-        let required = Conditions::NONE.integer_group_size(group_size(self.word));
-        let (end, code) = (pieces[Suffix as usize].end, InvalidDigit(group.start));
-        Some((end, ReadErrorKind::Requirement, 0, required, group, code, None))
     }
 
     /// Returns a literal of `word` that is `front` and one of `more`, and its parts.
@@ -223,19 +256,21 @@ impl Syntax {
     /// with it without its last byte. The page names it S, and the syntax of the word `bare` B.
     fn failure(&self, stop: &[u8], is_missing: bool) -> Failure {
         let more = if is_missing { &self.more[..1] } else { &self.more };
-        let bare = self.word & !0x7FFF & !CONDITION_MASK; // Flags 10 and 11 do nothing to literals.
+        let bare = self.word & !0x7FFF & !mask(CONDITIONS, |_| true); // Flags 10 and 11 do nothing to literals.
         let Some((text, pieces)) = self.begun(bare, stop, more) else {
             return if is_missing { self.missing(stop) } else { self.misplaced(stop, bare) };
         };
-        let begins = |word: u128| self.begun(word, stop, more).is_some();
-        let alone = |flags| mask(flags, |flag| is_set(self.word, flag) && !begins(bare | 1 << flag));
-        let (alone, unmet) = (alone(0..15), alone(CONDITIONS..CONDITIONS + 3));
+        // With the size of the integer's groups is that of its higher groups.
+        let required = |number| self.word & (bits(number) | if number == GROUPS { bits(HIGHER) } else { 0 });
+        let begins = |number| self.begun(bare | required(number), stop, more).is_some();
+        let refuses = |number| is_set(self.word, number) && !begins(number);
+        let (alone, unmet) = (mask(0..15, refuses), self.word & mask(CONDITIONS, refuses));
         let zeros = || mask(12..14, |flag| is_set(self.word, flag));
         let hidden = u128::from(is_set(self.word, 14) && !self.is_integers) << 12;
         let blamed = if alone | unmet == 0 { zeros() } else { alone } & !hidden;
         let end = if is_missing { stop.len() } else { stop.len() - 1 };
-        let mut requirements = self.requirements(&text, &pieces, end).into_iter();
-        let (_, _, span, code) = requirements.find(|row| row.0 == (blamed | unmet).trailing_zeros()).unwrap();
+        let mut requirements = self.requirements(self.word, &text, &pieces, end).into_iter();
+        let (_, _, span, code) = requirements.find(|row| is_set(blamed | unmet, row.0)).unwrap();
         (end, ReadErrorKind::Requirement, blamed, conditions(unmet), span, code, stop.get(end).copied())
     }
 
@@ -283,7 +318,7 @@ fn below(state: &mut u64, bound: u64) -> u64 {
 /// Returns a pseudo-random word, which is seldom lawful.
 fn random_word(state: &mut u64) -> u128 {
     let sparseness = 2 + 2 * below(state, 2);
-    let flags = mask(0..64, |_| below(state, sparseness) == 0) & FLAG_MASK;
+    let flags = mask(0..45, |_| below(state, sparseness) == 0) & FLAG_MASK;
     let [separator, prefix, other] = [(); 3].map(|()| below(state, 3).min(1) * below(state, 127));
     let suffix = if below(state, 8) == 0 { prefix ^ 0x20 } else { other };
     let [radix, base, exponent_radix] = [(); 3].map(|()| below(state, 37));
@@ -337,10 +372,7 @@ fn compare(word: u128, options: Option<(u8, u8)>, required: u128, bytes: &[u8], 
         let failure = || wrong.clone().unwrap_or_else(|| syntax.failure(&text, true));
         let (read, prefix) = (library.read(&text), library.read_prefix(&text));
         for (read, pieces) in [(read, literal), (prefix.map(|(literal, _)| literal), front.clone())] {
-            let wanted = pieces.ok_or_else(failure).and_then(|pieces| match syntax.wrong_group(&text, &pieces) {
-                None => Ok(pieces.map(|piece| &text[piece])),
-                Some(failure) => Err(failure),
-            });
+            let wanted = pieces.ok_or_else(failure).map(|pieces| pieces.map(|piece| &text[piece]));
             assert_eq!(answer(read), wanted, "{} in {name}", text.escape_ascii());
         }
         for &byte in bytes {
@@ -351,21 +383,30 @@ fn compare(word: u128, options: Option<(u8, u8)>, required: u128, bytes: &[u8], 
     }
 }
 
-/// Returns the conditions that a lawful word does not contradict, with groups of two.
-fn possible(word: u128) -> u128 {
-    let has_byte = |bit: u32| u128::from(word >> bit & 0xFF != 0);
-    let conditions = has_byte(88) | has_byte(96) << 1 | 1 << 2;
-    conditions << CONDITIONS | u128::from(is_set(word, 32)) << (GROUP_SIZE + 1)
+/// Returns those conditions of `required` that a lawful word does not contradict.
+fn possible(word: u128, required: u128) -> u128 {
+    let has_byte = |bit: u32| word >> bit & 0xFF != 0;
+    let separates = |flag| is_set(word, flag) && has_byte(64);
+    let fits =
+        [has_byte(88), has_byte(96), true, separates(32), separates(32) && is_set(required, GROUPS), separates(33)];
+    required & mask(iter::zip(CONDITIONS, fits).filter(|it| it.1).map(|it| it.0), |_| true)
 }
 
-/// Compares the syntaxes of the languages, with their conditions and with all that are possible, and random words with
-/// random conditions, and with random options and without.
+/// Returns conditions of which the sizes are `sizes`.
+fn sized(flags: u64, sizes: [u64; 3]) -> u128 {
+    let sizes = iter::zip([GROUPS, HIGHER, FRACTION_GROUPS], sizes).map(|(number, size)| u128::from(size) << number);
+    u128::from(flags) << CONDITIONS[0] | sizes.sum::<u128>()
+}
+
+/// Compares the syntaxes of the languages, with their conditions and with all that are possible, random words with random
+/// conditions, and with random options and without, and syntaxes of groups.
 fn compare_all(longest: usize, words: usize, eighths: u64) {
     let syntaxes = Language::ALL.iter().flat_map(Language::forms).map(|form| form.syntax).collect::<BTreeSet<_>>();
     for syntax in syntaxes {
         let (word, options) = (syntax.format().word(), syntax.exponent().zip(syntax.point()));
-        let own = (0..1 << 7).map(|set| set << CONDITIONS).find(|&set| conditions(set) == syntax.conditions()).unwrap();
-        for (required, longest) in [(own, longest), (possible(word), longest - 1)] {
+        let own =
+            (0..1 << 7).map(|set| set << CONDITIONS[0]).find(|&set| conditions(set) == syntax.conditions()).unwrap();
+        for (required, longest) in [(own, longest), (possible(word, sized(7, [2, 3, 2])), longest - 1)] {
             compare(word, options, required, &hostile_bytes(word, options)[..10], longest, eighths);
         }
     }
@@ -377,12 +418,30 @@ fn compare_all(longest: usize, words: usize, eighths: u64) {
         let some_options = || (below(&mut random, 127) as u8, below(&mut random, 127) as u8);
         let options = iter::repeat_with(some_options).find(fits);
         for options in [options, None] {
-            let required = u128::from(below(&mut random, 32)) << CONDITIONS & possible(word);
+            let sizes = [(); 3].map(|()| [0, 2, 3][below(&mut random, 3) as usize]);
+            let required = possible(word, sized(below(&mut random, 8), sizes));
             let mut pool = hostile_bytes(word, options);
             let bytes: [u8; 10] = array::from_fn(|_| pool.swap_remove(below(&mut random, pool.len() as u64) as usize));
             compare(word, options, required, &bytes, 4, eighths);
         }
     }
+    for sizes in [[2, 0, 2], [3, 0, 3], [3, 2, 0], [2, 3, 0], [2, 4, 3]] {
+        for _ in 0..words / 25 {
+            let format = Format::new(group_word(&mut random)).unwrap();
+            compare(format.word(), Some((b'e', b'.')), sized(0, sizes), b"0,.e", longest + 2, eighths);
+        }
+    }
+}
+
+/// Returns a word with the separator `,` and flags 32 to 34, and with random requirements and random flags on separators.
+fn group_word(state: &mut u64) -> u128 {
+    let flags = mask(0..44, |flag| match flag {
+        0..=3 | 6 | 12 | 13 => below(state, 4) == 0,
+        32..=34 => true,
+        35..=43 => below(state, 2) == 0,
+        _ => false,
+    });
+    flags | u128::from(b',') << 64 | 0x0A0A0A << 104
 }
 
 #[test]

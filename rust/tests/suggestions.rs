@@ -88,6 +88,13 @@ fn examples_lead_to_the_size_of_groups() {
     ] {
         assert!(offered(grouped(size), lines).contains(&grouped(found)), "{lines}");
     }
+    let indian = |state: State| State { conditions: state.conditions.higher_group_size(Some(2)), ..state };
+    for (state, lines) in [(grouped(Some(3)), "12,34,567"), (grouped(None), "!123,456\n12,34,567")] {
+        assert!(offered(state, lines).contains(&indian(grouped(Some(3)))), "{lines}");
+    }
+    let fraction = state("digit_separator=',' internal_digit_separator=true", b'e', b'.');
+    let of_fraction = State { conditions: Conditions::NONE.fraction_group_size(Some(4)), ..fraction };
+    assert!(offered(fraction, "!0.123,4\n0.1234,5").contains(&of_fraction));
 }
 
 /// Returns the state to which the first offers lead from the standard format.

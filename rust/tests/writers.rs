@@ -184,4 +184,9 @@ fn the_style_and_conditions_decide_on_prefix_suffix_and_groups() {
     let strict = syntax.with_conditions(conditions.integer_group_size(Some(3))).unwrap();
     assert_eq!((text(strict, bare).as_str(), text(strict, bare.group(2)).as_str()), ("0xFFFF", "0xF,FFF"));
     assert_eq!(strict.format_integer(-1, bare).unwrap_err(), WriteError::Negative);
+    let indian =
+        syntax.with_conditions(Conditions::NONE.integer_group_size(Some(3)).higher_group_size(Some(2))).unwrap();
+    let texts =
+        [0xFFF, 0xFFFF, 0xF_FFFF, 0xFFF_FFFF].map(|it| indian.format_integer(it, bare.group(4)).unwrap().to_string());
+    assert_eq!(texts, ["FFF", "F,FFF", "FF,FFF", "FF,FF,FFF"]);
 }

@@ -19,7 +19,9 @@ use Rattle.std.specs.List.{list_any}
 use Rattle.lexical_literal.specs.Additions.Explained.{mask_of}
 use Rattle.lexical_flags.specs.declared.format_flags.TheConstants.{FLAG_MASK}
 use Rattle.lexical_literal.specs.declared.cause.TheConstants.{FLOAT_REQUIREMENTS, REQUIREMENTS, SEPARATORS, ZEROS}
-use Rattle.lexical_literal.specs.Cause.{behind, flag_at, is_one_of, leading_zero_flags, number_separator_flags, requirement_flags}
+use Rattle.lexical_literal.specs.Additions.Summary.{no_condition}
+use Rattle.lexical_literal.specs.Cause.{bare, behind, flag_at, is_one_of, leading_zero_flags, number_separator_flags, requirement_flags, with_rules}
+use Rattle.lexical_literal.specs.Notation.{Notation}
 
 -- FLAGS
 
@@ -153,6 +155,10 @@ one_flag false k f = flag_zero f
 -- A bit that a mask has not.
 pub is_unset : (n k : ℕ) → bit_and n (2 ^ k) ≡ 0 → part n k 1 ≡ 0
 is_unset n k none = omega (arith, bit_small n k, bit_at-pow_same k, bit_at_and n (2 ^ k) k, ap (λ n. part n k 1) none, bit_at-zero k)
+
+-- A mask as the flags of a notation.
+pub as_bare : (m : Notation) (mask : ℕ) → ((f : Flag) → (raw mask).flag f ≡ (bare m).flag f) → with_rules m (raw mask).flag no_condition ≡ bare m
+as_bare m mask each = λ j. with_rules m (λ f. each f j) no_condition
 
 -- THE BYTES TO SHOW
 

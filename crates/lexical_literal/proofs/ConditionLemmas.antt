@@ -9,6 +9,7 @@ use Rattle.lexical_util.specs.declared.feature_format.roles.Role.TheVariants as 
 use Rattle.lexical_util.specs.declared.format_flags.Part.{Part}
 use Rattle.lexical_util.specs.declared.format_flags.Part.TheVariants as parts
 use Rattle.lexical_literal.specs.Additions.Plain.{HasRoles}
+use Rattle.lexical_literal.specs.Groups.{has_sizes}
 use Rattle.lexical_literal.specs.Notation.{Notation}
 use Rattle.lexical_literal.specs.Literal.{Literal, IsLiteral, IsSpelled, Reads, condition, is_absent, is_none_or_one, is_none_or_prefix, is_plus, is_present}
 use Rattle.lexical_literal.specs.Literal.{text_of}
@@ -120,8 +121,8 @@ module _ (m : Notation) (h : HasRoles m) where
   positive (b ∷ x ∷ sign) rest one set is = absurd (false≢true one)
 
   -- What is accepted is a literal.
-  pub literal_from : (text : List ℕ) → Accepts C m (Some start) text → (l : Literal) × Reads m l text
-  literal_from text is =
+  pub literal_from : has_sizes m ≡ false → (text : List ℕ) → Accepts C m (Some start) text → (l : Literal) × Reads m l text
+  literal_from no_sizes text is =
       let found = spelled_from m h C text is in
       let l = found.0 in
       let spelled = found.2 in
@@ -131,14 +132,15 @@ module _ (m : Notation) (h : HasRoles m) where
       let met = subst Meets tallied (meets start no_cuts text (record { prefix = λ set. refl; suffix = refl }) is) in
       (l, record { whole = found.1; literal = record { spelled = spelled; conditions = each l text found.1 spelled is lengths met } }) where
         each : (l : Literal) (text : List ℕ) → text ≡ text_of l → IsSpelled m l → Accepts C m (Some start) text → HasLengths l (all_cuts l)
-            → Meets (all_cuts l) → (c : Condition) → C c ≡ true → condition c l ≡ true
+            → Meets (all_cuts l) → (c : Condition) → C c ≡ true → condition c m l ≡ true
         each l text whole spelled is lengths met conditions.BasePrefix set =
             sym (some_bytes l.prefix) ∙ ap (nat_lt 0) lengths.prefix ∙ met.0 set
         each l text whole spelled is lengths met conditions.BaseSuffix set =
             sym (some_bytes l.suffix) ∙ ap (nat_lt 0) (sym (suffix_length l)) ∙ met.1 set
         each l text whole spelled is lengths met conditions.NegativeSign set =
             positive l.sign _ spelled.sign set (subst (Accepts C m (Some start)) whole is)
-        each l text whole spelled is lengths met conditions.IntegerGroupSize set = refl
+        each l text whole spelled is lengths met conditions.HigherGroupSize set = refl
+        each l text whole spelled is lengths met _ set = absurd (grind arith)
 
   -- A LITERAL IS ACCEPTED
 

@@ -35,7 +35,7 @@ each (false ∷ tests) is = absurd (false≢true (sym is))
 met : (m : Notation) (l : Literal) → is_free m ≡ true → (f : Flag) → IsTrue (m.flag f) → IsTrue (requirement f m l)
 met m l free f set = grind arith
 
-conditions_met : (m : Notation) (l : Literal) → is_free m ≡ true → (c : Condition) → IsTrue (m.condition c) → IsTrue (condition c l)
+conditions_met : (m : Notation) (l : Literal) → is_free m ≡ true → (c : Condition) → IsTrue (m.condition c) → IsTrue (condition c m l)
 conditions_met m l free c set = grind arith
 
 -- Parts that pass the tests are a literal.

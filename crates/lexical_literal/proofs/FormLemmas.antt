@@ -1,23 +1,22 @@
 -- Several forms: what has been found in the first of them, and what one form more adds.
-use Rattle.std.proofs.Common.{ℕ, ◌≡◌, ◌*◌, Bool, true, false, if◌then◌else◌, ◌<◌, ◌≤◌, ◌+◌, inl, inr, List, append-nil, Option, Some, None, All, IsSomeAnd}
+use Rattle.std.proofs.Common.{ℕ, ◌≡◌, ◌*◌, Bool, true, false, if◌then◌else◌, ◌<◌, ◌≤◌, ◌+◌, inl, inr, List, append-nil, Ok, Option, Some, None, All, IsSomeAnd}
 use Rattle.std.proofs.Common.{length, take, get_or, slice_get, [], IsNone, refl, sym, ap, subst, ◌∙◌, arith}
 use Rattle.std.specs.Option.{ForSome}
 use Rattle.std.proofs.lemmas.Bool.Decides.{nat_tests}
-use Rattle.std.proofs.lemmas.Bool.{cases_lt}
+use Rattle.std.proofs.lemmas.Bool.{cases_lt, false≢true}
 use Rattle.std.proofs.lemmas.List.{take_all}
 use Rattle.std.proofs.lemmas.List.Elements.{All-more}
 use Rattle.std.proofs.lemmas.Option.{slice_get-get_or, slice_get_past, slice_get_within}
 use Rattle.lexical_util.specs.Layout.{Flag}
 use Rattle.lexical_util.specs.Record.{raw}
-use Rattle.lexical_literal.specs.Additions.Forms.{GoesTo, IsFurthestForm, IsLongestForm, greater, longer}
+use Rattle.lexical_literal.specs.Additions.Forms.{GoesTo, IsFoundFrontForm, IsFurthestForm, greater, longer}
 use Rattle.lexical_literal.specs.Additions.Longest.{IsCountedFront, IsStopped}
 use Rattle.lexical_literal.specs.Cause.{Explained, IsCause, IsRefusal}
-use Rattle.lexical_literal.specs.Takes.{IsError, IsUngrouped, NoFront, Refuses}
 use Rattle.lexical_literal.specs.declared.cause.ReadErrorKind.{ReadErrorKind}
 use Rattle.lexical_literal.specs.declared.cause.ReadErrorKind.TheVariants as causes
 use Rattle.lexical_literal.specs.declared.cause.Refusal.{Refusal}
 use Rattle.lexical_literal.specs.Forms.{HasFront, IsFormError, IsGreatest, Reaches, is_byte, reach}
-use Rattle.lexical_literal.specs.Front.{IsValidUpTo, ReadsFront}
+use Rattle.lexical_literal.specs.Front.{IsValidUpTo, NoFront, NoLiteral, ReadsFront}
 use Rattle.lexical_literal.specs.Literal.{Literal, Reads}
 use Rattle.lexical_literal.specs.Notation.{Notation, no_conditions, notation_of}
 use Rattle.lexical_literal.specs.declared.read.Found.{Found}
@@ -53,63 +52,19 @@ one_size m text a b is other = let longer = λ (below : b < a). other.no_longer 
 pub one_front : (m : Notation) (text : List ℕ) (l k : Literal) (a b : ℕ) → ReadsFront m l text a → ReadsFront m k text b → a ≤ b
 one_front m text l k a b is other = let longer = λ (below : b < a). other.no_longer a below is.within l is.reads in grind arith
 
--- A text is a front of itself.
-all_of : (text : List ℕ) → text ≡ take (length text) text
-all_of text = sym (take_all (length text) text (omega arith))
-
 -- A text of which no front is a literal is none.
-pub none_whole : (g : Grammar) (text : List ℕ) → NoFront text g → Refuses g text
-none_whole g text none l takes = none (length text) (omega arith) l (subst (Reads (notation_of g) l) (all_of text) takes.reads)
-
--- Its error is not that of groups.
-pub front_error : (g : Grammar) (text : List ℕ) (error : Refusal) → NoFront text g → IsError g text error → IsRefusal (notation_of g) text error
-front_error g text error none (inl is) = is
-front_error g text error none (inr is) =
-    absurd (none (length text) (omega arith) is.literal (subst (Reads (notation_of g) is.literal) (all_of text) is.reads))
-
--- An error of a text says how far it is right.
-error_up_to : (g : Grammar) (text : List ℕ) (error : Refusal) → IsError g text error → IsValidUpTo (notation_of g) text error.valid_up_to
-error_up_to g text error (inl is) = is.valid_up_to
-error_up_to g text error (inr is) = subst (IsValidUpTo (notation_of g) text) (sym is.valid_up_to) (record {
-  within = omega arith;
-  front = record {
-    more = [];
-    literal = is.literal;
-    reads = subst (Reads (notation_of g) is.literal) (all_of text ∙ sym (append-nil (take (length text) text))) is.reads;
-  };
-  no_longer = λ more longer within _. absurd (omega (arith, longer, within));
-})
+pub none_whole : (m : Notation) (text : List ℕ) → NoFront m text → NoLiteral m text
+none_whole m text none l reads = none (length text) (omega arith) l (subst (Reads m l) (sym (take_all (length text) text (omega arith))) reads)
 
 -- An error of the form that goes furthest says how far this is.
-pub error_is : (g : Grammar) (text : List ℕ) (size : ℕ) (error : Refusal) → IsValidUpTo (notation_of g) text size → IsError g text error
+pub error_is : (g : Grammar) (text : List ℕ) (size : ℕ) (error : Refusal) → IsValidUpTo (notation_of g) text size → IsRefusal (notation_of g) text error
     → size ≡ error.valid_up_to
 error_is g text size error valid is =
-    let reached = error_up_to g text error is in
+    let reached = is.valid_up_to in
     let up = one_size (notation_of g) text size error.valid_up_to valid reached in
     let down = one_size (notation_of g) text error.valid_up_to size reached valid in omega (arith, up, down)
 
--- What is missing is not a wrong byte.
-no_byte : (m : Notation) (front : List ℕ) (kind : ReadErrorKind) (blamed : Flag → Bool) → IsCause m front None kind blamed → is_byte kind ≡ false
-no_byte m front causes.Byte blamed is = absurd is
-no_byte m front _ blamed is = refl
-
 module _ (g : Grammar) (text : List ℕ) where
-  -- The error of a literal that is not in groups has the reach of one at the end.
-  at_end : (a b : Refusal) → IsRefusal (notation_of g) text a → IsUngrouped g text b → reach a ≡ reach b
-  at_end a b one two =
-      let up = one_size (notation_of g) text b.valid_up_to a.valid_up_to (error_up_to g text b (inr two)) one.valid_up_to in
-      let end = slice_get_past text a.valid_up_to (omega (arith, up, two.valid_up_to)) in
-      let cause = subst (λ next. IsCause (notation_of g) (take a.valid_up_to text) next a.kind (raw a.mask).flag) end one.cause in
-      let none = no_byte _ _ _ _ cause in let within = one.valid_up_to.within in
-      let size : a.valid_up_to ≡ b.valid_up_to = omega (arith, up, within, two.valid_up_to) in rw (none, two.kind, size) refl
-
-  -- All errors of a text have the same reach.
-  one_reach : (a b : Refusal) → IsError g text a → IsError g text b → reach a ≡ reach b
-  one_reach a b (inl one) (inl two) = ap reach (one_refusal (notation_of g) text a b one two)
-  one_reach a b (inl one) (inr two) = at_end a b one two
-  one_reach a b (inr one) (inl two) = sym (at_end b a two one)
-  one_reach a b (inr one) (inr two) = rw (one.kind, two.kind, one.valid_up_to, two.valid_up_to) refl
-
   reach_within : (error : Refusal) → reach error ≤ 2 * error.valid_up_to + 1
   reach_within error = go (is_byte error.kind) where
     go : (b : Bool) → 2 * error.valid_up_to + (if b then 0 else 1) ≤ 2 * error.valid_up_to + 1
@@ -118,16 +73,16 @@ module _ (g : Grammar) (text : List ℕ) where
 
   -- The reach of a form that goes up to `size`, or less far.
   pub reach_up_to : (size : ℕ) → ((other : ℕ) → GoesTo text g other → other ≤ size) → (n : ℕ) → Reaches text g n → n ≤ 2 * size + 1
-  reach_up_to size up n is = omega (arith, up is.0.valid_up_to (error_up_to g text is.0 is.1), reach_within is.0, is.2)
+  reach_up_to size up n is = omega (arith, up is.0.valid_up_to is.1.valid_up_to, reach_within is.0, is.2)
 
   pub reach_below : (size : ℕ) → ((other : ℕ) → GoesTo text g other → other < size) → (n : ℕ) → Reaches text g n → n < 2 * size
-  reach_below size up n is = omega (arith, up is.0.valid_up_to (error_up_to g text is.0 is.1), reach_within is.0, is.2)
+  reach_below size up n is = omega (arith, up is.0.valid_up_to is.1.valid_up_to, reach_within is.0, is.2)
 
   -- Its reach is that of its error.
-  pub reach_of : (error : Refusal) (size : ℕ) (b : Bool) → IsError g text error → IsValidUpTo (notation_of g) text size → is_byte error.kind ≡ b
+  pub reach_of : (error : Refusal) (size : ℕ) (b : Bool) → IsRefusal (notation_of g) text error → IsValidUpTo (notation_of g) text size → is_byte error.kind ≡ b
       → (n : ℕ) → Reaches text g n → n ≡ 2 * size + (if b then 0 else 1)
   reach_of error size b is valid byte n other =
-      sym other.2 ∙ one_reach other.0 error other.1 is ∙ rw (byte, ← error_is g text size error valid is) refl
+      sym other.2 ∙ ap reach (one_refusal (notation_of g) text other.0 error other.1 is) ∙ rw (byte, ← error_is g text size error valid is) refl
 
 -- `Measure X` has what is compared: values with a size. It tells which sizes and values a form has, and whether it has none.
 pub record Measure (X : Type 0) : Type 1 where
@@ -212,7 +167,7 @@ fronts text = record {
   size = λ found. found.size;
   IsSize = HasFront text;
   IsValue = λ g found. IsCountedFront (notation_of g) text found;
-  IsNot = NoFront text;
+  IsNot = λ g. NoFront (notation_of g) text;
   one = λ g a b is other. one_front (notation_of g) text is.0 other.0 a b is.1 other.1;
   sized = λ g found is. (is.literal, is.reads);
   none = λ g a none is. none a is.1.within is.0 is.1.reads;
@@ -221,7 +176,7 @@ fronts text = record {
 -- One form more, with its longest front, or none.
 pub fronts_more : (text : List ℕ) (forms : List Grammar) (i : ℕ) (d : Grammar) → i < length forms
     → (longest : Option (ℕ × Found)) → IsBest (fronts text) forms i longest → (found : Option Found)
-    → ForSome found (IsCountedFront (notation_of (get_or forms i d)) text) → (IsNone found → NoFront text (get_or forms i d))
+    → ForSome found (IsCountedFront (notation_of (get_or forms i d)) text) → (IsNone found → NoFront (notation_of (get_or forms i d)) text)
     → IsBest (fronts text) forms (i + 1) (longer longest i found)
 fronts_more text forms i d inside longest old None has none = best_stays (fronts text) forms i d inside (none refl) longest old
 fronts_more text forms i d inside longest old (Some found) has none = best_more (fronts text) forms i d inside found (has found refl) longest old
@@ -232,8 +187,9 @@ module _ (forms : List Grammar) (text : List ℕ) (i : ℕ) (end : length forms 
   furthest_is some None is = subst (All (λ g. ⊥)) (take_all i forms end) is 0 (record { word = 0; options = None; conditions = no_conditions }) some
   furthest_is some (Some best) is = (greatest (goes text) forms i end best.0 best.1 is, is.here)
 
-  pub longest_is : (form : ℕ) (found : Found) → IsBest (fronts text) forms i (Some (form, found)) → IsLongestForm forms text form found
-  longest_is form found is = record { greatest = greatest (fronts text) forms i end form found is; here = is.here }
+  pub longest_is : (form : ℕ) (found : Found) → IsBest (fronts text) forms i (Some (form, found)) → IsFoundFrontForm forms text (Ok (form, found))
+  longest_is form found is =
+      record { longest = greatest (fronts text) forms i end form found is; found = is.here; none = λ err. absurd (false≢true err); error = tt }
 
   pub all_tried : (P : Grammar → Type 0) → All P (take i forms) → All P forms
   all_tried P all = subst (All P) (take_all i forms end) all
@@ -256,7 +212,7 @@ module _ (forms : List Grammar) (text : List ℕ) (first size : ℕ) (furthest :
   pub none_before : All IsNoBetter (take first forms)
   none_before k d below n reaches = let less = reach_below _ text size (furthest.before k d below) n reaches in omega (arith, less)
 
-  pub at_byte : (g : Grammar) (error : Refusal) → IsError g text error → IsValidUpTo (notation_of g) text size → is_byte error.kind ≡ true → IsNoBetter g
+  pub at_byte : (g : Grammar) (error : Refusal) → IsRefusal (notation_of g) text error → IsValidUpTo (notation_of g) text size → is_byte error.kind ≡ true → IsNoBetter g
   at_byte g error is valid byte n reaches = omega (arith, reach_of g text error size true is valid byte n reaches)
 
   pub elsewhere : (form : ℕ) (g : Grammar) (other : ℕ) → slice_get forms form ≡ Some g → IsValidUpTo (notation_of g) text other → (other ≡ size → ⊥)
@@ -268,7 +224,7 @@ module _ (forms : List Grammar) (text : List ℕ) (first size : ℕ) (furthest :
       omega (arith, less)
 
   -- The error of a form that goes up to `size`.
-  module _ (form : ℕ) (g : Grammar) (error : Explained) (at : slice_get forms form ≡ Some g) (is : IsError g text error.refusal)
+  module _ (form : ℕ) (g : Grammar) (error : Explained) (at : slice_get forms form ≡ Some g) (is : IsRefusal (notation_of g) text error.refusal)
       (valid : IsValidUpTo (notation_of g) text size) where
     error_from : All (λ g. (n : ℕ) → Reaches text g n → n < reach error.refusal) (take form forms)
         → All (λ g. (n : ℕ) → Reaches text g n → n ≤ reach error.refusal) forms → IsFormError forms text (record { form = form; error = error })
@@ -278,7 +234,7 @@ module _ (forms : List Grammar) (text : List ℕ) (first size : ℕ) (furthest :
         before = before;
         others = others;
       };
-      refusal = subst (λ o. IsSomeAnd o (λ g. IsError g text error.refusal)) (sym at) is;
+      refusal = subst (λ o. IsSomeAnd o (λ g. IsRefusal (notation_of g) text error.refusal)) (sym at) is;
     }
 
     pub other_error : is_byte error.refusal.kind ≡ false → All IsNoBetter (take form forms) → IsFormError forms text (record { form = form; error = error })

@@ -1,33 +1,36 @@
 -- What has been read without an error can be completed to a literal.
 use Rattle.std.proofs.Common.{ℕ, ◌≡◌, Bool, true, false, not, ◌==◌, ◌&&◌, ◌||◌, ◌⊎◌, inl, inr, List}
 use Rattle.std.proofs.Common.{[], ◌∷◌, ◌++◌, Some, None, refl, sym, ap, subst, ◌∙◌, arith}
-use Rattle.std.proofs.lemmas.Bool.{false≢true, and_parts, and_from, cases_Bool}
+use Rattle.std.proofs.lemmas.Bool.{false≢true, and_parts, and_from, cases_Bool, false_from_ne_true, or_from}
+use Rattle.std.specs.List.{list_any}
+use Rattle.lexical_util.specs.Ascii.{ByteSet}
 use Rattle.lexical_util.specs.Layout as layout
 use Rattle.lexical_util.specs.declared.feature_format.roles.Role.{Role}
 use Rattle.lexical_util.specs.declared.feature_format.roles.Role.TheVariants as roles
 use Rattle.lexical_util.specs.declared.format_flags.Part.{Part}
 use Rattle.lexical_util.specs.declared.format_flags.Part.TheVariants as parts
 use Rattle.lexical_literal.specs.Additions.Plain.{IsReady, HasRoles}
-use Rattle.lexical_literal.specs.Notation.{Notation}
+use Rattle.lexical_literal.specs.Notation.{Notation, set_of_role}
 use Rattle.lexical_literal.specs.Front.{IsFront}
+use Rattle.lexical_literal.specs.Literal.{Literal, Reads}
 use Rattle.lexical_literal.specs.Additions.Summary.{admits, continues, implies, has_digit, is_fresh, is_led, after_digit, after_mark, after_point, may_lead}
 use Rattle.lexical_literal.specs.Additions.Summary.{is_negative, lacks_prefix, needs_exponent, may_follow, gap_fits, ends, is_open, is_signed, takes, after}
-use Rattle.lexical_literal.specs.Additions.Summary.{scan, is_accepted, start, no_cuts, role_at, part_of, awaits_integer, digits_suffice, takes_in, forbids_plus}
+use Rattle.lexical_literal.specs.Additions.Summary.{scan, is_accepted, start, no_cuts, role_at, part_of, awaits_integer, digits_suffice, takes_in, forbids_plus, is_run}
 use Rattle.lexical_literal.specs.declared.steps.Stage.{Stage}
 use Rattle.lexical_literal.specs.declared.steps.Stage.TheVariants as stages
 use Rattle.lexical_literal.specs.declared.steps.Summary.{Summary}
 use Rattle.lexical_literal.specs.declared.syntax.Condition.{Condition}
 use Rattle.lexical_literal.specs.declared.syntax.Condition.TheVariants as conditions
 use Rattle.lexical_literal.proofs.ConditionLemmas.{literal_from, literal_arrives}
-use Rattle.lexical_literal.proofs.ScanLemmas.{Accepts, scan_none, scan_append, took, arrives_byte, digit_role, is_role}
+use Rattle.lexical_literal.proofs.ScanLemmas.{Accepts, scan_none, scan_append, took, arrives_byte, as_role, digit_role, is_role}
 use Rattle.lexical_literal.proofs.StepLemmas.{digit_part, digit_seen, mark_part, point_part, reading}
 
 -- `CanGoOn m s` holds if a gap, where there is one, can be closed, if there is a leading zero only where one may be, and if a
 -- prefix that is missing can follow.
-record CanGoOn (m : Notation) (s : Summary) : Type 0 where
-  closes : implies s.gap (is_open m (part_of s.stage) (has_digit s.stage) (may_follow m s.stage)) ≡ true
-  led : implies (is_led s.stage) (may_lead m) ≡ true
-  prefixed : implies (m.condition conditions.BasePrefix && lacks_prefix s.stage) (not (s.gap || s.ended)) ≡ true
+pub record CanGoOn (m : Notation) (s : Summary) : Type 0 where
+  pub closes : implies s.gap (is_open m (part_of s.stage) (has_digit s.stage) (may_follow m s.stage)) ≡ true
+  pub led : implies (is_led s.stage) (may_lead m) ≡ true
+  pub prefixed : implies (m.condition conditions.BasePrefix && lacks_prefix s.stage) (not (s.gap || s.ended)) ≡ true
 
 module _ (m : Notation) where
   abbrev C : Condition → Bool
@@ -58,14 +61,41 @@ module _ (m : Notation) where
   behind_digit : (stage : Stage) (gap : Bool) → is_signed m (part_of stage) (after_digit stage gap true) ≡ true
   behind_digit stage gap = grind arith
 
-  abbrev Completed : Summary → Type 0
-  Completed s = (more : List ℕ) × Accepts C m (Some s) more
+  -- `Completed s` has bytes without separators that complete what has been read to a literal.
+  pub record Completed (s : Summary) : Type 0 where
+    pub more : List ℕ
+    pub accepts : Accepts C m (Some s) more
+    pub joined : list_any m.separator more ≡ false
+
+  -- `begins A bytes` is true if the first of `bytes` is in `A`.
+  abbrev pub begins : ByteSet → List ℕ → Bool
+  begins A [] = false
+  begins A (b ∷ bytes) = A b
+
+  -- `Ended s` has such bytes that do not begin with a digit.
+  abbrev pub Ended : Summary → Type 0
+  Ended s = (c : Completed s) × (begins (m.digit (part_of s.stage)) c.more ≡ false)
 
   module _ (ready : IsReady m) where
-    then_byte : (s : Summary) (b : ℕ) (r : Role) → s.ended ≡ false → role_at m (part_of s.stage) b ≡ Some r → takes m s (b == 43) r ≡ true
-        → admits C s (b == 43) (b == 48) r ≡ true → Completed (after s (b == 48) r) → Completed s
-    then_byte s b r going role is admitted more =
-        (b ∷ more.0, (arrives_byte C m s b r no_cuts more.0 _ going role is admitted (more.1, refl)).0)
+    -- A byte plays no other role.
+    not_in : (other : Role) (s : Summary) (b : ℕ) (r : Role) → role_at m (part_of s.stage) b ≡ Some r → (other ≡ r → ⊥) → set_of_role m other b ≡ false
+    not_in other s b r role apart = false_from_ne_true _ (λ is. apart (ready.roles.one other r b is (as_role m (part_of s.stage) b r role)))
+
+    abbrev then_byte : (s : Summary) (b : ℕ) (r : Role) → s.ended ≡ false → role_at m (part_of s.stage) b ≡ Some r → (roles.Separator ≡ r → ⊥)
+        → takes m s (b == 43) r ≡ true → admits C s (b == 43) (b == 48) r ≡ true → Completed (after s (b == 48) r) → Completed s
+    then_byte s b r going role apart is admitted more = record {
+      more = b ∷ more.more;
+      accepts = (arrives_byte C m s b r no_cuts more.more _ going role is admitted (more.accepts, refl)).0;
+      joined = or_from _ _ (not_in roles.Separator s b r role apart) more.joined;
+    }
+
+    -- One that is no digit ends a part.
+    then_end : (s : Summary) (b : ℕ) (r : Role) → s.ended ≡ false → role_at m (part_of s.stage) b ≡ Some r → (roles.Separator ≡ r → ⊥)
+        → (roles.Digit ≡ r → ⊥) → takes m s (b == 43) r ≡ true → admits C s (b == 43) (b == 48) r ≡ true → Completed (after s (b == 48) r) → Ended s
+    then_end s b r going role apart other is admitted more = (
+      then_byte s b r going role apart is admitted more,
+      false_from_ne_true _ (λ digit. let same = sym role ∙ digit_role m (part_of s.stage) b digit in other (let is : r ≡ roles.Digit = cc in sym is)),
+    )
 
     -- `is_settled stage` is true if no prefix is missing.
     abbrev is_settled : Stage → Bool
@@ -74,16 +104,17 @@ module _ (m : Notation) where
     -- `Finishes part` holds if a part with a digit that may end can be completed.
     abbrev Finishes : Part → Type 0
     Finishes part = (stage : Stage) (gap : Bool) → part_of stage ≡ part → is_settled stage ≡ true → has_digit stage ≡ true → ends m part stage gap ≡ true
-        → implies (is_led stage) (may_lead m) ≡ true → Completed (reading stage gap)
+        → implies (is_led stage) (may_lead m) ≡ true → Ended (reading stage gap)
 
     module _ (stage : Stage) (gap : Bool) where
       -- Where a literal may end, it does so, with the suffix if one is required.
       stopped : is_settled stage ≡ true → (part : Part) → part_of stage ≡ part → (ends m part stage gap && continues m part stage roles.Suffix) ≡ true
-          → Completed (reading stage gap)
+          → Ended (reading stage gap)
       stopped settled part at may = elim (cases_Bool (C conditions.BaseSuffix)) [
-        | inl needs ↦ then_byte (reading stage gap) ready.suffix roles.Suffix refl
-            (is_role m (part_of stage) ready.suffix ready.roles roles.Suffix (λ e. cc) (ready.has_suffix needs)) there (grind arith) ([], grind arith)
-        | inr none ↦ ([], and_from _ _ there (grind arith))
+        | inl needs ↦ then_end (reading stage gap) ready.suffix roles.Suffix refl
+            (is_role m (part_of stage) ready.suffix ready.roles roles.Suffix (λ e. cc) (ready.has_suffix needs)) (λ e. cc) (λ e. cc) there (grind arith)
+            (record { more = []; accepts = grind arith; joined = refl })
+        | inr none ↦ (record { more = []; accepts = and_from _ _ there (grind arith); joined = refl }, refl)
       ] where
         there : (ends m (part_of stage) stage gap && continues m (part_of stage) stage roles.Suffix) ≡ true
         there = subst (λ part. (ends m part stage gap && continues m part stage roles.Suffix) ≡ true) (sym at) may
@@ -92,14 +123,14 @@ module _ (m : Notation) where
       digit_completed : is_settled stage ≡ true → is_signed m (part_of stage) stage ≡ true → CanGoOn m (reading stage gap) → Finishes (part_of stage)
           → Completed (reading stage gap)
       digit_completed settled signed can finishes = elim (closed (part_of stage) (has_digit stage) gap (may_follow m stage) can.closes) [
-        | inl here ↦ finishes stage gap refl settled here.0
-            (and_from _ _ signed (and_from _ _ here.1 (enough (part_of stage) stage here.0))) can.led
+        | inl here ↦ (finishes stage gap refl settled here.0
+            (and_from _ _ signed (and_from _ _ here.1 (enough (part_of stage) stage here.0))) can.led).0
         | inr more ↦
-            then_byte (reading stage gap) 48 roles.Digit refl (digit_role m (part_of stage) 48 (ready.roles.zero_is_digit (part_of stage)))
+            then_byte (reading stage gap) 48 roles.Digit refl (digit_role m (part_of stage) 48 (ready.roles.zero_is_digit (part_of stage))) (λ e. cc)
             (and_from _ _ signed (and_from _ _ more.0 (let may = more.1 in grind arith))) (grind arith)
-            (finishes (after_digit stage gap true) false (digit_part stage gap true) (grind arith) (digit_seen stage gap true)
+            ((finishes (after_digit stage gap true) false (digit_part stage gap true) (grind arith) (digit_seen stage gap true)
             (and_from _ _ (behind_digit stage gap) (and_from _ _ refl (enough (part_of stage) (after_digit stage gap true) (digit_seen stage gap true))))
-            (let may = more.1 in let led = can.led in grind arith))
+            (let may = more.1 in let led = can.led in grind arith)).0)
       ]
 
       -- A sign first, or none where none is needed.
@@ -109,10 +140,10 @@ module _ (m : Notation) where
           elim (cases_Bool (C conditions.NegativeSign && is_negative (part_of stage) false roles.Sign)) [
             | inl forbidden ↦ elim (cases_Bool (is_signed m (part_of stage) stage)) [
               | inl signed ↦ unsigned signed
-              | inr needs ↦ then_byte (reading stage gap) 43 roles.Sign refl (is_role m (part_of stage) 43 ready.roles roles.Sign (λ e. cc) refl)
+              | inr needs ↦ then_byte (reading stage gap) 43 roles.Sign refl (is_role m (part_of stage) 43 ready.roles roles.Sign (λ e. cc) refl) (λ e. cc)
                   (plus (part_of stage) forbidden needs) (grind arith) behind
             ]
-            | inr may ↦ then_byte (reading stage gap) 45 roles.Sign refl (is_role m (part_of stage) 45 ready.roles roles.Sign (λ e. cc) refl)
+            | inr may ↦ then_byte (reading stage gap) 45 roles.Sign refl (is_role m (part_of stage) 45 ready.roles roles.Sign (λ e. cc) refl) (λ e. cc)
                 (and_from _ _ fresh (minus (part_of stage))) (grind arith) behind
           ] where
             plus : (part : Part) → (C conditions.NegativeSign && is_negative part false roles.Sign) ≡ true → is_signed m part stage ≡ false
@@ -147,8 +178,8 @@ module _ (m : Notation) where
     fraction_finishes stage gap at settled digit end led = elim (cases_Bool (needs_exponent m)) [
       | inl needs ↦
           let agree = ready.agree in
-          then_byte (reading stage gap) ready.exponent roles.Exponent refl
-          (is_role m (part_of stage) ready.exponent ready.roles roles.Exponent (λ e. cc) (ready.has_exponent (grind arith)))
+          then_end (reading stage gap) ready.exponent roles.Exponent refl
+          (is_role m (part_of stage) ready.exponent ready.roles roles.Exponent (λ e. cc) (ready.has_exponent (grind arith))) (λ e. cc) (λ e. cc)
           (subst (λ part. (ends m part stage gap && continues m part stage roles.Exponent) ≡ true) (sym at) (and_from _ _ end (grind arith)))
           (grind arith)
           (part_completed stages.Mark false (grind arith) (record { closes = refl; led = refl; prefixed = grind arith }) exponent_finishes)
@@ -159,8 +190,8 @@ module _ (m : Notation) where
     integer_finishes stage gap at settled digit end led = elim (cases_Bool (m.integers_only || (is_led stage && m.flag layout.no_float_leading_zeros))) [
       | inl no_point ↦ stopped stage gap settled parts.Integer at (and_from _ _ end (grind arith))
       | inr point ↦
-          then_byte (reading stage gap) ready.point roles.Point refl
-          (is_role m (part_of stage) ready.point ready.roles roles.Point (λ e. cc) (ready.has_point (grind arith)))
+          then_end (reading stage gap) ready.point roles.Point refl
+          (is_role m (part_of stage) ready.point ready.roles roles.Point (λ e. cc) (ready.has_point (grind arith))) (λ e. cc) (λ e. cc)
           (subst (λ part. (ends m part stage gap && continues m part stage roles.Point) ≡ true) (sym at) (and_from _ _ end (grind arith)))
           (grind arith)
           (part_completed (after_point (has_digit stage)) false (grind arith) (record { closes = refl; led = grind arith; prefixed = grind arith })
@@ -171,13 +202,13 @@ module _ (m : Notation) where
     bare_completed : C conditions.BasePrefix ≡ true → Completed (reading stages.Bare false)
     bare_completed set =
         then_byte (reading stages.Bare false) ready.prefix roles.Prefix refl
-        (is_role m parts.Integer ready.prefix ready.roles roles.Prefix (λ e. cc) (ready.has_prefix set)) refl (grind arith)
+        (is_role m parts.Integer ready.prefix ready.roles roles.Prefix (λ e. cc) (ready.has_prefix set)) (λ e. cc) refl (grind arith)
         (digit_completed stages.Prefixed false (grind arith) refl (record { closes = refl; led = refl; prefixed = grind arith }) integer_finishes)
 
     zero_completed : C conditions.BasePrefix ≡ true → (stage : Stage) → awaits_integer stage ≡ true → is_signed m (part_of stage) stage ≡ true
         → Completed (reading stage false)
     zero_completed set stage begin signed =
-        then_byte (reading stage false) 48 roles.Digit refl (digit_role m (part_of stage) 48 (ready.roles.zero_is_digit (part_of stage)))
+        then_byte (reading stage false) 48 roles.Digit refl (digit_role m (part_of stage) 48 (ready.roles.zero_is_digit (part_of stage))) (λ e. cc)
         (and_from _ _ signed (and_from _ _ refl (grind arith))) (grind arith)
         (subst Completed (let is : reading stages.Bare false ≡ after (reading stage false) true roles.Digit
         = grind arith in is) (bare_completed set))
@@ -196,7 +227,7 @@ module _ (m : Notation) where
 
     completed : (stage : Stage) (gap ended : Bool) → CanGoOn m (record { stage = stage; gap = gap; ended = ended })
         → Completed (record { stage = stage; gap = gap; ended = ended })
-    completed stage gap true can = ([], let is = can.prefixed in grind arith)
+    completed stage gap true can = record { more = []; accepts = let is = can.prefixed in grind arith; joined = refl }
     completed stage gap false can = elim (cases_Bool (C conditions.BasePrefix && lacks_prefix stage)) [
       | inl lacks ↦
           let both = and_parts (C conditions.BasePrefix) _ lacks in
@@ -205,13 +236,34 @@ module _ (m : Notation) where
       | inr settled ↦ part_completed stage gap (ap not settled) can (finishes_in (part_of stage))
     ]
 
-    -- What has been read is a front of a literal.
-    pub front_from : (text : List ℕ) (s : Summary) → scan m (Some start) text ≡ Some s → IsFront m text
-    front_from text s is =
-        let more = completed s.stage s.gap s.ended
-        (all_go_on ready.roles start text s (record { closes = refl; led = refl; prefixed = grind arith }) is) in
-        let found = literal_from m ready.roles (text ++ more.0) (rw (scan_append C m (Some start) text more.0, is) more.1) in
-        record { more = more.0; literal = found.0; reads = found.1 }
+    module _ (text : List ℕ) (s : Summary) (is : scan m (Some start) text ≡ Some s) where
+      pub goes_on_there : CanGoOn m s
+      goes_on_there = all_go_on ready.roles start text s (record { closes = refl; led = refl; prefixed = grind arith }) is
+
+      pub completed_there : Completed s
+      completed_there = completed s.stage s.gap s.ended goes_on_there
+
+      -- What has been read and is completed is a literal.
+      pub literal_there : (more : List ℕ) → Accepts C m (Some s) more → (l : Literal) × Reads m l (text ++ more)
+      literal_there more accepts = literal_from m ready.roles ready.no_sizes (text ++ more) (rw (scan_append C m (Some start) text more, is) accepts)
+
+      -- What has been read is a front of a literal.
+      pub front_from : IsFront m text
+      front_from = let found = literal_there completed_there.more completed_there.accepts in
+          record { more = completed_there.more; literal = found.0; reads = found.1 }
+
+      -- Digits of a run may end there.
+      pub ended_there : s.ended ≡ false → s.gap ≡ false → is_run s.stage ≡ true → Ended s
+      ended_there going closed run =
+          let digit : has_digit s.stage ≡ true = grind arith in
+          subst Ended (λ j. record { stage = s.stage; gap = sym closed j; ended = sym going j })
+          (finishes_in (part_of s.stage) s.stage false refl (settled s.stage run) digit
+          (and_from _ _ (signed s.stage run) (and_from _ _ refl (enough (part_of s.stage) s.stage digit))) goes_on_there.led) where
+            settled : (stage : Stage) → is_run stage ≡ true → is_settled stage ≡ true
+            settled stage run = grind arith
+
+            signed : (stage : Stage) → is_run stage ≡ true → is_signed m (part_of stage) stage ≡ true
+            signed stage run = grind arith
 
     -- A front of a literal is read.
     pub front_is_read : (text : List ℕ) → IsFront m text → scan m (Some start) text ≡ None → ⊥

@@ -1,192 +1,183 @@
--- Groups, read from left to right, and where separators are, counted from the right.
-use Rattle.std.proofs.Common.{ℕ, ◌≡◌, ◌<◌, ◌≤◌, ◌+◌, ◌-◌, ◌*◌, ◌%◌, ◌==◌, ◌&&◌, ◌||◌, ◌⊎◌, Bool, true, false, if◌then◌else◌, inl, inr}
-use Rattle.std.proofs.Common.{Some, None, List, [], ◌∷◌, suc, zero, length, drop, drop-cons, get_or, slice_get, add-one, refl, sym, ap, subst, ◌∙◌, arith}
-use Rattle.std.proofs.lemmas.Bool.{and_parts, and_from, cases_Bool, cases_lt, false≢true, false_from_ne_true}
+-- Groups, counted at once and byte by byte, and runs without empty groups.
+use Rattle.std.proofs.Common.{ℕ, ◌≡◌, ◌<◌, ◌≤◌, ◌+◌, ◌==◌, inl, inr, Bool, true, false, not, ◌&&◌, ◌||◌, if◌then◌else◌, nat_lt, List, [], ◌∷◌, Some, None, zero, suc}
+use Rattle.std.proofs.Common.{refl, sym, ap, subst, ◌∙◌, arith}
+use Rattle.std.proofs.lemmas.Bool.{false≢true, and_parts, and_from, cases_Bool, false_from_ne_true, or_left, or_right}
 use Rattle.std.proofs.lemmas.Bool.Decides.{nat_tests}
-use Rattle.std.proofs.lemmas.Nat.{mod-mul-add}
-use Rattle.std.proofs.lemmas.Option.{slice_get-get_or}
-use Rattle.std.proofs.Math.ListN.{drop_of_length-le}
-use Rattle.std.specs.Bool.{beq}
-use Rattle.std.specs.List.{list_any}
-use Rattle.lexical_util.specs.Ascii.{ByteSet}
-use Rattle.lexical_literal.specs.Cause.{first_in, is_in}
-use Rattle.lexical_literal.specs.Groups.{are_groups, begins_in, group_begins, group_size, has_groups, is_grouped, is_right}
-use Rattle.lexical_literal.specs.Literal.{Literal, Reads}
-use Rattle.lexical_literal.specs.Notation.{integer_group_size, notation_of}
-use Rattle.lexical_literal.specs.Takes.{AreGroups, Refuses}
-use Rattle.lexical_literal.specs.Additions.Longest.{IsMeasured}
-use Rattle.lexical_literal.specs.Additions.Summary.{cuts_of, HasLengths}
-use Rattle.lexical_literal.specs.declared.syntax.Grammar.{Grammar}
+use Rattle.lexical_util.specs.Layout.{Flag, separators_in}
+use Rattle.lexical_util.specs.declared.feature_format.roles.Role.TheVariants as roles
+use Rattle.lexical_util.specs.declared.format_flags.Part.{Part}
+use Rattle.lexical_util.specs.declared.format_flags.Part.TheVariants as parts
+use Rattle.lexical_literal.specs.Groups.{all_fit, first_fits, group_sizes, has_size, inner_fits, is_grouped, last_fits, one_more, rest_fits}
+use Rattle.lexical_literal.specs.Notation.{Notation}
+use Rattle.lexical_literal.specs.Run.{is_run}
+use Rattle.lexical_literal.specs.Additions.Summary.{gap_fits}
+use Rattle.lexical_literal.specs.Additions.Sizes.{follows, grown, is_size, makes_empty, most, unsized}
+use Rattle.lexical_literal.specs.declared.groups.Group.{Group}
+use Rattle.lexical_literal.specs.Additions.Plain.{HasRoles, HasSizes}
+use Rattle.lexical_literal.specs.Cause.{with_rules}
+use Rattle.lexical_literal.specs.declared.syntax.Condition.{Condition}
+use Rattle.lexical_literal.specs.declared.syntax.Condition.TheVariants as conditions
+use Rattle.lexical_literal.proofs.RunLemmas.{is_rest, rest_of_none}
+use Rattle.lexical_literal.proofs.ScanLemmas.{as_role, digit_role}
 
-module _ (S : ByteSet) (size : ℕ) where
-  -- `rights n bytes` is true if `bytes`, behind a separator and `n` digits, end a group of `size` digits, and more such groups
-  -- follow. `firsts n bytes` is true if `bytes`, behind the first `n` digits, end a first group, or if there is no separator.
-  abbrev pub rights : ℕ → List ℕ → Bool
-  rights n [] = n == size
-  rights n (b ∷ bytes) = if S b then (n == size) && rights 0 bytes else rights (n + 1) bytes
+-- `group part separated digits` is a group of `part`.
+abbrev pub group : Part → Bool → ℕ → Group
+group part separated digits = record { part = part; separated = separated; digits = digits }
 
-  abbrev pub firsts : ℕ → List ℕ → Bool
-  firsts n [] = true
-  firsts n (b ∷ bytes) = if S b then is_right 0 n size && rights 0 bytes else firsts (n + 1) bytes
+-- `run_fits m g run` is true if the bytes of `run` may follow the group `g`, and the part may end behind them.
+abbrev pub run_fits : Notation → Group → List ℕ → Bool
+run_fits m g [] = follows m g None
+run_fits m g (b ∷ run) =
+    if m.separator b
+    then follows m g (Some roles.Separator) && run_fits m (grown g (Some roles.Separator)) run
+    else follows m g (Some roles.Digit) && run_fits m (grown g (Some roles.Digit)) run
 
-  -- A group that lacks `more` digits is followed by whole groups.
-  record IsAligned (bytes : List ℕ) (more : ℕ) : Type 0 where
-    groups : ℕ
-    count : length bytes ≡ groups * (size + 1) + more
-    are : are_groups S size bytes ≡ true
+-- `more n counts` is `counts` with `n` added to the first.
+abbrev more : ℕ → List ℕ → List ℕ
+more n [] = []
+more n (count ∷ counts) = (n + count) ∷ counts
 
-  one_more : (p : ℕ) → (p + 1) * (size + 1) ≡ p * (size + 1) + (size + 1)
-  one_more p = omega arith
+module _ (m : Notation) (part : Part) where
+  abbrev counts_fit : Bool → List ℕ → Bool
+  counts_fit separated counts = if separated then rest_fits m part counts else all_fit m part counts
 
-  digit : (b : ℕ) (bytes : List ℕ) (more : ℕ) → S b ≡ false → more < size → IsAligned bytes more → IsAligned (b ∷ bytes) (more + 1)
-  digit b bytes more is below rest = record {
-    groups = rest.groups;
-    count = omega (arith, rest.count);
-    are = let behind : length bytes % (size + 1) ≡ more = ap (λ n. n % (size + 1)) rest.count ∙ mod-mul-add rest.groups (size + 1) more
-        (omega (arith, below)) in
-        let here : beq (S b) (length bytes % (size + 1) == size) ≡ true = rw (is, behind) (grind (arith, nat_tests)) in and_from _ _ here rest.are;
-  }
+  -- No group behind a separator has more digits than the greatest.
+  at_most : (count : ℕ) → (inner_fits m part count || last_fits m part count) ≡ true → count ≤ most m part
+  at_most count fit = go part fit where
+    go : (part : Part) → (inner_fits m part count || last_fits m part count) ≡ true → count ≤ most m part
+    go parts.Integer fit = grind (arith, nat_tests)
+    go _ fit = grind (arith, nat_tests)
 
-  separator : (b : ℕ) (bytes : List ℕ) → S b ≡ true → IsAligned bytes size → IsAligned (b ∷ bytes) 0
-  separator b bytes is rest = record {
-    groups = rest.groups + 1;
-    count = let one = one_more rest.groups in omega (arith, rest.count, one);
-    are = let behind : length bytes % (size + 1) ≡ size = ap (λ n. n % (size + 1)) rest.count ∙ mod-mul-add rest.groups (size + 1) size (omega arith) in
-        let here : beq (S b) (length bytes % (size + 1) == size) ≡ true = rw (is, behind) (grind (arith, nat_tests)) in and_from _ _ here rest.are;
-  }
+  -- Groups that are counted at once are those that are counted byte by byte.
+  one_more_is : (digits : ℕ) (counts : List ℕ) → more digits (one_more counts) ≡ more (digits + 1) counts
+  one_more_is digits [] = refl
+  one_more_is digits (count ∷ counts) = let sum : digits + (count + 1) ≡ digits + 1 + count = omega arith in ap (λ n. n ∷ counts) sum
 
-  aligned : (n : ℕ) (bytes : List ℕ) → rights n bytes ≡ true → (n ≤ size) × IsAligned bytes (size - n)
-  aligned n [] are = let whole : n ≡ size = grind (arith, nat_tests) in
-      (omega (arith, whole), record { groups = 0; count = omega (arith, whole); are = refl })
-  aligned n (b ∷ bytes) are = go (S b) refl are (aligned 0 bytes) (aligned (n + 1) bytes) where
-    go : (is : Bool) → S b ≡ is → (if is then (n == size) && rights 0 bytes else rights (n + 1) bytes) ≡ true
-        → (rights 0 bytes ≡ true → (0 ≤ size) × IsAligned bytes (size - 0))
-        → (rights (n + 1) bytes ≡ true → (n + 1 ≤ size) × IsAligned bytes (size - (n + 1)))
-        → (n ≤ size) × IsAligned (b ∷ bytes) (size - n)
-    go true is all new more =
-        let both = and_parts (n == size) (rights 0 bytes) all in
-        let whole : n ≡ size = let first = both.0 in grind (arith, nat_tests) in
-        let rest = (new both.1).1 in
-        let none : size - n ≡ 0 = omega (arith, whole) in
-        (omega (arith, whole), subst (IsAligned (b ∷ bytes)) (sym none) (separator b bytes is (subst (IsAligned bytes) (omega arith) rest)))
-    go false is all new more =
-        let rest = more all in
-        let same : size - (n + 1) + 1 ≡ size - n = omega (arith, rest.0) in
-        (omega (arith, rest.0), subst (IsAligned (b ∷ bytes)) same (digit b bytes (size - (n + 1)) is (omega (arith, rest.0)) rest.1))
+  none_more : (counts : List ℕ) → more 0 counts ≡ counts
+  none_more [] = refl
+  none_more (count ∷ counts) = let sum : 0 + count ≡ count = omega arith in ap (λ n. n ∷ counts) sum
 
-  -- The first group, of which `n` digits have been read, has `more` digits more.
-  record IsLed (n : ℕ) (bytes : List ℕ) : Type 0 where
-    more : ℕ
-    below : n + more ≤ size
-    begins : n ≡ 0 → begins_in S bytes ≡ false
-    rest : IsAligned bytes more
-
-  led : (n : ℕ) (bytes : List ℕ) → firsts n bytes ≡ true → (list_any S bytes ≡ false) ⊎ IsLed n bytes
-  led n [] are = inl refl
-  led n (b ∷ bytes) are = go (S b) refl are (led (n + 1) bytes) where
-    go : (is : Bool) → S b ≡ is → (if is then is_right 0 n size && rights 0 bytes else firsts (n + 1) bytes) ≡ true
-        → (firsts (n + 1) bytes ≡ true → (list_any S bytes ≡ false) ⊎ IsLed (n + 1) bytes)
-        → (list_any S (b ∷ bytes) ≡ false) ⊎ IsLed n (b ∷ bytes)
-    go true is all more =
-        let both = and_parts (is_right 0 n size) (rights 0 bytes) all in
-        let some : 0 < n = let first = both.0 in grind (arith, nat_tests) in
-        let most : n ≤ size = let first = both.0 in grind (arith, nat_tests) in
-        inr (record {
-          more = 0;
-          below = omega (arith, most);
-          begins = λ none. absurd (omega (arith, some, none));
-          rest = separator b bytes is (subst (IsAligned bytes) (omega arith) (aligned 0 bytes both.1).1);
-        })
-    go false is all more = elim (more all) [
-      | inl none ↦ inl (rw (is, none) refl)
-      | inr rest ↦ inr (record {
-        more = rest.more + 1;
-        below = omega (arith, rest.below);
-        begins = λ none. is;
-        rest = digit b bytes rest.more is (omega (arith, rest.below)) rest.rest;
-      })
-    ]
-
-  pub grouped_if : (bytes : List ℕ) → firsts 0 bytes ≡ true → is_grouped S size bytes ≡ true
-  grouped_if bytes are = elim (led 0 bytes are) [
-    | inl none ↦ rw (none) refl
-    | inr is ↦ let first = is.begins refl in let all = is.rest.are in grind arith
+  some_counts : (bytes : List ℕ) → (count : ℕ) × (counts : List ℕ) × (group_sizes m.separator bytes ≡ count ∷ counts)
+  some_counts [] = (0, [], refl)
+  some_counts (b ∷ bytes) = let rest = some_counts bytes in elim (cases_Bool (m.separator b)) [
+    | inl is ↦ (0, group_sizes m.separator bytes, rw (is) refl)
+    | inr other ↦ (rest.0 + 1, rest.1, rw (other, rest.2) refl)
   ]
 
-  -- What is left to be right behind the group at `start`, of which `n` digits have been read.
-  abbrev pub is_rest : ℕ → ℕ → List ℕ → Bool
-  is_rest start n bytes = if start == 0 then firsts n bytes else rights n bytes
+  -- A group of several is not too large for one digit more.
+  may_grow : (digits count : ℕ) (counts : List ℕ) → rest_fits m part ((digits + 1 + count) ∷ counts) ≡ true → nat_lt digits (most m part) ≡ true
+  may_grow digits count [] fit = let low = at_most (digits + 1 + count) (or_right _ _ fit) in grind (arith, nat_tests)
+  may_grow digits count (next ∷ counts) fit =
+      let low = at_most (digits + 1 + count) (or_left _ _ (and_parts _ (rest_fits m part (next ∷ counts)) fit).0) in grind (arith, nat_tests)
 
-  -- The end of the integer, a digit, and a separator behind a group of the right size.
-  pub rest_end : (start n : ℕ) → is_right start n size ≡ true → is_rest start n [] ≡ true
-  rest_end start n right = elim (cases_Bool (start == 0)) [
-    | inl first ↦ rw first refl
-    | inr other ↦ let is : (n == size) ≡ true = grind arith in rw other is
-  ]
+  absorbed : (a b : Bool) → (b ≡ true → a ≡ true) → (a && b) ≡ b
+  absorbed true b if_b = refl
+  absorbed false true if_b = if_b refl
+  absorbed false false if_b = refl
 
-  pub rest_digit : (start n b : ℕ) (bytes : List ℕ) → S b ≡ false → is_rest start (n + 1) bytes ≡ is_rest start n (b ∷ bytes)
-  rest_digit start n b bytes is = rw is refl
+  pub sizes_fit : (separated : Bool) (digits : ℕ) (run : List ℕ)
+      → run_fits m (group part separated digits) run ≡ counts_fit separated (more digits (group_sizes m.separator run))
+  sizes_fit true digits [] = ap (last_fits m part) (let sum : digits ≡ digits + 0 = omega arith in sum)
+  sizes_fit false digits [] = refl
+  sizes_fit separated digits (b ∷ run) = elim (cases_Bool (m.separator b)) [
+    | inl is ↦ let rest = sizes_fit true 0 run in let some = some_counts run in rw (is) (closed separated rest some)
+    | inr other ↦ let rest = sizes_fit separated (digits + 1) run in let some = some_counts run in rw (other) (longer separated rest some)
+  ] where
+    closed : (separated : Bool) → run_fits m (group part true 0) run ≡ rest_fits m part (more 0 (group_sizes m.separator run))
+        → (count : ℕ) × (counts : List ℕ) × (group_sizes m.separator run ≡ count ∷ counts)
+        → (follows m (group part separated digits) (Some roles.Separator) && run_fits m (group part true 0) run)
+        ≡ counts_fit separated (more digits (0 ∷ group_sizes m.separator run))
+    closed true rest some = let same : digits + 0 ≡ digits = omega arith in rw (rest, none_more (group_sizes m.separator run), some.2, same) refl
+    closed false rest some = let same : digits + 0 ≡ digits = omega arith in rw (rest, none_more (group_sizes m.separator run), some.2, same) refl
 
-  pub rest_separator : (start n next b : ℕ) (bytes : List ℕ) → S b ≡ true → is_right start n size ≡ true → 0 < next
-      → is_rest next 0 bytes ≡ true → is_rest start n (b ∷ bytes) ≡ true
-  rest_separator start n next b bytes is right behind all =
-      let rest : rights 0 bytes ≡ true = let other : (next == 0) ≡ false = grind (arith, nat_tests) in subst
-      (λ t. (if t then firsts 0 bytes else rights 0 bytes) ≡ true) other all in
-      elim (cases_Bool (start == 0)) [
-        | inl first ↦ let zero : start ≡ 0 = grind (arith, nat_tests) in rw (zero, is) (and_from _ _ (subst (λ s. is_right s n size ≡ true) zero right) rest)
-        | inr other ↦ let whole : (n == size) ≡ true = grind arith in rw (other, is) (and_from _ _ whole rest)
-      ]
+    longer : (separated : Bool) → run_fits m (group part separated (digits + 1)) run ≡ counts_fit separated (more (digits + 1) (group_sizes m.separator run))
+        → (count : ℕ) × (counts : List ℕ) × (group_sizes m.separator run ≡ count ∷ counts)
+        → (follows m (group part separated digits) (Some roles.Digit) && run_fits m (group part separated (digits + 1)) run)
+        ≡ counts_fit separated (more digits (one_more (group_sizes m.separator run)))
+    longer true rest some = rw (rest, one_more_is digits (group_sizes m.separator run), some.2) (absorbed _ _ (may_grow digits some.0 some.1))
+    longer false rest some = rw (rest, one_more_is digits (group_sizes m.separator run)) refl
 
--- A literal that the syntax refuses is not in groups.
-pub not_grouped : (g : Grammar) (text : List ℕ) (l : Literal) → Reads (notation_of g) l text → Refuses g text → (size : ℕ)
-    → integer_group_size g.conditions ≡ Some size → is_grouped (notation_of g).separator size l.integer ≡ false
-not_grouped g text l reads refuses size required = false_from_ne_true _ (λ grouped. refuses l (record {
-  reads = reads;
-  groups = subst (λ o. has_groups (notation_of g).separator o l.integer ≡ true) (sym required) grouped;
-}))
+-- A digit run is grouped if its bytes fit one by one.
+pub grouped_is : (m : Notation) (part : Part) (run : List ℕ) → is_grouped m part run ≡ run_fits m (group part false 0) run
+grouped_is m part run = ap (all_fit m part) (sym (none_more m part (group_sizes m.separator run))) ∙ sym (sizes_fit m part false 0 run)
 
--- A syntax that requires no size of groups takes any.
-pub any_groups : (g : Grammar) (l : Literal) → integer_group_size g.conditions ≡ None → AreGroups g l
-any_groups g l none = ap (λ o. has_groups (notation_of g).separator o l.integer) none
+-- No group of several is empty.
+pub not_empty : (m : Notation) (part : Part) → HasSizes m → has_size m part ≡ true → (first_fits m part 0 ≡ false) × (inner_fits m part 0 ≡ false)
+    × (last_fits m part 0 ≡ false)
+not_empty m parts.Integer sizes is = let some = sizes.integer is in (refl, grind (arith, nat_tests), grind (arith, nat_tests))
+not_empty m parts.Fraction sizes is = let some = sizes.fraction is in (grind (arith, nat_tests), grind (arith, nat_tests), refl)
+not_empty m parts.Exponent sizes is = absurd (false≢true is)
 
--- Groups decide whether the syntax takes a literal of its notation.
-pub measured : (g : Grammar) (text counts : List ℕ) (is : Bool) → (l : Literal) × Reads (notation_of g) l text
-    → ((l : Literal) → Reads (notation_of g) l text → HasLengths l (cuts_of counts))
-    → ((l : Literal) → Reads (notation_of g) l text → has_groups (notation_of g).separator (integer_group_size g.conditions) l.integer ≡ is)
-    → IsMeasured g text counts is
-measured g text counts is l counted same = record {
-  takes = λ yes. (l.0, record { reads = l.1; groups = same l.0 l.1 ∙ yes });
-  refuses = λ no k takes. false≢true (sym no ∙ sym (same k takes.reads) ∙ takes.groups);
-  counted = λ k takes. counted k takes.reads;
-}
+-- A digit is no separator.
+pub one_role : (m : Notation) → HasRoles m → (part : Part) (b : ℕ) → m.digit part b ≡ true → m.separator b ≡ false
+one_role m h part b digit = false_from_ne_true _ (λ is.
+    let same = h.one roles.Digit roles.Separator b (as_role m part b roles.Digit (digit_role m part b digit)) is in cc)
 
--- `NoneFrom S bytes start end` holds if no byte from the index `start` to `end` is in `S`.
-abbrev pub NoneFrom : ByteSet → List ℕ → ℕ → ℕ → Type 0
-NoneFrom S bytes start end = (k : ℕ) → start ≤ k → k < end → S (get_or bytes k 0) ≡ false
+-- A run without empty groups needs no flag but the one on separators between digits.
+module _ (m : Notation) (h : HasRoles m) (part : Part) (sizes : HasSizes m) (sized : has_size m part ≡ true) (B : Flag → Bool) (D : Condition → Bool)
+    (internal : m.flag (separators_in part).internal ≡ true → B (separators_in part).internal ≡ true) where
+  abbrev n : Notation
+  n = with_rules m B D
 
--- The size of a group that ends where a separator is, or the integer ends.
-pub size_at : (S : ByteSet) (bytes : List ℕ) (start d : ℕ) → start + d ≤ length bytes → NoneFrom S bytes start (start + d)
-    → (start + d < length bytes → S (get_or bytes (start + d) 0) ≡ true) → group_size S bytes start ≡ d
-size_at S bytes start zero within none ends = elim (cases_lt start (length bytes)) [
-  | inl inside ↦ rw (drop-cons bytes start 0 inside)
-      (let is : S (get_or bytes start 0) ≡ true = subst (λ k. S (get_or bytes k 0) ≡ true) (omega arith) (ends (omega (arith, inside))) in rw is refl)
-  | inr end ↦ rw (drop_of_length-le bytes end) refl
-]
-size_at S bytes start (suc d) within none ends =
-    let inside : start < length bytes = omega (arith, within) in
-    let first : S (get_or bytes start 0) ≡ false = none start (omega arith) (omega arith) in
-    let rest = size_at S bytes (start + 1) d (omega (arith, within)) (λ k from to. none k (omega (arith, from)) (omega (arith, to)))
-    (λ below. subst (λ k. S (get_or bytes k 0) ≡ true) (omega arith) (ends (omega (arith, below)))) in
-    rw (drop-cons bytes start 0 inside, first) (ap (λ n. 1 + n) (subst (λ k. first_in S (drop k bytes) ≡ d) (add-one start) rest) ∙ omega arith)
+  -- `seen separated digits` is true if there is a digit before, and `gap separated digits` if the last byte is a separator.
+  abbrev seen : Bool → ℕ → Bool
+  seen separated digits = separated || nat_lt 0 digits
 
--- A group begins behind a separator, and at no index of which the byte before is none.
-pub begins_behind : (S : ByteSet) (bytes : List ℕ) (i : ℕ) → i < length bytes → S (get_or bytes i 0) ≡ true → group_begins S bytes (i + 1) ≡ true
-begins_behind S bytes i inside is = let same : i + 1 - 1 ≡ i = omega arith in rw (same, slice_get-get_or bytes i 0 inside, is) (grind arith)
+  abbrev gap : Bool → ℕ → Bool
+  gap separated digits = separated && (digits == 0)
 
-pub begins_not : (S : ByteSet) (bytes : List ℕ) (start end other : ℕ) → end ≤ length bytes → NoneFrom S bytes start end → start < other → other ≤ end
-    → group_begins S bytes other ≡ true → ⊥
-begins_not S bytes start end other within none after before begins =
-    let byte : S (get_or bytes (other - 1) 0) ≡ false = none (other - 1) (omega (arith, after)) (omega (arith, after, before)) in
-    let is_other : (other == 0) ≡ false = grind (arith, nat_tests) in
-    let is : is_in S (slice_get bytes (other - 1)) ≡ true = subst (λ t. (t || is_in S (slice_get bytes (other - 1))) ≡ true) is_other begins in
-    false≢true (sym byte ∙ subst (λ o. is_in S o ≡ true) (slice_get-get_or bytes (other - 1) 0 (omega (arith, after, before, within))) is)
+  some_digits : (f : ℕ → Bool) (digits : ℕ) → f 0 ≡ false → f digits ≡ true → nat_lt 0 digits ≡ true
+  some_digits f zero none is = absurd (false≢true (sym none ∙ is))
+  some_digits f (suc digits) none is = grind (arith, nat_tests)
+
+  at_end : (separated : Bool) (digits : ℕ) → follows m (group part separated digits) None ≡ true → gap separated digits ≡ false
+  at_end false digits fit = refl
+  at_end true digits fit = let some = some_digits (last_fits m part) digits (not_empty m part sizes sized).2 fit in grind (arith, nat_tests)
+
+  before : (separated : Bool) (digits : ℕ) → follows m (group part separated digits) (Some roles.Separator) ≡ true → nat_lt 0 digits ≡ true
+  before false digits fit = some_digits (first_fits m part) digits (not_empty m part sizes sized).0 fit
+  before true digits fit = some_digits (inner_fits m part) digits (not_empty m part sizes sized).1 fit
+
+  pub tighter : (separated : Bool) (digits : ℕ) (run : List ℕ) → run_fits m (group part separated digits) run ≡ true
+      → is_rest m part (seen separated digits) (gap separated digits) run ≡ true
+      → is_rest n part (seen separated digits) (gap separated digits) run ≡ true
+  tighter separated digits [] fit is = let none = at_end separated digits fit in rw (none) refl
+  tighter separated digits (b ∷ run) fit is = elim (cases_Bool (m.digit part b)) [
+    | inl digit ↦
+        let more = and_parts (follows m (group part separated digits) (Some roles.Digit)) _ (rw (one_role m h part b digit) at fit) in
+        let rest = and_parts (gap_fits m part (seen separated digits) (gap separated digits) true) _ (rw (digit) at is) in
+        let some : seen separated (digits + 1) ≡ true = grind (arith, nat_tests) in
+        let none : gap separated (digits + 1) ≡ false = grind (arith, nat_tests) in
+        rw (digit) (and_from _ _ (place (seen separated digits) (gap separated digits) (grind arith) rest.0)
+        (subst (λ t. is_rest n part t false run ≡ true) some (subst (λ t. is_rest n part (seen separated (digits + 1)) t run ≡ true) none
+        (tighter separated (digits + 1) run more.1 (subst (λ t. is_rest m part (seen separated (digits + 1)) t run ≡ true) (sym none)
+        (subst (λ t. is_rest m part t false run ≡ true) (sym some) rest.1))))))
+    | inr other ↦
+        let all = and_parts (m.separator b && (not (gap separated digits) || m.flag (separators_in part).consecutive)) _ (rw (other) at is) in
+        let rest = and_parts (m.separator b) _ all.0 in
+        let more = and_parts (follows m (group part separated digits) (Some roles.Separator)) _ (rw (rest.0) at fit) in
+        let some = before separated digits more.0 in
+        let sees : seen separated digits ≡ true = or_right separated _ some in
+        let none : gap separated digits ≡ false = grind (arith, nat_tests) in
+        rw (other) (and_from _ _ (and_from _ _ rest.0 (or_left _ _ (ap not none))) (subst (λ t. is_rest n part t true run ≡ true) (sym sees)
+        (tighter true 0 run more.1 (subst (λ t. is_rest m part t true run ≡ true) sees all.1))))
+  ] where
+    place : (s g : Bool) → (g ≡ true → s ≡ true) → gap_fits m part s g true ≡ true → gap_fits n part s g true ≡ true
+    place s false sees is = refl
+    place true true sees is = internal is
+    place false true sees is = absurd (false≢true (sees refl))
+
+-- Without sizes, a notation is the same without them.
+pub same_unsized : (m : Notation) → ((c : Condition) → is_size c ≡ true → m.condition c ≡ false) → unsized m ≡ m
+same_unsized m none = λ j. with_rules m (λ f. same_flag f j) (λ c. same_condition c j) where
+  same_flag : (f : Flag) → (unsized m).flag f ≡ m.flag f
+  same_flag f = let integer = none conditions.IntegerGroupSize refl in let fraction = none conditions.FractionGroupSize refl in
+      rw (integer, fraction) (go (makes_empty parts.Integer f) (makes_empty parts.Fraction f) (m.flag f)) where
+        go : (a b t : Bool) → (not ((a && false) || (b && false)) && t) ≡ t
+        go a b t = grind arith
+
+  same_condition : (c : Condition) → (unsized m).condition c ≡ m.condition c
+  same_condition c = go (is_size c) (m.condition c) (none c) where
+    go : (is t : Bool) → (is ≡ true → t ≡ false) → (not is && t) ≡ t
+    go true t none = sym (none refl)
+    go false t none = refl

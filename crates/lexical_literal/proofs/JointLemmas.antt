@@ -1,9 +1,9 @@
 -- Which flags refuse what is allowed without requirements: flags that refuse alone, or those on leading zeros.
-use Rattle.std.proofs.Common.{ℕ, ◌≡◌, ◌==◌, Bool, true, false, not, ◌&&◌, ◌||◌, if◌then◌else◌, Option, Some, None, refl, sym, ap, subst, ◌∙◌, arith}
-use Rattle.std.proofs.lemmas.Bool.{false≢true}
+use Rattle.std.proofs.Common.{ℕ, ◌≡◌, ◌==◌, Bool, true, false, not, ◌&&◌, ◌||◌, inl, inr, if◌then◌else◌, Option, Some, None, refl, sym, ap, subst, ◌∙◌, arith}
+use Rattle.std.proofs.lemmas.Bool.{false≢true, and_from, and_parts, cases_Bool, false_from_ne_true}
 use Rattle.std.specs.Prelude.{is_some}
 use Rattle.lexical_util.specs.Layout as layout
-use Rattle.lexical_util.specs.Layout.{Flag}
+use Rattle.lexical_util.specs.Layout.{Flag, separators_in}
 use Rattle.lexical_util.specs.declared.feature_format.roles.Role.{Role}
 use Rattle.lexical_util.specs.declared.feature_format.roles.Role.TheVariants as roles
 use Rattle.lexical_util.specs.declared.format_flags.Part.{Part}
@@ -12,13 +12,15 @@ use Rattle.lexical_literal.specs.Notation.{Notation, is_same}
 use Rattle.lexical_literal.specs.Run.{is_place}
 use Rattle.lexical_literal.specs.Cause.{adding, bare, binds, is_at, is_one_of, number_separator_flags, with_rules}
 use Rattle.lexical_literal.specs.Additions.Causes.{is_separator, lets, place_of}
-use Rattle.lexical_literal.specs.Additions.Summary.{admits, after, complete_by, continues, ends, finishes, has_digit, implies, may_follow}
-use Rattle.lexical_literal.specs.Additions.Summary.{move_by, no_condition, role_at, takes, part_of, takes_in}
+use Rattle.lexical_literal.specs.Additions.Summary.{admits, after, complete_by, continues, digits_suffice, ends, finishes, has_digit, implies, may_follow}
+use Rattle.lexical_literal.specs.Additions.Sizes.{unsized}
+use Rattle.lexical_literal.specs.Additions.Summary.{gap_fits, is_open, is_signed, move_by, no_condition, role_at, takes, part_of, takes_in}
 use Rattle.lexical_literal.specs.declared.steps.Stage.{Stage}
 use Rattle.lexical_literal.specs.declared.steps.Stage.TheVariants as stages
 use Rattle.lexical_literal.specs.declared.steps.Summary.{Summary}
 use Rattle.lexical_literal.specs.declared.syntax.Condition.{Condition}
 use Rattle.lexical_literal.specs.declared.syntax.Condition.TheVariants as conditions
+use Rattle.lexical_literal.proofs.RefusalLemmas.{KeepsPlaces}
 
 -- ROLES
 
@@ -106,13 +108,12 @@ module _ (m : Notation) where
 
   -- FLAGS THAT REFUSE TOGETHER
 
-  -- `Alone P` holds if `P` is true of `m` without requirements, and with each one that binds.
+  -- `Alone P` holds if `P` is true of `m` with each requirement that binds, as the only one.
   pub record Alone (P : Notation → Bool) : Type 0 where
-    pub free : P (bare m) ≡ true
     pub each : (f : Flag) → binds m f ≡ true → P (adding f (bare m)) ≡ true
 
-  met : {P : Notation → Bool} → Alone P → (f : Flag) → (P (bare m) && implies (binds m f) (P (adding f (bare m)))) ≡ true
-  met a f = let free = a.free in let each = a.each f in grind arith
+  met : {P : Notation → Bool} → Alone P → (f : Flag) → implies (binds m f) (P (adding f (bare m))) ≡ true
+  met a f = let each = a.each f in grind arith
 
   -- `is_digits role` is true if a byte with the role `role` is of digits.
   abbrev is_digits : Role → Bool
@@ -120,51 +121,108 @@ module _ (m : Notation) where
   is_digits roles.Separator = true
   is_digits _ = false
 
-  whole_role : (part : Part) (stage : Stage) (gap plus : Bool) (role : Role) → Alone (λ n. takes_in n part stage gap plus role) → is_digits role ≡ false
-      → takes_in m part stage gap plus role ≡ true
-  whole_role parts.Exponent stage gap plus roles.Sign a other = let forbidden = met a layout.no_positive_exponent_sign in grind arith
-  whole_role _ stage gap plus roles.Sign a other = let forbidden = met a layout.no_positive_mantissa_sign in grind arith
-  whole_role parts.Integer stages.Start gap plus roles.Suffix a other =
-      let sign = met a layout.required_mantissa_sign in let digits = met a layout.required_integer_digits in
-      let needs = met a layout.required_exponent_notation in grind arith
-  whole_role parts.Integer _ gap plus roles.Suffix a other =
-      let sign = met a layout.required_mantissa_sign in let digits = met a layout.required_integer_digits in
-      let leads = met a layout.no_integer_leading_zeros in let needs = met a layout.required_exponent_notation in grind arith
-  whole_role parts.Integer stages.Start gap plus role a other =
-      let sign = met a layout.required_mantissa_sign in let digits = met a layout.required_integer_digits in
-      let mantissa = met a layout.required_mantissa_digits in
-      let none = met a layout.no_exponent_notation in let fraction = met a layout.no_exponent_without_fraction in grind arith
-  whole_role parts.Integer _ gap plus role a other =
-      let sign = met a layout.required_mantissa_sign in let digits = met a layout.required_integer_digits in
-      let floats = met a layout.no_float_leading_zeros in let mantissa = met a layout.required_mantissa_digits in
-      let none = met a layout.no_exponent_notation in let fraction = met a layout.no_exponent_without_fraction in grind arith
-  whole_role parts.Fraction stages.Lone gap plus role a other =
-      let digits = met a layout.required_fraction_digits in let mantissa = met a layout.required_mantissa_digits in
-      let needs = met a layout.required_exponent_notation in let none = met a layout.no_exponent_notation in grind arith
-  whole_role parts.Fraction _ gap plus role a other =
-      let sign = met a layout.required_mantissa_sign in let digits = met a layout.required_fraction_digits in
-      let needs = met a layout.required_exponent_notation in let none = met a layout.no_exponent_notation in grind arith
-  whole_role parts.Exponent stage gap plus role a other =
-      let sign = met a layout.required_exponent_sign in let digits = met a layout.required_exponent_digits in grind arith
+  -- `leads` is true if a flag on leading zeros binds.
+  abbrev pub leads : Bool
+  leads = m.flag layout.no_float_leading_zeros || (m.flag layout.no_integer_leading_zeros && m.integers_only)
 
-  -- Behind a leading zero that is refused, a separator would have to be trailing.
-  led : (part : Part) (stage : Stage) (gap plus : Bool) (role : Role) → is_digits role ≡ true → Alone (λ n. takes_in n part stage gap plus role)
-      → takes_in m part stage gap plus role ≡ false
-      → (may_follow m stage || (is_separator (Some role) && is_place m part (has_digit stage) false)) ≡ false
-  led parts.Exponent stage gap plus role is a refused = let sign = met a layout.required_exponent_sign in grind arith
-  led _ stage gap plus role is a refused = let sign = met a layout.required_mantissa_sign in grind arith
+  abbrev u : Notation
+  u = unsized m
 
-  joint_role : (part : Part) (stage : Stage) (gap plus : Bool) (o : Option Role) → Alone (λ n. taken n part stage gap plus o)
-      → taken m part stage gap plus o ≡ false → m.flag layout.no_float_leading_zeros ≡ true
-  joint_role part stage gap plus None a refused = absurd (false≢true a.free)
-  joint_role parts.Exponent stage gap plus (Some roles.Digit) a refused =
-      let sign = met a layout.required_exponent_sign in let leads = met a layout.no_integer_leading_zeros in grind arith
-  joint_role _ stage gap plus (Some roles.Digit) a refused =
-      let sign = met a layout.required_mantissa_sign in let leads = met a layout.no_integer_leading_zeros in grind arith
-  joint_role _ stages.Bare gap plus (Some roles.Separator) a refused = let leads = met a layout.no_integer_leading_zeros in grind arith
-  joint_role _ stages.Zero gap plus (Some roles.Separator) a refused = let leads = met a layout.no_integer_leading_zeros in grind arith
-  joint_role part stage gap plus (Some roles.Separator) a refused = absurd (false≢true (sym (led part stage gap plus roles.Separator refl a refused)))
-  joint_role part stage gap plus (Some role) a refused = absurd (false≢true (sym refused ∙ whole_role part stage gap plus role a refl))
+  led : (stage : Stage) → may_follow u stage ≡ false → leads ≡ true
+  led stages.Bare none = grind arith
+  led stages.Zero none = grind arith
+  led _ none = absurd (false≢true (sym none))
+
+  -- What is allowed with the flags `B`, which allow no separator that `u` refuses, and with each requirement alone.
+  module _ (B : Flag → Bool) (D : Condition → Bool) where
+    abbrev b : Notation
+    b = with_rules m B D
+
+    abbrev Kept : Part → Type 0
+    Kept part = KeepsPlaces b u.flag no_condition part
+
+    kept_gap : (part : Part) → Kept part → (digit gap next : Bool) → gap_fits b part digit gap next ≡ true → gap_fits u part digit gap next ≡ true
+    kept_gap part kept digit gap next is =
+        let leading = kept.leading in let internal = kept.internal in let trailing = kept.trailing in grind arith
+
+    -- Gaps aside, the flags refuse no byte but those of digits together.
+    whole_role : (part : Part) (stage : Stage) (plus : Bool) (role : Role) → Alone (λ n. takes_in n part stage false plus role) → is_digits role ≡ false
+        → takes_in b part stage false plus role ≡ true → takes_in u part stage false plus role ≡ true
+    whole_role parts.Exponent stage plus roles.Sign a other free = let forbidden = met a layout.no_positive_exponent_sign in grind arith
+    whole_role _ stage plus roles.Sign a other free = let forbidden = met a layout.no_positive_mantissa_sign in grind arith
+    whole_role parts.Integer stages.Start plus roles.Suffix a other free =
+        let sign = met a layout.required_mantissa_sign in let digits = met a layout.required_integer_digits in
+        let needs = met a layout.required_exponent_notation in grind arith
+    whole_role parts.Integer _ plus roles.Suffix a other free =
+        let sign = met a layout.required_mantissa_sign in let digits = met a layout.required_integer_digits in
+        let leads = met a layout.no_integer_leading_zeros in let needs = met a layout.required_exponent_notation in grind arith
+    whole_role parts.Integer stages.Start plus role a other free =
+        let sign = met a layout.required_mantissa_sign in let digits = met a layout.required_integer_digits in
+        let mantissa = met a layout.required_mantissa_digits in
+        let none = met a layout.no_exponent_notation in let fraction = met a layout.no_exponent_without_fraction in grind arith
+    whole_role parts.Integer _ plus role a other free =
+        let sign = met a layout.required_mantissa_sign in let digits = met a layout.required_integer_digits in
+        let floats = met a layout.no_float_leading_zeros in let mantissa = met a layout.required_mantissa_digits in
+        let none = met a layout.no_exponent_notation in let fraction = met a layout.no_exponent_without_fraction in grind arith
+    whole_role parts.Fraction stages.Lone plus role a other free =
+        let digits = met a layout.required_fraction_digits in let mantissa = met a layout.required_mantissa_digits in
+        let needs = met a layout.required_exponent_notation in let none = met a layout.no_exponent_notation in grind arith
+    whole_role parts.Fraction _ plus role a other free =
+        let sign = met a layout.required_mantissa_sign in let digits = met a layout.required_fraction_digits in
+        let needs = met a layout.required_exponent_notation in let none = met a layout.no_exponent_notation in grind arith
+    whole_role parts.Exponent stage plus role a other free =
+        let sign = met a layout.required_exponent_sign in let digits = met a layout.required_exponent_digits in grind arith
+
+    drop_gap : (n : Notation) (part : Part) (stage : Stage) (gap plus : Bool) (role : Role) → is_digits role ≡ false
+        → takes_in n part stage gap plus role ≡ true → takes_in n part stage false plus role ≡ true
+    drop_gap n part stage gap plus role other is = grind arith
+
+    closed : (part : Part) → Kept part → (stage : Stage) (gap plus : Bool) (role : Role) → is_digits role ≡ false
+        → takes_in b part stage gap plus role ≡ true → takes_in u part stage false plus role ≡ true → takes_in u part stage gap plus role ≡ true
+    closed part kept stage gap plus roles.Sign other free whole = whole
+    closed part kept stage gap plus roles.Prefix other free whole = whole
+    closed part kept stage gap plus roles.Digit other free whole = absurd (false≢true (sym other))
+    closed part kept stage gap plus roles.Separator other free whole = absurd (false≢true (sym other))
+    closed part kept stage gap plus role other free whole =
+        let ending = and_parts (is_signed b part stage) _ (and_parts (ends b part stage gap) _ free).0 in
+        let fit = kept_gap part kept (has_digit stage) gap false (and_parts (gap_fits b part (has_digit stage) gap false) _ ending.1).0 in
+        subst (λ t. ((is_signed u part stage && (t && digits_suffice u part stage)) && continues u part stage role) ≡ true) (sym fit) whole
+
+    -- A digit or a separator is refused if no digit may follow.
+    signed : (part : Part) (stage : Stage) (gap plus : Bool) (role : Role) → is_digits role ≡ true → Alone (λ n. takes_in n part stage gap plus role)
+        → takes_in b part stage gap plus role ≡ true → is_signed u part stage ≡ true
+    signed parts.Exponent stage gap plus role is a free = let sign = met a layout.required_exponent_sign in grind arith
+    signed _ stage gap plus role is a free = let sign = met a layout.required_mantissa_sign in grind arith
+
+    open_kept : (part : Part) → Kept part → (digit next : Bool) → is_open b part digit next ≡ true → is_open u part digit true ≡ true
+    open_kept part kept digit next is =
+        let leading = kept.leading in let internal = kept.internal in let trailing = kept.trailing in grind arith
+
+    either_kept : (x y z : Bool) → (y ≡ true → z ≡ true) → (x || y) ≡ true → (x || z) ≡ true
+    either_kept x y z kept is = grind arith
+
+    shut : (part : Part) → Kept part → (stage : Stage) (gap plus : Bool) (role : Role) → is_digits role ≡ true
+        → is_signed u part stage ≡ true → takes_in b part stage gap plus role ≡ true → takes_in u part stage gap plus role ≡ false
+        → may_follow u stage ≡ false
+    shut part kept stage gap plus roles.Digit is sign free refused =
+        let fit = kept_gap part kept (has_digit stage) gap true in grind arith
+    shut part kept stage gap plus roles.Separator is sign free refused =
+        let two = and_parts (not gap || b.flag (separators_in part).consecutive) _ (and_parts (is_signed b part stage) _ free).1 in
+        let more = either_kept (not gap) _ _ kept.consecutive two.0 in
+        let opens = open_kept part kept (has_digit stage) (may_follow b stage) two.1 in
+        false_from_ne_true _ (λ may. false≢true (sym refused ∙ and_from _ _ sign (and_from _ _ more
+        (subst (λ t. is_open u part (has_digit stage) t ≡ true) (sym may) opens))))
+    shut part kept stage gap plus _ is sign free refused = absurd (false≢true is)
+
+    joint_role : (part : Part) → Kept part → (stage : Stage) (gap plus : Bool) (o : Option Role) → Alone (λ n. taken n part stage gap plus o)
+        → taken b part stage gap plus o ≡ true → taken u part stage gap plus o ≡ false → leads ≡ true
+    joint_role part kept stage gap plus None a free refused = absurd (false≢true free)
+    joint_role part kept stage gap plus (Some role) a free refused = elim (cases_Bool (is_digits role)) [
+      | inl is ↦ led stage (shut part kept stage gap plus role is (signed part stage gap plus role is a free) free refused)
+      | inr other ↦ absurd (false≢true (sym refused ∙ closed part kept stage gap plus role other free (whole_role part stage plus role
+          (record { each = λ f is. drop_gap (adding f (bare m)) part stage gap plus role other (a.each f is) }) other
+          (drop_gap b part stage gap plus role other free))))
+    ]
 
   -- SEPARATORS
 
@@ -177,12 +235,13 @@ module _ (m : Notation) where
 
   -- THE SAME OF WHAT IS ALLOWED
 
-  -- What is allowed without requirements, and refused with them, follows no suffix.
-  pub going : (s : Summary) (next : Option ℕ) → free_allows (bare m) s next ≡ true → free_allows m s next ≡ false → s.ended ≡ false
-  going s None free refused = unended s.ended (ends m (part_of s.stage) s.stage s.gap && continues m (part_of s.stage) s.stage roles.Suffix) refused where
+  -- What is allowed by one notation, and refused by another, follows no suffix.
+  pub going : (n k : Notation) (s : Summary) (next : Option ℕ) → free_allows n s next ≡ true → free_allows k s next ≡ false → s.ended ≡ false
+  going n k s None free refused = unended s.ended (ends k (part_of s.stage) s.stage s.gap && continues k (part_of s.stage) s.stage roles.Suffix) refused where
     unended : (e x : Bool) → ((e || x) && true) ≡ false → e ≡ false
     unended e x none = grind arith
-  going s (Some byte) free refused = let is = sym (moved (bare m) s s.ended (byte == 43) (byte == 48) (role_at m (part_of s.stage) byte)) ∙ free in grind arith
+  going n k s (Some byte) free refused =
+      let is = sym (moved n s s.ended (byte == 43) (byte == 48) (role_at m (part_of s.stage) byte)) ∙ free in grind arith
 
   module _ (s : Summary) (next : Option ℕ) (unended : s.ended ≡ false) where
     abbrev o : Option Role
@@ -191,10 +250,11 @@ module _ (m : Notation) where
     same : ◌≡◌ {A = Notation → Bool} (λ n. taken n (part_of s.stage) s.stage s.gap (is_plus_next next) o) (λ n. free_allows n s next)
     same = λ j n. sym (allows_is n s next unended) j
 
-    -- What no flag refuses alone, a flag on leading zeros refuses with another.
-    pub joint : Alone (λ n. free_allows n s next) → free_allows m s next ≡ false → m.flag layout.no_float_leading_zeros ≡ true
-    joint = subst (λ P. Alone P → P m ≡ false → m.flag layout.no_float_leading_zeros ≡ true) same (joint_role (part_of s.stage) s.stage s.gap
-        (is_plus_next next) o)
+    -- What no flag refuses alone, a flag on leading zeros refuses with another flag, or where groups have sizes.
+    pub joint : (B : Flag → Bool) (D : Condition → Bool) → Kept B D (part_of s.stage) → Alone (λ n. free_allows n s next)
+        → free_allows (b B D) s next ≡ true → free_allows u s next ≡ false → leads ≡ true
+    joint B D kept = subst (λ P. Alone P → P (b B D) ≡ true → P u ≡ false → leads ≡ true) same
+        (joint_role B D (part_of s.stage) kept s.stage s.gap (is_plus_next next) o)
 
   -- A flag that allows the byte is of the place and the part.
   pub at_next : (f : Flag) (s : Summary) (byte : ℕ) → is_one_of number_separator_flags f ≡ true → free_allows (bare m) s (Some byte) ≡ false

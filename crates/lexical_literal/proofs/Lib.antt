@@ -29,4 +29,8 @@ mod PartOfLemmas
 mod OneCauseLemmas
 mod FormLemmas
 mod GroupLemmas
+mod SizeLemmas
+mod FitLemmas
+mod DecideLemmas
 mod SpanLemmas
+mod StopLemmas

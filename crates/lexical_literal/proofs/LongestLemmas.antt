@@ -1,29 +1,32 @@
 -- Fronts of a text, and where the loop is left.
-use Rattle.std.proofs.Common.{ℕ, Bool, IsNone, Option, if◌then◌else◌, ◌≡◌, ◌<◌, ◌≤◌, ◌+◌, inl, inr, true, false, List, [], ◌∷◌, ◌++◌, length}
+use Rattle.std.proofs.Common.{ℕ, Bool, IsNone, Option, if◌then◌else◌, ◌≡◌, ◌<◌, ◌≤◌, ◌+◌, ◌&&◌, ◌||◌, ◌⊎◌, not, inl, inr, true, false, List, [], ◌∷◌, ◌++◌, length}
 use Rattle.std.proofs.Common.{get_or, replicate, take, drop, Some, None, refl, sym, ap, subst, append_assoc, append-nil, take-append-drop, ◌∙◌, arith}
 use Rattle.std.specs.Prelude.{is_some, slice_get}
-use Rattle.std.proofs.lemmas.Bool.{false≢true, cases_lt}
+use Rattle.std.proofs.lemmas.Bool.{false≢true, and_from, and_parts, cases_Bool, cases_lt, false_from_ne_true, or_parts}
 use Rattle.std.proofs.lemmas.Option.{slice_get-get_or, slice_get_past}
-use Rattle.std.proofs.lemmas.List.{take-take, take_more, take_all}
-use Rattle.lexical_literal.specs.Notation.{Notation, notation_of}
+use Rattle.std.proofs.lemmas.List.{length-take-le, take-take, take_more, take_all}
+use Rattle.lexical_literal.specs.Notation.{Notation}
 use Rattle.lexical_literal.specs.Literal.{Literal, IsLiteral, Reads}
 use Rattle.lexical_literal.specs.Additions.Summary.{count, cuts_of, role_at, scan, step, is_accepted, is_complete, part_of, tally, start, no_cuts, HasLengths}
-use Rattle.lexical_literal.specs.Front.{IsFront, IsValidUpTo, NoLiteral, ReadsFront}
-use Rattle.lexical_literal.specs.Takes.{NoFront}
-use Rattle.lexical_literal.specs.Additions.Longest.{HasFound, IsCountedFront, IsFronted, IsLongest, IsStopped}
-use Rattle.lexical_literal.specs.Additions.Causes.{lets}
-use Rattle.lexical_literal.specs.Additions.Plain.{IsReady, IsAt, IsBegun}
+use Rattle.lexical_literal.specs.Front.{IsFront, IsValidUpTo, NoFront, NoLiteral, ReadsFront}
+use Rattle.lexical_literal.specs.Additions.Longest.{HasBegun, HasFound, IsCountedFront, IsFronted, IsLongest, IsMeasured, IsStopped, IsUnderway}
+use Rattle.lexical_literal.specs.Additions.Sizes.{first_group, fits, goes, group_after, grow, grown, unsized}
+use Rattle.lexical_literal.specs.Groups.{has_sizes}
+use Rattle.lexical_literal.specs.Additions.Plain.{HasRoles, HasSizes, IsReady, IsAt, IsBegun, IsRefused}
 use Rattle.lexical_literal.specs.declared.read.Found.{Found}
 use Rattle.lexical_literal.specs.declared.plain.At.{At}
 use Rattle.lexical_literal.specs.declared.plain.Counted.{Counted}
-use Rattle.lexical_literal.specs.declared.syntax.Grammar.{Grammar}
+use Rattle.lexical_literal.specs.declared.groups.Group.{Group}
 use Rattle.lexical_literal.specs.declared.steps.Summary.{Summary}
+use Rattle.lexical_literal.specs.declared.syntax.Condition.TheVariants as conditions
 use Rattle.lexical_literal.proofs.ScanLemmas.{scan_append, tally_append}
 use Rattle.lexical_literal.proofs.ConditionLemmas.{has_lengths, literal_from, literal_arrives}
 use Rattle.lexical_literal.proofs.LiteralLemmas.{all_cuts}
 use Rattle.lexical_literal.proofs.CountLemmas.{no_counts, small_at_first}
 use Rattle.lexical_util.specs.declared.feature_format.roles.Role.{Role}
-use Rattle.lexical_literal.proofs.FrontLemmas.{front_from, front_is_read}
+use Rattle.lexical_literal.proofs.FitLemmas.{front_fits, front_is_read_of, front_of, linked_there}
+use Rattle.lexical_literal.proofs.RefusalLemmas.{other_roles}
+use Rattle.lexical_literal.proofs.SizeLemmas.{all_end, as_sized, as_unsized, ends, group_append, small_after}
 
 front_shorter : (m : Notation) (text : List ℕ) (k n : ℕ) → k ≤ n → IsFront m (take n text) → IsFront m (take k text)
 front_shorter m text k n below is = record {
@@ -35,12 +38,13 @@ front_shorter m text k n below is = record {
   };
 }
 
--- `HasCounted m text at counts found` holds if `at` has what has been read of `text`, `counts` the lengths of its parts, and
--- `found` the longest front that is a literal.
-pub record HasCounted (m : Notation) (text : List ℕ) (at : At) (counts : List ℕ) (found : Option Found) : Type 0 where
+-- `HasCounted m text at group counts found` holds if `at` has what has been read of `text`, `group` its last group, `counts` the
+-- lengths of its parts, and `found` the longest front that is a literal.
+pub record HasCounted (m : Notation) (text : List ℕ) (at : At) (group : Group) (counts : List ℕ) (found : Option Found) : Type 0 where
   pub nine : length counts ≡ 9
   pub small : (k : ℕ) → get_or counts k 0 ≤ at.size + 1
-  pub read : IsAt m text at (cuts_of counts)
+  pub read : IsUnderway m text at group
+  pub counted : tally (unsized m) (Some start) no_cuts (take at.size text) ≡ cuts_of counts
   pub longest : IsLongest m text at.size found
 
 module _ (m : Notation) (text : List ℕ) where
@@ -52,10 +56,6 @@ module _ (m : Notation) (text : List ℕ) where
       let longer = λ (past : n < more). wrong.no_longer more past within front in grind arith
 
   module _ (stop : At) (is : IsStopped m text stop) where
-    -- If reading stopped at the end of the text and what was read is a literal, then the text is one.
-    pub whole_literal : stop.size ≡ length text → is_complete m stop.read ≡ true → (l : Literal) × Reads m l text
-    whole_literal all complete = let l = is.complete complete in (l.0, subst (Reads m l.0) (take_all stop.size text (omega (arith, all))) l.1)
-
     -- If the text is a literal, then reading stopped at its end.
     all_right : (l : Literal) → Reads m l text → length text ≤ stop.size
     all_right l reads =
@@ -72,17 +72,23 @@ module _ (m : Notation) (text : List ℕ) where
       no_longer = λ more past below k other. absurd (let low = no_longer_than stop.size is.valid more below k other in omega (arith, past, low));
     }
 
-    module _ (partial : stop.size ≡ length text → is_complete m stop.read ≡ false) where
-      -- If what was read is not all of the text, or not a literal, then the text is not a literal.
-      pub none_whole : NoLiteral m text
-      none_whole l reads = let all = all_right l reads in is.incomplete (partial (omega (arith, all, is.valid.within))) l (whole_front l reads)
+    -- If what was read is not all of the text, or not a literal, then the text is not a literal.
+    pub none_whole : (stop.size ≡ length text → goes m stop.read is.group None ≡ false) → NoLiteral m text
+    none_whole partial l reads = let all = all_right l reads in is.incomplete (partial (omega (arith, all, is.valid.within))) l (whole_front l reads)
 
-      -- It does not allow what follows.
-      pub refused_there : lets m stop.read (slice_get text stop.size) ≡ false
-      refused_there = elim (cases_lt stop.size (length text)) [
-        | inl short ↦ is.refused short
-        | inr long ↦ ap (lets m stop.read) (slice_get_past text stop.size long) ∙ partial (omega (arith, is.valid.within))
-      ]
+    -- If it is all of the text, and a literal, then the text has the lengths that are counted.
+    pub whole_measured : (counts : List ℕ) → stop.size ≡ length text → goes m stop.read is.group None ≡ true
+        → ((l : Literal) → Reads m l text → HasLengths l (cuts_of counts)) → IsMeasured m text counts
+    whole_measured counts all ends counted = let l = is.complete ends in
+        record { literal = (l.0, subst (Reads m l.0) (take_all stop.size text (omega (arith, all))) l.1); counted = counted }
+
+    -- If the text is not a literal, what was read does not allow what follows.
+    pub refused_there : NoLiteral m text → goes m stop.read is.group (slice_get text stop.size) ≡ false
+    refused_there none = elim (cases_lt stop.size (length text)) [
+      | inl short ↦ is.refused short
+      | inr long ↦ ap (goes m stop.read is.group) (slice_get_past text stop.size long) ∙ false_from_ne_true _ (λ ends.
+          let l = is.complete ends in none l.0 (subst (Reads m l.0) (take_all stop.size text long) l.1))
+    ]
 
   -- The longest front that is a literal.
   pub front_literal : (found : Found) → IsLongest m text (length text) (Some found) → IsCountedFront m text found
@@ -123,12 +129,12 @@ module _ (m : Notation) (text : List ℕ) where
         (found, some, is.counted found some l (subst (Reads m l) (sym (take_all found.size text all)) reads))
 
 -- Without a longest front, no front is a literal.
-pub no_front : (g : Grammar) (text : List ℕ) (longest : Option Found) → IsLongest (notation_of g) text (length text) longest → IsNone longest → NoFront text g
-no_front g text None is none size below = is.no_longer size below (λ other same. absurd (let clash : None ≡ Some other = same in cc))
-no_front g text (Some found) is none size below = absurd (false≢true (sym none))
+pub no_front : (m : Notation) (text : List ℕ) (longest : Option Found) → IsLongest m text (length text) longest → IsNone longest → NoFront m text
+no_front m text None is none size below = is.no_longer size below (λ other same. absurd (let clash : None ≡ Some other = same in cc))
+no_front m text (Some found) is none size below = absurd (false≢true (sym none))
 
 -- A literal that has been found is the longest front that is one if reading stops behind it.
-pub found_there : (m : Notation) (text : List ℕ) (counted : Counted) → HasFound m text counted → counted.complete ≡ true → (stop : At) → IsStopped m text stop
+pub found_there : (m : Notation) (text : List ℕ) (counted : Counted) → HasBegun m text counted → counted.complete ≡ true → (stop : At) → IsStopped m text stop
     → stop.size ≡ counted.at.size → IsCountedFront m text (record { size = stop.size; counts = counted.counts })
 found_there m text counted has complete stop is same = let l = has.literal complete in record {
   literal = l.0;
@@ -136,121 +142,40 @@ found_there m text counted has complete stop is same = let l = has.literal compl
   counted = λ k reads. has.lengths complete k (subst (λ n. Reads m k (take n text)) same reads);
 }
 
+-- A literal that has been found, and is all of the text.
+pub found_whole : (m : Notation) (text : List ℕ) (counted : Counted) → HasBegun m text counted → counted.complete ≡ true → counted.at.size ≡ length text
+    → IsMeasured m text counted.counts
+found_whole m text counted has complete all =
+    let l = has.literal complete in
+    let same = take_all counted.at.size text (omega (arith, all)) in record {
+      literal = (l.0, subst (Reads m l.0) same l.1);
+      counted = λ k reads. has.lengths complete k (subst (Reads m k) (sym same) reads);
+    }
+
 -- What a pass finds that seeks the longest front.
-pub fronted : (g : Grammar) (text : List ℕ) (stop : At) (found : Found) → IsStopped (notation_of g) text stop
-    → IsCountedFront (notation_of g) text found → IsFronted g text stop (Some found)
-fronted g text stop found reached is = record {
+pub fronted : (m : Notation) (text : List ℕ) (stop : At) (found : Found) → IsStopped m text stop → IsCountedFront m text found
+    → IsFronted m text stop (Some found)
+fronted m text stop found reached is = record {
   reached = reached;
-  longest = λ other same. let equal : found ≡ other = cc in subst (IsCountedFront (notation_of g) text) equal is;
+  longest = λ other same. let equal : found ≡ other = cc in subst (IsCountedFront m text) equal is;
   none = λ none. absurd (false≢true (sym none));
 }
 
+-- WITHOUT SIZES
+
 module _ (m : Notation) (ready : IsReady m) (text : List ℕ) where
-  accepted : (n : ℕ) (l : Literal) → Reads m l (take n text) → is_accepted m (scan m (Some start) (take n text)) ≡ true
-  accepted n l reads = rw (reads.whole) (literal_arrives m ready.roles l reads.literal).0
-
-  module _ (at : At) (is : IsBegun m text at) where
-    abbrev step_of : Option Summary
-    step_of = step m at.read (get_or text at.size 0)
-
-    next_scan : at.size < length text → scan m (Some start) (take (at.size + 1) text) ≡ step_of
-    next_scan inside =
-        rw (take_more text at.size 0 inside, scan_append m.condition m (Some start) (take at.size text) (get_or text at.size 0 ∷ []), is.read) refl
-
-    -- One more byte.
-    pub begun_more : (t : Summary) → at.size < length text → step_of ≡ Some t → IsBegun m text (record { size = at.size + 1; read = t })
-    begun_more t inside taken = record { within = omega (arith, inside); read = next_scan inside ∙ taken }
-
-    -- A byte that is not taken, or the end of the text.
-    pub stops_at : (at.size < length text → step_of ≡ None) → IsStopped m text at
-    stops_at none = record {
-      valid = record {
-        within = is.within;
-        front = front_from m ready (take at.size text) at.read is.read;
-        no_longer = λ more over within front. let inside : at.size < length text = omega (arith, over, within) in
-            front_is_read m ready (take (at.size + 1) text) (front_shorter m text (at.size + 1) more (omega (arith, over)) front) (next_scan inside
-            ∙ none inside);
-      };
-      read = is.read;
-      refused = λ inside. rw (slice_get-get_or text at.size 0 inside) (ap is_some (none inside));
-      complete = λ complete. literal_from m ready.roles (take at.size text) (ap (is_accepted m) is.read ∙ complete);
-      incomplete = λ incomplete l reads. false≢true (sym incomplete ∙ ap (is_accepted m) (sym is.read) ∙ accepted at.size l reads);
-    }
-
   -- The lengths of the parts of a literal.
   pub has_counted : (n : ℕ) (counts : List ℕ) → tally m (Some start) no_cuts (take n text) ≡ cuts_of counts → (l : Literal) → Reads m l (take n text)
       → HasLengths l (cuts_of counts)
   has_counted n counts lengths l reads =
       rw (← lengths, reads.whole, (literal_arrives m ready.roles l reads.literal).1) (has_lengths l)
 
-  -- Nothing is the longest front of nothing.
-  pub first_counted : HasCounted m text (record { size = 0; read = start }) (replicate 9 0) None
-  first_counted = record {
-    nine = refl;
-    small = small_at_first;
-    read = record { begun = record { within = omega arith; read = refl }; counted = no_counts };
-    longest = record {
-      found = λ found is. absurd (cc);
-      counted = λ found is. absurd (cc);
-      no_longer = λ more over past l reads. let none : 0 ≡ more = omega (arith, over) in false≢true (sym incomplete
-          ∙ ap (λ n. is_accepted m (scan m (Some start) (take n text))) none ∙ accepted more l reads);
-    };
-  } where
-    incomplete : is_complete m start ≡ false
-    incomplete = grind arith
-
-  module _ (at next : At) (counts : List ℕ) (found : Option Found) (has : HasCounted m text at counts found) (role : Role)
-      (follows : (role_at m (part_of at.read.stage) (get_or text at.size 0) ≡ Some role) × IsBegun m text next × (next.size ≡ at.size + 1)) where
-    inside : at.size < length text
-    inside = omega (arith, follows.1.within, follows.2)
-
-    -- A longer front that is a literal, or none.
-    longer : (counts : List ℕ) → tally m (Some start) no_cuts (take next.size text) ≡ cuts_of counts → (complete : Bool) → complete ≡ is_complete m next.read
-        → IsLongest m text next.size (if complete then Some (record { size = next.size; counts = counts }) else found)
-    longer counts counted true complete = record {
-      found = λ found is. let same : record { size = next.size; counts = counts } ≡ found = cc in
-          subst (λ (f : Found). (f.size ≤ next.size) × (l : Literal) × Reads m l (take f.size text)) same
-          (let l = literal_from m ready.roles (take next.size text) (ap (is_accepted m) follows.1.read ∙ sym complete) in (omega arith, l.0, l.1));
-      counted = λ found is. let same : record { size = next.size; counts = counts } ≡ found = cc in
-          subst (λ (f : Found). (l : Literal) → Reads m l (take f.size text) → HasLengths l (cuts_of f.counts)) same (has_counted next.size counts counted);
-      no_longer = λ more over past. absurd (let low : next.size < more = past _ refl in omega (arith, over, low));
-    }
-    longer counts counted false incomplete = record {
-      found = λ found is. let before = has.longest.found found is in (omega (arith, follows.2, before.0), before.1, before.2);
-      counted = has.longest.counted;
-      no_longer = λ more over past l reads. elim (cases_lt at.size more) [
-        | inl new ↦ let same : more ≡ next.size = omega (arith, over, new, follows.2) in
-            false≢true (incomplete ∙ ap (is_accepted m) (sym follows.1.read) ∙ accepted next.size l (subst (λ n. Reads m l (take n text)) same reads))
-        | inr before ↦ has.longest.no_longer more before past l reads
-      ];
-    }
-
-    -- One more byte is counted.
-    pub more_counted : (more : List ℕ) → length more ≡ 9 → cuts_of more ≡ count (part_of at.read.stage) (Some role) (cuts_of counts)
-        → ((k : ℕ) → get_or more k 0 ≤ at.size + 1 + 1) → (complete : Bool) → complete ≡ is_complete m next.read
-        → HasCounted m text next more (if complete then Some (record { size = next.size; counts = more }) else found)
-    more_counted more nine same small complete is =
-        let counted : tally m (Some start) no_cuts (take next.size text) ≡ cuts_of more = ap (λ n. tally m (Some start) no_cuts (take n text)) follows.2
-        ∙ rw (
-          take_more text at.size 0 inside,
-          tally_append m.condition m (Some start) no_cuts (take at.size text) (get_or text at.size 0 ∷ []),
-          has.read.begun.read,
-          has.read.counted,
-          follows.0,
-        )
-        (sym same) in record {
-          nine = nine;
-          small = λ k. let one = small k in omega (arith, one, follows.2);
-          read = record { begun = follows.1; counted = counted };
-          longest = longer more counted complete is;
-        }
-
   -- Where a literal may have been found.
   pub complete_at : (counted : Counted) → IsAt m text counted.at (cuts_of counted.counts) → counted.complete ≡ is_complete m counted.at.read
       → counted.exact ≡ false → HasFound m text counted
   complete_at counted is complete inexact = record {
     begun = is.begun;
-    literal = λ yes. literal_from m ready.roles (take counted.at.size text) (ap (is_accepted m) is.begun.read ∙ sym complete ∙ yes);
+    literal = λ yes. literal_from m ready.roles ready.no_sizes (take counted.at.size text) (ap (is_accepted m) is.begun.read ∙ sym complete ∙ yes);
     lengths = λ yes. has_counted counted.at.size counted.counts is.counted;
     exact = λ yes. absurd (false≢true (sym inexact ∙ yes));
   }
@@ -277,3 +202,207 @@ module _ (m : Notation) (ready : IsReady m) (text : List ℕ) where
             let head : b ≡ c = cc in
             let more = same_part x y X Y (omega (arith, same)) cc in ((λ j. head j ∷ more.0 j), more.1)
         same_part _ _ X Y same e = cc
+
+-- What has been read has one last group.
+pub same_group : (m : Notation) (text : List ℕ) (at : At) (a b : Group) → IsUnderway m text at a → IsUnderway m text at b → a ≡ b
+same_group m text at a b is also = let first = is.grouped in let second = also.grouped in cc
+
+-- WITH SIZES
+
+module _ (m : Notation) (ready : IsReady (unsized m)) (sizes : HasSizes m) (text : List ℕ) where
+  abbrev u : Notation
+  u = unsized m
+
+  h : HasRoles m
+  h = other_roles u m.flag m.condition ready.roles
+
+  -- A text has one reading.
+  pub one_sized_reading : (l k : Literal) → Reads m l text → Reads m k text → l ≡ k
+  one_sized_reading l k first second = one_reading u ready text l k (as_unsized m h sizes l text first).0 (as_unsized m h sizes k text second).0
+
+  pub has_sized_counted : (n : ℕ) (counts : List ℕ) → tally u (Some start) no_cuts (take n text) ≡ cuts_of counts → (l : Literal)
+      → Reads m l (take n text) → HasLengths l (cuts_of counts)
+  has_sized_counted n counts lengths l reads = has_counted u ready text n counts lengths l (as_unsized m h sizes l (take n text) reads).0
+
+  module _ (at : At) (group : Group) (is : IsUnderway m text at group) where
+    abbrev b : ℕ
+    b = get_or text at.size 0
+
+    ends_is : goes m at.read group None ≡ (is_accepted u (scan u (Some start) (take at.size text)) && ends m (group_after m (Some first_group) (take at.size text)))
+    ends_is = rw (is.begun.read, is.grouped) refl
+
+    -- What has been read is a literal if it ends.
+    pub literal_at : goes m at.read group None ≡ true → (l : Literal) × Reads m l (take at.size text)
+    literal_at end =
+        let both = and_parts (is_accepted u (scan u (Some start) (take at.size text))) _ (sym ends_is ∙ end) in
+        let l = literal_from u ready.roles ready.no_sizes (take at.size text) both.0 in
+        (l.0, as_sized m h sizes l.0 (take at.size text) l.1 both.1)
+
+    pub no_literal_at : goes m at.read group None ≡ false → NoLiteral m (take at.size text)
+    no_literal_at none l reads =
+        let both = as_unsized m h sizes l (take at.size text) reads in
+        let accepted : is_accepted u (scan u (Some start) (take at.size text)) ≡ true =
+        rw (reads.whole) (literal_arrives u ready.roles l both.0.literal).0 in
+        false≢true (sym none ∙ ends_is ∙ and_from _ _ accepted both.1)
+
+    abbrev step_of : Option Summary
+    step_of = step u at.read b
+
+    abbrev group_of : Option Group
+    group_of = grow m group (role_at m group.part b)
+
+    next_scan : at.size < length text → scan u (Some start) (take (at.size + 1) text) ≡ step_of
+    next_scan inside =
+        rw (take_more text at.size 0 inside, scan_append u.condition u (Some start) (take at.size text) (b ∷ []), is.begun.read) refl
+
+    next_group : at.size < length text → group_after m (Some first_group) (take (at.size + 1) text) ≡ group_of
+    next_group inside = rw (take_more text at.size 0 inside, group_append m (Some first_group) (take at.size text) (b ∷ []), is.grouped) refl
+
+    -- The role of a byte in the last group is that in what has been read.
+    pub same_grow : (role : Role) → role_at m (part_of at.read.stage) b ≡ Some role → group_of ≡ grow m group (Some role)
+    same_grow role plays = elim (cases_Bool (has_sizes m)) [
+      | inl sized ↦ ap (grow m group) (ap (λ part. role_at m part b) (linked_there m sized (take at.size text) at.read group is.begun.read is.grouped) ∙ plays)
+      | inr none ↦ rw (none) refl
+    ]
+
+    -- A group has no more digits than bytes have been read.
+    pub small_group : group.digits ≤ at.size
+    small_group = omega (arith, small_after m first_group group (take at.size text) is.grouped, length-take-le at.size text is.begun.within)
+
+    -- One more byte.
+    pub underway_more : (t : Summary) (g : Group) (role : Role) → at.size < length text → step_of ≡ Some t
+        → role_at m (part_of at.read.stage) b ≡ Some role → grow m group (Some role) ≡ Some g
+        → IsUnderway m text (record { size = at.size + 1; read = t }) g
+    underway_more t g role inside taken plays grown = record {
+      begun = record { within = omega (arith, inside); read = next_scan inside ∙ taken };
+      grouped = next_group inside ∙ same_grow role plays ∙ grown;
+    }
+
+    -- A byte that is not taken, or the end of the text.
+    pub stops_at : (at.size < length text → (step_of ≡ None) ⊎ (group_of ≡ None)) → IsStopped m text at
+    stops_at none = record {
+      valid = record {
+        within = is.begun.within;
+        front = front_of m ready sizes (take at.size text) at.read group is.begun.read is.grouped;
+        no_longer = λ more over within front.
+            let inside : at.size < length text = omega (arith, over, within) in
+            let short = front_shorter m text (at.size + 1) more (omega (arith, over)) front in
+            elim (none inside) [
+              | inl step ↦ front_is_read_of m ready sizes (take (at.size + 1) text) short (next_scan inside ∙ step)
+              | inr group ↦ front_fits m ready sizes (take (at.size + 1) text) short (next_group inside ∙ group)
+            ];
+      };
+      group = group;
+      read = is;
+      refused = λ inside. rw (slice_get-get_or text at.size 0 inside) (elim (none inside) [
+        | inl step ↦ rw (step) refl
+        | inr group ↦ stuck (has_sizes m) _ (is_some step_of) group
+      ]);
+      complete = literal_at;
+      incomplete = no_literal_at;
+    } where
+      stuck : (sized fit more : Bool) → (if not sized then Some group else (if fit then Some (grown group (role_at m group.part b)) else None)) ≡ None
+          → (more && fit) ≡ false
+      stuck true false true is = refl
+      stuck true false false is = refl
+      stuck false fit more is = absurd (let apart : Some group ≡ None = is in cc)
+      stuck true true more is = absurd (let apart : Some (grown group (role_at m group.part b)) ≡ None = is in cc)
+
+  -- Nothing is the longest front of nothing.
+  pub first_counted : HasCounted m text (record { size = 0; read = start }) first_group (replicate 9 0) None
+  first_counted = record {
+    nine = refl;
+    small = small_at_first;
+    read = underway_none;
+    counted = no_counts;
+    longest = record {
+      found = λ found is. absurd (cc);
+      counted = λ found is. absurd (cc);
+      no_longer = λ more over past l reads. let none : more ≡ 0 = omega (arith, over) in
+          no_literal_at (record { size = 0; read = start }) first_group underway_none incomplete l (subst (λ n. Reads m l (take n text)) none reads);
+    };
+  } where
+    incomplete : goes m start first_group None ≡ false
+    incomplete = ap (λ t. t && fits m first_group None) (let none : is_complete u start ≡ false = grind arith in none)
+
+    underway_none : IsUnderway m text (record { size = 0; read = start }) first_group
+    underway_none = record { begun = record { within = omega arith; read = refl }; grouped = refl }
+
+  module _ (at next : At) (group last : Group) (counts : List ℕ) (found : Option Found) (has : HasCounted m text at group counts found) (role : Role)
+      (follows : (role_at m (part_of at.read.stage) (get_or text at.size 0) ≡ Some role) × IsUnderway m text next last × (next.size ≡ at.size + 1)) where
+    inside : at.size < length text
+    inside = omega (arith, follows.1.begun.within, follows.2)
+
+    -- A longer front that is a literal, or none.
+    longer : (counts : List ℕ) → tally u (Some start) no_cuts (take next.size text) ≡ cuts_of counts → (complete : Bool)
+        → complete ≡ goes m next.read last None
+        → IsLongest m text next.size (if complete then Some (record { size = next.size; counts = counts }) else found)
+    longer counts counted true complete = record {
+      found = λ found is. let same : record { size = next.size; counts = counts } ≡ found = cc in
+          subst (λ (f : Found). (f.size ≤ next.size) × (l : Literal) × Reads m l (take f.size text)) same
+          (let l = literal_at next last follows.1 (sym complete) in (omega arith, l.0, l.1));
+      counted = λ found is. let same : record { size = next.size; counts = counts } ≡ found = cc in
+          subst (λ (f : Found). (l : Literal) → Reads m l (take f.size text) → HasLengths l (cuts_of f.counts)) same (has_sized_counted next.size counts counted);
+      no_longer = λ more over past. absurd (let low : next.size < more = past _ refl in omega (arith, over, low));
+    }
+    longer counts counted false incomplete = record {
+      found = λ found is. let before = has.longest.found found is in (omega (arith, follows.2, before.0), before.1, before.2);
+      counted = has.longest.counted;
+      no_longer = λ more over past l reads. elim (cases_lt at.size more) [
+        | inl new ↦ let same : more ≡ next.size = omega (arith, over, new, follows.2) in
+            no_literal_at next last follows.1 (sym incomplete) l (subst (λ n. Reads m l (take n text)) same reads)
+        | inr before ↦ has.longest.no_longer more before past l reads
+      ];
+    }
+
+    -- One more byte is counted.
+    pub more_counted : (more : List ℕ) → length more ≡ 9 → cuts_of more ≡ count (part_of at.read.stage) (Some role) (cuts_of counts)
+        → ((k : ℕ) → get_or more k 0 ≤ at.size + 1 + 1) → (complete : Bool) → complete ≡ goes m next.read last None
+        → HasCounted m text next last more (if complete then Some (record { size = next.size; counts = more }) else found)
+    more_counted more nine same small complete is =
+        let counted : tally u (Some start) no_cuts (take next.size text) ≡ cuts_of more = ap (λ n. tally u (Some start) no_cuts (take n text)) follows.2
+        ∙ rw (
+          take_more text at.size 0 inside,
+          tally_append u.condition u (Some start) no_cuts (take at.size text) (get_or text at.size 0 ∷ []),
+          has.read.begun.read,
+          has.counted,
+          follows.0,
+        )
+        (sym same) in record {
+          nine = nine;
+          small = λ k. let one = small k in omega (arith, one, follows.2);
+          read = follows.1;
+          counted = counted;
+          longest = longer more counted complete is;
+        }
+
+  -- Where reading has stopped, if the byte that follows is refused.
+  pub refused_at : (at : At) (group : Group) → IsUnderway m text at group → IsRefused u text at → IsStopped m text at
+  refused_at at group is refused = stops_at at group is (λ _. inl refused.1)
+
+  -- What has been found without sizes, if its groups fit.
+  pub begun_with : (counted : Counted) → HasFound u text counted → (group : Group) → group_after m (Some first_group) (take counted.at.size text) ≡ Some group
+      → (counted.complete ≡ true → fits m group None ≡ true) → HasBegun m text counted
+  begun_with counted found group grouped ends_there = record {
+    group = group;
+    begun = record { begun = found.begun; grouped = grouped };
+    literal = λ yes. let l = found.literal yes in
+        (l.0, as_sized m h sizes l.0 (take counted.at.size text) l.1 (ap (ends m) grouped ∙ ends_there yes));
+    lengths = λ yes l reads. found.lengths yes l (as_unsized m h sizes l (take counted.at.size text) reads).0;
+    exact = λ yes. let refused = found.exact yes in
+        (refused.0, refused_at counted.at group (record { begun = found.begun; grouped = grouped }) refused);
+  }
+
+  pub begun_free : (counted : Counted) → HasFound u text counted → has_sizes m ≡ false → HasBegun m text counted
+  begun_free counted found none = begun_with counted found first_group (all_end m none first_group (take counted.at.size text))
+      (λ _. ap (λ t. not t || true) (or_parts (m.condition conditions.IntegerGroupSize) _ none).0)
+
+  -- Nothing has been found.
+  pub begun_none : (counts : List ℕ) → HasBegun m text (record { at = record { size = 0; read = start }; counts = counts; complete = false; exact = false })
+  begun_none counts = record {
+    group = first_group;
+    begun = record { begun = record { within = omega arith; read = refl }; grouped = refl };
+    literal = λ yes. absurd (false≢true yes);
+    lengths = λ yes. absurd (false≢true yes);
+    exact = λ yes. absurd (false≢true yes);
+  }

@@ -53,7 +53,7 @@ no_sign parts.Exponent plus r other = refl
 no_sign _ plus roles.Sign other = absurd (other refl)
 no_sign _ plus _ other = refl
 
-admits_free : (m : Notation) (s : Summary) (plus zero : Bool) (r : Role) → (roles.Sign ≡ r → ⊥) → is_free m s.stage ≡ true
+pub admits_free : (m : Notation) (s : Summary) (plus zero : Bool) (r : Role) → (roles.Sign ≡ r → ⊥) → is_free m s.stage ≡ true
     → admits m.condition s plus zero r ≡ true
 admits_free m s plus zero r other free = both _ (leads_to_prefix s.stage zero r) (m.condition conditions.NegativeSign) _ free
     (no_sign (part_of s.stage) plus r other) where

@@ -1,6 +1,6 @@
 -- In a syntax, no byte plays two roles.
-use Rattle.std.proofs.Common.{ℕ, ◌≡◌, ◌<◌, ◌↔◌, Bool, true, false, nat_lt, ◌==◌, IsTrue, List, [], ◌∷◌, Option, Some, None, refl, sym, arith}
-use Rattle.std.proofs.lemmas.Bool.{lt-ltb, false≢true}
+use Rattle.std.proofs.Common.{ℕ, ◌≡◌, ◌<◌, ◌↔◌, Bool, true, false, not, nat_lt, ◌==◌, IsTrue, List, [], ◌∷◌, ◌&&◌, ◌||◌, Option, Some, None, inl, inr, refl, sym, ap, ◌∙◌, arith}
+use Rattle.std.proofs.lemmas.Bool.{lt-ltb, false≢true, and_from, cases_Bool}
 use Rattle.std.proofs.lemmas.Bool.Decides.{nat_tests}
 use Rattle.std.specs.List.{AllByRecursion}
 use Rattle.lexical_flags.proofs.RuleLemmas.{Holds-from_lawful}
@@ -10,6 +10,8 @@ use Rattle.lexical_flags.specs.declared.format_flags.rule.Rule.TheVariants as ru
 use Rattle.lexical_util.specs.Additions.ByteRoles as bytes
 use Rattle.lexical_util.specs.Ascii.{ByteSet, allowed_ascii}
 use Rattle.lexical_util.specs.Layout as layout
+use Rattle.lexical_util.specs.Layout.{Flag, separators_in}
+use Rattle.lexical_flags.specs.Record.{separator_allowed}
 use Rattle.lexical_util.specs.Record.{Record, raw}
 use Rattle.lexical_util.specs.Roles as sets
 use Rattle.lexical_util.specs.Options.{OptionsFit, OptionsHaveOneRole}
@@ -19,13 +21,22 @@ use Rattle.lexical_util.specs.declared.feature_format.roles.Role.TheVariants as 
 use Rattle.lexical_util.specs.declared.format_flags.Part.TheVariants as parts
 use Rattle.lexical_util.specs.declared.format_flags.Part.{Part}
 use Rattle.lexical_util.proofs.ByteRoleLemmas.{AreApart, apart_from, one_role}
-use Rattle.lexical_literal.specs.Notation.{has, notation_of, radix_of, set_of_role, point_of, exponent_character_of, lacks_options}
-use Rattle.lexical_literal.specs.Syntax.{IsSyntax, FitIfAny, contradiction, fault}
+use Rattle.lexical_literal.specs.Groups.{has_size}
+use Rattle.lexical_literal.specs.declared.syntax.Condition.{Condition}
+use Rattle.lexical_literal.specs.declared.syntax.ConditionsError.{ConditionsError}
+use Rattle.lexical_literal.specs.declared.syntax.ConditionsErrorKind.{ConditionsErrorKind}
+use Rattle.lexical_literal.specs.declared.syntax.ConditionsErrorKind.TheVariants as faults
+use Rattle.std.specs.Option.{option_or}
+use Rattle.std.specs.Prelude.{if◌then◌else◌, nat_le, option_map}
+use Rattle.lexical_literal.specs.Notation.{all_conditions, has, notation_of, number_of, radix_of, set_of_role, point_of, exponent_character_of, lacks_options}
+use Rattle.lexical_literal.specs.Syntax.{IsSyntax, FitIfAny, contradiction, fault, first_fault, lacks_separator, limits, missing}
 use Rattle.lexical_literal.specs.declared.syntax.Condition.TheVariants as conditions
 use Rattle.lexical_literal.specs.declared.syntax.Conditions.{Conditions}
 use Rattle.lexical_literal.specs.declared.syntax.Options.{Options}
 use Rattle.lexical_literal.specs.declared.syntax.Grammar.{Grammar}
-use Rattle.lexical_literal.specs.Additions.Plain.{IsReady}
+use Rattle.lexical_literal.specs.Additions.Plain.{HasRoles, HasSizes, IsReady}
+use Rattle.lexical_literal.specs.Additions.Sizes.{steps_of}
+use Rattle.lexical_literal.proofs.RefusalLemmas.{other_roles}
 
 -- The exponent character and the decimal point, or 0 without options.
 abbrev exponent_byte : Option Options → ℕ
@@ -65,6 +76,79 @@ module _ (r : Record) (c : Conditions) (none : contradiction r c ≡ None) where
   unfolding fault
   has_suffix set = grind (arith, nat_tests)
 
+  both_none : (a b : Option ConditionsError) → option_or a b ≡ None → (a ≡ None) × (b ≡ None)
+  both_none None b is = (refl, is)
+  both_none (Some a) b is = absurd (let apart : Some a ≡ None = is in cc)
+
+  each_none : (ds : List Condition) → first_fault r c ds ≡ None → AllByRecursion (λ d. fault r c d ≡ None) ds
+  each_none [] is = tt
+  each_none (d ∷ ds) is = let both = both_none (fault r c d) (first_fault r c ds) is in (both.0, each_none ds both.1)
+
+  abbrev error_of : Condition → ConditionsErrorKind → ConditionsError
+  error_of d kind = record { condition = d; kind = kind }
+
+  not_missing : (d : Condition) → has c d ≡ true → fault r c d ≡ None → missing r c d ≡ None
+  unfolding fault
+  not_missing d set is = go (has c d) (nat_le (limits d).0 (number_of c d) && nat_le (number_of c d) (limits d).1) (missing r c d) set is where
+    go : (has fits : Bool) (kind : Option ConditionsErrorKind) → has ≡ true
+        → option_map (error_of d) (if has then (if fits then kind else Some faults.Number) else None) ≡ None → kind ≡ None
+    go true true None set is = refl
+    go true true (Some kind) set is = absurd (let apart : Some (error_of d kind) ≡ None = is in cc)
+    go true false kind set is = absurd (let apart : Some (error_of d faults.Number) ≡ None = is in cc)
+    go false fits kind set is = absurd (false≢true set)
+
+  -- A part whose groups have sizes may have separators between digits.
+  has_separators : (f : Flag) (kind : ConditionsErrorKind) → lacks_separator r f kind ≡ None → (r.flag f ≡ true) × ((r.byte layout.digit_separator == 0) ≡ false)
+  has_separators f kind is = go (r.flag f) (r.byte layout.digit_separator == 0) is where
+    go : (flag none : Bool) → (if flag then (if none then Some faults.NoSeparator else None) else Some kind) ≡ None → (flag ≡ true) × (none ≡ false)
+    go true false is = (refl, refl)
+    go true true is = absurd (let apart : Some faults.NoSeparator ≡ None = is in cc)
+    go false none is = absurd (let apart : Some kind ≡ None = is in cc)
+
+  integer_separator : has c conditions.IntegerGroupSize ≡ true → (r.flag layout.integer_internal_digit_separator ≡ true)
+      × ((r.byte layout.digit_separator == 0) ≡ false)
+  integer_separator set = let (prefix, (suffix, (sign, (integer, more)))) = each_none all_conditions none in
+      has_separators _ faults.NoInternalSeparator (not_missing conditions.IntegerGroupSize set integer)
+
+  fraction_separator : has c conditions.FractionGroupSize ≡ true → (r.flag layout.fraction_internal_digit_separator ≡ true)
+      × ((r.byte layout.digit_separator == 0) ≡ false)
+  fraction_separator set = let (prefix, (suffix, (sign, (integer, (higher, (fraction, end)))))) = each_none all_conditions none in
+      has_separators _ faults.NoFractionSeparator (not_missing conditions.FractionGroupSize set fraction)
+
+  some_size : (number : ℕ) → not (number == 0) ≡ true → 0 < number
+  some_size number some = grind (arith, nat_tests)
+
+  used : separator_allowed r ≡ true → (r.byte layout.digit_separator == 0) ≡ false
+      → sets.used_separator r (r.byte layout.digit_separator) ≡ true
+  used allowed some = and_from _ _ allowed (cased_present true (r.byte layout.digit_separator) some)
+
+-- The sizes of a syntax are at least 1, and separators may be between digits.
+pub has_sizes_of : (g : Grammar) → IsSyntax g → HasSizes (notation_of g)
+has_sizes_of g is = record {
+  integer = λ set. some_size r c none _ set;
+  fraction = λ set. some_size r c none _ set;
+  internal = internal;
+  separator = r.byte layout.digit_separator;
+  has_separator = λ set. elim (cases_Bool (has c conditions.IntegerGroupSize)) [
+    | inl integer ↦ let is = integer_separator r c none integer in used r c none (let flag = is.0 in grind arith) is.1
+    | inr other ↦ let is = fraction_separator r c none (sym (ap (λ t. t || has c conditions.FractionGroupSize) other) ∙ set) in
+        used r c none (let flag = is.0 in grind arith) is.1
+  ];
+} where
+  r : Record
+  r = raw g.word
+
+  c : Conditions
+  c = g.conditions
+
+  none : contradiction r c ≡ None
+  none = is.conditions
+
+  internal : (part : Part) → has_size (notation_of g) part ≡ true → (raw g.word).flag (separators_in part).internal ≡ true
+  internal parts.Integer set = (integer_separator r c none set).0
+  internal parts.Fraction set = (fraction_separator r c none set).0
+  internal parts.Exponent set = absurd (false≢true set)
+
 -- A lawful format is as each rule demands.
 demanded : (rule : Rule) (word : ℕ) → Lawful word → Meets (shape_of rule) word
 unfolding Holds
@@ -95,15 +179,20 @@ module _ (law : (A B : ByteSet) → Disjoint A B ↔ ((byte : ℕ) → byte < 25
   }
   apart_of word (Some o) lawful fit = apart_from word o.exponent o.point (accepted word o.exponent o.point lawful fit)
 
-  pub ready : (g : Grammar) → IsSyntax g → IsReady (notation_of g)
+  pub has_roles : (g : Grammar) → IsSyntax g → HasRoles (notation_of g)
+  has_roles g is = record {
+    one = λ a b byte in_a in_b. one_role law g.word _ _ (apart_of g.word g.options is.lawful is.fit) byte a b
+        (own g.word is.lawful g.options g.conditions a byte in_a) (own g.word is.lawful g.options g.conditions b byte in_b);
+    zero_is_digit = zero_is_digit g.word is.lawful;
+    one_mantissa = λ byte. refl;
+    integers = integers g.options;
+  } where
+    integers : (o : Option Options) → lacks_options o ≡ true → (byte : ℕ) → (point_of o byte ≡ false) × (exponent_character_of (raw g.word) o byte ≡ false)
+    integers o lacks byte = grind arith
+
+  pub ready : (g : Grammar) → IsSyntax g → IsReady (steps_of g)
   ready g is = record {
-    roles = record {
-      one = λ a b byte in_a in_b. one_role law g.word _ _ (apart_of g.word g.options is.lawful is.fit) byte a b
-          (own g.word is.lawful g.options g.conditions a byte in_a) (own g.word is.lawful g.options g.conditions b byte in_b);
-      zero_is_digit = zero_is_digit g.word is.lawful;
-      one_mantissa = λ byte. refl;
-      integers = integers g.options;
-    };
+    roles = other_roles (notation_of g) (steps_of g).flag (steps_of g).condition (has_roles g is);
     exponent = exponent_byte g.options;
     point = point_byte g.options;
     has_exponent = λ has. (chosen g.options is.fit has).0;
@@ -116,10 +205,8 @@ module _ (law : (A B : ByteSet) → Disjoint A B ↔ ((byte : ℕ) → byte < 25
         (has_suffix (raw g.word) g.conditions is.conditions set);
     some_sign = demanded rules.MantissaSignFlagsAgree g.word is.lawful;
     agree = demanded rules.ExponentFlagsAgree g.word is.lawful;
+    no_sizes = refl;
   } where
-    integers : (o : Option Options) → lacks_options o ≡ true → (byte : ℕ) → (point_of o byte ≡ false) × (exponent_character_of (raw g.word) o byte ≡ false)
-    integers o lacks byte = grind arith
-
     chosen : (o : Option Options) → FitIfAny g.word o → lacks_options o ≡ false
         → (exponent_character_of (raw g.word) o (exponent_byte o) ≡ true) × (point_of o (point_byte o) ≡ true)
     chosen None fit has = absurd (false≢true (sym has))

@@ -1,5 +1,5 @@
 -- The bytes to show for a text that is refused are of the text.
-use Rattle.std.proofs.Common.{ℕ, ◌≡◌, ◌≤◌, ◌+◌, ◌⊎◌, Bool, not, inl, inr, List, [], ◌∷◌, length, length-append, take, Option, None, Some}
+use Rattle.std.proofs.Common.{ℕ, ◌≡◌, ◌≤◌, ◌+◌, Bool, true, false, not, List, [], ◌∷◌, length, take, Option, None, Some}
 use Rattle.std.proofs.Common.{if◌then◌else◌, get_or, sym, ap, subst, ◌∙◌, arith}
 use Rattle.std.proofs.Math.Seq.{take-length}
 use Rattle.std.proofs.lemmas.List.{length-take-le, take_more}
@@ -9,9 +9,9 @@ use Rattle.lexical_util.specs.Ascii.{ByteSet}
 use Rattle.lexical_util.specs.Layout as layout
 use Rattle.lexical_util.specs.Layout.{Flag}
 use Rattle.lexical_util.specs.declared.format_flags.Part.TheVariants as parts
+use Rattle.lexical_literal.specs.Groups.{has_sizes}
 use Rattle.lexical_literal.specs.Cause.{IsRefusal, behind, condition_span, first_in, marks_of, requirement_span, span_of, wrong_end}
 use Rattle.lexical_literal.specs.Notation.{Notation, notation_of}
-use Rattle.lexical_literal.specs.Takes.{IsError, IsFrontError, IsUngrouped}
 use Rattle.lexical_literal.specs.declared.cause.Marks.{Marks}
 use Rattle.lexical_literal.specs.declared.cause.Place.TheVariants as places
 use Rattle.lexical_literal.specs.declared.cause.ReadErrorKind.{ReadErrorKind}
@@ -44,6 +44,7 @@ record AreMarks (k : Marks) : Type 0 where
   exponent : k.exponent ≤ k.size
   first : k.first ≤ k.run
   run : k.run ≤ k.size
+  group : k.group ≤ k.size
 
 are_marks : (m : Notation) (front : List ℕ) → AreMarks (marks_of m front)
 are_marks m front = let run = behind_within (λ byte. not (m.separator byte)) front in record {
@@ -55,7 +56,11 @@ are_marks m front = let run = behind_within (λ byte. not (m.separator byte)) fr
         front run,
   );
   run = run;
-}
+  group = group (has_sizes m);
+} where
+  group : (sized : Bool) → (if sized then behind (λ byte. not (m.digit parts.Integer byte)) front else 0) ≤ length front
+  group true = behind_within _ front
+  group false = omega arith
 
 -- `IsIn size span` holds if `span` does not end before it begins, and ends in a text of `size` bytes.
 abbrev IsIn : ℕ → ℕ × ℕ → Type 0
@@ -74,9 +79,11 @@ module _ (m : Notation) (k : Marks) (are : AreMarks k) (next : Option ℕ) where
   by_flag layout.no_float_leading_zeros = either _ k.first k.run are.first are.run
   by_flag _ = grind arith
 
-  by_condition : (c : Condition) → IsIn (wrong_end k next) (condition_span c k next)
+  by_condition : (c : Condition) → IsIn (wrong_end k next) (condition_span c m k next)
   by_condition conditions.BasePrefix = let first = are.first in let run = are.run in grind arith
-  by_condition _ = grind arith
+  by_condition conditions.BaseSuffix = grind arith
+  by_condition conditions.NegativeSign = here
+  by_condition _ = either _ k.group k.size are.group (omega arith)
 
   by_kind : (kind : ReadErrorKind) (f : Flag) (c : Option Condition) → IsIn (wrong_end k next) (span_of m k next kind f c)
   by_kind causes.Requirement f None = by_flag f
@@ -85,32 +92,18 @@ module _ (m : Notation) (k : Marks) (are : AreMarks k) (next : Option ℕ) where
   by_kind (causes.Separator part _) f c = either _ k.run k.size are.run (omega arith)
   by_kind _ f c = grind arith
 
-refused_span : (m : Notation) (text : List ℕ) (error : Refusal) → IsRefusal m text error → IsIn (length text) (error.start, error.end)
-refused_span m text error is =
-    let k = marks_of m (take error.valid_up_to text) in
-    let span = subst (IsIn (wrong_end k error.byte)) (sym is.span) (by_kind m k (are_marks m (take error.valid_up_to text)) error.byte error.kind _ _) in
+-- The bytes to show for an error of a text.
+pub span_within : (g : Grammar) (text : List ℕ) (error : Refusal) → IsRefusal (notation_of g) text error → IsIn (length text) (error.start, error.end)
+span_within g text error is =
+    let k = marks_of (notation_of g) (take error.valid_up_to text) in
+    let span = subst (IsIn (wrong_end k error.byte)) (sym is.span)
+    (by_kind (notation_of g) k (are_marks (notation_of g) (take error.valid_up_to text)) error.byte error.kind _ _) in
     let end = within error.byte is.byte in (span.0, omega (arith, span.1, end)) where
-      within : (next : Option ℕ) → next ≡ slice_get text error.valid_up_to → wrong_end (marks_of m (take error.valid_up_to text)) next ≤ length text
+      within : (next : Option ℕ) → next ≡ slice_get text error.valid_up_to → wrong_end (marks_of (notation_of g) (take error.valid_up_to text)) next
+          ≤ length text
       within None same = omega (arith, length-take-le error.valid_up_to text is.valid_up_to.within, is.valid_up_to.within)
       within (Some byte) same = omega (
         arith,
         length-take-le error.valid_up_to text is.valid_up_to.within,
-        slice_get_within text error.valid_up_to byte (sym
-            same),
+        slice_get_within text error.valid_up_to byte (sym same),
       )
-
-ungrouped_span : (g : Grammar) (text : List ℕ) (error : Refusal) → IsUngrouped g text error → IsIn (length text) (error.start, error.end)
-ungrouped_span g text error is = (
-  omega (arith, is.error_start, is.error_end, is.group.ends),
-  omega (arith, is.error_end, is.group.within, length-append {A = ℕ}, ap length is.reads.whole),
-)
-
--- The bytes to show for an error of a text, or of its fronts.
-pub span_within : (g : Grammar) (text : List ℕ) (error : Refusal) → IsError g text error ⊎ IsFrontError g text error
-    → IsIn (length text) (error.start, error.end)
-span_within g text error (inl (inl is)) = refused_span (notation_of g) text error is
-span_within g text error (inl (inr is)) = ungrouped_span g text error is
-span_within g text error (inr (inl is)) = refused_span (notation_of g) text error is.1
-span_within g text error (inr (inr is)) =
-    let span = ungrouped_span g (take is.0 text) error is.1.ungrouped in
-    (span.0, omega (arith, span.1, length-take-le is.0 text is.1.front.within))

@@ -4,7 +4,10 @@ use Rattle.std.proofs.lemmas.Bool.Decides.{nat_tests}
 use Rattle.lexical_util.specs.Layout as layout
 use Rattle.lexical_util.specs.declared.feature_format.roles.Role.TheVariants as roles
 use Rattle.lexical_util.specs.declared.format_flags.Part.TheVariants as parts
-use Rattle.lexical_literal.specs.Additions.Plain.{HasRoles}
+use Rattle.std.specs.List.{list_any}
+use Rattle.std.proofs.lemmas.Bool.{false_from_ne_true, or_from}
+use Rattle.lexical_literal.specs.Additions.Plain.{HasRoles, HasSizes, IsReady}
+use Rattle.lexical_literal.specs.Additions.Sizes.{first_group, unsized}
 use Rattle.lexical_literal.specs.Notation.{Notation}
 use Rattle.lexical_literal.specs.Literal.{Literal, Reads}
 use Rattle.lexical_literal.specs.Readings.{AllIn}
@@ -15,55 +18,75 @@ use Rattle.lexical_literal.proofs.ScanLemmas.{scan_none, digit_role, is_role}
 use Rattle.lexical_literal.proofs.StepLemmas.{reading}
 use Rattle.lexical_literal.specs.declared.syntax.Condition.TheVariants as conditions
 use Rattle.lexical_literal.proofs.ConditionLemmas.{literal_from, literal_arrives}
+use Rattle.lexical_literal.proofs.FitLemmas.{calm_ends}
+use Rattle.lexical_literal.proofs.GroupLemmas.{one_role}
+use Rattle.lexical_literal.proofs.RefusalLemmas.{other_roles}
+use Rattle.lexical_literal.proofs.SizeLemmas.{as_sized, as_unsized}
 
-module _ (m : Notation) (h : HasRoles m) where
-  -- A text is a literal exactly if it is accepted.
-  literal_exactly : (text : List ℕ) (refused : Bool) → is_accepted m (scan m (Some start) text) ≡ not refused
+module _ (m : Notation) (ready : IsReady (unsized m)) (sizes : HasSizes m) where
+  abbrev u : Notation
+  u = unsized m
+
+  h : HasRoles m
+  h = other_roles u m.flag m.condition ready.roles
+
+  -- A text without separators is a literal exactly if it is accepted.
+  literal_exactly : (text : List ℕ) (refused : Bool) → list_any m.separator text ≡ false → is_accepted u (scan u (Some start) text) ≡ not refused
       → ((l : Literal) × Reads m l text) ↔ IsFalse refused
-  literal_exactly text refused same = (
-    λ (l, reads). let is = sym same ∙ ap (λ t. is_accepted m (scan m (Some start) t)) reads.whole ∙ (literal_arrives m h l reads.literal).0 in grind arith,
-    λ none. literal_from m h text (same ∙ ap not none),
+  literal_exactly text refused joined same = (
+    λ (l, reads).
+        let free = (as_unsized m h sizes l text reads).0 in
+        let is = sym same ∙ ap (λ t. is_accepted u (scan u (Some start) t)) reads.whole ∙ (literal_arrives u ready.roles l free.literal).0 in grind arith,
+    λ none. let l = literal_from u ready.roles ready.no_sizes text (same ∙ ap not none) in
+        (l.0, as_sized m h sizes l.0 text l.1 (calm_ends m first_group text refl joined)),
   )
+
+  joined : (digits : List ℕ) → AllIn (m.digit parts.Integer) digits → list_any m.separator digits ≡ false
+  joined [] all = refl
+  joined (b ∷ digits) all = or_from _ _ (one_role m h parts.Integer b all.0) (joined digits all.1)
 
   -- Digits that follow a digit that is not 0.
   more_digits : (digits : List ℕ) → AllIn (m.digit parts.Integer) digits
-      → is_accepted m (scan m (Some (reading stages.Integer false)) digits) ≡ not (m.condition conditions.BaseSuffix || needs_exponent m)
+      → is_accepted u (scan u (Some (reading stages.Integer false)) digits) ≡ not (m.condition conditions.BaseSuffix || needs_exponent m)
   more_digits [] all = grind arith
   more_digits (b ∷ digits) all =
-      let is : move_by m.condition m (reading stages.Integer false) (b == 43) (b == 48) (Some roles.Digit)
+      let is : move_by u.condition u (reading stages.Integer false) (b == 43) (b == 48) (Some roles.Digit)
       ≡ Some (reading stages.Integer false) = grind arith in
-      ap (λ o. is_accepted m (scan m o digits)) (ap (move_by m.condition m (reading stages.Integer false) (b == 43) (b == 48))
-      (digit_role m parts.Integer b all.0) ∙ is) ∙ more_digits digits all.1
+      ap (λ o. is_accepted u (scan u o digits)) (ap (move_by u.condition u (reading stages.Integer false) (b == 43) (b == 48))
+      (digit_role u parts.Integer b all.0) ∙ is) ∙ more_digits digits all.1
 
   module _ (first : ℕ) (digits : List ℕ) (not_zero : first ≢ 48) (all : AllIn (m.digit parts.Integer) (first ∷ digits)) where
     -- The first digit, which is not 0.
     first_digit : (stage : Stage) → part_of stage ≡ parts.Integer → let s = reading stage false in
-        step m s first ≡ move_by m.condition m s (first == 43) false (Some roles.Digit)
+        step u s first ≡ move_by u.condition u s (first == 43) false (Some roles.Digit)
     first_digit stage at =
         let other : (first == 48) ≡ false = grind (arith, nat_tests) in
-        ap (move_by m.condition m (reading stage false) (first == 43) (first == 48))
-        (ap (λ part. role_at m part first) at ∙ digit_role m parts.Integer first all.0)
-        ∙ ap (λ zero. move_by m.condition m (reading stage false) (first == 43) zero (Some roles.Digit)) other
+        ap (move_by u.condition u (reading stage false) (first == 43) (first == 48))
+        (ap (λ part. role_at u part first) at ∙ digit_role m parts.Integer first all.0)
+        ∙ ap (λ zero. move_by u.condition u (reading stage false) (first == 43) zero (Some roles.Digit)) other
 
     pub digits_read : ((l : Literal) × Reads m l (first ∷ digits))
         ↔ IsFalse ((m.condition conditions.BasePrefix || m.condition conditions.BaseSuffix)
         || (m.flag layout.required_mantissa_sign || (m.flag layout.required_exponent_notation && not m.integers_only)))
-    digits_read = literal_exactly (first ∷ digits) _ (ap (λ o. is_accepted m (scan m o digits)) (first_digit stages.Start refl)
-        ∙ (let none = scan_none m.condition m digits in let more = more_digits digits all.1 in grind arith))
+    digits_read = literal_exactly (first ∷ digits) _ (joined (first ∷ digits) all) (ap (λ o. is_accepted u (scan u o digits)) (first_digit stages.Start refl)
+        ∙ (let none = scan_none u.condition u digits in let more = more_digits digits all.1 in grind arith))
 
     pub negative_read : ((l : Literal) × Reads m l (45 ∷ first ∷ digits)) ↔ IsFalse ((m.condition conditions.BasePrefix || m.condition conditions.BaseSuffix)
         || (m.condition conditions.NegativeSign || (m.flag layout.required_exponent_notation && not m.integers_only)))
-    negative_read = literal_exactly (45 ∷ first ∷ digits) _ (ap (λ o. is_accepted m (scan m o (first ∷ digits)))
-        (ap (move_by m.condition m start false false) (is_role m parts.Integer 45 h roles.Sign (λ e. cc) refl)) ∙ go
+    negative_read = literal_exactly (45 ∷ first ∷ digits) _ (or_from _ _ minus (joined (first ∷ digits) all)) (ap (λ o. is_accepted u (scan u o (first ∷ digits)))
+        (ap (move_by u.condition u start false false) (is_role u parts.Integer 45 ready.roles roles.Sign (λ e. cc) refl)) ∙ go
         (m.condition conditions.NegativeSign) refl) where
+          minus : m.separator 45 ≡ false
+          minus = false_from_ne_true _ (λ is. let same = h.one roles.Separator roles.Sign 45 is refl in cc)
+
           go : (minus : Bool) → m.condition conditions.NegativeSign ≡ minus
-              → is_accepted m (scan m (move_by m.condition m start false false (Some roles.Sign)) (first ∷ digits))
+              → is_accepted u (scan u (move_by u.condition u start false false (Some roles.Sign)) (first ∷ digits))
               ≡ not ((m.condition conditions.BasePrefix || m.condition conditions.BaseSuffix)
               || (m.condition conditions.NegativeSign || (m.flag layout.required_exponent_notation && not m.integers_only)))
           go true is =
-              let sign : move_by m.condition m start false false (Some roles.Sign) ≡ None = grind arith in
-              ap (λ o. is_accepted m (scan m o (first ∷ digits))) sign ∙ grind arith
+              let sign : move_by u.condition u start false false (Some roles.Sign) ≡ None = grind arith in
+              ap (λ o. is_accepted u (scan u o (first ∷ digits))) sign ∙ grind arith
           go false is =
-              let sign : move_by m.condition m start false false (Some roles.Sign) ≡ Some (reading stages.Empty false) = grind arith in
-              ap (λ o. is_accepted m (scan m o (first ∷ digits))) sign ∙ ap (λ o. is_accepted m (scan m o digits)) (first_digit stages.Empty refl)
-              ∙ (let none = scan_none m.condition m digits in let more = more_digits digits all.1 in grind arith)
+              let sign : move_by u.condition u start false false (Some roles.Sign) ≡ Some (reading stages.Empty false) = grind arith in
+              ap (λ o. is_accepted u (scan u o (first ∷ digits))) sign ∙ ap (λ o. is_accepted u (scan u o digits)) (first_digit stages.Empty refl)
+              ∙ (let none = scan_none u.condition u digits in let more = more_digits digits all.1 in grind arith)

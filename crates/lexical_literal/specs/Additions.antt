@@ -4,4 +4,5 @@ pub mod Read
 pub mod Longest
 pub mod Forms
 pub mod Causes
+pub mod Sizes
 pub mod Explained

@@ -15,6 +15,7 @@ use Rattle.lexical_util.specs.Roles.{other_case, signs}
 use Rattle.lexical_util.specs.declared.format_flags.Part.{Part}
 use Rattle.lexical_util.specs.declared.format_flags.Part.TheVariants as parts
 use Rattle.lexical_literal.specs.Front.{IsFront, IsValidUpTo, NoLiteral}
+use Rattle.lexical_literal.specs.Groups.{has_sizes}
 use Rattle.lexical_literal.specs.Literal.{Literal, Reads}
 use Rattle.lexical_literal.specs.Notation.{all_conditions, Notation, has, is_same, kept}
 use Rattle.lexical_literal.specs.declared.syntax.Condition.{Condition}
@@ -207,13 +208,14 @@ lowest mask = flag_at (trailing_zeros w128 mask)
 
 -- `marks_of m front` has what spans and errors are made of: the length of `front`, the index behind the last byte that is
 -- neither a separator nor a sign, the index of the first digit, and the index behind the last byte that is no separator,
--- which is also the third if there is no digit.
+-- which is also the third if there is no digit, and where groups have sizes, the index behind the last byte that is no digit.
 abbrev pub marks_of : Notation → List ℕ → Marks
 marks_of m front = record {
   size = length front;
   exponent = behind (λ byte. not (m.separator byte || signs byte)) front;
   first = first_in (m.digit parts.Integer) (take (behind (λ byte. not (m.separator byte)) front) front);
   run = behind (λ byte. not (m.separator byte)) front;
+  group = if has_sizes m then behind (λ byte. not (m.digit parts.Integer byte)) front else 0;
 }
 
 -- `is_in A next` is true if `next` is a byte of `A`.
@@ -238,12 +240,13 @@ requirement_span layout.no_positive_exponent_sign m k next = (k.size, wrong_end 
 requirement_span layout.no_exponent_without_fraction m k next = (k.size, wrong_end k next)
 requirement_span _ m k next = (k.size, k.size)
 
--- `condition_span c k next` has the first index and the end of the bytes to show for the condition `c`: none, where the prefix
--- belongs or at the end, or the sign.
-abbrev pub condition_span : Condition → Marks → Option ℕ → ℕ × ℕ
-condition_span conditions.BasePrefix k next = (k.first, k.first)
-condition_span conditions.NegativeSign k next = (k.size, wrong_end k next)
-condition_span _ k next = (k.size, k.size)
+-- `condition_span c m k next` has the first index and the end of the bytes to show for the condition `c`: none, where the prefix
+-- belongs or at the end, the sign, or the last group of digits.
+abbrev pub condition_span : Condition → Notation → Marks → Option ℕ → ℕ × ℕ
+condition_span conditions.BasePrefix m k next = (k.first, k.first)
+condition_span conditions.BaseSuffix m k next = (k.size, k.size)
+condition_span conditions.NegativeSign m k next = (k.size, wrong_end k next)
+condition_span _ m k next = (k.group, if is_in (m.digit parts.Integer) next then wrong_end k next else k.size)
 
 -- `first_unmet mask unmet` is the first of the conditions `unmet` if no flag of `mask` is to blame, and `None` otherwise.
 abbrev pub first_unmet : ℕ → Conditions → Option Condition
@@ -253,7 +256,7 @@ first_unmet mask unmet = if mask == 0 then find (has unmet) all_conditions else 
 -- its first condition `c` if no flag is to blame.
 abbrev pub span_of : Notation → Marks → Option ℕ → ReadErrorKind → Flag → Option Condition → ℕ × ℕ
 span_of m k next causes.Requirement f None = requirement_span f m k next
-span_of m k next causes.Requirement f (Some c) = condition_span c k next
+span_of m k next causes.Requirement f (Some c) = condition_span c m k next
 span_of m k next (causes.Separator part places.Consecutive) f c = (k.size, wrong_end k next)
 span_of m k next (causes.Separator part place) f c = (k.run, if is_in m.separator next then wrong_end k next else k.size)
 span_of m k next (causes.Missing part) f c = (k.size, k.size)

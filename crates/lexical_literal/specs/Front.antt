@@ -20,6 +20,10 @@ pub record IsValidUpTo (m : Notation) (text : List ℕ) (index : ℕ) : Type 0 w
 abbrev pub NoLiteral : Notation → List ℕ → Type 0
 NoLiteral m text = (l : Literal) → Reads m l text → ⊥
 
+-- `NoFront m text` holds if no front of `text` is a literal.
+abbrev pub NoFront : Notation → List ℕ → Type 0
+NoFront m text = (size : ℕ) → size ≤ length text → NoLiteral m (take size text)
+
 -- `ReadsFront m l text size` holds if the first `size` bytes of `text` are a literal with the parts of `l`, and no more
 -- bytes of it are a literal.
 pub record ReadsFront (m : Notation) (l : Literal) (text : List ℕ) (size : ℕ) : Type 0 where

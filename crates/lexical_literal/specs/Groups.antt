@@ -1,50 +1,60 @@
--- Digit groups: where the separators of an integer are, if it has any, and the first group that has not the right size.
-use Rattle.std.specs.Prelude.{ℕ, ◌≡◌, Bool, true, false, not, ◌+◌, ◌-◌, ◌%◌, ◌<◌, ◌≤◌, ◌&&◌, ◌||◌, ◌==◌, nat_lt, nat_le, if◌then◌else◌, IsTrue}
-use Rattle.std.specs.Prelude.{List, [], ◌∷◌, Option, Some, None, drop, length, slice_get}
-use Rattle.std.specs.Bool.{beq}
-use Rattle.std.specs.List.{list_any}
+-- Digit groups: how many digits are between the separators of an integer or a fraction, and how many may be there.
+use Rattle.std.specs.Prelude.{ℕ, Bool, true, false, ◌+◌, ◌==◌, ◌&&◌, ◌||◌, nat_le, nat_lt, if◌then◌else◌, List, [], ◌∷◌}
 use Rattle.lexical_util.specs.Ascii.{ByteSet}
-use Rattle.lexical_literal.specs.Cause.{first_in, is_in}
+use Rattle.lexical_util.specs.declared.format_flags.Part.{Part}
+use Rattle.lexical_util.specs.declared.format_flags.Part.TheVariants as parts
+use Rattle.lexical_literal.specs.Notation.{Notation}
+use Rattle.lexical_literal.specs.declared.syntax.Condition.TheVariants as conditions
 
--- `are_groups S size bytes` is true if a byte of `bytes` is in `S`, so that it is a separator, exactly if the number of bytes
--- behind it, modulo `size + 1`, is `size`.
-abbrev pub are_groups : ByteSet → ℕ → List ℕ → Bool
-are_groups S size [] = true
-are_groups S size (byte ∷ bytes) = beq (S byte) (length bytes % (size + 1) == size) && are_groups S size bytes
+-- `has_size m part` is true if a condition of `m` is on groups of `part`, and `has_sizes m` if one is on groups of some part.
+abbrev pub has_size : Notation → Part → Bool
+has_size m parts.Integer = m.condition conditions.IntegerGroupSize
+has_size m parts.Fraction = m.condition conditions.FractionGroupSize
+has_size m parts.Exponent = false
 
--- `begins_in S bytes` is true if the first of `bytes` is in `S`.
-abbrev pub begins_in : ByteSet → List ℕ → Bool
-begins_in S [] = false
-begins_in S (byte ∷ bytes) = S byte
+abbrev pub has_sizes : Notation → Bool
+has_sizes m = m.condition conditions.IntegerGroupSize || m.condition conditions.FractionGroupSize
 
--- `is_grouped S size bytes` is true if `bytes` have no separators, or if the first is none and separators are where groups of
--- `size` digits end that are counted from the right.
-abbrev pub is_grouped : ByteSet → ℕ → List ℕ → Bool
-is_grouped S size bytes = not (list_any S bytes) || (not (begins_in S bytes) && are_groups S size bytes)
+-- `one_more counts` is `counts` with 1 added to the first.
+abbrev pub one_more : List ℕ → List ℕ
+one_more [] = []
+one_more (count ∷ counts) = (count + 1) ∷ counts
 
--- `has_groups S size bytes` is true if `bytes` are grouped, or if no `size` is required.
-abbrev pub has_groups : ByteSet → Option ℕ → List ℕ → Bool
-has_groups S None bytes = true
-has_groups S (Some size) bytes = is_grouped S size bytes
+-- `group_sizes S bytes` lists how many of `bytes` are before, between and behind those that are in `S`.
+abbrev pub group_sizes : ByteSet → List ℕ → List ℕ
+group_sizes S [] = 0 ∷ []
+group_sizes S (byte ∷ bytes) = if S byte then 0 ∷ group_sizes S bytes else one_more (group_sizes S bytes)
 
--- `group_begins S bytes start` is true if `start` is 0, or if a separator is before the index `start`.
-abbrev pub group_begins : ByteSet → List ℕ → ℕ → Bool
-group_begins S bytes start = (start == 0) || is_in S (slice_get bytes (start - 1))
+-- `higher m` is the number of digits of a group of the integer before the last one.
+abbrev pub higher : Notation → ℕ
+higher m = if m.number conditions.HigherGroupSize == 0 then m.number conditions.IntegerGroupSize else m.number conditions.HigherGroupSize
 
--- `group_size S bytes start` is the number of bytes from the index `start` to the next separator, or to the end.
-abbrev pub group_size : ByteSet → List ℕ → ℕ → ℕ
-group_size S bytes start = first_in S (drop start bytes)
+-- Of several groups of `part`, `first_fits m part count` is true if the first may have `count` digits, `last_fits m part count` if
+-- the last may, and `inner_fits m part count` if each other group may. Integers are counted from the right, fractions from the left.
+abbrev pub first_fits : Notation → Part → ℕ → Bool
+first_fits m parts.Integer count = nat_lt 0 count && nat_le count (higher m)
+first_fits m _ count = count == m.number conditions.FractionGroupSize
 
--- `is_right start count size` is true if a group at the index `start` may have `count` bytes: from 1 to `size` if it is the
--- first group, and `size` otherwise.
-abbrev pub is_right : ℕ → ℕ → ℕ → Bool
-is_right start count size = if start == 0 then nat_lt 0 count && nat_le count size else count == size
+abbrev pub inner_fits : Notation → Part → ℕ → Bool
+inner_fits m parts.Integer count = count == higher m
+inner_fits m _ count = count == m.number conditions.FractionGroupSize
 
--- `IsFirstWrongGroup S size bytes start end` holds if the group from the index `start` to `end` has not the right size, and each
--- group before it has.
-pub record IsFirstWrongGroup (S : ByteSet) (size : ℕ) (bytes : List ℕ) (start end : ℕ) : Type 0 where
-  pub begins : IsTrue (group_begins S bytes start)
-  pub ends : end ≡ start + group_size S bytes start
-  pub within : end ≤ length bytes
-  pub wrong : is_right start (group_size S bytes start) size ≡ false
-  pub first : (other : ℕ) → other < start → IsTrue (group_begins S bytes other) → IsTrue (is_right other (group_size S bytes other) size)
+abbrev pub last_fits : Notation → Part → ℕ → Bool
+last_fits m parts.Integer count = count == m.number conditions.IntegerGroupSize
+last_fits m _ count = nat_lt 0 count && nat_le count (m.number conditions.FractionGroupSize)
+
+-- `rest_fits m part counts` is true if the groups of `part` behind the first may have so many digits, and `all_fit m part counts` if
+-- all groups may, of which a single one may have any number.
+abbrev pub rest_fits : Notation → Part → List ℕ → Bool
+rest_fits m part [] = true
+rest_fits m part (count ∷ []) = last_fits m part count
+rest_fits m part (count ∷ next ∷ counts) = inner_fits m part count && rest_fits m part (next ∷ counts)
+
+abbrev pub all_fit : Notation → Part → List ℕ → Bool
+all_fit m part [] = true
+all_fit m part (count ∷ []) = true
+all_fit m part (count ∷ next ∷ counts) = first_fits m part count && rest_fits m part (next ∷ counts)
+
+-- `is_grouped m part run` is true if `run` has no separators, or has them between groups of `part` of the right sizes.
+abbrev pub is_grouped : Notation → Part → List ℕ → Bool
+is_grouped m part run = all_fit m part (group_sizes m.separator run)

@@ -1,4 +1,5 @@
 pub mod Notation
+pub mod Groups
 pub mod Run
 pub mod Literal
 pub mod Front
@@ -8,7 +9,5 @@ pub mod Readings
 pub mod Syntax
 pub mod Specials
 pub mod Cause
-pub mod Groups
-pub mod Takes
 pub mod Forms
 pub mod Additions

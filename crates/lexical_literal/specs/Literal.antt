@@ -6,6 +6,7 @@ use Rattle.lexical_util.specs.Layout as layout
 use Rattle.lexical_util.specs.Layout.{Flag}
 use Rattle.lexical_util.specs.Roles.{signs}
 use Rattle.lexical_util.specs.declared.format_flags.Part.TheVariants as parts
+use Rattle.lexical_literal.specs.Groups.{is_grouped}
 use Rattle.lexical_literal.specs.Notation.{Notation}
 use Rattle.lexical_literal.specs.declared.syntax.Condition.{Condition}
 use Rattle.lexical_literal.specs.declared.syntax.Condition.TheVariants as conditions
@@ -87,12 +88,15 @@ requirement layout.no_float_leading_zeros m l = not (is_float l) || not (is_zero
 requirement layout.required_exponent_notation m l = m.integers_only || is_present l.exponent_character
 requirement _ m l = true
 
--- `condition c l` is true if the parts of `l` are as the condition `c` requires. `Takes` states what groups of digits require.
-abbrev pub condition : Condition → Literal → Bool
-condition conditions.BasePrefix l = is_present l.prefix
-condition conditions.BaseSuffix l = is_present l.suffix
-condition conditions.NegativeSign l = is_absent l.sign || is_plus l.sign
-condition conditions.IntegerGroupSize l = true
+-- `condition c m l` is true if the parts of `l` are as the condition `c` requires. The size of higher groups changes what that of
+-- groups of the integer requires, and requires nothing itself.
+abbrev pub condition : Condition → Notation → Literal → Bool
+condition conditions.BasePrefix m l = is_present l.prefix
+condition conditions.BaseSuffix m l = is_present l.suffix
+condition conditions.NegativeSign m l = is_absent l.sign || is_plus l.sign
+condition conditions.IntegerGroupSize m l = is_grouped m parts.Integer l.integer
+condition conditions.HigherGroupSize m l = true
+condition conditions.FractionGroupSize m l = is_grouped m parts.Fraction l.fraction
 
 -- `IsSpelled m l` holds if each part of `l` is spelled as the notation `m` allows, if the parts go together, and if they
 -- are as each flag that is set requires.
@@ -114,7 +118,7 @@ pub record IsSpelled (m : Notation) (l : Literal) : Type 0 where
 -- `IsLiteral m l` holds if `l` is spelled as the notation `m` allows, and its parts are as each condition of `m` requires.
 pub record IsLiteral (m : Notation) (l : Literal) : Type 0 where
   pub spelled : IsSpelled m l
-  pub conditions : (c : Condition) → IsTrue (m.condition c) → IsTrue (condition c l)
+  pub conditions : (c : Condition) → IsTrue (m.condition c) → IsTrue (condition c m l)
 
 -- `Reads m l text` holds if `text` is a literal with the parts of `l`.
 pub record Reads (m : Notation) (l : Literal) (text : List ℕ) : Type 0 where

@@ -53,13 +53,16 @@ lacks_options (Some options) = false
 
 -- `all_conditions` lists the conditions, and `order d` is the place of `d` in this list.
 abbrev pub all_conditions : List Condition
-all_conditions = conditions.BasePrefix ∷ conditions.BaseSuffix ∷ conditions.NegativeSign ∷ conditions.IntegerGroupSize ∷ []
+all_conditions = conditions.BasePrefix ∷ conditions.BaseSuffix ∷ conditions.NegativeSign ∷ conditions.IntegerGroupSize
+    ∷ conditions.HigherGroupSize ∷ conditions.FractionGroupSize ∷ []
 
 abbrev pub order : Condition → ℕ
 order conditions.BasePrefix = 0
 order conditions.BaseSuffix = 1
 order conditions.NegativeSign = 2
 order conditions.IntegerGroupSize = 3
+order conditions.HigherGroupSize = 4
+order conditions.FractionGroupSize = 5
 
 -- `is_same d e` is true if `d` and `e` are the same condition.
 abbrev pub is_same : Condition → Condition → Bool
@@ -79,13 +82,6 @@ kept C N = record { numbers = map (λ d. if C d then N d else 0) all_conditions 
 
 abbrev pub no_conditions : Conditions
 no_conditions = record { numbers = map (λ d. 0) all_conditions }
-
--- `get c d` is the number of `d`, or `None` if it is not one of the conditions `c`, and `integer_group_size c` that of groups of digits.
-abbrev pub get : Conditions → Condition → Option ℕ
-get c d = if has c d then Some (number_of c d) else None
-
-abbrev pub integer_group_size : Conditions → Option ℕ
-integer_group_size c = get c conditions.IntegerGroupSize
 
 -- `notation_of g` is the notation of the format, the options and the conditions of `g`.
 abbrev pub notation_of : Grammar → Notation

@@ -2,11 +2,12 @@
 use Rattle.std.specs.Prelude.{ℕ, ⊤, ◌≡◌, ◌==◌, ◌&&◌, nat_le, if◌then◌else◌, List, [], ◌∷◌, Option, Some, None, option_map}
 use Rattle.std.specs.Option.{option_or}
 use Rattle.lexical_util.specs.Layout as layout
+use Rattle.lexical_util.specs.Layout.{Flag}
 use Rattle.lexical_util.specs.NormalForm.{IsNormal}
 use Rattle.lexical_util.specs.Options.{OptionsFit}
 use Rattle.lexical_util.specs.Record.{Record, raw}
 use Rattle.lexical_util.specs.Rules.{Lawful}
-use Rattle.lexical_literal.specs.Notation.{all_conditions, number_of}
+use Rattle.lexical_literal.specs.Notation.{all_conditions, has, number_of}
 use Rattle.lexical_literal.specs.declared.syntax.Condition.{Condition}
 use Rattle.lexical_literal.specs.declared.syntax.Condition.TheVariants as conditions
 use Rattle.lexical_literal.specs.declared.syntax.Conditions.{Conditions}
@@ -24,26 +25,38 @@ FitIfAny word (Some options) = OptionsFit word options.exponent options.point
 -- `limits d` has the least and the greatest number of the condition `d`, which are 1 if it has no number.
 abbrev pub limits : Condition → ℕ × ℕ
 limits conditions.IntegerGroupSize = (2, 8)
+limits conditions.HigherGroupSize = (2, 8)
+limits conditions.FractionGroupSize = (2, 8)
 limits _ = (1, 1)
 
--- `missing r d` is what the condition `d` needs and the format `r` has not, or `None` if there is nothing.
-abbrev pub missing : Record → Condition → Option ConditionsErrorKind
-missing r conditions.BasePrefix = if r.byte layout.base_prefix == 0 then Some faults.NoBasePrefix else None
-missing r conditions.BaseSuffix = if r.byte layout.base_suffix == 0 then Some faults.NoBaseSuffix else None
-missing r conditions.IntegerGroupSize = if r.flag layout.integer_internal_digit_separator then None else Some faults.NoInternalSeparator
-missing r _ = None
+-- `lacks_separator r flag kind` is `Some kind` if the format `r` does not have `flag`, `NoSeparator` if it has no digit separator,
+-- and `None` if it has both.
+abbrev pub lacks_separator : Record → Flag → ConditionsErrorKind → Option ConditionsErrorKind
+lacks_separator r flag kind =
+    if r.flag flag then (if r.byte layout.digit_separator == 0 then Some faults.NoSeparator else None) else Some kind
 
--- `fault r d number` is the error of the condition `d` with this `number` in the format `r`, or `None` if there is none.
-unfoldable pub fault : Record → Condition → ℕ → Option ConditionsError
-fault r d number = option_map (λ kind. record { condition = d; kind = kind }) (
-    if number == 0 then None
-    else (if nat_le (limits d).0 number && nat_le number (limits d).1 then missing r d else Some faults.Number))
+-- `missing r c d` is what the condition `d` needs and neither the format `r` nor the conditions `c` have, or `None` if there is
+-- nothing.
+abbrev pub missing : Record → Conditions → Condition → Option ConditionsErrorKind
+missing r c conditions.BasePrefix = if r.byte layout.base_prefix == 0 then Some faults.NoBasePrefix else None
+missing r c conditions.BaseSuffix = if r.byte layout.base_suffix == 0 then Some faults.NoBaseSuffix else None
+missing r c conditions.NegativeSign = None
+missing r c conditions.IntegerGroupSize = lacks_separator r layout.integer_internal_digit_separator faults.NoInternalSeparator
+missing r c conditions.HigherGroupSize = if has c conditions.IntegerGroupSize then None else Some faults.NoIntegerGroupSize
+missing r c conditions.FractionGroupSize = lacks_separator r layout.fraction_internal_digit_separator faults.NoFractionSeparator
+
+-- `fault r c d` is the error of `d` as one of the conditions `c` in the format `r`, or `None` if there is none.
+unfoldable pub fault : Record → Conditions → Condition → Option ConditionsError
+fault r c d = option_map (λ kind. record { condition = d; kind = kind }) (
+    if has c d
+    then (if nat_le (limits d).0 (number_of c d) && nat_le (number_of c d) (limits d).1 then missing r c d else Some faults.Number)
+    else None)
 
 -- `first_fault r c ds` is the error of the first of `ds` that is one of the conditions `c` and that the format `r` contradicts, or
 -- `None` if there is none, and `contradiction r c` that of all conditions.
 abbrev pub first_fault : Record → Conditions → List Condition → Option ConditionsError
 first_fault r c [] = None
-first_fault r c (d ∷ ds) = option_or (fault r d (number_of c d)) (first_fault r c ds)
+first_fault r c (d ∷ ds) = option_or (fault r c d) (first_fault r c ds)
 
 abbrev pub contradiction : Record → Conditions → Option ConditionsError
 contradiction r c = first_fault r c all_conditions

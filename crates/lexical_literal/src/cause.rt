@@ -5,13 +5,15 @@ ghost use Rattle.lexical_util.specs.Layout.{Flag, bit};
 ghost use Rattle.lexical_util.specs.Record.{raw};
 ghost use Rattle.lexical_util.specs.Roles.{other_case};
 ghost use Rattle.lexical_literal.specs.Additions.Causes.{is_at_gap, lets, place_of};
-ghost use Rattle.lexical_literal.specs.Additions.Explained.{alone, blame, cases, mask_of, refusal_of, requirements, separators};
-ghost use Rattle.lexical_literal.specs.Additions.Explained.{ungrouped_of, unmet, zeros};
+ghost use Rattle.lexical_literal.specs.Additions.Explained.{alone, blame, cases, group_at, mask_of, refusal_of, requirements, separators};
+ghost use Rattle.lexical_literal.specs.Additions.Explained.{unmet, zeros};
+ghost use Rattle.lexical_literal.specs.Additions.Sizes.{fits, goes, role_next, unsized};
 ghost use Rattle.lexical_literal.specs.Additions.Summary.{part_of, role_at};
 ghost use Rattle.lexical_literal.specs.Cause.{adding, bare, binds, case_set, first_unmet, with_rules};
 ghost use Rattle.lexical_literal.specs.Forms.{is_byte};
 ghost use Rattle.lexical_literal.specs.Notation.{has, kept, notation_of, number_of};
 
+use crate::groups::{Group, follows, has_size};
 use crate::span::{error, span};
 use crate::steps::{
     Summary, has_digit, is_complete, is_exponent_character, moved, needs_exponent, part_of, role_at,
@@ -50,18 +52,18 @@ pub enum ReadErrorKind {
 }
 
 // What spans and errors are made of: the number of bytes that are right, and the indexes at which the exponent, the
-// integer digits and the last separators begin.
+// integer digits, the last separators and, where groups have sizes, the last group of digits begin.
 #[derive(Debug, Clone, Copy, PartialEq, Eq, Hash)]
 pub struct Marks {
     pub(crate) size: usize,
     pub(crate) exponent: usize,
     pub(crate) first: usize,
     pub(crate) run: usize,
+    pub(crate) group: usize,
 }
 
-// Where reading stopped: what has been read, the byte that cannot follow, or `None` if bytes are missing, and the
-// bytes that follow it in its character, or 0 for each that does not. If the text is a literal whose integer is not in groups,
-// the first wrong group begins at `marks.first`, and ends at `marks.run`.
+// Where reading stopped: what has been read, the byte that cannot follow, or `None` if bytes are missing, the bytes that
+// follow it in its character, or 0 for each that does not, and whether a separator is before the last group of digits.
 #[derive(Debug, Clone, Copy, PartialEq, Eq, Hash)]
 pub struct Spot {
     pub(crate) grammar: Grammar,
@@ -69,7 +71,7 @@ pub struct Spot {
     pub(crate) byte: Option<u8>,
     pub(crate) tail: [u8; 3],
     pub(crate) marks: Marks,
-    pub(crate) is_ungrouped: bool,
+    pub(crate) separated: bool,
 }
 
 // What an error answers. `tail` has the bytes that follow `byte` in its character, or 0 for each that does not.
@@ -114,10 +116,9 @@ impl Model for ReadError {
 }
 
 impl ReadError {
-    /// Returns the length of the longest front of the text that some literal begins with, apart from the condition on
-    /// groups: the index of the first byte that cannot follow the bytes before it, or the length of the text if bytes are
-    /// missing. If groups of digits alone refuse a text, or the front that `read_prefix` finds, it is the length of that
-    /// text or front. Then, and if bytes are missing, `byte` is `None` and, outside Rattle, `is_incomplete` is `true`.
+    /// Returns the length of the longest front of the text that some literal begins with: the index of the first byte that
+    /// cannot follow the bytes before it, or the length of the text if bytes are missing. Then `byte` is `None` and, outside
+    /// Rattle, `is_incomplete` is `true`.
     #[must_use]
     pub const fn valid_up_to(&self) -> usize
         ensures { result ≡ self.now.refusal.valid_up_to }
@@ -125,7 +126,7 @@ impl ReadError {
         self.spot.marks.size
     }
 
-    /// Returns the byte that cannot follow, or `None` if bytes are missing, or if groups of digits alone refuse the text.
+    /// Returns the byte that cannot follow, or `None` if bytes are missing.
     #[must_use]
     pub const fn byte(&self) -> Option<u8>
         ensures { result ≡ self.now.refusal.byte }
@@ -179,55 +180,39 @@ impl ReadError {
     pub(crate) const fn is_byte(&self) -> bool
         ensures { result ≡ is_byte self.now.refusal.kind }
     {
-        !self.spot.is_ungrouped && self.spot.is_byte()
+        matches!(self.spot.stop().blame().kind, ReadErrorKind::Byte)
     }
 
     // Returns all answers. It finds the cause once.
     pub(crate) const fn explain(&self) -> Refusal
         ensures { result ≡ self.now.refusal }
     {
-        if self.spot.is_ungrouped {
-            self.spot.ungrouped()
-        } else {
-            self.spot.refusal()
-        }
+        self.spot.refusal()
     }
 }
 
 impl Spot {
-    // Returns whether the cause is a wrong byte where no literal goes on. It takes less time than all answers.
-    const fn is_byte(self) -> bool
-        ensures { result ≡ is_byte (refusal_of (notation_of self.grammar) self).kind }
+    // Returns what has been read, and the byte that cannot follow.
+    const fn stop(self) -> Stop
+        ensures { result ≡ record { grammar = self.grammar; read = self.read; group = group_at self; byte = self.byte } }
     {
-        let stop = Stop {
-            grammar: self.grammar,
-            read: self.read,
-            byte: self.byte,
-        };
-        matches!(stop.blame().kind, ReadErrorKind::Byte)
-    }
-
-    // Returns the answers of a text whose integer is not in groups.
-    const fn ungrouped(self) -> Refusal
-        ensures { result ≡ ungrouped_of self }
-    {
-        let Marks {
-            size,
-            first,
-            run,
+        let Spot {
+            grammar,
+            read,
+            byte,
+            separated,
+            marks,
             ..
-        } = self.marks;
-        let tail = self.tail;
-        Refusal {
-            valid_up_to: size,
-            byte: self.byte,
-            tail,
-            kind: ReadErrorKind::Requirement,
-            mask: 0,
-            conditions: self.grammar.conditions.only(Condition::IntegerGroupSize),
-            start: first,
-            end: run,
-            code: Error::InvalidDigit(first),
+        } = self;
+        Stop {
+            grammar,
+            read,
+            group: Group {
+                part: part_of(read.stage),
+                separated,
+                digits: marks.size.saturating_sub(marks.group),
+            },
+            byte,
         }
     }
 
@@ -243,11 +228,7 @@ impl Spot {
             marks,
             ..
         } = self;
-        let stop = Stop {
-            grammar,
-            read: self.read,
-            byte,
-        };
+        let stop = self.stop();
         let Blame { kind, mask } = stop.blame();
         let conditions = stop.unmet();
         let number = mask.trailing_zeros();
@@ -302,24 +283,33 @@ struct Blame {
     mask: u128,
 }
 
-// What has been read of a text, and the byte that cannot follow, or `None` if bytes are missing.
+// What has been read of a text, its last group of digits, and the byte that cannot follow, or `None` if bytes are missing.
 #[derive(Clone, Copy)]
 struct Stop {
     grammar: Grammar,
     read: Summary,
+    group: Group,
     byte: Option<u8>,
 }
 
 impl Stop {
     // Returns whether the text could go on if the flags of the format were those of `word`, with other conditions.
     const fn allows(self, word: u128, conditions: Conditions) -> bool
-        ensures { result ≡ lets (with_rules (notation_of self.grammar) (raw word).flag (has conditions)) self.read self.byte }
+        ensures { result ≡ goes (with_rules (notation_of self.grammar) (raw word).flag (has conditions)) self.read self.group self.byte }
     {
         let other = Grammar {
             word,
             options: self.grammar.options,
             conditions,
         };
+        self.goes_on(other) && self.fits(other)
+    }
+
+    // Returns whether it could by the steps of `other`.
+    const fn goes_on(self, other: Grammar) -> bool
+        requires { other.options ≡ self.grammar.options }
+        ensures { result ≡ lets (unsized (with_rules (notation_of self.grammar) (raw other.word).flag (has other.conditions))) self.read self.byte }
+    {
         match self.byte {
             None => is_complete(other, self.read),
             Some(byte) => match role_at(self.grammar, part_of(self.read.stage), byte) {
@@ -327,6 +317,19 @@ impl Stop {
                 Some(role) => matches!(moved(other, self.read, byte, role), Some(_)),
             },
         }
+    }
+
+    // Returns whether it could behind the last group, with the conditions of `other`.
+    const fn fits(self, other: Grammar) -> bool
+        ensures { result ≡ fits (with_rules (notation_of self.grammar) (raw other.word).flag (has other.conditions)) self.group
+            (role_next (notation_of self.grammar) self.group.part self.byte) }
+    {
+        let Group { part, .. } = self.group;
+        let role = match self.byte {
+            None => None,
+            Some(byte) => role_at(self.grammar, part, byte),
+        };
+        !has_size(other, part) || follows(self.grammar, self.group, role)
     }
 
     // Returns the word without the flags that require something.
@@ -339,7 +342,7 @@ impl Stop {
 
     // Returns whether the text could go on without requirements.
     const fn is_free(self) -> bool
-        ensures { result ≡ lets (bare (notation_of self.grammar)) self.read self.byte }
+        ensures { result ≡ goes (bare (notation_of self.grammar)) self.read self.group self.byte }
     {
         self.allows(self.bare(), Conditions::NONE)
     }
@@ -347,14 +350,14 @@ impl Stop {
     // Returns whether the text could go on with the flag that has the number `number`, and no other requirement.
     const fn is_permitted(self, number: u32) -> bool
         requires { number < 45 }
-        ensures { (f : Flag) → bit f ≡ number → result ≡ lets (adding f (bare (notation_of self.grammar))) self.read self.byte }
+        ensures { (f : Flag) → bit f ≡ number → result ≡ goes (adding f (bare (notation_of self.grammar))) self.read self.group self.byte }
     {
         self.allows((1 << number) | self.bare(), Conditions::NONE)
     }
 
     // Returns those of `flags` each of which, as the only requirement, refuses what cannot follow.
     const fn refusing(self, flags: u128) -> u128
-        ensures { result ≡ mask_of (λ f. (raw flags).flag f && not (lets (adding f (bare (notation_of self.grammar))) self.read self.byte)) }
+        ensures { result ≡ mask_of (λ f. (raw flags).flag f && not (goes (adding f (bare (notation_of self.grammar))) self.read self.group self.byte)) }
     {
         let mut mask = flags;
         let mut number = 0;
@@ -380,7 +383,7 @@ impl Stop {
 
     // Returns the flags that refuse alone.
     const fn alone(self) -> u128
-        ensures { result ≡ mask_of (alone (notation_of self.grammar) self.read self.byte) }
+        ensures { result ≡ mask_of (alone (notation_of self.grammar) self.read self.group self.byte) }
     {
         self.refusing(self.binding())
     }
@@ -395,7 +398,7 @@ impl Stop {
 
     // Returns the flags to blame for a requirement: those that refuse alone, or else those on leading zeros.
     const fn requirements(self) -> u128
-        ensures { result ≡ requirements (notation_of self.grammar) self.read self.byte }
+        ensures { result ≡ requirements (notation_of self.grammar) self.read self.group self.byte }
     {
         let alone = self.alone();
         if alone == 0 && self.unmet().is_none() {
@@ -407,7 +410,7 @@ impl Stop {
 
     // Returns the conditions to blame for a requirement: those that refuse alone.
     const fn unmet(self) -> Conditions
-        ensures { result ≡ kept (unmet (notation_of self.grammar) self.read self.byte) (number_of self.grammar.conditions) }
+        ensures { result ≡ kept (unmet (notation_of self.grammar) self.read self.group self.byte) (number_of self.grammar.conditions) }
     {
         let mut unmet = Conditions::NONE;
         let mut index = 0;
@@ -423,7 +426,7 @@ impl Stop {
 
     // Returns whether the syntax has a condition, and it alone refuses what cannot follow.
     const fn is_unmet(self, condition: Condition) -> bool
-        ensures { result ≡ unmet (notation_of self.grammar) self.read self.byte condition }
+        ensures { result ≡ unmet (notation_of self.grammar) self.read self.group self.byte condition }
     {
         self.grammar.conditions.has(condition)
             && self.is_free()
@@ -432,7 +435,7 @@ impl Stop {
 
     // Returns the flags each of which would allow a separator that is not allowed.
     const fn separators(self) -> u128
-        ensures { result ≡ mask_of (separators (notation_of self.grammar) self.read self.byte) }
+        ensures { result ≡ mask_of (separators (notation_of self.grammar) self.read self.group self.byte) }
     {
         if self.is_at_gap() {
             SEPARATORS & !self.refusing(SEPARATORS)
@@ -477,13 +480,12 @@ impl Stop {
 
     // Returns the flags by which the case of `byte` counts, if its other case may be next.
     const fn case_flags(self, byte: u8) -> u128
-        ensures { result ≡ mask_of (cases (notation_of self.grammar) self.read byte) }
+        ensures { result ≡ mask_of (cases (notation_of self.grammar) self.read self.group byte) }
     {
         let other = other_case(byte);
         let stop = Stop {
-            grammar: self.grammar,
-            read: self.read,
             byte: Some(other),
+            ..self
         };
         if stop.is_free() {
             case_mask(self.grammar, other)
@@ -494,7 +496,7 @@ impl Stop {
 
     // Returns the kind, and the flags that are to blame.
     const fn blame(self) -> Blame
-        ensures { result ≡ blame (notation_of self.grammar) self.read self.byte }
+        ensures { result ≡ blame (notation_of self.grammar) self.read self.group self.byte }
     {
         if self.is_free() {
             return Blame {

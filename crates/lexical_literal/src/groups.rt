@@ -1,85 +1,186 @@
-//! Digit groups: whether the separators of an integer are between groups of the same size, counted from the right.
+//! Digit groups: how many digits are between the separators of a part, and which bytes may follow.
 
-ghost use Rattle.std.specs.Prelude.{◌≡◌, false, not};
-ghost use Rattle.std.specs.List.{list_any};
-ghost use Rattle.lexical_literal.specs.Groups.{IsFirstWrongGroup, are_groups, is_grouped, is_right};
+ghost use Rattle.std.specs.Prelude.{◌≡◌, ◌<◌, ◌≤◌, ◌^◌, Some, length, take};
+ghost use Rattle.lexical_literal.specs.Additions.Sizes.{first_group, fits, follows, group_after, grow, grown, most};
+ghost use Rattle.lexical_literal.specs.Groups.{first_fits, has_size, has_sizes, higher, inner_fits, last_fits};
 ghost use Rattle.lexical_literal.specs.Notation.{notation_of};
 
-use crate::syntax::Grammar;
+use crate::steps::role_at;
+use crate::syntax::{Condition, Grammar};
+use lexical_util::format::{Part, Role};
 
-// Returns whether the bytes of an integer have no separators, or separators between whole groups of `size` digits.
-pub(crate) const fn is_grouped(grammar: Grammar, size: u8, integer: &[u8]) -> bool
-    ensures { result ≡ is_grouped (notation_of grammar).separator size integer.now }
-{
-    !has_separators(grammar, integer)
-        || (!is_separator(grammar, integer[0]) && are_groups(grammar, size, integer))
+// The group of digits that is being read: its part, whether a separator is before it, and the number of its digits.
+#[derive(Debug, Clone, Copy, PartialEq, Eq, Hash)]
+pub struct Group {
+    pub(crate) part: Part,
+    pub(crate) separated: bool,
+    pub(crate) digits: usize,
 }
 
-// Returns whether `byte` is a separator.
+// The group before any byte.
+pub(crate) const FIRST: Group = Group {
+    part: Part::Integer,
+    separated: false,
+    digits: 0,
+};
+
+// Returns whether a condition is on groups of `part`.
+pub(crate) const fn has_size(grammar: Grammar, part: Part) -> bool
+    ensures { result ≡ has_size (notation_of grammar) part }
+{
+    match part {
+        Part::Integer => grammar.conditions.has(Condition::IntegerGroupSize),
+        Part::Fraction => grammar.conditions.has(Condition::FractionGroupSize),
+        Part::Exponent => false,
+    }
+}
+
+// Returns whether a condition is on groups of some part.
 #[inline(always)]
-const fn is_separator(grammar: Grammar, byte: u8) -> bool
-    ensures { result ≡ (notation_of grammar).separator byte }
+pub(crate) const fn has_sizes(grammar: Grammar) -> bool
+    ensures { result ≡ has_sizes (notation_of grammar) }
 {
-    grammar.view().is_separator(byte)
+    grammar.conditions.has(Condition::IntegerGroupSize)
+        || grammar.conditions.has(Condition::FractionGroupSize)
 }
 
-// Returns whether there is a separator.
-const fn has_separators(grammar: Grammar, integer: &[u8]) -> bool
-    ensures { result ≡ list_any (notation_of grammar).separator integer.now }
+// Returns the number of a condition.
+const fn size(grammar: Grammar, condition: Condition) -> usize
+    ensures { result ≡ (notation_of grammar).number condition }
 {
-    let mut index = 0;
-    while index < integer.len() {
-        if is_separator(grammar, integer[index]) {
-            return true;
-        }
-        index += 1;
+    grammar.conditions.number(condition) as usize
+}
+
+// Returns the number of digits of a group of the integer before the last one.
+const fn higher(grammar: Grammar) -> usize
+    ensures { result ≡ higher (notation_of grammar) }
+{
+    match size(grammar, Condition::HigherGroupSize) {
+        0 => size(grammar, Condition::IntegerGroupSize),
+        higher => higher,
     }
-    false
 }
 
-// Returns whether the separators are the bytes that have whole groups behind them.
-const fn are_groups(grammar: Grammar, size: u8, integer: &[u8]) -> bool
-    ensures { result ≡ are_groups (notation_of grammar).separator size integer.now }
+// Returns whether the first of several groups may have `count` digits.
+const fn first_fits(grammar: Grammar, part: Part, count: usize) -> bool
+    ensures { result ≡ first_fits (notation_of grammar) part count }
 {
-    let size = size as usize;
-    let mut index = 0;
-    while index < integer.len() {
-        let behind = integer.len() - 1 - index;
-        if is_separator(grammar, integer[index]) != (behind % (size + 1) == size) {
-            return false;
-        }
-        index += 1;
+    match part {
+        Part::Integer => 0 < count && count <= higher(grammar),
+        _ => count == size(grammar, Condition::FractionGroupSize),
     }
-    true
 }
 
-// Returns the first index and the end of the first group that has not the right size, in an integer that is not grouped.
-pub(crate) const fn wrong_group(grammar: Grammar, size: u8, integer: &[u8]) -> (usize, usize)
-    requires { is_grouped (notation_of grammar).separator size integer.now ≡ false }
-    ensures { IsFirstWrongGroup (notation_of grammar).separator size integer.now result.0 result.1 }
+// Returns whether a group between others may have `count` digits.
+const fn inner_fits(grammar: Grammar, part: Part, count: usize) -> bool
+    ensures { result ≡ inner_fits (notation_of grammar) part count }
 {
-    let mut start = 0;
-    let mut index = 0;
-    while index < integer.len() {
-        if is_separator(grammar, integer[index]) {
-            if !is_right(start, index - start, size) {
-                return (start, index);
-            }
-            start = index + 1;
-        }
-        index += 1;
+    match part {
+        Part::Integer => count == higher(grammar),
+        _ => count == size(grammar, Condition::FractionGroupSize),
     }
-    (start, index)
 }
 
-// Returns whether a group at the index `start` may have `count` digits.
-const fn is_right(start: usize, count: usize, size: u8) -> bool
-    ensures { result ≡ is_right start count size }
+// Returns whether the last of several groups may have `count` digits.
+const fn last_fits(grammar: Grammar, part: Part, count: usize) -> bool
+    ensures { result ≡ last_fits (notation_of grammar) part count }
 {
-    let size = size as usize;
-    if start == 0 {
-        0 < count && count <= size
+    match part {
+        Part::Integer => count == size(grammar, Condition::IntegerGroupSize),
+        _ => 0 < count && count <= size(grammar, Condition::FractionGroupSize),
+    }
+}
+
+// Returns the number of digits that a group behind a separator has at most.
+const fn most(grammar: Grammar, part: Part) -> usize
+    ensures { result ≡ most (notation_of grammar) part }
+{
+    let last = size(grammar, Condition::IntegerGroupSize);
+    match part {
+        Part::Integer if higher(grammar) < last => last,
+        Part::Integer => higher(grammar),
+        _ => size(grammar, Condition::FractionGroupSize),
+    }
+}
+
+// Returns whether a byte with the role `role` may follow `group`, of a part whose groups have sizes. If it has no role, or none
+// follows, the part ends.
+pub(crate) const fn follows(grammar: Grammar, group: Group, role: Option<Role>) -> bool
+    ensures { result ≡ follows (notation_of grammar) group role }
+{
+    let Group {
+        part,
+        separated,
+        digits,
+    } = group;
+    match role {
+        Some(Role::Digit) => !separated || digits < most(grammar, part),
+        Some(Role::Separator) if separated => inner_fits(grammar, part, digits),
+        Some(Role::Separator) => first_fits(grammar, part, digits),
+        _ => !separated || last_fits(grammar, part, digits),
+    }
+}
+
+// Returns whether a byte with the role `role` may follow `group`.
+pub(crate) const fn fits(grammar: Grammar, group: Group, role: Option<Role>) -> bool
+    ensures { result ≡ fits (notation_of grammar) group role }
+{
+    !has_size(grammar, group.part) || follows(grammar, group, role)
+}
+
+// Returns the group after a byte with the role `role`.
+const fn grown(group: Group, role: Option<Role>) -> Group
+    requires { group.digits < 2 ^ 63 }
+    ensures { result ≡ grown group role }
+{
+    let part = match role {
+        Some(Role::Point) => Part::Fraction,
+        Some(Role::Exponent) => Part::Exponent,
+        _ => group.part,
+    };
+    match role {
+        Some(Role::Digit) => Group {
+            digits: group.digits + 1,
+            ..group
+        },
+        _ => Group {
+            part,
+            separated: matches!(role, Some(Role::Separator)),
+            digits: 0,
+        },
+    }
+}
+
+// Returns the group after a byte with the role `role`, or `None` if it may not follow. Without sizes, it stays the same.
+#[inline(always)]
+pub(crate) const fn grow(grammar: Grammar, group: Group, role: Option<Role>) -> Option<Group>
+    requires { group.digits < 2 ^ 63 }
+    ensures { result ≡ grow (notation_of grammar) group role }
+{
+    if !has_sizes(grammar) {
+        Some(group)
+    } else if fits(grammar, group, role) {
+        Some(grown(group, role))
     } else {
-        count == size
+        None
     }
+}
+
+// Returns the group after the first `size` bytes of `text`, or `None` if one of them may not follow.
+#[cold]
+pub(crate) const fn group_after(grammar: Grammar, text: &[u8], size: usize) -> Option<Group>
+    requires { size ≤ length text.now }
+    ensures { result ≡ group_after (notation_of grammar) (Some first_group) (take size text.now) }
+{
+    let mut group = FIRST;
+    let mut index = 0;
+    while index < size {
+        let role = role_at(grammar, group.part, text[index]);
+        let Some(next) = grow(grammar, group, role) else {
+            return None;
+        };
+        group = next;
+        index += 1;
+    }
+    Some(group)
 }

@@ -1,6 +1,6 @@
 //! Theorems on literals. Each is a clause of a function with an empty body.
 
-ghost use Rattle.std.specs.Prelude.{◌≡◌, ◌≢◌, ◌≤◌, ◌↔◌, ◌⊎◌, ◌&&◌, ◌||◌, ◌∷◌, ℕ, Bool, IsFalse, IsTrue, List, Option, length, not};
+ghost use Rattle.std.specs.Prelude.{◌≡◌, ◌≢◌, ◌≤◌, ◌↔◌, ◌&&◌, ◌||◌, ◌∷◌, ℕ, Bool, IsFalse, IsTrue, List, Option, length, not};
 ghost use Rattle.lexical_util.specs.Layout as layout;
 ghost use Rattle.lexical_util.specs.Layout.{Flag};
 ghost use Rattle.lexical_util.specs.NormalForm.{normal_form_of};
@@ -10,7 +10,6 @@ ghost use Rattle.lexical_literal.specs.Literal.{Literal, Reads, condition, requi
 ghost use Rattle.lexical_literal.specs.Notation.{Notation, has, notation_of};
 ghost use Rattle.lexical_literal.specs.Readings.{AllIn, PartsHaveRoles};
 ghost use Rattle.lexical_literal.specs.Syntax.{IsSyntax};
-ghost use Rattle.lexical_literal.specs.Takes.{IsError, IsFrontError};
 ghost use Rattle.lexical_literal.specs.declared.cause.ReadErrorKind.{ReadErrorKind};
 ghost use Rattle.lexical_literal.specs.declared.cause.Refusal.{Refusal};
 ghost use Rattle.lexical_literal.specs.declared.syntax.Condition.{Condition};
@@ -50,7 +49,7 @@ pub fn literal_facts()
     ensures one_refusal { (m : Notation) → (text : List ℕ) → (a b : Refusal) → IsRefusal m text a → IsRefusal m text b → a ≡ b }
 
     // The bytes to show for a text that is refused are bytes of the text.
-    ensures span { (g : Grammar) → (text : List ℕ) → (error : Refusal) → IsError g text error ⊎ IsFrontError g text error
+    ensures span { (g : Grammar) → (text : List ℕ) → (error : Refusal) → IsRefusal (notation_of g) text error
         → (error.start ≤ error.end) × (error.end ≤ length text) }
 
     // A literal is as each flag that is set requires.
@@ -59,7 +58,7 @@ pub fn literal_facts()
 
     // The parts of a literal are as each condition requires.
     ensures conditions { (g : Grammar) → (l : Literal) → (text : List ℕ) → Reads (notation_of g) l text
-        → (c : Condition) → IsTrue (has g.conditions c) → IsTrue (condition c l) }
+        → (c : Condition) → IsTrue (has g.conditions c) → IsTrue (condition c (notation_of g) l) }
 
     // Mantissa digits that do not begin with 0 are a literal if and only if no flag requires a sign or an exponent, and no
     // condition a prefix or a suffix.

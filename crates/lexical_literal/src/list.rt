@@ -1,18 +1,20 @@
 //! Lists of syntaxes: the numbers of a language that has several forms, such as `10`, `0x1F` and `0b1`.
 
 ghost use Rattle.std.specs.Prelude.{◌≡◌, ◌<◌, All, SomeIff, length};
-ghost use Rattle.lexical_literal.specs.Additions.Forms.{IsFoundForm, IsFoundFrontForm, IsFurthestForm, IsLongestForm, further, longer};
+ghost use Rattle.lexical_literal.specs.Additions.Forms.{IsFoundForm, IsFoundFrontForm, IsFurthestForm, further, longer};
 ghost use Rattle.lexical_literal.specs.Forms.{IsFormError};
-ghost use Rattle.lexical_literal.specs.Takes.{Refuses};
+ghost use Rattle.lexical_literal.specs.Front.{NoLiteral};
+ghost use Rattle.lexical_literal.specs.Notation.{notation_of};
 
 use crate::cause::ReadError;
 use crate::literal::Literal;
+use crate::groups::FIRST;
 use crate::plain::{At, BEGIN};
 use crate::read::Found;
 use crate::syntax::Syntax;
 use std::marker::Model;
 
-/// The syntaxes of the forms of numbers, at least one. The first form that takes a text decides what number it is.
+/// The syntaxes of the forms of numbers, at least one. The first form of which a text is a literal decides what number it is.
 #[derive(Drop)]
 pub struct SyntaxList<'a> {
     syntaxes: &'a [Syntax],
@@ -84,7 +86,7 @@ impl<'a> SyntaxList<'a> {
     }
 
     // Returns the longest front of `text` that is a literal of a form, with the index of the form, the first of equals, or
-    // why there is none. Its groups are tested last.
+    // why there is none.
     pub(crate) fn find_front(&self, text: &[u8]) -> Result<(usize, Found), FormError>
         ensures { IsFoundFrontForm self.now text.now result }
     {
@@ -98,19 +100,8 @@ impl<'a> SyntaxList<'a> {
             form += 1;
         }
         match longest {
-            Some((form, found)) => self.grouped(text, form, found),
+            Some((form, found)) => Ok((form, found)),
             None => Err(self.refuse(text, furthest)),
-        }
-    }
-
-    // Returns the front `found` of a form, or why its integer is not in groups.
-    fn grouped(&self, text: &[u8], form: usize, found: Found) -> Result<(usize, Found), FormError>
-        requires { IsLongestForm self.now text.now form found }
-        ensures { IsFoundFrontForm self.now text.now result }
-    {
-        match self.syntaxes()[form].grouped(text, found) {
-            Ok(()) => Ok((form, found)),
-            Err(error) => Err(FormError { form, error }),
         }
     }
 
@@ -119,7 +110,7 @@ impl<'a> SyntaxList<'a> {
     #[cold]
     fn refuse(&self, text: &[u8], furthest: Option<(usize, At)>) -> FormError
         requires furthest { IsFurthestForm self.now text.now furthest }
-        requires none { All (λ g. Refuses g text.now) self.now }
+        requires none { All (λ g. NoLiteral (notation_of g) text.now) self.now }
         ensures { IsFormError self.now text.now result }
     {
         let Some((first, stop)) = furthest else {
@@ -135,7 +126,7 @@ impl<'a> SyntaxList<'a> {
         let mut form = first + 1;
         while form < syntaxes.len() {
             let syntax = &syntaxes[form];
-            let reached = syntax.walk(text, BEGIN);
+            let reached = syntax.walk(text, BEGIN, FIRST);
             if reached.size == stop.size {
                 let Err(other) = syntax.refuse::<()>(text, reached) else {
                     unreachable!()

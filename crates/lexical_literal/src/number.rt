@@ -1,6 +1,7 @@
 //! Calls that read literals.
 
-ghost use Rattle.lexical_literal.specs.Additions.Plain.{IsBegun};
+ghost use Rattle.lexical_literal.specs.Additions.Longest.{IsUnderway};
+ghost use Rattle.lexical_literal.specs.declared.groups.Group.{Group};
 ghost use Rattle.lexical_literal.specs.Notation.{notation_of};
 ghost use Rattle.lexical_literal.specs.Forms.{IsFrontByForms, IsReadByForms};
 ghost use Rattle.lexical_literal.specs.Parts.{IsRead, IsReadPrefix};
@@ -54,26 +55,22 @@ impl Syntax {
     }
 
     /// Returns the longest front of `text` that is a literal. What follows it may be anything. No byte behind the first
-    /// character that no literal can have is looked at. Groups of digits are tested last: they do not end a front.
+    /// character that no literal can have is looked at.
     ///
     /// # Errors
     ///
-    /// If no front of `text` is a literal, returns the error of [`read`][Self::read]. If the integer of the longest front is
-    /// not in groups, returns its error.
+    /// If no front of `text` is a literal, returns the error of [`read`][Self::read].
     pub fn read_prefix<'a>(&self, text: &'a [u8]) -> Result<Front<'a>, ReadError>
         ensures { IsReadPrefix self.now text.now result }
     {
         let (stop, found) = self.front(text);
         match found {
             None => self.refuse(text, stop),
-            Some(found) => match self.grouped(text, found) {
-                Ok(()) => {
-                    let Found { size, counts } = found;
-                    let literal = self.summed(front_of(text, size), counts);
-                    Ok(Front { literal, size })
-                }
-                Err(error) => Err(error),
-            },
+            Some(found) => {
+                let Found { size, counts } = found;
+                let literal = self.summed(front_of(text, size), counts);
+                Ok(Front { literal, size })
+            }
         }
     }
 }

@@ -4,11 +4,12 @@
 
 ghost use Rattle.std.specs.Prelude.{◌≡◌, ◌<◌, ◌≤◌, ◌+◌, ◌-◌, ◌*◌, ◌%◌, ◌^◌, ◌∷◌, [], false, true, IfSome, IsNone, IsTrue, get_or, length};
 ghost use Rattle.lexical_util.specs.Record.{raw};
-ghost use Rattle.lexical_literal.specs.Notation.{Notation, notation_of, radix_of};
-ghost use Rattle.lexical_literal.specs.Additions.Longest.{HasFound, IsStopped};
-ghost use Rattle.lexical_literal.specs.Additions.Plain.{IsAt, IsBegun, IsDigitAt, IsOpened, IsOver, IsPassed, IsReadOn, IsReady, IsRunOn, IsSeparated, IsSign};
+ghost use Rattle.lexical_literal.specs.Notation.{Notation, radix_of};
+ghost use Rattle.lexical_literal.specs.Additions.Longest.{HasFound};
+ghost use Rattle.lexical_literal.specs.Additions.Plain.{IsAt, IsBegun, IsDigitAt, IsOpened, IsOver, IsPassed, IsReadOn, IsReady, IsRefused, IsRunOn, IsSeparated, IsSign};
 ghost use Rattle.lexical_literal.specs.Additions.Plain.{behind_sign, counts_of, fresh, is_free, at_stage};
 ghost use Rattle.lexical_literal.specs.Additions.Read.{AreSums, IsMantissa, IsSummed, cut};
+ghost use Rattle.lexical_literal.specs.Additions.Sizes.{steps_of};
 ghost use Rattle.lexical_literal.specs.Additions.Summary.{Cuts, after_mark, after_point, awaits_integer, cuts_of, has_digit, is_bare, is_fresh};
 ghost use Rattle.lexical_literal.specs.Additions.Summary.{is_run, is_signed, part_of, piece_of, with_prefix};
 ghost use Rattle.lexical_literal.specs.declared.steps.Piece.TheVariants as pieces;
@@ -138,9 +139,9 @@ const fn stopped(_grammar: Grammar, _text: &[u8], at: At, exact: bool) -> Counte
 // Returns whether a sign of the mantissa, or of the exponent, follows and is read.
 #[inline(always)]
 const fn reads_sign(grammar: Grammar, text: &[u8], part: Part, size: usize) -> bool
-    requires ready { IsReady (notation_of grammar) }
+    requires ready { IsReady (steps_of grammar) }
     ensures inside { IsTrue result → size < length text.now }
-    ensures on { IsTrue result → IsReadOn (notation_of grammar) text.now (at_stage size (fresh part)) (piece_of part Role.Sign)
+    ensures on { IsTrue result → IsReadOn (steps_of grammar) text.now (at_stage size (fresh part)) (piece_of part Role.Sign)
         (at_stage (size + 1) (after_mark (fresh part))) }
 {
     if size >= text.len() {
@@ -154,9 +155,9 @@ const fn reads_sign(grammar: Grammar, text: &[u8], part: Part, size: usize) -> b
 // Returns the length of the sign of the mantissa, or of the exponent, or `None` if one is required that does not follow.
 #[inline(always)]
 const fn sign(grammar: Grammar, text: &[u8], part: Part, size: usize) -> Option<usize>
-    requires ready { IsReady (notation_of grammar) }
+    requires ready { IsReady (steps_of grammar) }
     requires within { size ≤ length text.now }
-    ensures { IfSome result (λ sign. IsSign (notation_of grammar) text.now part size sign) }
+    ensures { IfSome result (λ sign. IsSign (steps_of grammar) text.now part size sign) }
 {
     if reads_sign(grammar, text, part, size) {
         Some(1)
@@ -183,13 +184,13 @@ const fn behind_sign(part: Part, sign: usize) -> Stage
 // Returns whether a base prefix follows, with its zero, and is read.
 #[inline(always)]
 const fn reads_prefix(grammar: Grammar, text: &[u8], size: usize) -> bool
-    requires ready { IsReady (notation_of grammar) }
+    requires ready { IsReady (steps_of grammar) }
     requires within { size ≤ length text.now }
     ensures inside { IsTrue result → size + 1 < length text.now }
     ensures on { IsTrue result → (stage : Stage) (c : Cuts) → awaits_integer stage ≡ true
-        → is_signed (notation_of grammar) Part.Integer stage ≡ true
-        → IsAt (notation_of grammar) text.now (at_stage size stage) c
-        → IsAt (notation_of grammar) text.now (at_stage (size + 2) Stage.Prefixed) (with_prefix c) }
+        → is_signed (steps_of grammar) Part.Integer stage ≡ true
+        → IsAt (steps_of grammar) text.now (at_stage size stage) c
+        → IsAt (steps_of grammar) text.now (at_stage (size + 2) Stage.Prefixed) (with_prefix c) }
 {
     if size + 1 >= text.len() {
         return false;
@@ -201,7 +202,7 @@ const fn reads_prefix(grammar: Grammar, text: &[u8], size: usize) -> bool
 #[inline(always)]
 const fn value_at(grammar: Grammar, text: &[u8], part: Part, index: usize) -> Option<u32>
     ensures some { IfSome result (λ value. IsDigitAt (radix_of (raw grammar.word) part) text.now index value) }
-    ensures none { IsNone result → index < length text.now → (notation_of grammar).digit part (get_or text.now index 0) ≡ false }
+    ensures none { IsNone result → index < length text.now → (steps_of grammar).digit part (get_or text.now index 0) ≡ false }
 {
     if index < text.len() {
         digit_value(grammar, part, text[index])
@@ -235,7 +236,7 @@ const fn push(grammar: Grammar, part: Part, run: Run, value: u32, bytes: usize) 
 #[inline(always)]
 const fn separated(grammar: Grammar, text: &[u8], part: Part, index: usize) -> Option<u32>
     requires { index ≤ length text.now }
-    ensures { IfSome result (λ value. IsSeparated (notation_of grammar) (radix_of (raw grammar.word) part) text.now part index value) }
+    ensures { IfSome result (λ value. IsSeparated (steps_of grammar) (radix_of (raw grammar.word) part) text.now part index value) }
 {
     if index < text.len()
         && is_separator(grammar, text[index])
@@ -250,7 +251,7 @@ const fn separated(grammar: Grammar, text: &[u8], part: Part, index: usize) -> O
 // Reads the digits that follow others. They do not change the stage.
 #[inline(always)]
 const fn more_digits(grammar: Grammar, text: &[u8], part: Part, begun: Run) -> Run
-    requires ready { IsReady (notation_of grammar) }
+    requires ready { IsReady (steps_of grammar) }
     requires within { begun.size ≤ length text.now }
     requires digits { begun.digits ≤ begun.size }
     requires run { is_run begun.stage ≡ true }
@@ -258,8 +259,8 @@ const fn more_digits(grammar: Grammar, text: &[u8], part: Part, begun: Run) -> R
     ensures within { result.size ≤ length text.now }
     ensures digits { result.digits ≤ result.size }
     ensures stage { result.stage ≡ begun.stage }
-    ensures run { IsRunOn (notation_of grammar) (radix_of (raw grammar.word) part) text.now part begun result }
-    ensures over { IsOver (notation_of grammar) text.now part result }
+    ensures run { IsRunOn (steps_of grammar) (radix_of (raw grammar.word) part) text.now part begun result }
+    ensures over { IsOver (steps_of grammar) text.now part result }
 {
     let mut run = begun;
     while let Some(value) = value_at(grammar, text, part, run.size) {
@@ -271,15 +272,15 @@ const fn more_digits(grammar: Grammar, text: &[u8], part: Part, begun: Run) -> R
 // Reads the digits that follow others, and separators between them. They do not change the stage.
 #[inline(always)]
 const fn groups(grammar: Grammar, text: &[u8], part: Part, begun: Run) -> Run
-    requires ready { IsReady (notation_of grammar) }
+    requires ready { IsReady (steps_of grammar) }
     requires within { begun.size ≤ length text.now }
     requires digits { begun.digits ≤ begun.size }
     requires run { is_run begun.stage ≡ true }
     requires part { part_of begun.stage ≡ part }
     ensures digits { result.digits ≤ result.size }
     ensures stage { result.stage ≡ begun.stage }
-    ensures run { IsRunOn (notation_of grammar) (radix_of (raw grammar.word) part) text.now part begun result }
-    ensures over { IsOver (notation_of grammar) text.now part result }
+    ensures run { IsRunOn (steps_of grammar) (radix_of (raw grammar.word) part) text.now part begun result }
+    ensures over { IsOver (steps_of grammar) text.now part result }
 {
     let mut run = begun;
     loop {
@@ -323,7 +324,7 @@ const fn digits(grammar: Grammar, text: &[u8], part: Part, begun: Run) -> Run
 // Reads the digits behind the zero that begins the integer.
 #[inline(always)]
 const fn behind_zero(grammar: Grammar, text: &[u8], zero: Run) -> Run
-    requires ready { IsReady (notation_of grammar) }
+    requires ready { IsReady (steps_of grammar) }
     requires within { zero.size ≤ length text.now }
     requires digits { zero.digits ≤ zero.size }
     requires bare { zero.stage ≡ Stage.Bare }
@@ -364,9 +365,9 @@ pub(crate) const fn plain(grammar: Grammar, text: &[u8], fronts: bool) -> Counte
 // Returns what comes before the digits of the integer, or `None` if a base prefix is required that does not follow.
 #[inline(always)]
 const fn open(grammar: Grammar, text: &[u8], sign: usize) -> Option<Opening>
-    requires ready { IsReady (notation_of grammar) }
-    requires sign { IsSign (notation_of grammar) text.now Part.Integer 0 sign }
-    ensures { IfSome result (IsOpened (notation_of grammar) text.now) }
+    requires ready { IsReady (steps_of grammar) }
+    requires sign { IsSign (steps_of grammar) text.now Part.Integer 0 sign }
+    ensures { IfSome result (IsOpened (steps_of grammar) text.now) }
 {
     if reads_prefix(grammar, text, sign) {
         Some(Opening {
@@ -390,8 +391,8 @@ const fn open(grammar: Grammar, text: &[u8], sign: usize) -> Option<Opening>
 // Returns whether a byte follows that is no base prefix, and one is required.
 #[inline(always)]
 const fn misses_prefix(grammar: Grammar, text: &[u8], size: usize) -> bool
-    ensures { IsTrue result → (size < length text.now) × ((notation_of grammar).condition conditions.BasePrefix ≡ true)
-        × ((notation_of grammar).prefix (get_or text.now size 0) ≡ false) }
+    ensures { IsTrue result → (size < length text.now) × ((steps_of grammar).condition conditions.BasePrefix ≡ true)
+        × ((steps_of grammar).prefix (get_or text.now size 0) ≡ false) }
 {
     size < text.len()
         && grammar.conditions.has(Condition::BasePrefix)
@@ -475,9 +476,9 @@ const fn fraction(
     sizes: Sizes,
     integer: Run,
 ) -> Counted
-    requires ready { IsReady (notation_of grammar) }
+    requires ready { IsReady (steps_of grammar) }
     requires inside { integer.size < length text.now }
-    requires at { IsAt (notation_of grammar) text.now (at_stage (integer.size + 1) (after_point (has_digit integer.stage)))
+    requires at { IsAt (steps_of grammar) text.now (at_stage (integer.size + 1) (after_point (has_digit integer.stage)))
         (cuts_of (counts_of (record sizes { point = 1 }) 0 0 0 0)) }
     requires none { (sizes.point ≡ 0) × (sizes.fraction ≡ 0) }
     requires digits { integer.digits ≤ integer.size }
@@ -609,11 +610,11 @@ const fn exponent(
 // Returns whether `byte` is neither a digit nor a separator, and no base prefix, and follows digits.
 #[inline(always)]
 const fn is_passed(grammar: Grammar, stage: Stage, byte: u8) -> bool
-    requires { is_run stage ≡ true → (notation_of grammar).digit (part_of stage) byte ≡ false }
-    ensures digit { IsTrue result → (notation_of grammar).digit (part_of stage) byte ≡ false }
-    ensures separator { IsTrue result → (notation_of grammar).separator byte ≡ false }
+    requires { is_run stage ≡ true → (steps_of grammar).digit (part_of stage) byte ≡ false }
+    ensures digit { IsTrue result → (steps_of grammar).digit (part_of stage) byte ≡ false }
+    ensures separator { IsTrue result → (steps_of grammar).separator byte ≡ false }
     ensures fresh { IsTrue result → is_fresh stage ≡ false }
-    ensures prefix { IsTrue result → is_bare stage ≡ true → (notation_of grammar).prefix byte ≡ false }
+    ensures prefix { IsTrue result → is_bare stage ≡ true → (steps_of grammar).prefix byte ≡ false }
 {
     if is_separator(grammar, byte) {
         return false;
@@ -637,10 +638,10 @@ const fn end(
     scale: [usize; 3],
     sums: Sums,
 ) -> Counted
-    requires ready { IsReady (notation_of grammar) }
-    requires at { IsAt (notation_of grammar) text.now at (cuts_of (counts_of sizes (get_or scale 0 0) (get_or scale 1 0) (get_or scale 2 0) 0)) }
+    requires ready { IsReady (steps_of grammar) }
+    requires at { IsAt (steps_of grammar) text.now at (cuts_of (counts_of sizes (get_or scale 0 0) (get_or scale 1 0) (get_or scale 2 0) 0)) }
     requires going { at.read.ended ≡ false }
-    requires free { is_free (notation_of grammar) at.read.stage ≡ true }
+    requires free { is_free (steps_of grammar) at.read.stage ≡ true }
     requires over { is_run at.read.stage ≡ true → at.size < length text.now
         → (notation_of grammar).digit (part_of at.read.stage) (get_or text.now at.size 0) ≡ false }
     requires point { IsPassed (notation_of grammar) text.now at Role.Point }

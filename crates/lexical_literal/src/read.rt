@@ -8,19 +8,25 @@ ghost use Rattle.lexical_literal.specs.Additions.Plain.{IsBegun};
 ghost use Rattle.lexical_literal.specs.Additions.Read.{IsSummed};
 ghost use Rattle.lexical_literal.specs.Additions.Summary.{HasLengths, count, cuts_of, is_complete, part_of, role_at};
 ghost use Rattle.lexical_literal.specs.Additions.Causes.{lets};
+ghost use Rattle.lexical_literal.specs.Additions.Longest.{HasBegun, HasFound, IsFronted, IsLongest, IsMeasured, IsStopped, IsUnderway};
+ghost use Rattle.lexical_literal.specs.Additions.Plain.{HasSizes, IsReady};
+ghost use Rattle.lexical_literal.specs.Additions.Sizes.{goes, steps_of};
+ghost use Rattle.lexical_literal.specs.Additions.Summary.{HasLengths, count, cuts_of, part_of, role_at};
 ghost use Rattle.lexical_literal.specs.Cause.{IsRefusal, tail_of, tail_size};
+ghost use Rattle.lexical_literal.specs.Front.{NoLiteral};
 ghost use Rattle.lexical_literal.specs.Literal.{Literal, Reads, text_of};
 ghost use Rattle.lexical_literal.specs.Notation.{integer_group_size, notation_of};
 ghost use Rattle.lexical_util.specs.Record.{raw};
+ghost use Rattle.lexical_literal.specs.Notation.{notation_of};
+ghost use Rattle.lexical_literal.specs.declared.groups.Group.{Group};
 ghost use Rattle.lexical_literal.specs.Parts.{literal_of};
-ghost use Rattle.lexical_literal.specs.Takes.{IsError, IsUngrouped, Refuses};
 
-use crate::cause::{Marks, ReadError, Spot};
-use crate::groups::{is_grouped, wrong_group};
+use crate::cause::{ReadError, Spot};
+use crate::groups::{FIRST, Group, fits, group_after, grow, has_sizes};
 use crate::plain::{At, BEGIN, Counted, plain};
 use crate::span::marks;
-use crate::steps::{Piece, Summary, is_complete, part_of, piece_number, piece_of, step};
-use crate::syntax::{Condition, Syntax};
+use crate::steps::{Piece, is_complete, part_of, piece_number, piece_of, step};
+use crate::syntax::{Grammar, Syntax};
 use lexical_util::format::{Part, Role};
 
 /// The parts of a literal, in the order of the text. An absent part has no bytes.
@@ -54,27 +60,10 @@ pub(crate) struct Found {
 }
 
 impl Syntax {
-    // Returns whether the integer of the literal `text` is in groups, if the syntax requires it.
-    #[inline(always)]
-    fn has_groups(&self, text: &[u8], counts: [usize; 9]) -> bool
-        requires read { (l : Literal) × Reads (notation_of self.now) l text.now }
-        requires counted { (l : Literal) → Reads (notation_of self.now) l text.now → HasLengths l (cuts_of counts) }
-        ensures { IsMeasured self.now text.now counts result }
-    {
-        let grammar = self.grammar();
-        match grammar.conditions.get(Condition::IntegerGroupSize) {
-            None => true,
-            Some(size) => {
-                let parts = cut(text, counts);
-                is_grouped(grammar, size, parts.integer)
-            }
-        }
-    }
-
-    // Returns where reading `text` stops, and the longest front that is a literal, apart from its groups, if there is one.
+    // Returns where reading `text` stops, and the longest front that is a literal, if there is one.
     #[inline(always)]
     pub(crate) fn front(&self, text: &[u8]) -> (At, Option<Found>)
-        ensures { IsFronted self.now text.now result.0 result.1 }
+        ensures { IsFronted (notation_of self.now) text.now result.0 result.1 }
     {
         let Counted {
             at,
@@ -90,64 +79,49 @@ impl Syntax {
         (stop, self.longest(text))
     }
 
-    // Returns why the integer of the front `found` of `text` is not in groups, or `Ok` if it is.
-    #[inline(always)]
-    pub(crate) fn grouped(&self, text: &[u8], found: Found) -> Result<(), ReadError>
-        requires { IsCountedFront (notation_of self.now) text.now found }
-        ensures { IsGrouped self.now text.now found result }
-    {
-        let front = front_of(text, found.size);
-        match self.grammar().conditions.get(Condition::IntegerGroupSize) {
-            Some(size) if !self.has_groups(front, found.counts) => self.ungrouped(front, size),
-            _ => Ok(()),
-        }
-    }
-
     // Reads a front of `text` with which some literal begins. Unless `fronts` is true, a front that is a literal, but not all of
     // `text`, may not be said to be one, which takes less time.
     #[inline(always)]
     pub(crate) const fn begin(&self, text: &[u8], fronts: bool) -> Counted
-        ensures found { HasFound (notation_of self.now) text.now result }
-        ensures summed { IsSummed (raw self.now.word) text.now result }
+        ensures { HasBegun (notation_of self.now) text.now result }
     {
-        plain(self.grammar(), text, fronts)
+        let grammar = self.grammar();
+        let counted = plain(grammar, text, fronts);
+        if has_sizes(grammar) {
+            sized(grammar, text, counted)
+        } else {
+            counted
+        }
     }
 
     // Returns whether all of `text` is a literal that has been read.
     #[inline(always)]
-    pub(crate) fn is_whole(&self, text: &[u8], counted: Counted) -> bool
-        requires { HasFound (notation_of self.now) text.now counted }
-        ensures measured { IsTrue result → IsMeasured self.now text.now counted.counts true }
-        ensures complete { IsTrue result → IsTrue counted.complete }
+    pub(crate) const fn is_whole(&self, text: &[u8], counted: Counted) -> bool
+        requires { HasBegun (notation_of self.now) text.now counted }
+        ensures { IsTrue result → IsMeasured (notation_of self.now) text.now counted.counts }
     {
-        if counted.complete && counted.at.size == text.len() {
-            self.has_groups(text, counted.counts)
-        } else {
-            false
-        }
+        counted.complete && counted.at.size == text.len()
     }
 
     // Returns the lengths of the parts of `text`, of which reading stops at `stop`, if it is a literal.
-    #[tactic(auto, using(crate::proofs::LongestLemmas::none_whole, crate::proofs::LongestLemmas::whole_literal))]
     #[inline(always)]
-    pub(crate) fn lengths(&self, text: &[u8], stop: At) -> Option<[usize; 9]>
+    pub(crate) const fn lengths(&self, text: &[u8], stop: At) -> Option<[usize; 9]>
         requires { IsStopped (notation_of self.now) text.now stop }
-        ensures some { IfSome result (λ counts. IsMeasured self.now text.now counts true) }
-        ensures none { IsNone result → Refuses self.now text.now }
+        ensures some { IfSome result (IsMeasured (notation_of self.now) text.now) }
+        ensures none { IsNone result → NoLiteral (notation_of self.now) text.now }
     {
-        if stop.size == text.len() && self.is_complete(stop.read) {
-            let counts = self.count(text);
-            if self.has_groups(text, counts) {
-                return Some(counts);
-            }
+        let group = self.group_at(text, stop);
+        if stop.size == text.len() && ends(self.grammar(), stop, group) {
+            Some(self.count(text))
+        } else {
+            None
         }
-        None
     }
 
     // Returns where reading `text` stops, of which a front has been read.
     #[inline(always)]
     pub(crate) const fn reach(&self, text: &[u8], counted: Counted) -> At
-        requires { HasFound (notation_of self.now) text.now counted }
+        requires { HasBegun (notation_of self.now) text.now counted }
         ensures { IsStopped (notation_of self.now) text.now result }
     {
         if counted.exact {
@@ -160,21 +134,39 @@ impl Syntax {
     // Returns where reading `text` stops, if it goes on at `at`.
     #[inline(always)]
     pub(crate) const fn stop(&self, text: &[u8], at: At) -> At
-        requires { IsBegun (notation_of self.now) text.now at }
+        requires { (group : Group) × IsUnderway (notation_of self.now) text.now at group }
         ensures { IsStopped (notation_of self.now) text.now result }
     {
-        match self.step(text, at) {
+        let group = self.group_at(text, at);
+        match self.step(text, at, group) {
             None => at,
-            Some((_, next)) => self.walk(text, next),
+            Some((_, next, group)) => self.walk(text, next, group),
+        }
+    }
+
+    // Returns the last group of the bytes that have been read.
+    #[inline(always)]
+    const fn group_at(&self, text: &[u8], at: At) -> Group
+        requires { (group : Group) × IsUnderway (notation_of self.now) text.now at group }
+        ensures { IsUnderway (notation_of self.now) text.now at result }
+    {
+        let grammar = self.grammar();
+        if has_sizes(grammar) {
+            match group_after(grammar, text, at.size) {
+                Some(group) => group,
+                None => unreachable!(),
+            }
+        } else {
+            FIRST
         }
     }
 
     // Returns the role of the byte that follows, and what has been read with it, or `None` if reading stops at `at`.
     #[inline(always)]
-    const fn step(&self, text: &[u8], at: At) -> Option<(Role, At)>
-        requires { IsBegun (notation_of self.now) text.now at }
+    const fn step(&self, text: &[u8], at: At, group: Group) -> Option<(Role, At, Group)>
+        requires { IsUnderway (notation_of self.now) text.now at group }
         ensures next { IfSome result (λ next. (role_at (notation_of self.now) (part_of at.read.stage) (get_or text.now at.size 0) ≡ Some next.0)
-            × IsBegun (notation_of self.now) text.now next.1 × (next.1.size ≡ at.size + 1)) }
+            × IsUnderway (notation_of self.now) text.now next.1 next.2 × (next.1.size ≡ at.size + 1)) }
         ensures stop { IsNone result → IsStopped (notation_of self.now) text.now at }
     {
         let grammar = self.grammar();
@@ -185,19 +177,24 @@ impl Syntax {
         let Some((role, read)) = step(grammar, read, text[size]) else {
             return None;
         };
+        let Some(group) = grow(grammar, group, Some(role)) else {
+            return None;
+        };
         let size = size + 1;
-        Some((role, At { size, read }))
+        Some((role, At { size, read }, group))
     }
 
     // Returns where reading stops, step by step.
     #[cold]
-    pub(crate) const fn walk(&self, text: &[u8], at: At) -> At
-        requires { IsBegun (notation_of self.now) text.now at }
+    pub(crate) const fn walk(&self, text: &[u8], at: At, group: Group) -> At
+        requires { IsUnderway (notation_of self.now) text.now at group }
         ensures { IsStopped (notation_of self.now) text.now result }
     {
         let mut stop = at;
-        while let Some((_, next)) = self.step(text, stop) {
+        let mut last = group;
+        while let Some((_, next, group)) = self.step(text, stop, last) {
             stop = next;
+            last = group;
         }
         stop
     }
@@ -220,13 +217,15 @@ impl Syntax {
     {
         let grammar = self.grammar();
         let mut at = BEGIN;
+        let mut last = FIRST;
         let mut counts = [0; 9];
         let mut found = None;
-        while let Some((role, next)) = self.step(text, at) {
+        while let Some((role, next, group)) = self.step(text, at, last) {
             let more = count_byte(counts, part_of(at.read.stage), role);
             counts = more;
             at = next;
-            if is_complete(grammar, at.read) {
+            last = group;
+            if ends(grammar, at, last) {
                 let size = at.size;
                 found = Some(Found { size, counts });
             }
@@ -234,65 +233,12 @@ impl Syntax {
         found
     }
 
-    // Returns whether what has been read is a literal.
-    #[inline(always)]
-    const fn is_complete(&self, read: Summary) -> bool
-        ensures { result ≡ is_complete (notation_of self.now) read }
-    {
-        is_complete(self.grammar(), read)
-    }
-
     // Returns why `text`, of which reading stopped at `stop`, is not a literal, as the result of the caller, which takes less
     // time than to copy an error.
-    #[inline(always)]
+    #[cold]
     pub(crate) fn refuse<T>(&self, text: &[u8], stop: At) -> Result<T, ReadError>
         requires stopped { IsStopped (notation_of self.now) text.now stop }
-        requires refuses { Refuses self.now text.now }
-        ensures { IsErrAnd result (λ error. IsError self.now text.now error.refusal) }
-    {
-        match self.grammar().conditions.get(Condition::IntegerGroupSize) {
-            Some(size) if stop.size == text.len() && self.is_complete(stop.read) => {
-                self.ungrouped(text, size)
-            }
-            _ => self.refuse_byte(text, stop),
-        }
-    }
-
-    // Returns that the integer of `text` is not in groups of `size`, and the first wrong group.
-    #[cold]
-    fn ungrouped<T>(&self, text: &[u8], size: u8) -> Result<T, ReadError>
-        requires size { integer_group_size self.now.conditions ≡ Some size }
-        requires read { (l : Literal) × Reads (notation_of self.now) l text.now }
-        requires refuses { Refuses self.now text.now }
-        ensures { IsErrAnd result (λ error. IsUngrouped self.now text.now error.refusal) }
-    {
-        let counts = self.count(text);
-        let grammar = self.grammar();
-        let parts = cut(text, counts);
-        let before = parts.sign.len() + parts.prefix.len();
-        let (start, end) = wrong_group(grammar, size, parts.integer);
-        Err(ReadError {
-            spot: Spot {
-                grammar,
-                read: BEGIN.read,
-                byte: None,
-                tail: [0; 3],
-                marks: Marks {
-                    size: text.len(),
-                    exponent: 0,
-                    first: before + start,
-                    run: before + end,
-                },
-                is_ungrouped: true,
-            },
-        })
-    }
-
-    // Returns why the byte that follows is not allowed, or what is missing.
-    #[cold]
-    fn refuse_byte<T>(&self, text: &[u8], stop: At) -> Result<T, ReadError>
-        requires stopped { IsStopped (notation_of self.now) text.now stop }
-        requires refused { lets (notation_of self.now) stop.read (slice_get text.now stop.size) ≡ false }
+        requires refused { NoLiteral (notation_of self.now) text.now }
         ensures { IsErrAnd result (λ error. IsRefusal (notation_of self.now) text.now error.refusal) }
     {
         let grammar = self.grammar();
@@ -305,9 +251,36 @@ impl Syntax {
                 byte,
                 tail: tail_at(text, size, byte),
                 marks: marks(grammar, front_of(text, size)),
-                is_ungrouped: false,
+                separated: self.group_at(text, stop).separated,
             },
         })
+    }
+}
+
+// Returns whether what has been read, with the last group `group`, is a literal.
+#[inline(always)]
+const fn ends(grammar: Grammar, at: At, group: Group) -> bool
+    ensures { result ≡ goes (notation_of grammar) at.read group None }
+{
+    is_complete(grammar, at.read) && fits(grammar, group, None)
+}
+
+// Returns what has been found without sizes of groups, or that nothing has been read if a group has not the right size.
+#[cold]
+const fn sized(grammar: Grammar, text: &[u8], counted: Counted) -> Counted
+    requires ready { IsReady (steps_of grammar) }
+    requires sizes { HasSizes (notation_of grammar) }
+    requires found { HasFound (steps_of grammar) text.now counted }
+    ensures { HasBegun (notation_of grammar) text.now result }
+{
+    match group_after(grammar, text, counted.at.size) {
+        Some(group) if !counted.complete || fits(grammar, group, None) => counted,
+        _ => Counted {
+            at: BEGIN,
+            complete: false,
+            exact: false,
+            ..counted
+        },
     }
 }
 

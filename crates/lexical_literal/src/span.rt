@@ -7,6 +7,7 @@ ghost use Rattle.lexical_literal.specs.Cause.{requirement_span, span_of, wrong_e
 ghost use Rattle.lexical_literal.specs.Notation.{notation_of};
 
 use crate::cause::{Marks, Place, ReadErrorKind};
+use crate::groups::has_sizes;
 use crate::read::front_of;
 use crate::steps::is_digit;
 use crate::syntax::{Condition, Grammar};
@@ -17,6 +18,7 @@ use lexical_util::format::Part;
 #[derive(Clone, Copy)]
 enum Kind {
     Digit,
+    NotDigit,
     NotSeparator,
     // Neither a separator nor a sign.
     Body,
@@ -30,6 +32,7 @@ const fn is_kind(grammar: Grammar, kind: Kind, byte: u8) -> bool
     let separator = grammar.view().is_separator(byte);
     match kind {
         Kind::Digit => is_digit(grammar, Part::Integer, byte),
+        Kind::NotDigit => !is_digit(grammar, Part::Integer, byte),
         Kind::NotSeparator => !separator,
         Kind::Body => !(separator || byte == b'+' || byte == b'-'),
     }
@@ -78,6 +81,7 @@ pub(crate) fn marks(grammar: Grammar, front: &[u8]) -> Marks
             exponent: size,
             first: first(grammar, Kind::Digit, front),
             run: size,
+            group: group_start(grammar, front),
         },
         _ => marks_before(grammar, front),
     }
@@ -95,6 +99,19 @@ fn marks_before(grammar: Grammar, front: &[u8]) -> Marks
         exponent: behind(grammar, Kind::Body, front),
         first: first(grammar, Kind::Digit, front_of(front, run)),
         run,
+        group: group_start(grammar, front),
+    }
+}
+
+// Returns the index at which the last group of digits begins, or 0 if groups have no sizes.
+#[inline(always)]
+const fn group_start(grammar: Grammar, front: &[u8]) -> usize
+    ensures { result ≡ (marks_of (notation_of grammar) front.now).group }
+{
+    if has_sizes(grammar) {
+        behind(grammar, Kind::NotDigit, front)
+    } else {
+        0
     }
 }
 
@@ -150,14 +167,22 @@ const fn requirement_span(
 }
 
 // Returns the first index and the end of the bytes to show for a condition.
-const fn condition_span(marks: Marks, next: Option<u8>, condition: Condition) -> (usize, usize)
+const fn condition_span(
+    grammar: Grammar,
+    marks: Marks,
+    next: Option<u8>,
+    condition: Condition,
+) -> (usize, usize)
     requires { marks.size < 2 ^ 63 }
-    ensures { result ≡ condition_span condition marks next }
+    ensures { result ≡ condition_span condition (notation_of grammar) marks next }
 {
+    let (size, end) = (marks.size, wrong_end(marks, next));
     match condition {
         Condition::BasePrefix => (marks.first, marks.first),
-        Condition::NegativeSign => (marks.size, wrong_end(marks, next)),
-        _ => (marks.size, marks.size),
+        Condition::BaseSuffix => (size, size),
+        Condition::NegativeSign => (size, end),
+        _ if is_digit_next(grammar, next) => (marks.group, end),
+        _ => (marks.group, size),
     }
 }
 
@@ -178,7 +203,7 @@ pub(crate) const fn span(
     match kind {
         ReadErrorKind::Requirement => match unmet {
             None => requirement_span(grammar, marks, next, number),
-            Some(condition) => condition_span(marks, next, condition),
+            Some(condition) => condition_span(grammar, marks, next, condition),
         },
         ReadErrorKind::Separator(_, Place::Consecutive)
         | ReadErrorKind::Case

@@ -4,14 +4,17 @@ ghost use Rattle.std.specs.Prelude.{◌≡◌, ◌<◌, ◌==◌, ◌&&◌, IfSo
 ghost use Rattle.lexical_util.specs.Digits.{byte_value, digit_of};
 ghost use Rattle.lexical_util.specs.Record.{raw};
 ghost use Rattle.lexical_util.specs.Roles.{signs};
-ghost use Rattle.lexical_literal.specs.Notation.{has, notation_of, radix_of, point_of, exponent_character_of};
+ghost use Rattle.lexical_literal.specs.Notation.{has, radix_of, point_of, exponent_character_of};
 ghost use Rattle.lexical_literal.specs.Run.{is_place};
+ghost use Rattle.lexical_util.specs.Layout.{separators_in};
+ghost use Rattle.lexical_literal.specs.Additions.Sizes.{steps_of};
 ghost use Rattle.lexical_literal.specs.declared.syntax.Condition.TheVariants as conditions;
 ghost use Rattle.lexical_literal.specs.Additions.Summary.{after_point, digits_of, part_of, role_at, piece_number, piece_of, has_digit, may_follow};
 ghost use Rattle.lexical_literal.specs.Additions.Summary.{admits, finishes, forbids_plus, gap_fits, awaits_integer, is_negative, is_signed, lacks_prefix};
 ghost use Rattle.lexical_literal.specs.Additions.Summary.{is_run, leads_to_prefix, needs_exponent};
 ghost use Rattle.lexical_literal.specs.Additions.Summary.{continues, ends, is_complete, move_by, step, takes, after};
 
+use crate::groups::has_size;
 use crate::syntax::{Condition, Conditions, Grammar};
 use lexical_util::format::{Part, Role};
 use lexical_util::format_flags::digit_separator;
@@ -121,7 +124,7 @@ pub(crate) const fn radix_of(grammar: Grammar, part: Part) -> u64
 #[tactic(auto, unfolding(lexical_util::specs::Unfoldable::cased))]
 #[inline(always)]
 pub(crate) const fn is_separator(grammar: Grammar, byte: u8) -> bool
-    ensures { result ≡ (notation_of grammar).separator byte }
+    ensures { result ≡ (steps_of grammar).separator byte }
 {
     byte == digit_separator(grammar.word) && grammar.view().is_separator(byte)
 }
@@ -129,7 +132,7 @@ pub(crate) const fn is_separator(grammar: Grammar, byte: u8) -> bool
 // Returns whether a plus sign may be before the digits of `part`.
 #[inline(always)]
 pub(crate) const fn allows_plus(grammar: Grammar, part: Part) -> bool
-    ensures { result ≡ not (forbids_plus (notation_of grammar) part) }
+    ensures { result ≡ not (forbids_plus (steps_of grammar) part) }
 {
     match part {
         Part::Exponent => !grammar.view().no_positive_exponent_sign(),
@@ -225,21 +228,28 @@ pub(crate) const fn is_run(stage: Stage) -> bool
 // Returns whether a separator may be at a place in `part` with digits before it, or not, and after it, or not.
 #[inline(always)]
 const fn is_place(grammar: Grammar, part: Part, before: bool, after: bool) -> bool
-    ensures { result ≡ is_place (notation_of grammar) part before after }
+    ensures { result ≡ is_place (steps_of grammar) part before after }
 {
     let allowed = grammar.view().separators(part);
     match (before, after) {
         (true, true) => allowed.internal,
-        (false, true) => allowed.leading,
-        (true, false) => allowed.trailing,
+        (false, true) => allowed.leading && !has_size(grammar, part),
+        (true, false) => allowed.trailing && !has_size(grammar, part),
         (false, false) => false,
     }
+}
+
+// Returns whether several separators may follow one another in `part`.
+const fn allows_consecutive(grammar: Grammar, part: Part) -> bool
+    ensures { result ≡ (steps_of grammar).flag (separators_in part).consecutive }
+{
+    grammar.view().separators(part).consecutive && !has_size(grammar, part)
 }
 
 // Returns whether an exponent is required.
 #[inline(always)]
 pub(crate) const fn needs_exponent(grammar: Grammar) -> bool
-    ensures { result ≡ needs_exponent (notation_of grammar) }
+    ensures { result ≡ needs_exponent (steps_of grammar) }
 {
     grammar.view().required_exponent_notation() && matches!(grammar.options, Some(_))
 }
@@ -247,7 +257,7 @@ pub(crate) const fn needs_exponent(grammar: Grammar) -> bool
 // Returns whether another digit may follow: after a zero, only if some literal has a leading zero.
 #[inline(always)]
 pub(crate) const fn may_follow(grammar: Grammar, stage: Stage) -> bool
-    ensures { result ≡ may_follow (notation_of grammar) stage }
+    ensures { result ≡ may_follow (steps_of grammar) stage }
 {
     !matches!(stage, Stage::Bare | Stage::Zero)
         || (matches!(grammar.options, Some(_)) && !grammar.view().no_float_leading_zeros())
@@ -257,7 +267,7 @@ pub(crate) const fn may_follow(grammar: Grammar, stage: Stage) -> bool
 // Returns whether there is no gap, or one that fits where a digit follows, or not.
 #[inline(always)]
 const fn gap_fits(grammar: Grammar, read: Summary, next: bool) -> bool
-    ensures { result ≡ gap_fits (notation_of grammar) (part_of read.stage) (has_digit read.stage) read.gap next }
+    ensures { result ≡ gap_fits (steps_of grammar) (part_of read.stage) (has_digit read.stage) read.gap next }
 {
     !read.gap || is_place(grammar, part_of(read.stage), has_digit(read.stage), next)
 }
@@ -265,7 +275,7 @@ const fn gap_fits(grammar: Grammar, read: Summary, next: bool) -> bool
 // Returns whether `part` has a sign, or needs none.
 #[inline(always)]
 pub(crate) const fn is_signed(grammar: Grammar, part: Part, stage: Stage) -> bool
-    ensures { result ≡ is_signed (notation_of grammar) part stage }
+    ensures { result ≡ is_signed (steps_of grammar) part stage }
 {
     let needs_sign = match part {
         Part::Exponent => grammar.view().required_exponent_sign(),
@@ -277,7 +287,7 @@ pub(crate) const fn is_signed(grammar: Grammar, part: Part, stage: Stage) -> boo
 // Returns whether the part that is read may end.
 #[inline(always)]
 const fn ends(grammar: Grammar, read: Summary) -> bool
-    ensures { result ≡ ends (notation_of grammar) (part_of read.stage) read.stage read.gap }
+    ensures { result ≡ ends (steps_of grammar) (part_of read.stage) read.stage read.gap }
 {
     let format = grammar.view();
     let has_mantissa = !matches!(read.stage, Stage::Lone);
@@ -295,7 +305,7 @@ const fn ends(grammar: Grammar, read: Summary) -> bool
 // Returns whether a byte with the role `role` may follow a part that may end.
 #[inline(always)]
 const fn continues(grammar: Grammar, part: Part, stage: Stage, role: Role) -> bool
-    ensures { result ≡ continues (notation_of grammar) part stage role }
+    ensures { result ≡ continues (steps_of grammar) part stage role }
 {
     let format = grammar.view();
     let digit = has_digit(stage);
@@ -322,7 +332,7 @@ const fn continues(grammar: Grammar, part: Part, stage: Stage, role: Role) -> bo
 // Returns whether what has been read is a literal.
 #[inline(always)]
 pub(crate) const fn is_complete(grammar: Grammar, read: Summary) -> bool
-    ensures { result ≡ is_complete (notation_of grammar) read }
+    ensures { result ≡ is_complete (steps_of grammar) read }
 {
     let part = part_of(read.stage);
     (read.ended || (ends(grammar, read) && continues(grammar, part, read.stage, Role::Suffix)))
@@ -402,9 +412,8 @@ const fn finishes(conditions: Conditions, read: Summary) -> bool
 // Returns whether some literal goes on with a byte that has the role `role`, and is a plus sign if `plus` is true.
 #[inline(always)]
 pub(crate) const fn takes(grammar: Grammar, read: Summary, plus: bool, role: Role) -> bool
-    ensures { result ≡ takes (notation_of grammar) read plus role }
+    ensures { result ≡ takes (steps_of grammar) read plus role }
 {
-    let format = grammar.view();
     let Summary { stage, .. } = read;
     let part = part_of(stage);
     let digit = has_digit(stage);
@@ -416,7 +425,7 @@ pub(crate) const fn takes(grammar: Grammar, read: Summary, plus: bool, role: Rol
         }
         Role::Separator => {
             is_signed(grammar, part, stage)
-                && (!read.gap || format.separators(part).consecutive)
+                && (!read.gap || allows_consecutive(grammar, part))
                 && ((is_place(grammar, part, digit, true) && may_follow(grammar, stage))
                     || is_place(grammar, part, digit, false))
         }
@@ -473,7 +482,7 @@ pub(crate) const fn after(read: Summary, zero: bool, role: Role) -> Summary
 // Returns the role of `byte` after a front that ends in `part`, where digits are those of the radix of `part`.
 #[inline(always)]
 pub(crate) const fn role_at(grammar: Grammar, part: Part, byte: u8) -> Option<Role>
-    ensures { result ≡ role_at (notation_of grammar) part byte }
+    ensures { result ≡ role_at (steps_of grammar) part byte }
 {
     if is_digit(grammar, part, byte) {
         Some(Role::Digit)
@@ -497,9 +506,9 @@ pub(crate) const fn role_at(grammar: Grammar, part: Part, byte: u8) -> Option<Ro
 // Returns the role of `byte`, and what it makes of what has been read, or `None` if no literal begins so.
 #[inline(always)]
 pub(crate) const fn step(grammar: Grammar, read: Summary, byte: u8) -> Option<(Role, Summary)>
-    ensures none { IsNone result → step (notation_of grammar) read byte ≡ None }
-    ensures some { IfSome result (λ next. (role_at (notation_of grammar) (part_of read.stage) byte ≡ Some next.0)
-        × (step (notation_of grammar) read byte ≡ Some next.1)) }
+    ensures none { IsNone result → step (steps_of grammar) read byte ≡ None }
+    ensures some { IfSome result (λ next. (role_at (steps_of grammar) (part_of read.stage) byte ≡ Some next.0)
+        × (step (steps_of grammar) read byte ≡ Some next.1)) }
 {
     let Some(role) = role_at(grammar, part_of(read.stage), byte) else {
         return None;
@@ -513,7 +522,7 @@ pub(crate) const fn step(grammar: Grammar, read: Summary, byte: u8) -> Option<(R
 // Returns what `byte` makes of what has been read if it has the role `role`, or `None` if no literal begins so.
 #[inline(always)]
 pub(crate) const fn moved(grammar: Grammar, read: Summary, byte: u8, role: Role) -> Option<Summary>
-    ensures { result ≡ move_by (has grammar.conditions) (notation_of grammar) read (byte == 43) (byte == 48) (Some role) }
+    ensures { result ≡ move_by (has grammar.conditions) (steps_of grammar) read (byte == 43) (byte == 48) (Some role) }
 {
     let plus = byte == b'+';
     let zero = byte == b'0';

@@ -7,15 +7,16 @@ ghost use Rattle.std.specs.Result.{OkIff};
 ghost use Rattle.lexical_util.specs.NormalForm.{normal_form_of};
 ghost use Rattle.lexical_util.specs.Options.{OptionsFit, IsOptionsError};
 ghost use Rattle.lexical_util.specs.declared.lawful.Rejected.TheVariants as rejected;
-ghost use Rattle.lexical_literal.specs.Additions.Plain.{IsReady};
+ghost use Rattle.lexical_literal.specs.Additions.Plain.{HasSizes, IsReady};
+ghost use Rattle.lexical_literal.specs.Additions.Sizes.{steps_of};
 ghost use Rattle.lexical_literal.specs.declared.syntax.Condition.{Condition};
 ghost use Rattle.lexical_literal.specs.declared.syntax.Options.{Options};
-ghost use Rattle.lexical_literal.specs.Notation.{all_conditions, get, has, is_same, kept, no_conditions, notation_of, number_of, IsOnlyRole};
+ghost use Rattle.lexical_literal.specs.Notation.{all_conditions, has, is_same, kept, no_conditions, notation_of, number_of, IsOnlyRole};
 ghost use Rattle.lexical_literal.specs.Syntax.{IsSyntax, contradiction, fault, limits, missing};
 
 use crate::steps::role_at;
 use lexical_util::format::{Format, FormatError, NumberFormat, Part, Role};
-use lexical_util::format_flags::{base_prefix, base_suffix};
+use lexical_util::format_flags::{base_prefix, base_suffix, digit_separator};
 use lexical_util::laws::flags::role_facts;
 use std::marker::Model;
 
@@ -41,14 +42,22 @@ pub enum Condition {
     /// The integer of a literal has no digit separators, or has them between groups of as many digits as the number says,
     /// counted from the right.
     IntegerGroupSize,
+    /// The groups of the integer before the last have as many digits as the number says, and the first may have fewer. The
+    /// last has as many as [`IntegerGroupSize`][Self::IntegerGroupSize] says.
+    HigherGroupSize,
+    /// The fraction of a literal has no digit separators, or has them between groups of as many digits as the number says,
+    /// counted from the left.
+    FractionGroupSize,
 }
 
 /// All conditions, in the order in which they are checked and printed.
-pub const CONDITIONS: [Condition; 4] = [
+pub const CONDITIONS: [Condition; 6] = [
     Condition::BasePrefix,
     Condition::BaseSuffix,
     Condition::NegativeSign,
     Condition::IntegerGroupSize,
+    Condition::HigherGroupSize,
+    Condition::FractionGroupSize,
 ];
 
 impl Condition {
@@ -58,7 +67,7 @@ impl Condition {
         ensures { result ≡ limits self }
     {
         match self {
-            Condition::IntegerGroupSize => (2, 8),
+            Condition::IntegerGroupSize | Condition::HigherGroupSize | Condition::FractionGroupSize => (2, 8),
             _ => (1, 1),
         }
     }
@@ -132,16 +141,6 @@ impl Conditions {
     {
         Conditions::NONE.with(condition, self.number(condition))
     }
-
-    // Returns the number of `condition`, or `None` if it is not one of them.
-    pub(crate) const fn get(self, condition: Condition) -> Option<u8>
-        ensures { result ≡ get self condition }
-    {
-        match self.number(condition) {
-            0 => None,
-            number => Some(number),
-        }
-    }
 }
 
 /// Why a syntax cannot have a condition. A lawful format that requires a sign allows `+`, so it can forbid `-`.
@@ -153,8 +152,8 @@ pub struct ConditionsError {
     pub kind: ConditionsErrorKind,
 }
 
-/// The kind of a [`ConditionsError`]: the number of the condition is not one that it can have, or the format has not what
-/// the condition needs.
+/// The kind of a [`ConditionsError`]: the number of the condition is not one that it can have, or neither the format nor the
+/// other conditions have what the condition needs.
 #[derive(Debug, Clone, Copy, PartialEq, Eq, Hash)]
 pub enum ConditionsErrorKind {
     /// The number is not within the limits of the condition.
@@ -165,6 +164,12 @@ pub enum ConditionsErrorKind {
     NoBaseSuffix,
     /// No flag allows a separator between digits of the integer.
     NoInternalSeparator,
+    /// No flag allows a separator between digits of the fraction.
+    NoFractionSeparator,
+    /// The format has no digit separator.
+    NoSeparator,
+    /// `integer_group_size` is not one of the conditions.
+    NoIntegerGroupSize,
 }
 
 // Any format, with any options and conditions. Without options, literals are integers alone.
@@ -314,7 +319,8 @@ impl Syntax {
     // Returns the format, the options and the conditions.
     pub(crate) const fn grammar(&self) -> Grammar
         ensures value { result ≡ self.now }
-        ensures ready { IsReady (notation_of self.now) }
+        ensures ready { IsReady (steps_of self.now) }
+        ensures sizes { HasSizes (notation_of self.now) }
     {
         role_facts();
         Grammar {
@@ -331,8 +337,7 @@ const fn contradiction(grammar: Grammar, conditions: Conditions) -> Option<Condi
 {
     let mut index = 0;
     while index < CONDITIONS.len() {
-        let condition = CONDITIONS[index];
-        let error = fault(grammar, condition, conditions.number(condition));
+        let error = fault(grammar, conditions, CONDITIONS[index]);
         if let Some(_) = error {
             return error;
         }
@@ -341,18 +346,19 @@ const fn contradiction(grammar: Grammar, conditions: Conditions) -> Option<Condi
     None
 }
 
-// Returns what is wrong with a condition that has this number, in the format of `grammar`.
+// Returns what is wrong with `condition` as one of `conditions`, in the format of `grammar`.
 #[tactic(auto, unfolding(crate::specs::Syntax::fault))]
-const fn fault(grammar: Grammar, condition: Condition, number: u8) -> Option<ConditionsError>
-    ensures { result ≡ fault (raw grammar.word) condition number }
+pub(crate) const fn fault(grammar: Grammar, conditions: Conditions, condition: Condition) -> Option<ConditionsError>
+    ensures { result ≡ fault (raw grammar.word) conditions condition }
 {
+    let number = conditions.number(condition);
     let (least, most) = condition.limits();
     let kind = if number == 0 {
         None
     } else if number < least || most < number {
         Some(ConditionsErrorKind::Number)
     } else {
-        missing(grammar, condition)
+        missing(grammar, conditions, condition)
     };
     match kind {
         None => None,
@@ -360,9 +366,9 @@ const fn fault(grammar: Grammar, condition: Condition, number: u8) -> Option<Con
     }
 }
 
-// Returns what a condition needs and the format of `grammar` has not.
-const fn missing(grammar: Grammar, condition: Condition) -> Option<ConditionsErrorKind>
-    ensures { result ≡ missing (raw grammar.word) condition }
+// Returns what a condition needs and neither the format of `grammar` nor `conditions` have.
+const fn missing(grammar: Grammar, conditions: Conditions, condition: Condition) -> Option<ConditionsErrorKind>
+    ensures { result ≡ missing (raw grammar.word) conditions condition }
 {
     match condition {
         Condition::BasePrefix if base_prefix(grammar.word) == 0 => Some(
@@ -374,6 +380,15 @@ const fn missing(grammar: Grammar, condition: Condition) -> Option<ConditionsErr
         Condition::IntegerGroupSize if !grammar.view().integer_internal_digit_separator() => {
             Some(ConditionsErrorKind::NoInternalSeparator)
         }
+        Condition::FractionGroupSize if !grammar.view().fraction_internal_digit_separator() => {
+            Some(ConditionsErrorKind::NoFractionSeparator)
+        }
+        Condition::IntegerGroupSize | Condition::FractionGroupSize if digit_separator(grammar.word) == 0 => Some(
+            ConditionsErrorKind::NoSeparator,
+        ),
+        Condition::HigherGroupSize if !conditions.has(Condition::IntegerGroupSize) => Some(
+            ConditionsErrorKind::NoIntegerGroupSize,
+        ),
         _ => None,
     }
 }

@@ -12,7 +12,8 @@ use Rattle.lexical_util.specs.Digits.{byte_value, digit_characters, digit_of}
 use Rattle.lexical_base.proofs.ValueLemmas.{digit_of-digit_character}
 use Rattle.lexical_literal.specs.Literal.{is_present}
 use Rattle.lexical_number.specs.Number.{digits_in, number}
-use Rattle.lexical_writer.specs.Digits.{character, ends_group, grouped, only_if, or_zero, values_of}
+use Rattle.lexical_writer.specs.Digits.{character, ends_group, grouped, no_groups, only_if, or_zero, values_of}
+use Rattle.lexical_writer.specs.declared.run.Groups.{Groups}
 use Rattle.lexical_writer.specs.declared.run.Source.{Source}
 use Rattle.lexical_writer.specs.declared.run.Source.TheVariants as sources
 
@@ -55,7 +56,7 @@ lead radix i d bytes two inside is some =
     ∙ after radix 0 d (digits_in radix rest) two (omega arith) (below, digits_below radix rest))
 
 -- The digits among grouped ones are those that were grouped.
-pub grouped_digits : (radix separator group : ℕ) → radix ≤ 36 → (0 < group → digit_of separator radix ≡ None) → (digits : List ℕ) → AllBelowBase radix digits
+pub grouped_digits : (radix separator : ℕ) (group : Groups) → radix ≤ 36 → (0 < group.higher → digit_of separator radix ≡ None) → (digits : List ℕ) → AllBelowBase radix digits
     → digits_in radix (grouped separator group digits) ≡ digits
 grouped_digits radix separator group small apart [] all = refl
 grouped_digits radix separator group small apart (d ∷ digits) all =
@@ -70,24 +71,24 @@ grouped_digits radix separator group small apart (d ∷ digits) all =
     skipped false none = refl
 
 -- Without groups, digits are written one after the other.
-pub grouped_plain : (separator : ℕ) (digits : List ℕ) → grouped separator 0 digits ≡ map character digits
-grouped_plain separator [] = refl
-grouped_plain separator (d ∷ digits) =
-    let none : ends_group 0 (length digits) ≡ false = grind arith in
-    rw (none, grouped_plain separator digits) refl
+pub grouped_plain : (separator : ℕ) (group : Groups) (digits : List ℕ) → group.higher ≡ 0 → grouped separator group digits ≡ map character digits
+grouped_plain separator group [] plain = refl
+grouped_plain separator group (d ∷ digits) plain =
+    let none : ends_group group (length digits) ≡ false = grind (arith, nat_tests) in
+    rw (none, grouped_plain separator group digits plain) refl
 
 pub read_back : (radix n : ℕ) → 2 ≤ radix → radix ≤ 36 → digits_in radix (map character (digits_of radix n)) ≡ digits_of radix n
-read_back radix n two small = ap (digits_in radix) (sym (grouped_plain 0 (digits_of radix n)))
-    ∙ grouped_digits radix 0 0 small (λ some. absurd (omega (arith, some))) (digits_of radix n) (all_below_base_digits_of radix n two)
+read_back radix n two small = ap (digits_in radix) (sym (grouped_plain 0 no_groups (digits_of radix n) refl))
+    ∙ grouped_digits radix 0 no_groups small (λ some. absurd (omega (arith, some))) (digits_of radix n) (all_below_base_digits_of radix n two)
 
-pub plain_text : (separator group radix n : ℕ) (none : Bool) → 2 ≤ radix → group ≡ 0 → 0 < n
+pub plain_text : (separator : ℕ) (group : Groups) (radix n : ℕ) (none : Bool) → 2 ≤ radix → group.higher ≡ 0 → 0 < n
     → grouped separator group (or_zero none (digits_of radix n)) ≡ map character (digits_of radix n)
 plain_text separator group radix n none two plain some =
-    ap (λ k. grouped separator k (or_zero none (digits_of radix n))) plain ∙ go (digits_of radix n) (first_digits_of radix n two some)
+    go (digits_of radix n) (first_digits_of radix n two some)
   where
-    go : (digits : List ℕ) → 0 < get_or digits 0 0 → grouped separator 0 (or_zero none digits) ≡ map character digits
+    go : (digits : List ℕ) → 0 < get_or digits 0 0 → grouped separator group (or_zero none digits) ≡ map character digits
     go [] none = absurd (omega (arith, none))
-    go (d ∷ digits) some = grouped_plain separator (d ∷ digits)
+    go (d ∷ digits) some = grouped_plain separator group (d ∷ digits) plain
 
 -- The last digit of what is left of a number is written before the digits that have been written.
 pub one_more : (radix n start c : ℕ) (buffer : List ℕ) → 2 ≤ radix → 0 < n → 1 ≤ start → start ≤ length buffer
@@ -101,7 +102,7 @@ one_more radix n start c buffer two some room inside is =
     rw (drop-set buffer (start - 1) c (omega arith), text, append_assoc) (ap (λ k. map character (digits_of radix (n / radix)) ++ c ∷ drop k buffer) (sym same))
 
 -- Whether grouped digits are present.
-pub grouped_present : (separator group : ℕ) (none : Bool) (digits : List ℕ)
+pub grouped_present : (separator : ℕ) (group : Groups) (none : Bool) (digits : List ℕ)
     → is_present (grouped separator group (or_zero none digits)) ≡ (none || is_present digits)
 grouped_present separator group true [] = refl
 grouped_present separator group false [] = refl

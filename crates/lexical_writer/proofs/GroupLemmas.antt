@@ -9,22 +9,25 @@ use Rattle.std.specs.List.{list_any}
 use Rattle.lexical_util.specs.Ascii.{ByteSet}
 use Rattle.lexical_util.specs.Layout.{separators_in}
 use Rattle.lexical_util.specs.declared.format_flags.Part.{Part}
+use Rattle.lexical_util.specs.declared.format_flags.Part.TheVariants as parts
 use Rattle.lexical_util.specs.Digits.{byte_value}
 use Rattle.lexical_base.proofs.ValueLemmas.{byte_value-digit_character}
 use Rattle.std.proofs.lemmas.Int.Digits.{all_below_base_digits_of, first_digits_of}
 use Rattle.std.specs.Int.Digits.{digits_of}
-use Rattle.lexical_literal.specs.Groups.{are_groups, is_grouped}
+use Rattle.lexical_literal.specs.Groups.{all_fit, group_sizes, higher, is_grouped, one_more, rest_fits}
 use Rattle.lexical_literal.specs.Literal.{has_leading_zero}
 use Rattle.lexical_literal.specs.Notation.{Notation}
+use Rattle.lexical_literal.specs.declared.syntax.Condition.TheVariants as conditions
 use Rattle.lexical_literal.proofs.RunLemmas.{is_rest}
 use Rattle.lexical_writer.specs.Digits.{character, ends_group, grouped, or_zero}
+use Rattle.lexical_writer.specs.declared.run.Groups.{Groups}
 
 -- `Between m part separator group` holds if `separator` may be between digits of `part`, where there are groups.
-abbrev pub Between : Notation → Part → ℕ → ℕ → Type 0
+abbrev pub Between : Notation → Part → ℕ → Groups → Type 0
 Between m part separator group =
-    0 < group → (m.separator separator ≡ true) × (m.flag (separators_in part).internal ≡ true) × (m.digit part separator ≡ false)
+    0 < group.higher → (m.separator separator ≡ true) × (m.flag (separators_in part).internal ≡ true) × (m.digit part separator ≡ false)
 
-module _ (m : Notation) (part : Part) (radix separator group : ℕ) (digit : (d : ℕ) → d < radix → m.digit part (character d) ≡ true)
+module _ (m : Notation) (part : Part) (radix separator : ℕ) (group : Groups) (digit : (d : ℕ) → d < radix → m.digit part (character d) ≡ true)
     (between : Between m part separator group) where
   -- `Follows h g digits` holds if `digits` may follow a separator between digits, if `g` is true.
   abbrev Follows : Bool → Bool → List ℕ → Type 0
@@ -46,91 +49,111 @@ module _ (m : Notation) (part : Part) (radix separator group : ℕ) (digit : (d 
       (λ ends. let has = between (grind (arith, nat_tests)) in
       (has.0, has.2, grouped_rest digits true true all.1 (λ is. (refl, grind (arith, nat_tests), has.1))))
 
-module _ (S : ByteSet) (radix separator s : ℕ) (digit : (d : ℕ) → d < radix → S (character d) ≡ false) (own : S separator ≡ true) (two : 2 ≤ s) where
-  -- Behind the last `groups` separators are groups of `s` digits, before which there are `more` digits.
-  record IsAligned (digits : ℕ) (bytes : List ℕ) : Type 0 where
-    groups : ℕ
-    more : ℕ
-    within : (0 < more) × (more ≤ s)
-    count : digits ≡ groups * s + more
-    size : length bytes ≡ groups * (s + 1) + more
-    are : are_groups S s bytes ≡ true
+module _ (m : Notation) (radix separator : ℕ) (group : Groups) (digit : (d : ℕ) → d < radix → m.separator (character d) ≡ false) where
+  -- `sizes digits` are the sizes of the groups in which `digits` are written.
+  abbrev sizes : List ℕ → List ℕ
+  sizes digits = group_sizes m.separator (grouped separator group digits)
 
-  step : (p q : ℕ) → (p + 1) * q ≡ p * q + q
-  step p q = omega arith
+  -- One more digit is in the first group, or in a new one where that ends.
+  next_inside : (d : ℕ) (digits : List ℕ) → d < radix → ends_group group (length digits) ≡ false → sizes (d ∷ digits) ≡ one_more (sizes digits)
+  next_inside d digits below inside = let is = digit d below in rw (is, inside) refl
 
-  aligned : (d : ℕ) (digits : List ℕ) → AllBelowBase radix (d ∷ digits) → IsAligned (length (d ∷ digits)) (grouped separator s (d ∷ digits))
-  aligned d [] all =
-      let first = digit d all.0 in
-      record { groups = 0; more = 1; within = (omega arith, omega arith); count = omega arith; size = omega arith; are = grind (arith, nat_tests) }
-  aligned d (e ∷ digits) all =
-      let first = digit d all.0 in
-      let rest = aligned e digits all.1 in
-      let are = rest.are in
-      let p = rest.groups in
-      let k = rest.more in
-      let bytes = grouped separator s (e ∷ digits) in
-      let n = length (e ∷ digits) in
-      elim (cases_lt k s) [
-        | inl part ↦
-            let left : n % s ≡ k = ap (λ n. n % s) rest.count ∙ mod-mul-add p s k part in
-            let inside : ends_group s n ≡ false = let some = rest.within.0 in grind (arith, nat_tests) in
-            let place : length bytes % (s + 1) ≡ k = ap (λ n. n % (s + 1)) rest.size ∙ mod-mul-add p (s + 1) k (omega arith) in
-            rw inside (record {
-              groups = p;
-              more = k + 1;
-              within = (omega arith, omega arith);
-              count = omega (arith, rest.count);
-              size = omega (arith, rest.size);
-              are = grind (arith, nat_tests);
-            })
-        | inr whole ↦
-            let full : k ≡ s = omega (arith, rest.within.1) in
-            let count : n ≡ (p + 1) * s + 0 = omega (arith, rest.count, full, step p s) in
-            let size : length (separator ∷ bytes) ≡ (p + 1) * (s + 1) + 0 = omega (arith, rest.size, full, step p (s + 1)) in
-            let left : n % s ≡ 0 = ap (λ n. n % s) count ∙ mod-mul-add (p + 1) s 0 (omega arith) in
-            let ends : ends_group s n ≡ true = grind (arith, nat_tests) in
-            let place : length bytes % (s + 1) ≡ s = ap (λ n. n % (s + 1)) (rest.size ∙ ap (λ k. p * (s + 1) + k) full)
-            ∙ mod-mul-add p (s + 1) s (omega arith) in
-            let behind : length (separator ∷ bytes) % (s + 1) ≡ 0 = ap (λ n. n % (s + 1)) size ∙ mod-mul-add (p + 1) (s + 1) 0 (omega arith) in
-            rw ends (record {
-              groups = p + 1;
-              more = 1;
-              within = (omega arith, omega arith);
-              count = omega (arith, count);
-              size = omega (arith, size);
-              are = grind (arith, nat_tests);
-            })
-      ]
+  -- Without groups, there is one.
+  pub single : (digits : List ℕ) → AllBelowBase radix digits → group.higher ≡ 0 → sizes digits ≡ length digits ∷ []
+  single [] all none = refl
+  single (d ∷ digits) all none =
+      let inside : ends_group group (length digits) ≡ false = grind (arith, nat_tests) in
+      let more : length digits + 1 ≡ length (d ∷ digits) = omega arith in
+      next_inside d digits all.0 inside ∙ ap one_more (single digits all.1 none) ∙ ap (λ n. n ∷ []) more
 
-module _ (S : ByteSet) (radix separator s : ℕ) (digit : (d : ℕ) → d < radix → S (character d) ≡ false) where
-  -- Without groups, there are no separators.
-  no_separators : (digits : List ℕ) → AllBelowBase radix digits → list_any S (grouped separator 0 digits) ≡ false
-  no_separators [] all = refl
-  no_separators (d ∷ digits) all =
-      let rest = no_separators digits all.1 in
-      let first = digit d all.0 in
-      let none : ends_group 0 (length digits) ≡ false = grind arith in
-      rw none (grind arith)
+  pub single_fits : (part : Part) (digits : List ℕ) → AllBelowBase radix digits → group.higher ≡ 0
+      → is_grouped m part (grouped separator group digits) ≡ true
+  single_fits part digits all none = ap (all_fit m part) (single digits all none)
 
-  -- Digits in groups of the required size, or without groups, are in groups.
-  pub right_groups : (group : ℕ) (digits : List ℕ) → 2 ≤ s → (0 < group → (group ≡ s) × (S separator ≡ true)) → AllBelowBase radix digits
-      → is_grouped S s (grouped separator group digits) ≡ true
-  right_groups group [] two right all = refl
-  right_groups zero (d ∷ digits) two right all = let none = no_separators (d ∷ digits) all in grind arith
-  right_groups (suc group) (d ∷ digits) two right all =
-      let has = right (omega arith) in
-      let first = digit d all.0 in
-      let are = (aligned S radix separator s digit has.1 two d digits all).are in
-      subst (λ k. is_grouped S s (grouped separator k (d ∷ digits)) ≡ true) (sym has.0)
-      (or_right (not (list_any S (grouped separator s (d ∷ digits)))) _ (λ i. not (first i) && are i))
+  module _ (own : m.separator separator ≡ true) (last : group.last ≡ m.number conditions.IntegerGroupSize) (size : group.higher ≡ higher m)
+      (two : 2 ≤ group.last) (some : 2 ≤ group.higher) where
+    next_outside : (d : ℕ) (digits : List ℕ) → d < radix → ends_group group (length digits) ≡ true → sizes (d ∷ digits) ≡ 1 ∷ sizes digits
+    next_outside d digits below outside = let is = digit d below in rw (is, outside, own) refl
+
+    -- Behind the first group of `count` digits are `inner` groups before the last one.
+    pub record Fits (left count : ℕ) (counts : List ℕ) : Type 0 where
+      pub inner : ℕ
+      pub within : (0 < count) × (count ≤ group.higher)
+      pub total : left ≡ inner * group.higher + count + group.last
+      pub rest : rest_fits m parts.Integer counts ≡ true
+
+    -- The groups of `left` digits: the last one alone, or others, too.
+    abbrev pub State : ℕ → List ℕ → Type 0
+    State left [] = ⊥
+    State left (count ∷ []) = (count ≡ left) × (0 < left) × (left ≤ group.last)
+    State left (count ∷ next ∷ counts) = Fits left count (next ∷ counts)
+
+    step : (p : ℕ) → (p + 1) * group.higher ≡ p * group.higher + group.higher
+    step p = omega arith
+
+    ends : (p k n : ℕ) → n ≡ p * group.higher + k + group.last → k ≡ 0 → ends_group group n ≡ true
+    ends p k n total none =
+        let place : (n - group.last) % group.higher ≡ 0 =
+        ap (λ n. n % group.higher) {y = p * group.higher + 0} (omega (arith, total, none)) ∙ mod-mul-add p group.higher 0 (omega arith) in
+        let within : group.last ≤ n = omega (arith, total) in
+        grind (arith, nat_tests)
+
+    pub state : (d : ℕ) (digits : List ℕ) → AllBelowBase radix (d ∷ digits) → State (length (d ∷ digits)) (sizes (d ∷ digits))
+    state d [] all = let is = digit d all.0 in rw is (refl, omega arith, omega arith)
+    state d (e ∷ digits) all =
+        subst (λ k. State k (sizes (d ∷ e ∷ digits))) (omega arith) (go (sizes (e ∷ digits)) refl (state e digits all.1)) where
+          n : ℕ
+          n = length (e ∷ digits)
+
+          go : (counts : List ℕ) → sizes (e ∷ digits) ≡ counts → State n counts → State (n + 1) (sizes (d ∷ e ∷ digits))
+          go [] are is = absurd is
+          go (count ∷ []) are is =
+              elim (cases_lt n group.last) [
+                | inl part ↦
+                    let inside : ends_group group n ≡ false = grind (arith, nat_tests) in
+                    subst (State (n + 1)) (sym (next_inside d (e ∷ digits) all.0 inside ∙ ap one_more are))
+                    (omega (arith, is.0), omega arith, omega (arith, part))
+                | inr whole ↦
+                    let same : n ≡ 0 * group.higher + 0 + group.last = omega (arith, whole, is.2) in
+                    let fits : (count == m.number conditions.IntegerGroupSize) ≡ true = let first = is.0 in grind (arith, nat_tests) in
+                    subst (State (n + 1)) (sym (next_outside d (e ∷ digits) all.0 (ends 0 0 n same (refl)) ∙ ap (λ counts. 1 ∷ counts) are))
+                    (record { inner = 0; within = (omega arith, omega arith); total = omega (arith, same); rest = fits })
+              ]
+          go (count ∷ next ∷ counts) are is =
+              elim (cases_lt count group.higher) [
+                | inl part ↦
+                    let place : (n - group.last) % group.higher ≡ count =
+                    ap (λ n. n % group.higher) {y = is.inner * group.higher + count} (omega (arith, is.total)) ∙ mod-mul-add is.inner group.higher count part in
+                    let inside : ends_group group n ≡ false = let positive = is.within.0 in grind (arith, nat_tests) in
+                    subst (State (n + 1)) (sym (next_inside d (e ∷ digits) all.0 inside ∙ ap one_more are))
+                    (record { inner = is.inner; within = (omega arith, omega (arith, part)); total = omega (arith, is.total); rest = is.rest })
+                | inr whole ↦
+                    let full : count ≡ group.higher = omega (arith, whole, is.within.1) in
+                    let same : n ≡ (is.inner + 1) * group.higher + 0 + group.last = omega (arith, is.total, full, step is.inner) in
+                    let fits : (count == higher m) ≡ true = grind (arith, nat_tests) in
+                    subst (State (n + 1)) (sym (next_outside d (e ∷ digits) all.0 (ends (is.inner + 1) 0 n same refl) ∙ ap (λ counts. 1 ∷ counts) are))
+                    (record { inner = is.inner + 1; within = (omega arith, omega arith); total = omega (arith, same); rest = and_from _ _ fits is.rest })
+              ]
+
+    fit : (n : ℕ) (counts : List ℕ) → State n counts → all_fit m parts.Integer counts ≡ true
+    fit n [] is = absurd is
+    fit n (count ∷ []) is = refl
+    fit n (count ∷ next ∷ counts) is =
+        let first : (nat_lt 0 count && nat_le count (higher m)) ≡ true =
+        let some = is.within.0 in let most = is.within.1 in grind (arith, nat_tests) in
+        and_from _ _ first is.rest
+
+    -- Digits in groups of the required sizes are in groups.
+    pub right_groups : (digits : List ℕ) → AllBelowBase radix digits → is_grouped m parts.Integer (grouped separator group digits) ≡ true
+    right_groups [] all = refl
+    right_groups (d ∷ digits) all = fit _ _ (state d digits all)
 
 -- A number is written without leading zeros.
 zero_value : byte_value 48 ≡ 0
 unfolding byte_value
 zero_value = refl
 
-pub no_leading_zero : (D : ByteSet) (radix separator group n : ℕ) (none : Bool) → 2 ≤ radix → radix ≤ 36 → ((d : ℕ) → d < radix → D (character d) ≡ true)
+pub no_leading_zero : (D : ByteSet) (radix separator : ℕ) (group : Groups) (n : ℕ) (none : Bool) → 2 ≤ radix → radix ≤ 36 → ((d : ℕ) → d < radix → D (character d) ≡ true)
     → has_leading_zero D (grouped separator group (or_zero none (digits_of radix n))) ≡ false
 no_leading_zero D radix separator group zero true two small digit = grind arith
 no_leading_zero D radix separator group zero false two small digit = refl

@@ -1,7 +1,7 @@
 -- What is laid out is a literal with the digits of the amount.
-use Rattle.std.proofs.Common.{ℕ, ◌≡◌, ◌<◌, ◌≤◌, ◌==◌, ◌&&◌, ◌||◌, not, if◌then◌else◌, Bool, true, false, IsTrue, List, []}
-use Rattle.std.proofs.Common.{cond, Option, Some, None, Result, Ok, Err, IfOk, is_some, option_to_list, unwrap_or, refl, sym, subst, ap, ◌∙◌, arith}
-use Rattle.std.proofs.lemmas.Bool.{false_from_ne_true, false≢true, lt-ltb, ltb-true, or_left, or_right, and_right}
+use Rattle.std.proofs.Common.{ℕ, ◌≡◌, ◌<◌, ◌≤◌, ◌==◌, ◌&&◌, ◌||◌, not, if◌then◌else◌, Bool, true, false, IsTrue, List, [], ◌∷◌}
+use Rattle.std.proofs.Common.{drop, inl, inr, cond, Option, Some, None, Result, Ok, Err, IfOk, is_some, option_to_list, unwrap_or, refl, sym, subst, ap, ◌∙◌, arith}
+use Rattle.std.proofs.lemmas.Bool.{cases_lt, false_from_ne_true, false≢true, lt-ltb, ltb-true, or_left, or_right, and_right}
 use Rattle.std.proofs.lemmas.Bool.Decides.{nat_tests}
 use Rattle.std.proofs.lemmas.Int.Digits.{all_below_base_digits_of, number_digits_of}
 use Rattle.std.specs.Int.Digits.{AllBelowBase, digits_of, number_from_digits}
@@ -15,31 +15,33 @@ use Rattle.lexical_util.specs.Unfoldable.{cased, IsPunctuation, Lawful, Holds}
 use Rattle.lexical_util.specs.declared.format_flags.Part.{Part}
 use Rattle.lexical_util.specs.declared.format_flags.Part.TheVariants as parts
 use Rattle.lexical_base.proofs.ValueLemmas.{byte_value-digit_character}
-use Rattle.lexical_literal.specs.Literal.{IsSpelled, Literal, condition, has_leading_zero, is_absent, is_none_or_one, is_plus}
+use Rattle.lexical_literal.specs.Literal.{IsSpelled, Literal, Reads, condition, has_leading_zero, is_absent, is_none_or_one, is_plus}
 use Rattle.lexical_literal.specs.Literal.{is_none_or_prefix, is_present, requirement, text_of}
-use Rattle.lexical_literal.specs.Notation.{Notation, has, integer_group_size, lacks_options, notation_of, point_of, exponent_character_of, radix_of}
-use Rattle.lexical_literal.specs.Groups.{has_groups}
+use Rattle.lexical_literal.specs.Notation.{Notation, all_conditions, has, lacks_options, notation_of, number_of, point_of, exponent_character_of, radix_of}
+use Rattle.lexical_literal.specs.Groups.{higher, is_grouped}
 use Rattle.lexical_literal.specs.Run.{is_run}
-use Rattle.lexical_literal.specs.Syntax.{IsSyntax, FitIfAny, contradiction, fault}
-use Rattle.lexical_literal.specs.Takes.{Takes}
+use Rattle.lexical_literal.specs.Syntax.{IsSyntax, FitIfAny, contradiction, fault, first_fault, limits}
 use Rattle.lexical_literal.specs.declared.syntax.Condition.{Condition}
 use Rattle.lexical_literal.specs.declared.syntax.Condition.TheVariants as conditions
 use Rattle.lexical_literal.specs.declared.syntax.Conditions.{Conditions}
+use Rattle.lexical_literal.specs.declared.syntax.ConditionsError.{ConditionsError}
+use Rattle.std.specs.Option.{option_or}
 use Rattle.lexical_literal.specs.declared.syntax.Grammar.{Grammar}
 use Rattle.lexical_literal.specs.declared.syntax.Options.{Options}
 use Rattle.lexical_literal.proofs.RunLemmas.{rest_of_none}
 use Rattle.lexical_number.specs.Number.{digits_in, number}
 use Rattle.lexical_value.specs.Value.{is_minus}
-use Rattle.lexical_writer.specs.Digits.{character, grouped, only_if, or_zero, size_of, values_of}
-use Rattle.lexical_writer.specs.Layout.{HasNumber, given_fraction, given_power, group_of, has_exponent, has_point, has_zero, laid_out, options_of}
+use Rattle.lexical_writer.specs.Digits.{character, grouped, no_groups, only_if, or_zero, size_of, values_of}
+use Rattle.lexical_writer.specs.Layout.{HasNumber, given_fraction, given_power, groups_of, has_exponent, has_point, has_zero, laid_out, options_of}
 use Rattle.lexical_writer.specs.Layout.{IsLaidOut, after_zero, base_byte, literal_of, refusal, sign_of}
 use Rattle.lexical_writer.specs.declared.layout.Amount.{Amount}
 use Rattle.lexical_writer.specs.declared.layout.Layout.{Layout}
 use Rattle.lexical_writer.specs.declared.layout.WriteError.{WriteError}
 use Rattle.lexical_writer.specs.declared.layout.WriteError.TheVariants as errors
 use Rattle.lexical_writer.specs.declared.layout.Style.{Style}
+use Rattle.lexical_writer.specs.declared.run.Groups.{Groups}
 use Rattle.lexical_writer.proofs.DigitLemmas.{grouped_digits, grouped_present, values_below, zero_below, zero_number}
-use Rattle.lexical_writer.proofs.GroupLemmas.{Between, grouped_rest, no_leading_zero, right_groups}
+use Rattle.lexical_writer.proofs.GroupLemmas.{Between, grouped_rest, no_leading_zero, right_groups, single_fits}
 
 -- The flags of a lawful format agree.
 agree : (word : ℕ) → Lawful word → (((raw word).flag layout.no_exponent_notation && (raw word).flag layout.required_exponent_notation) ≡ false)
@@ -51,13 +53,44 @@ agree word lawful = let flags = lawful.flags in assumption flags
 -- The conditions of a syntax agree with its format.
 no_contradiction : (r : Record) (c : Conditions) → contradiction r c ≡ None → ((has c conditions.BasePrefix && (r.byte layout.base_prefix == 0)) ≡ false)
     × ((has c conditions.BaseSuffix && (r.byte layout.base_suffix == 0)) ≡ false)
-    × ((s : ℕ) → integer_group_size c ≡ Some s → 2 ≤ s)
 unfolding fault
-no_contradiction r c none = (grind (arith, nat_tests), grind (arith, nat_tests), λ s has. grind (arith, nat_tests))
+no_contradiction r c none = (grind (arith, nat_tests), grind (arith, nat_tests))
 
--- Groups have the size that a condition requires.
-same_size : (r : Record) (c : Conditions) (style : Style) (s : ℕ) → integer_group_size c ≡ Some s → 0 < group_of r c style → group_of r c style ≡ s
-same_size r c style s has some = grind arith
+-- Groups have the sizes that conditions require, which are at least 2.
+first_none : (r : Record) (c : Conditions) (d : Condition) (ds : List Condition) → first_fault r c (d ∷ ds) ≡ None
+    → (fault r c d ≡ None) × (first_fault r c ds ≡ None)
+first_none r c d ds none = either_none (fault r c d) (first_fault r c ds) none where
+  either_none : (a b : Option ConditionsError) → option_or a b ≡ None → (a ≡ None) × (b ≡ None)
+  either_none None b none = (refl, none)
+  either_none (Some x) b none = cc
+
+at_least_2 : (r : Record) (c : Conditions) (d : Condition) → limits d ≡ (2, 8) → fault r c d ≡ None → has c d ≡ true → 2 ≤ number_of c d
+unfolding fault
+at_least_2 r c d two none set = grind (arith, nat_tests)
+
+least : (r : Record) (c : Conditions) → contradiction r c ≡ None
+    → (has c conditions.IntegerGroupSize ≡ true → 2 ≤ number_of c conditions.IntegerGroupSize)
+    × (has c conditions.HigherGroupSize ≡ true → 2 ≤ number_of c conditions.HigherGroupSize)
+least r c none =
+    let prefix = first_none r c conditions.BasePrefix (drop 1 all_conditions) none in
+    let suffix = first_none r c conditions.BaseSuffix (drop 2 all_conditions) prefix.1 in
+    let sign = first_none r c conditions.NegativeSign (drop 3 all_conditions) suffix.1 in
+    let last = first_none r c conditions.IntegerGroupSize (drop 4 all_conditions) sign.1 in
+    let higher = first_none r c conditions.HigherGroupSize (drop 5 all_conditions) last.1 in
+    (at_least_2 r c conditions.IntegerGroupSize refl last.0, at_least_2 r c conditions.HigherGroupSize refl higher.0)
+
+record AreRequired (m : Notation) (group : Groups) : Type 0 where
+  last : group.last ≡ m.number conditions.IntegerGroupSize
+  size : group.higher ≡ higher m
+  two : 2 ≤ group.last
+  some : 2 ≤ group.higher
+
+required : (g : Grammar) (style : Style) → contradiction (raw g.word) g.conditions ≡ None → has g.conditions conditions.IntegerGroupSize ≡ true
+    → 0 < (groups_of (raw g.word) g.conditions style).higher → AreRequired (notation_of g) (groups_of (raw g.word) g.conditions style)
+required g style none set groups =
+    let last_least = (least (raw g.word) g.conditions none).0 set in
+    let higher_least = (least (raw g.word) g.conditions none).1 in
+    record { last = grind (arith, nat_tests); size = grind (arith, nat_tests); two = grind (arith, nat_tests); some = grind (arith, nat_tests) }
 
 -- Punctuation is not 0.
 some_byte : (r : Record) (byte : ℕ) → IsPunctuation r byte → (byte == 0) ≡ false
@@ -101,12 +134,12 @@ some_sign here negative required byte is = grind arith
 
 -- Without a decimal point, there is no fraction, and without an exponent character, no exponent.
 no_fraction : (amount : Amount) (other required : Bool) (byte radix : ℕ) → is_absent (option_to_list (only_if (is_some amount.fraction || other) byte)) ≡ true
-    → grouped 0 0 (or_zero ((is_some amount.fraction || other) && required) (values_of radix (given_fraction amount))) ≡ []
+    → grouped 0 no_groups (or_zero ((is_some amount.fraction || other) && required) (values_of radix (given_fraction amount))) ≡ []
 no_fraction amount other required byte radix absent = grind arith
 
 no_power : (amount : Amount) (other required : Bool) (byte radix : ℕ) → is_absent (option_to_list (only_if (is_some amount.exponent || other) byte)) ≡ true
     → (option_to_list (sign_of (given_power amount).negative ((is_some amount.exponent || other) && required)) ≡ [])
-    × (grouped 0 0 (or_zero (is_some amount.exponent || other) (digits_of radix (size_of radix (given_power amount).source))) ≡ [])
+    × (grouped 0 no_groups (or_zero (is_some amount.exponent || other) (digits_of radix (size_of radix (given_power amount).source))) ≡ [])
 no_power amount other required byte radix absent = (grind arith, grind arith)
 
 -- Digits of a fraction make a float.
@@ -144,8 +177,8 @@ module _ (g : Grammar) (style : Style) (amount : Amount) (is : IsSyntax g)
   abbrev separator : ℕ
   separator = r.byte layout.digit_separator
 
-  abbrev group : ℕ
-  group = group_of r g.conditions style
+  abbrev group : Groups
+  group = groups_of r g.conditions style
 
   abbrev exponent_radix : ℕ
   exponent_radix = effective_exponent_radix r
@@ -156,7 +189,7 @@ module _ (g : Grammar) (style : Style) (amount : Amount) (is : IsSyntax g)
       let small : radix_of r part ≤ 36 = (radixes g.word is.lawful part).1 in
       lt-ltb (byte_value (character d)) (radix_of r part) (omega (arith, byte_value-digit_character d (omega arith)))
 
-  run : (part : Part) (separator group : ℕ) (zero : Bool) (digits : List ℕ) → Between m part separator group → AllBelowBase (radix_of r part) digits
+  run : (part : Part) (separator : ℕ) (group : Groups) (zero : Bool) (digits : List ℕ) → Between m part separator group → AllBelowBase (radix_of r part) digits
       → (is_run m part (grouped separator group (or_zero zero digits)) ≡ true)
       × (digits_in (radix_of r part) (grouped separator group (or_zero zero digits)) ≡ or_zero zero digits)
   run part separator group zero digits between all =
@@ -176,7 +209,7 @@ module _ (g : Grammar) (style : Style) (amount : Amount) (is : IsSyntax g)
       let in_use : sets.used_separator r separator ≡ true = grind arith in
       (in_use, internal, false_from_ne_true _ (λ below. apart separator (ltb-true _ _ below) in_use))
 
-  plain : (part : Part) → Between m part 0 0
+  plain : (part : Part) → Between m part 0 no_groups
   plain part some = absurd (omega (arith, some))
 
   integer_run : (is_run m parts.Integer l.integer ≡ true)
@@ -186,14 +219,14 @@ module _ (g : Grammar) (style : Style) (amount : Amount) (is : IsSyntax g)
 
   fraction_run : (is_run m parts.Fraction l.fraction ≡ true) × (digits_in radix l.fraction
       ≡ or_zero (has_point g amount && r.flag layout.required_fraction_digits) (values_of radix (given_fraction amount)))
-  fraction_run = run parts.Fraction 0 0 (has_point g amount && r.flag layout.required_fraction_digits) (values_of radix (given_fraction amount))
+  fraction_run = run parts.Fraction 0 no_groups (has_point g amount && r.flag layout.required_fraction_digits) (values_of radix (given_fraction amount))
       (plain parts.Fraction) (values_below radix (given_fraction amount) (radixes g.word is.lawful parts.Fraction).0)
 
   exponent_run : (is_run m parts.Exponent l.exponent ≡ true)
       × (digits_in exponent_radix l.exponent ≡ or_zero (has_exponent g amount) (digits_of exponent_radix (size_of exponent_radix (given_power amount).source)))
   exponent_run =
       let size = size_of exponent_radix (given_power amount).source in
-      run parts.Exponent 0 0 (has_exponent g amount) (digits_of exponent_radix size) (plain parts.Exponent)
+      run parts.Exponent 0 no_groups (has_exponent g amount) (digits_of exponent_radix size) (plain parts.Exponent)
       (all_below_base_digits_of exponent_radix size (radixes g.word is.lawful parts.Exponent).0)
 
   same_number : (radix n : ℕ) (zero : Bool) (bytes : List ℕ) → 2 ≤ radix → digits_in radix bytes ≡ or_zero zero (digits_of radix n) → number radix bytes ≡ n
@@ -213,15 +246,22 @@ module _ (g : Grammar) (style : Style) (amount : Amount) (is : IsSyntax g)
   }
 
   -- The integer is in groups.
-  groups : (size : Option ℕ) → integer_group_size g.conditions ≡ size → has_groups m.separator size l.integer ≡ true
-  groups None has = refl
-  groups (Some s) has =
-      right_groups m.separator radix separator s (λ d below.
+  no_separator : (d : ℕ) → d < radix → m.separator (character d) ≡ false
+  no_separator d below =
       let small : radix ≤ 36 = (radixes g.word is.lawful parts.Integer).1 in
-      false_from_ne_true _ (λ in_use. apart (character d) (omega (arith, byte_value-digit_character d (omega arith))) in_use))
-      group _ ((no_contradiction r g.conditions is.conditions).2 s has) (λ some. (same_size r g.conditions style s has some, (between some).0))
-      (zero_below radix (has_zero r amount) _ (radixes g.word is.lawful parts.Integer).0
-      (all_below_base_digits_of radix (size_of radix amount.integer) (radixes g.word is.lawful parts.Integer).0))
+      false_from_ne_true _ (λ in_use. apart (character d) (omega (arith, byte_value-digit_character d (omega arith))) in_use)
+
+  in_groups : m.condition conditions.IntegerGroupSize ≡ true → is_grouped m parts.Integer l.integer ≡ true
+  in_groups set =
+      let digits = or_zero (has_zero r amount) (digits_of radix (size_of radix amount.integer)) in
+      let all : AllBelowBase radix digits = zero_below radix (has_zero r amount) _ (radixes g.word is.lawful parts.Integer).0
+      (all_below_base_digits_of radix (size_of radix amount.integer) (radixes g.word is.lawful parts.Integer).0) in
+      elim (cases_lt 0 group.higher) [
+        | inl some ↦
+            let are = required g style is.conditions set some in
+            right_groups m radix separator group no_separator (between some).0 are.last are.size are.two are.some digits all
+        | inr none ↦ single_fits m radix separator group no_separator parts.Integer digits all (omega (arith, none))
+      ]
 
   -- No exponent is written where none is allowed.
   allowed : ((amount.negative && has g.conditions conditions.NegativeSign) ≡ false) × ((lacks_options g.options && is_some amount.fraction) ≡ false)
@@ -237,7 +277,7 @@ module _ (g : Grammar) (style : Style) (amount : Amount) (is : IsSyntax g)
 
   fraction_present : is_present l.fraction
       ≡ ((has_point g amount && r.flag layout.required_fraction_digits) || is_present (values_of radix (given_fraction amount)))
-  fraction_present = grouped_present 0 0 (has_point g amount && r.flag layout.required_fraction_digits) (values_of radix (given_fraction amount))
+  fraction_present = grouped_present 0 no_groups (has_point g amount && r.flag layout.required_fraction_digits) (values_of radix (given_fraction amount))
 
   some_digits : (is_present l.integer || is_present (values_of radix (given_fraction amount))) ≡ true
   some_digits = rw integer_present (zero_or_digits (r.flag layout.required_integer_digits) _ (is_absent (values_of radix (given_fraction amount))) _)
@@ -254,7 +294,7 @@ module _ (g : Grammar) (style : Style) (amount : Amount) (is : IsSyntax g)
 
   exponent_digits : (is_absent l.exponent_character || is_present l.exponent) ≡ true
   exponent_digits =
-      rw (grouped_present 0 0 (has_exponent g amount) (digits_of exponent_radix (size_of exponent_radix (given_power amount).source))) (grind arith)
+      rw (grouped_present 0 no_groups (has_exponent g amount) (digits_of exponent_radix (size_of exponent_radix (given_power amount).source))) (grind arith)
 
   met : (f : Flag) → IsTrue (m.flag f) → IsTrue (requirement f m l)
   met layout.required_integer_digits set = integer_present ∙ or_left _ _ (or_left _ _ set)
@@ -272,11 +312,15 @@ module _ (g : Grammar) (style : Style) (amount : Amount) (is : IsSyntax g)
   met layout.required_exponent_notation set = some_exponent set
   met _ set = refl
 
-  conditions_met : (c : Condition) → IsTrue (m.condition c) → IsTrue (condition c l)
+  conditions_met : (c : Condition) → IsTrue (m.condition c) → IsTrue (condition c m l)
   conditions_met conditions.BasePrefix set = let there = no_contradiction r g.conditions is.conditions in grind arith
   conditions_met conditions.BaseSuffix set = let there = no_contradiction r g.conditions is.conditions in grind arith
   conditions_met conditions.NegativeSign set = grind (arith, allowed)
-  conditions_met conditions.IntegerGroupSize set = refl
+  conditions_met conditions.IntegerGroupSize set = in_groups set
+  conditions_met conditions.HigherGroupSize set = refl
+  conditions_met conditions.FractionGroupSize set =
+      single_fits m radix 0 no_groups no_separator parts.Fraction _ (zero_below radix _ _ (radixes g.word is.lawful parts.Fraction).0
+      (values_below radix (given_fraction amount) (radixes g.word is.lawful parts.Fraction).0)) refl
 
   one_sign : (negative required : Bool) → is_none_or_one sets.signs (option_to_list (sign_of negative required)) ≡ true
   one_sign negative required = grind arith
@@ -316,17 +360,14 @@ module _ (g : Grammar) (style : Style) (amount : Amount) (is : IsSyntax g)
     requirements = met;
   }
 
-  takes : Takes g l (text_of l)
-  takes = record {
-    reads = record { whole = refl; literal = record { spelled = spelled; conditions = conditions_met } };
-    groups = groups (integer_group_size g.conditions) refl;
-  }
+  reads : Reads m l (text_of l)
+  reads = record { whole = refl; literal = record { spelled = spelled; conditions = conditions_met } }
 
 -- What is laid out is a literal with the digits of the amount.
 pub written : (g : Grammar) (style : Style) (amount : Amount) → IsSyntax g
     → ((byte : ℕ) → byte_value byte < (raw g.word).byte layout.mantissa_radix → IsTrue (sets.used_separator (raw g.word) byte) → ⊥)
     → (result : Result Layout WriteError) → IsLaidOut g style amount result
-    → IfOk result (λ layout. Takes g (literal_of layout) (text_of (literal_of layout)) × HasNumber g amount (literal_of layout))
+    → IfOk result (λ layout. Reads (notation_of g) (literal_of layout) (text_of (literal_of layout)) × HasNumber g amount (literal_of layout))
 written g style amount is apart (Ok layout) laid =
-    subst (λ l. Takes g l (text_of l) × HasNumber g amount l) (sym laid.1) (takes g style amount is apart laid.0, has_number g style amount is apart laid.0)
+    subst (λ l. Reads (notation_of g) l (text_of l) × HasNumber g amount l) (sym laid.1) (reads g style amount is apart laid.0, has_number g style amount is apart laid.0)
 written g style amount is apart (Err error) laid = tt

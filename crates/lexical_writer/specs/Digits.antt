@@ -1,9 +1,10 @@
 -- How digits are written: as uppercase characters, in groups.
-use Rattle.std.specs.Prelude.{ℕ, ◌%◌, ◌==◌, ◌&&◌, nat_lt, Bool, if◌then◌else◌, List, [], ◌∷◌, ◌++◌, length, slice_index, Option, Some, None, option_to_list}
+use Rattle.std.specs.Prelude.{ℕ, ◌-◌, ◌%◌, ◌==◌, ◌&&◌, nat_le, nat_lt, Bool, if◌then◌else◌, List, [], ◌∷◌, ◌++◌, length, slice_index, Option, Some, None, option_to_list}
 use Rattle.std.specs.Int.Digits.{digits_of}
 use Rattle.lexical_util.specs.Digits.{digit_characters}
 use Rattle.lexical_literal.specs.Literal.{is_absent}
 use Rattle.lexical_number.specs.Number.{digits_in, number}
+use Rattle.lexical_writer.specs.declared.run.Groups.{Groups}
 use Rattle.lexical_writer.specs.declared.run.Run.{Run}
 use Rattle.lexical_writer.specs.declared.run.Source.{Source}
 use Rattle.lexical_writer.specs.declared.run.Source.TheVariants as sources
@@ -26,24 +27,29 @@ size_of radix (sources.Number number) = number
 abbrev pub or_zero : Bool → List ℕ → List ℕ
 or_zero zero digits = if is_absent digits && zero then 0 ∷ [] else digits
 
--- `ends_group group left` is true if a group of `group` digits ends where `left` digits are left. Groups are counted from the
--- last digit. If `group` is 0, there are no groups.
-abbrev pub ends_group : ℕ → ℕ → Bool
-ends_group group left = nat_lt 0 left && nat_lt 0 group && left % group == 0
+-- `ends_group groups left` is true if a group ends where `left` digits are left: those of the last group, and of whole groups
+-- before it.
+abbrev pub ends_group : Groups → ℕ → Bool
+ends_group groups left =
+    nat_lt 0 left && (nat_lt 0 groups.higher && (nat_le groups.last left && (left - groups.last) % groups.higher == 0))
+
+-- `no_groups` are the groups of digits without separators.
+abbrev pub no_groups : Groups
+no_groups = record { last = 0; higher = 0 }
 
 -- `only_if condition byte` is `byte` if `condition` is true, and absent otherwise.
 abbrev pub only_if : Bool → ℕ → Option ℕ
 only_if condition byte = if condition then Some byte else None
 
--- `separated separator group left` is `separator` where a group ends.
-abbrev pub separated : ℕ → ℕ → ℕ → List ℕ
-separated separator group left = option_to_list (only_if (ends_group group left) separator)
+-- `separated separator groups left` is `separator` where a group ends.
+abbrev pub separated : ℕ → Groups → ℕ → List ℕ
+separated separator groups left = option_to_list (only_if (ends_group groups left) separator)
 
--- `grouped separator group digits` has the characters of `digits`, with `separator` between groups of `group` digits.
-abbrev pub grouped : ℕ → ℕ → List ℕ → List ℕ
-grouped separator group [] = []
-grouped separator group (digit ∷ digits) = character digit ∷ separated separator group (length digits) ++ grouped separator group digits
+-- `grouped separator groups digits` has the characters of `digits`, with `separator` between groups.
+abbrev pub grouped : ℕ → Groups → List ℕ → List ℕ
+grouped separator groups [] = []
+grouped separator groups (digit ∷ digits) = character digit ∷ separated separator groups (length digits) ++ grouped separator groups digits
 
 -- `run_text run` is what is written of `run`.
 abbrev pub run_text : Run → List ℕ
-run_text run = grouped run.separator run.group (or_zero run.zero (values_of run.radix run.source))
+run_text run = grouped run.separator run.groups (or_zero run.zero (values_of run.radix run.source))

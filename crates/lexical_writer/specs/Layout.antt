@@ -5,18 +5,19 @@ use Rattle.std.specs.Int.Digits.{digits_of}
 use Rattle.lexical_util.specs.Layout as layout
 use Rattle.lexical_util.specs.Record.{Record, raw, effective_exponent_radix}
 use Rattle.lexical_literal.specs.Literal.{Literal, is_absent, is_present}
-use Rattle.lexical_literal.specs.Notation.{has, integer_group_size, lacks_options}
+use Rattle.lexical_literal.specs.Notation.{has, lacks_options, number_of}
 use Rattle.lexical_literal.specs.declared.syntax.Condition.TheVariants as conditions
 use Rattle.lexical_literal.specs.declared.syntax.Conditions.{Conditions}
 use Rattle.lexical_literal.specs.declared.syntax.Grammar.{Grammar}
 use Rattle.lexical_literal.specs.declared.syntax.Options.{Options}
 use Rattle.lexical_number.specs.Number.{digits_in, number}
 use Rattle.lexical_value.specs.Value.{is_minus}
-use Rattle.lexical_writer.specs.Digits.{grouped, only_if, or_zero, run_text, size_of, values_of}
+use Rattle.lexical_writer.specs.Digits.{grouped, no_groups, only_if, or_zero, run_text, size_of, values_of}
 use Rattle.lexical_writer.specs.declared.layout.Amount.{Amount}
 use Rattle.lexical_writer.specs.declared.layout.Layout.{Layout}
 use Rattle.lexical_writer.specs.declared.layout.Power.{Power}
 use Rattle.lexical_writer.specs.declared.layout.Style.{Style}
+use Rattle.lexical_writer.specs.declared.run.Groups.{Groups}
 use Rattle.lexical_writer.specs.declared.run.Source.{Source}
 use Rattle.lexical_writer.specs.declared.run.Source.TheVariants as sources
 use Rattle.lexical_writer.specs.declared.layout.WriteError.{WriteError}
@@ -60,12 +61,17 @@ given_fraction amount = unwrap_or (option_map sources.Bytes amount.fraction) (so
 abbrev pub given_power : Amount → Power
 given_power amount = unwrap_or amount.exponent (record { negative = false; source = sources.Number 0 })
 
--- `group_of r c style` is the number of digits of a group: the one that the conditions `c` require, or that of `style`. It is 0 if
--- there are no groups: if `style` has none, and where the format `r` does not allow a separator between digits, or has none.
-abbrev pub group_of : Record → Conditions → Style → ℕ
-group_of r c style =
-    if r.flag layout.integer_internal_digit_separator && not (r.byte layout.digit_separator == 0)
-    then (if style.group == 0 then 0 else unwrap_or (integer_group_size c) style.group) else 0
+-- `either size other` is `size`, or `other` if `size` is 0.
+abbrev pub either : ℕ → ℕ → ℕ
+either size other = if size == 0 then other else size
+
+-- `groups_of r c style` are the groups of an integer. They have the sizes that the conditions `c` require, or that of `style`. There
+-- are none if `style` has none, and where the format `r` does not allow a separator between digits, or has none.
+abbrev pub groups_of : Record → Conditions → Style → Groups
+groups_of r c style =
+    let last = either (number_of c conditions.IntegerGroupSize) style.group in
+    if style.group == 0 || not (r.flag layout.integer_internal_digit_separator) || r.byte layout.digit_separator == 0 then no_groups
+    else record { last = last; higher = either (number_of c conditions.HigherGroupSize) last }
 
 -- `needs_exponent g` is true if each literal of `g` has an exponent.
 abbrev pub needs_exponent : Grammar → Bool
@@ -97,13 +103,13 @@ laid_out g style amount =
     record {
       sign = option_to_list (sign_of amount.negative (r.flag layout.required_mantissa_sign));
       prefix = after_zero (base_byte (style.prefix || has g.conditions conditions.BasePrefix) (r.byte layout.base_prefix));
-      integer = grouped (r.byte layout.digit_separator) (group_of r g.conditions style)
+      integer = grouped (r.byte layout.digit_separator) (groups_of r g.conditions style)
           (or_zero (has_zero r amount) (digits_of radix (size_of radix amount.integer)));
       point = option_to_list (only_if point (options_of g).point);
-      fraction = grouped 0 0 (or_zero (point && r.flag layout.required_fraction_digits) (values_of radix (given_fraction amount)));
+      fraction = grouped 0 no_groups (or_zero (point && r.flag layout.required_fraction_digits) (values_of radix (given_fraction amount)));
       exponent_character = option_to_list (only_if exponent (options_of g).exponent);
       exponent_sign = option_to_list (sign_of (given_power amount).negative (exponent && r.flag layout.required_exponent_sign));
-      exponent = grouped 0 0 (or_zero exponent (digits_of exponent_radix (size_of exponent_radix (given_power amount).source)));
+      exponent = grouped 0 no_groups (or_zero exponent (digits_of exponent_radix (size_of exponent_radix (given_power amount).source)));
       suffix = option_to_list (base_byte (style.suffix || has g.conditions conditions.BaseSuffix) (r.byte layout.base_suffix));
     }
 

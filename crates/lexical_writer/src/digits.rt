@@ -6,7 +6,7 @@ ghost use Rattle.lexical_number.specs.Number.{digits_in, number, places};
 ghost use Rattle.lexical_util.specs.Rules.{IsRadix};
 ghost use Rattle.lexical_writer.specs.Digits.{character, ends_group, grouped, only_if, or_zero, run_text, separated};
 
-use crate::run::{Run, Source};
+use crate::run::{Groups, Run, Source};
 use crate::sink::Sink;
 use lexical_base::digit::{char_to_digit, digit_to_char};
 use lexical_number::parts::count;
@@ -67,10 +67,11 @@ fn characters(buffer: &mut [u8; 128], number: u128, radix: u32) -> &[u8]
 
 // Returns whether a group ends where `left` digits are left.
 #[inline(always)]
-const fn ends_group(group: usize, left: usize) -> bool
-    ensures { result ≡ ends_group group left }
+const fn ends_group(groups: Groups, left: usize) -> bool
+    ensures { result ≡ ends_group groups left }
 {
-    left > 0 && group > 0 && left % group == 0
+    let Groups { last, higher } = groups;
+    left > 0 && higher > 0 && last <= left && (left - last) % higher == 0
 }
 
 // Returns `byte` if `condition` is true.
@@ -97,17 +98,17 @@ pub(crate) fn put_if_any<S: Sink>(sink: &mut S, byte: Option<u8>)
 fn put_digit<S: Sink>(sink: &mut S, digit: u32, left: usize, run: &Run)
     requires { digit < 36 }
     ensures { (start : S) → (text : List ℕ) → S.has start sink.old text
-        → S.has start sink.new (text ++ character digit ∷ separated run.now.separator run.now.group left) }
+        → S.has start sink.new (text ++ character digit ∷ separated run.now.separator run.now.groups left) }
 {
     sink.put(digit_to_char(digit));
-    put_if_any(sink, only_if(ends_group(run.group, left), run.separator));
+    put_if_any(sink, only_if(ends_group(run.groups, left), run.separator));
 }
 
 // Writes the digits among bytes in groups, where `count` is the number of these digits.
 fn put_digits<S: Sink>(sink: &mut S, bytes: &[u8], count: usize, run: &Run)
     requires { count ≡ places run.now.radix bytes.now }
     ensures { (start : S) → (text : List ℕ) → S.has start sink.old text
-        → S.has start sink.new (text ++ grouped run.now.separator run.now.group (digits_in run.now.radix bytes.now)) }
+        → S.has start sink.new (text ++ grouped run.now.separator run.now.groups (digits_in run.now.radix bytes.now)) }
 {
     let mut left = count;
     let mut index = 0;
@@ -123,7 +124,7 @@ fn put_digits<S: Sink>(sink: &mut S, bytes: &[u8], count: usize, run: &Run)
 // Writes the digits among bytes in groups or, if there are none, a 0 if the run has one.
 fn put_or_zero<S: Sink>(sink: &mut S, bytes: &[u8], run: &Run)
     ensures { (start : S) → (text : List ℕ) → S.has start sink.old text
-        → S.has start sink.new (text ++ grouped run.now.separator run.now.group (or_zero run.now.zero (digits_in run.now.radix bytes.now))) }
+        → S.has start sink.new (text ++ grouped run.now.separator run.now.groups (or_zero run.now.zero (digits_in run.now.radix bytes.now))) }
 {
     let count = count(bytes, run.radix);
     if count == 0 && run.zero {
@@ -136,11 +137,11 @@ fn put_or_zero<S: Sink>(sink: &mut S, bytes: &[u8], run: &Run)
 // Writes the digits of a number in groups or, if it is 0, a 0 if the run has one.
 fn put_number<S: Sink>(sink: &mut S, number: u128, run: &Run)
     ensures { (start : S) → (text : List ℕ) → S.has start sink.old text
-        → S.has start sink.new (text ++ grouped run.now.separator run.now.group (or_zero run.now.zero (digits_of run.now.radix number))) }
+        → S.has start sink.new (text ++ grouped run.now.separator run.now.groups (or_zero run.now.zero (digits_of run.now.radix number))) }
 {
     let mut buffer = [0; 128];
     let bytes = characters(&mut buffer, number, run.radix);
-    if run.group == 0 && number > 0 {
+    if run.groups.higher == 0 && number > 0 {
         sink.put_all(bytes);
     } else {
         put_or_zero(sink, bytes, run);

@@ -2,8 +2,8 @@
 
 ghost use Rattle.std.specs.Prelude.{◌≡◌, Some, IfErr, IfOk};
 ghost use Rattle.lexical_util.specs.Record.{raw};
-ghost use Rattle.lexical_literal.specs.Literal.{text_of};
-ghost use Rattle.lexical_literal.specs.Takes.{Takes};
+ghost use Rattle.lexical_literal.specs.Literal.{Reads, text_of};
+ghost use Rattle.lexical_literal.specs.Notation.{notation_of};
 ghost use Rattle.lexical_value.specs.Integer.{IsInteger};
 ghost use Rattle.lexical_writer.specs.Layout.{IsWhole, literal_of, whole_refusal};
 
@@ -24,7 +24,7 @@ pub fn format_integer<T: Integer>(
     style: Style,
 ) -> Result<Layout<'static>, WriteError>
     // What is written is a literal with neither a decimal point nor an exponent, and its value is that of the integer.
-    ensures literal { IfOk result (λ layout. Takes syntax.now (literal_of layout) (text_of (literal_of layout))) }
+    ensures literal { IfOk result (λ layout. Reads (notation_of syntax.now) (literal_of layout) (text_of (literal_of layout))) }
     ensures value { IfOk result (λ layout. IsInteger (raw syntax.now.word) (literal_of layout) (T.range.value value)) }
     ensures parts { IfOk result (λ layout. IsWhole syntax.now style (T.range.value value) (literal_of layout)) }
     // Each integer can be written, unless each literal has an exponent, or no literal is below 0.

@@ -4,27 +4,30 @@ ghost use Rattle.std.specs.Prelude.{◌≡◌, ◌++◌, ◌&&◌, not, [], ℕ,
 ghost use Rattle.std.specs.Int.Digits.{digits_of};
 ghost use Rattle.lexical_util.specs.Record.{raw};
 ghost use Rattle.lexical_util.specs.Rules.{IsRadix, Lawful};
-ghost use Rattle.lexical_literal.specs.Literal.{is_present, text_of};
+ghost use Rattle.lexical_literal.specs.Literal.{Reads, is_present, text_of};
+ghost use Rattle.lexical_literal.specs.Notation.{notation_of};
 ghost use Rattle.lexical_literal.specs.Syntax.{IsSyntax};
-ghost use Rattle.lexical_literal.specs.Takes.{Takes};
-ghost use Rattle.lexical_writer.specs.Digits.{grouped, only_if, or_zero, run_text, size_of, values_of};
-ghost use Rattle.lexical_writer.specs.Layout.{base_byte, first_error, given_fraction, group_of, has_zero};
+ghost use Rattle.lexical_writer.specs.Digits.{grouped, no_groups, only_if, or_zero, run_text, size_of, values_of};
+ghost use Rattle.lexical_writer.specs.Layout.{base_byte, either, first_error, given_fraction, groups_of, has_zero};
 ghost use Rattle.lexical_writer.specs.Layout.{HasNumber, IsLaidOut, literal_of, needs_exponent, refusal, sign_of};
 ghost use Rattle.lexical_writer.specs.Buffer.{IsTaken};
 
 use crate::digits::{only_if, put_if_any, without_zeros};
-use crate::run::{Run, Source};
+use crate::run::{Groups, Run, Source};
 use crate::sink::{Sink, Window};
 use lexical_literal::syntax::{Condition, Conditions, Options, Syntax};
 use lexical_number::parts::count;
 use lexical_util::format::{NumberFormat, base_prefix, base_suffix, digit_separator};
 use lexical_util::laws::byte_facts;
 
+// Digits without groups.
+const NO_GROUPS: Groups = Groups { last: 0, higher: 0 };
+
 /// How numbers are written where a syntax leaves a choice.
 #[derive(Debug, Clone, Copy, PartialEq, Eq, Hash)]
 pub struct Style {
     /// The number of integer digits of a group, or 0 for digits without groups. Where the format does not allow
-    /// separators between integer digits, there are no groups. Where the syntax requires a size, groups have this size.
+    /// separators between integer digits, there are no groups. Where the syntax requires sizes, groups have these sizes.
     pub group: usize,
     /// Whether the base prefix is written, if the format has one.
     pub prefix: bool,
@@ -149,13 +152,13 @@ const fn base_byte(condition: bool, byte: u8) -> Option<u8>
 // Returns a run without groups.
 const fn plain_run<'a>(source: Source<'a>, radix: u32, zero: bool) -> Run<'a>
     requires { IsRadix radix }
-    ensures { run_text result ≡ grouped 0 0 (or_zero zero (values_of radix source.entry)) }
+    ensures { run_text result ≡ grouped 0 no_groups (or_zero zero (values_of radix source.entry)) }
 {
     Run {
         source,
         radix,
         zero,
-        group: 0,
+        groups: NO_GROUPS,
         separator: 0,
     }
 }
@@ -191,7 +194,7 @@ impl<'a> Amount<'a> {
     #[inline(always)]
     pub fn lay_out(&self, syntax: &Syntax, style: Style) -> Result<Layout<'a>, WriteError>
         ensures parts { IsLaidOut syntax.now style self.now result }
-        ensures literal { IfOk result (λ layout. Takes syntax.now (literal_of layout) (text_of (literal_of layout))) }
+        ensures literal { IfOk result (λ layout. Reads (notation_of syntax.now) (literal_of layout) (text_of (literal_of layout))) }
         ensures number { IfOk result (λ layout. HasNumber syntax.now self.now (literal_of layout)) }
         ensures lawful { IsSyntax syntax.now }
     {
@@ -231,7 +234,7 @@ impl<'a> Amount<'a> {
                 source: lean(self.integer, radix),
                 radix,
                 zero: self.has_zero(format),
-                group: group_of(format, conditions, style),
+                groups: groups_of(format, conditions, style),
                 separator: digit_separator(format.word()),
             },
             point: only_if(point, options.point),
@@ -307,16 +310,24 @@ const fn first_error(sign: bool, fraction: bool, exponent: bool) -> Option<Write
     }
 }
 
-// Returns the number of digits of a group, or 0 if there are no groups.
-const fn group_of(format: NumberFormat, conditions: Conditions, style: Style) -> usize
-    ensures { result ≡ group_of (raw format) conditions style }
+// Returns the groups of an integer.
+const fn groups_of(format: NumberFormat, conditions: Conditions, style: Style) -> Groups
+    ensures { result ≡ groups_of (raw format) conditions style }
 {
-    if !format.integer_internal_digit_separator() || digit_separator(format.word()) == 0 {
-        return 0;
+    if style.group == 0
+        || !format.integer_internal_digit_separator()
+        || digit_separator(format.word()) == 0
+    {
+        return NO_GROUPS;
     }
-    match conditions.number(Condition::IntegerGroupSize) {
-        _ if style.group == 0 => 0,
-        0 => style.group,
-        size => size as usize,
-    }
+    let last = either(conditions.number(Condition::IntegerGroupSize), style.group);
+    let higher = either(conditions.number(Condition::HigherGroupSize), last);
+    Groups { last, higher }
+}
+
+// Returns the size that a condition requires, or `other` if it requires none.
+const fn either(size: u8, other: usize) -> usize
+    ensures { result ≡ either size other }
+{
+    if size == 0 { other } else { size as usize }
 }

@@ -2,8 +2,8 @@
 
 ghost use Rattle.std.specs.Prelude.{◌≡◌, false, IfOk};
 ghost use Rattle.lexical_util.specs.Record.{raw};
-ghost use Rattle.lexical_literal.specs.Literal.{text_of};
-ghost use Rattle.lexical_literal.specs.Takes.{Takes};
+ghost use Rattle.lexical_literal.specs.Literal.{Reads, text_of};
+ghost use Rattle.lexical_literal.specs.Notation.{notation_of};
 ghost use Rattle.lexical_literal.specs.Parts.{literal_of};
 ghost use Rattle.lexical_value.specs.Value.{is_minus};
 ghost use Rattle.lexical_writer.specs.Conversion.{IsConverted, SameFraction, amount_of, fraction_of, has_power, power_of, source_of};
@@ -28,7 +28,7 @@ pub fn format_literal<'a>(
     style: Style,
 ) -> Result<Layout<'a>, WriteError>
     // What is written is a literal, with the value of the literal that was given.
-    ensures literal { IfOk result (λ layout. Takes syntax.now (written layout) (text_of (written layout))) }
+    ensures literal { IfOk result (λ layout. Reads (notation_of syntax.now) (written layout) (text_of (written layout))) }
     ensures value { IfOk result (λ layout.
         SameFraction (raw format) (literal_of parts.now) (raw syntax.now.word) (written layout)) }
     ensures parts { IsConverted (raw format) parts.now syntax.now style result }

@@ -3,6 +3,7 @@
 //! Why a text is not a literal.
 
 use crate::error::Error;
+use crate::literal::groups::{follows, has_size, Group};
 use crate::literal::span::{error, span};
 use crate::literal::steps::{
     has_digit, is_complete, is_exponent_character, moved, needs_exponent, part_of, role_at, Summary,
@@ -41,18 +42,18 @@ pub enum ReadErrorKind {
 }
 
 // What spans and errors are made of: the number of bytes that are right, and the indexes at which the exponent, the
-// integer digits and the last separators begin.
+// integer digits, the last separators and, where groups have sizes, the last group of digits begin.
 #[derive(Debug, Clone, Copy, PartialEq, Eq, Hash)]
 pub struct Marks {
     pub(crate) size: usize,
     pub(crate) exponent: usize,
     pub(crate) first: usize,
     pub(crate) run: usize,
+    pub(crate) group: usize,
 }
 
-// Where reading stopped: what has been read, the byte that cannot follow, or `None` if bytes are missing, and the
-// bytes that follow it in its character, or 0 for each that does not. If the text is a literal whose integer is not in groups,
-// the first wrong group begins at `marks.first`, and ends at `marks.run`.
+// Where reading stopped: what has been read, the byte that cannot follow, or `None` if bytes are missing, the bytes that
+// follow it in its character, or 0 for each that does not, and whether a separator is before the last group of digits.
 #[derive(Debug, Clone, Copy, PartialEq, Eq, Hash)]
 pub struct Spot {
     pub(crate) grammar: Grammar,
@@ -60,7 +61,7 @@ pub struct Spot {
     pub(crate) byte: Option<u8>,
     pub(crate) tail: [u8; 3],
     pub(crate) marks: Marks,
-    pub(crate) is_ungrouped: bool,
+    pub(crate) separated: bool,
 }
 
 // What an error answers. `tail` has the bytes that follow `byte` in its character, or 0 for each that does not.
@@ -90,16 +91,15 @@ pub struct ReadError {
 }
 
 impl ReadError {
-    /// Returns the length of the longest front of the text that some literal begins with, apart from the condition on
-    /// groups: the index of the first byte that cannot follow the bytes before it, or the length of the text if bytes are
-    /// missing. If groups of digits alone refuse a text, or the front that `read_prefix` finds, it is the length of that
-    /// text or front. Then, and if bytes are missing, `byte` is `None` and, outside Rattle, `is_incomplete` is `true`.
+    /// Returns the length of the longest front of the text that some literal begins with: the index of the first byte that
+    /// cannot follow the bytes before it, or the length of the text if bytes are missing. Then `byte` is `None` and, outside
+    /// Rattle, `is_incomplete` is `true`.
     #[must_use]
     pub const fn valid_up_to(&self) -> usize {
         self.spot.marks.size
     }
 
-    /// Returns the byte that cannot follow, or `None` if bytes are missing, or if groups of digits alone refuse the text.
+    /// Returns the byte that cannot follow, or `None` if bytes are missing.
     #[must_use]
     pub const fn byte(&self) -> Option<u8> {
         self.spot.byte
@@ -140,47 +140,31 @@ impl ReadError {
 
     // Returns whether the cause is a wrong byte.
     pub(crate) const fn is_byte(&self) -> bool {
-        !self.spot.is_ungrouped && self.spot.is_byte()
+        matches!(self.spot.stop().blame().kind, ReadErrorKind::Byte)
     }
 
     // Returns all answers. It finds the cause once.
     pub(crate) const fn explain(&self) -> Refusal {
-        if self.spot.is_ungrouped {
-            self.spot.ungrouped()
-        } else {
-            self.spot.refusal()
-        }
+        self.spot.refusal()
     }
 }
 
 impl Spot {
-    // Returns whether the cause is a wrong byte where no literal goes on. It takes less time than all answers.
-    const fn is_byte(self) -> bool {
-        let stop = Stop { grammar: self.grammar, read: self.read, byte: self.byte };
-        matches!(stop.blame().kind, ReadErrorKind::Byte)
-    }
-
-    // Returns the answers of a text whose integer is not in groups.
-    const fn ungrouped(self) -> Refusal {
-        let Marks { size, first, run, .. } = self.marks;
-        let tail = self.tail;
-        Refusal {
-            valid_up_to: size,
-            byte: self.byte,
-            tail,
-            kind: ReadErrorKind::Requirement,
-            mask: 0,
-            conditions: self.grammar.conditions.only(Condition::IntegerGroupSize),
-            start: first,
-            end: run,
-            code: Error::InvalidDigit(first),
+    // Returns what has been read, and the byte that cannot follow.
+    const fn stop(self) -> Stop {
+        let Spot { grammar, read, byte, separated, marks, .. } = self;
+        Stop {
+            grammar,
+            read,
+            group: Group { part: part_of(read.stage), separated, digits: marks.size.saturating_sub(marks.group) },
+            byte,
         }
     }
 
     // Returns the answers of a text with which no literal goes on.
     const fn refusal(self) -> Refusal {
         let Spot { grammar, byte, tail, marks, .. } = self;
-        let stop = Stop { grammar, read: self.read, byte };
+        let stop = self.stop();
         let Blame { kind, mask } = stop.blame();
         let conditions = stop.unmet();
         let number = mask.trailing_zeros();
@@ -237,11 +221,12 @@ struct Blame {
     mask: u128,
 }
 
-// What has been read of a text, and the byte that cannot follow, or `None` if bytes are missing.
+// What has been read of a text, its last group of digits, and the byte that cannot follow, or `None` if bytes are missing.
 #[derive(Clone, Copy)]
 struct Stop {
     grammar: Grammar,
     read: Summary,
+    group: Group,
     byte: Option<u8>,
 }
 
@@ -249,6 +234,11 @@ impl Stop {
     // Returns whether the text could go on if the flags of the format were those of `word`, with other conditions.
     const fn allows(self, word: u128, conditions: Conditions) -> bool {
         let other = Grammar { word, options: self.grammar.options, conditions };
+        self.goes_on(other) && self.fits(other)
+    }
+
+    // Returns whether it could by the steps of `other`.
+    const fn goes_on(self, other: Grammar) -> bool {
         match self.byte {
             None => is_complete(other, self.read),
             Some(byte) => match role_at(self.grammar, part_of(self.read.stage), byte) {
@@ -256,6 +246,16 @@ impl Stop {
                 Some(role) => matches!(moved(other, self.read, byte, role), Some(_)),
             },
         }
+    }
+
+    // Returns whether it could behind the last group, with the conditions of `other`.
+    const fn fits(self, other: Grammar) -> bool {
+        let Group { part, .. } = self.group;
+        let role = match self.byte {
+            None => None,
+            Some(byte) => role_at(self.grammar, part, byte),
+        };
+        !has_size(other, part) || follows(self.grammar, self.group, role)
     }
 
     // Returns the word without the flags that require something.
@@ -371,7 +371,7 @@ impl Stop {
     // Returns the flags by which the case of `byte` counts, if its other case may be next.
     const fn case_flags(self, byte: u8) -> u128 {
         let other = other_case(byte);
-        let stop = Stop { grammar: self.grammar, read: self.read, byte: Some(other) };
+        let stop = Stop { byte: Some(other), ..self };
         if stop.is_free() {
             case_mask(self.grammar, other)
         } else {

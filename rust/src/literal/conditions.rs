@@ -3,9 +3,10 @@
 use core::fmt;
 
 use crate::edits::byte_from_number;
-use crate::format::{BASE_PREFIX, BASE_SUFFIX, INTEGER_INTERNAL_DIGIT_SEPARATOR};
+use crate::format::{BASE_PREFIX, BASE_SUFFIX, DIGIT_SEPARATOR};
+use crate::format::{FRACTION_INTERNAL_DIGIT_SEPARATOR, INTEGER_INTERNAL_DIGIT_SEPARATOR};
 use crate::lawful::Rejected;
-use crate::literal::syntax::CONDITIONS;
+use crate::literal::syntax::{fault, CONDITIONS};
 use crate::literal::{Condition, Conditions, ConditionsError, ConditionsErrorKind, Syntax};
 use crate::short_text::ShortText;
 use crate::{Error, FormatError};
@@ -53,6 +54,12 @@ conditions! {
     /// Requires groups of as many integer digits, from 2 to 8, counted from the right, if there are separators. With 3, a
     /// reader accepts `1234` and `1,234`, and refuses `12,34`.
     IntegerGroupSize: integer_group_size(number);
+    /// Requires groups of as many digits before the last one of the integer, from 2 to 8. The last one has the size of
+    /// `integer_group_size`: with 2 and 3, a reader accepts `12,34,567`, and refuses `123,456`.
+    HigherGroupSize: higher_group_size(number);
+    /// Requires groups of as many fraction digits, from 2 to 8, counted from the left, if there are separators. With 3, a
+    /// reader accepts `0.1234` and `0.123,4`, and refuses `0.12,345`.
+    FractionGroupSize: fraction_group_size(number);
 }
 
 impl Condition {
@@ -112,6 +119,11 @@ impl Conditions {
 }
 
 impl Syntax {
+    /// Returns why the format contradicts each of `conditions` that it contradicts. `with_conditions` returns the first.
+    pub fn contradictions(self, conditions: Conditions) -> impl Iterator<Item = ConditionsError> + Clone {
+        CONDITIONS.into_iter().filter_map(move |it| fault(self.grammar(), conditions, it))
+    }
+
     /// Returns the syntax that [`with_conditions`][Self::with_conditions] returns, for constants.
     ///
     /// # Panics
@@ -129,14 +141,25 @@ impl Syntax {
 }
 
 impl ConditionsErrorKind {
-    /// Returns the code of the error, the field that the format lacks, or that allows what it lacks, and its name.
+    /// Returns the code of the error, the field that the format lacks, or that allows what it lacks, or 0, and the end of the
+    /// sentence.
     const fn lacking(self) -> (Error, u128, &'static str) {
         match self {
-            Self::NoBasePrefix => (Error::InvalidBasePrefix, BASE_PREFIX, "base prefix"),
-            Self::NoBaseSuffix => (Error::InvalidBaseSuffix, BASE_SUFFIX, "base suffix"),
-            Self::Number | Self::NoInternalSeparator => {
-                (Error::InvalidDigitSeparator, INTEGER_INTERNAL_DIGIT_SEPARATOR, "integer_internal_digit_separator")
-            }
+            Self::Number => (Error::InvalidDigitSeparator, 0, ""),
+            Self::NoBasePrefix => (Error::InvalidBasePrefix, BASE_PREFIX, "the format has no base prefix"),
+            Self::NoBaseSuffix => (Error::InvalidBaseSuffix, BASE_SUFFIX, "the format has no base suffix"),
+            Self::NoInternalSeparator => (
+                Error::InvalidDigitSeparator,
+                INTEGER_INTERNAL_DIGIT_SEPARATOR,
+                "the format has no integer_internal_digit_separator",
+            ),
+            Self::NoFractionSeparator => (
+                Error::InvalidDigitSeparator,
+                FRACTION_INTERNAL_DIGIT_SEPARATOR,
+                "the format has no fraction_internal_digit_separator",
+            ),
+            Self::NoSeparator => (Error::InvalidDigitSeparator, DIGIT_SEPARATOR, "the format has no digit separator"),
+            Self::NoIntegerGroupSize => (Error::InvalidDigitSeparator, 0, "integer_group_size is not"),
         }
     }
 }
@@ -150,11 +173,11 @@ impl ConditionsError {
             (ConditionsErrorKind::Number, (least, most)) => {
                 text.and(" is not from ").decimal(least as usize).and(" to ").decimal(most as usize)
             }
-            (kind, _) => text.and(" is set, and the format has no ").and(kind.lacking().2),
+            (kind, _) => text.and(" is set, and ").and(kind.lacking().2),
         }
     }
 
-    /// Returns the mask of the field that the format lacks, or that allows what it lacks.
+    /// Returns the mask of the field that the format lacks, or that allows what it lacks, or 0 if it lacks none.
     #[must_use]
     pub const fn mask(&self) -> u128 {
         self.kind.lacking().1

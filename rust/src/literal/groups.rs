@@ -1,68 +1,138 @@
 // Made by rust/tools/erase.py from crates/lexical_literal/src/groups.rt: change that file.
 
-//! Digit groups: whether the separators of an integer are between groups of the same size, counted from the right.
+//! Digit groups: how many digits are between the separators of a part, and which bytes may follow.
 
-use crate::literal::syntax::Grammar;
+use crate::literal::steps::role_at;
+use crate::literal::syntax::{Condition, Grammar};
+use crate::word::{Part, Role};
 
-// Returns whether the bytes of an integer have no separators, or separators between whole groups of `size` digits.
-pub(crate) const fn is_grouped(grammar: Grammar, size: u8, integer: &[u8]) -> bool {
-    !has_separators(grammar, integer) || (!is_separator(grammar, integer[0]) && are_groups(grammar, size, integer))
+// The group of digits that is being read: its part, whether a separator is before it, and the number of its digits.
+#[derive(Debug, Clone, Copy, PartialEq, Eq, Hash)]
+pub struct Group {
+    pub(crate) part: Part,
+    pub(crate) separated: bool,
+    pub(crate) digits: usize,
 }
 
-// Returns whether `byte` is a separator.
+// The group before any byte.
+pub(crate) const FIRST: Group = Group { part: Part::Integer, separated: false, digits: 0 };
+
+// Returns whether a condition is on groups of `part`.
+pub(crate) const fn has_size(grammar: Grammar, part: Part) -> bool {
+    match part {
+        Part::Integer => grammar.conditions.has(Condition::IntegerGroupSize),
+        Part::Fraction => grammar.conditions.has(Condition::FractionGroupSize),
+        Part::Exponent => false,
+    }
+}
+
+// Returns whether a condition is on groups of some part.
 #[inline(always)]
-const fn is_separator(grammar: Grammar, byte: u8) -> bool {
-    grammar.view().is_separator(byte)
+pub(crate) const fn has_sizes(grammar: Grammar) -> bool {
+    grammar.conditions.has(Condition::IntegerGroupSize) || grammar.conditions.has(Condition::FractionGroupSize)
 }
 
-// Returns whether there is a separator.
-const fn has_separators(grammar: Grammar, integer: &[u8]) -> bool {
-    let mut index = 0;
-    while index < integer.len() {
-        if is_separator(grammar, integer[index]) {
-            return true;
-        }
-        index += 1;
+// Returns the number of a condition.
+const fn size(grammar: Grammar, condition: Condition) -> usize {
+    grammar.conditions.number(condition) as usize
+}
+
+// Returns the number of digits of a group of the integer before the last one.
+const fn higher(grammar: Grammar) -> usize {
+    match size(grammar, Condition::HigherGroupSize) {
+        0 => size(grammar, Condition::IntegerGroupSize),
+        higher => higher,
     }
-    false
 }
 
-// Returns whether the separators are the bytes that have whole groups behind them.
-const fn are_groups(grammar: Grammar, size: u8, integer: &[u8]) -> bool {
-    let size = size as usize;
-    let mut index = 0;
-    while index < integer.len() {
-        let behind = integer.len() - 1 - index;
-        if is_separator(grammar, integer[index]) != (behind % (size + 1) == size) {
-            return false;
-        }
-        index += 1;
+// Returns whether the first of several groups may have `count` digits.
+const fn first_fits(grammar: Grammar, part: Part, count: usize) -> bool {
+    match part {
+        Part::Integer => 0 < count && count <= higher(grammar),
+        _ => count == size(grammar, Condition::FractionGroupSize),
     }
-    true
 }
 
-// Returns the first index and the end of the first group that has not the right size, in an integer that is not grouped.
-pub(crate) const fn wrong_group(grammar: Grammar, size: u8, integer: &[u8]) -> (usize, usize) {
-    let mut start = 0;
-    let mut index = 0;
-    while index < integer.len() {
-        if is_separator(grammar, integer[index]) {
-            if !is_right(start, index - start, size) {
-                return (start, index);
-            }
-            start = index + 1;
-        }
-        index += 1;
+// Returns whether a group between others may have `count` digits.
+const fn inner_fits(grammar: Grammar, part: Part, count: usize) -> bool {
+    match part {
+        Part::Integer => count == higher(grammar),
+        _ => count == size(grammar, Condition::FractionGroupSize),
     }
-    (start, index)
 }
 
-// Returns whether a group at the index `start` may have `count` digits.
-const fn is_right(start: usize, count: usize, size: u8) -> bool {
-    let size = size as usize;
-    if start == 0 {
-        0 < count && count <= size
+// Returns whether the last of several groups may have `count` digits.
+const fn last_fits(grammar: Grammar, part: Part, count: usize) -> bool {
+    match part {
+        Part::Integer => count == size(grammar, Condition::IntegerGroupSize),
+        _ => 0 < count && count <= size(grammar, Condition::FractionGroupSize),
+    }
+}
+
+// Returns the number of digits that a group behind a separator has at most.
+const fn most(grammar: Grammar, part: Part) -> usize {
+    let last = size(grammar, Condition::IntegerGroupSize);
+    match part {
+        Part::Integer if higher(grammar) < last => last,
+        Part::Integer => higher(grammar),
+        _ => size(grammar, Condition::FractionGroupSize),
+    }
+}
+
+// Returns whether a byte with the role `role` may follow `group`, of a part whose groups have sizes. If it has no role, or none
+// follows, the part ends.
+pub(crate) const fn follows(grammar: Grammar, group: Group, role: Option<Role>) -> bool {
+    let Group { part, separated, digits } = group;
+    match role {
+        Some(Role::Digit) => !separated || digits < most(grammar, part),
+        Some(Role::Separator) if separated => inner_fits(grammar, part, digits),
+        Some(Role::Separator) => first_fits(grammar, part, digits),
+        _ => !separated || last_fits(grammar, part, digits),
+    }
+}
+
+// Returns whether a byte with the role `role` may follow `group`.
+pub(crate) const fn fits(grammar: Grammar, group: Group, role: Option<Role>) -> bool {
+    !has_size(grammar, group.part) || follows(grammar, group, role)
+}
+
+// Returns the group after a byte with the role `role`.
+const fn grown(group: Group, role: Option<Role>) -> Group {
+    let part = match role {
+        Some(Role::Point) => Part::Fraction,
+        Some(Role::Exponent) => Part::Exponent,
+        _ => group.part,
+    };
+    match role {
+        Some(Role::Digit) => Group { digits: group.digits + 1, ..group },
+        _ => Group { part, separated: matches!(role, Some(Role::Separator)), digits: 0 },
+    }
+}
+
+// Returns the group after a byte with the role `role`, or `None` if it may not follow. Without sizes, it stays the same.
+#[inline(always)]
+pub(crate) const fn grow(grammar: Grammar, group: Group, role: Option<Role>) -> Option<Group> {
+    if !has_sizes(grammar) {
+        Some(group)
+    } else if fits(grammar, group, role) {
+        Some(grown(group, role))
     } else {
-        count == size
+        None
     }
+}
+
+// Returns the group after the first `size` bytes of `text`, or `None` if one of them may not follow.
+#[cold]
+pub(crate) const fn group_after(grammar: Grammar, text: &[u8], size: usize) -> Option<Group> {
+    let mut group = FIRST;
+    let mut index = 0;
+    while index < size {
+        let role = role_at(grammar, group.part, text[index]);
+        let Some(next) = grow(grammar, group, role) else {
+            return None;
+        };
+        group = next;
+        index += 1;
+    }
+    Some(group)
 }

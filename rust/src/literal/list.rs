@@ -3,11 +3,12 @@
 //! Lists of syntaxes: the numbers of a language that has several forms, such as `10`, `0x1F` and `0b1`.
 
 use crate::literal::cause::ReadError;
+use crate::literal::groups::FIRST;
 use crate::literal::plain::{At, BEGIN};
 use crate::literal::read::Found;
 use crate::literal::syntax::Syntax;
 
-/// The syntaxes of the forms of numbers, at least one. The first form that takes a text decides what number it is.
+/// The syntaxes of the forms of numbers, at least one. The first form of which a text is a literal decides what number it is.
 #[derive(Debug, Clone, Copy, PartialEq, Eq)]
 pub struct SyntaxList<'a> {
     syntaxes: &'a [Syntax],
@@ -41,7 +42,7 @@ impl<'a> SyntaxList<'a> {
         self.syntaxes
     }
 
-    // Returns the index of the first form that takes `text`, and the lengths of its parts, or why no form takes it.
+    // Returns the index of the first form of which `text` is a literal, and the lengths of its parts, or why it is one of no form.
     pub(crate) const fn find(&self, text: &[u8]) -> Result<(usize, [usize; 9]), FormError> {
         let mut furthest = None;
         let mut form = 0;
@@ -63,7 +64,7 @@ impl<'a> SyntaxList<'a> {
     }
 
     // Returns the longest front of `text` that is a literal of a form, with the index of the form, the first of equals, or
-    // why there is none. Its groups are tested last.
+    // why there is none.
     pub(crate) const fn find_front(&self, text: &[u8]) -> Result<(usize, Found), FormError> {
         let mut furthest = None;
         let mut longest = None;
@@ -75,16 +76,8 @@ impl<'a> SyntaxList<'a> {
             form += 1;
         }
         match longest {
-            Some((form, found)) => self.grouped(text, form, found),
+            Some((form, found)) => Ok((form, found)),
             None => Err(self.refuse(text, furthest)),
-        }
-    }
-
-    // Returns the front `found` of a form, or why its integer is not in groups.
-    const fn grouped(&self, text: &[u8], form: usize, found: Found) -> Result<(usize, Found), FormError> {
-        match self.syntaxes()[form].grouped(text, found) {
-            Ok(()) => Ok((form, found)),
-            Err(error) => Err(FormError { form, error }),
         }
     }
 
@@ -101,7 +94,7 @@ impl<'a> SyntaxList<'a> {
         let mut form = first + 1;
         while form < syntaxes.len() {
             let syntax = &syntaxes[form];
-            let reached = syntax.walk(text, BEGIN);
+            let reached = syntax.walk(text, BEGIN, FIRST);
             if reached.size == stop.size {
                 let Err(other) = syntax.refuse::<()>(text, reached) else { unreachable!() };
                 if !other.is_byte() {

@@ -92,14 +92,10 @@ impl Syntax {
     pub const fn read_prefix_bytes<'t>(&self, text: &'t [u8]) -> Result<(Literal<'t>, &'t [u8]), ReadError> {
         match self.front(text) {
             (stop, None) => self.refuse(text, stop),
-            (_, Some(found)) => match self.grouped(text, found) {
-                Ok(()) => {
-                    let Found { size, counts } = found;
-                    let (text, rest) = text.split_at(size);
-                    Ok((self.literal(text, counts), rest))
-                }
-                Err(error) => Err(error),
-            },
+            (_, Some(Found { size, counts })) => {
+                let (text, rest) = text.split_at(size);
+                Ok((self.literal(text, counts), rest))
+            }
         }
     }
 

@@ -2,12 +2,12 @@
 
 //! How literals are found, and the lengths of their parts.
 
-use crate::literal::cause::{Marks, ReadError, Spot};
-use crate::literal::groups::{is_grouped, wrong_group};
+use crate::literal::cause::{ReadError, Spot};
+use crate::literal::groups::{fits, group_after, grow, has_sizes, Group, FIRST};
 use crate::literal::plain::{plain, At, Counted, BEGIN};
 use crate::literal::span::marks;
-use crate::literal::steps::{is_complete, part_of, piece_number, piece_of, step, Piece, Summary};
-use crate::literal::syntax::{Condition, Syntax};
+use crate::literal::steps::{is_complete, part_of, piece_number, piece_of, step, Piece};
+use crate::literal::syntax::{Grammar, Syntax};
 use crate::word::{Part, Role};
 
 /// The parts of a literal, in the order of the text. An absent part has no bytes.
@@ -41,20 +41,7 @@ pub(crate) struct Found {
 }
 
 impl Syntax {
-    // Returns whether the integer of the literal `text` is in groups, if the syntax requires it.
-    #[inline(always)]
-    const fn has_groups(&self, text: &[u8], counts: [usize; 9]) -> bool {
-        let grammar = self.grammar();
-        match grammar.conditions.get(Condition::IntegerGroupSize) {
-            None => true,
-            Some(size) => {
-                let parts = cut(text, counts);
-                is_grouped(grammar, size, parts.integer)
-            }
-        }
-    }
-
-    // Returns where reading `text` stops, and the longest front that is a literal, apart from its groups, if there is one.
+    // Returns where reading `text` stops, and the longest front that is a literal, if there is one.
     #[inline(always)]
     pub(crate) const fn front(&self, text: &[u8]) -> (At, Option<Found>) {
         let Counted { at, counts, complete, .. } = self.begin(text, true);
@@ -66,43 +53,34 @@ impl Syntax {
         (stop, self.longest(text))
     }
 
-    // Returns why the integer of the front `found` of `text` is not in groups, or `Ok` if it is.
-    #[inline(always)]
-    pub(crate) const fn grouped(&self, text: &[u8], found: Found) -> Result<(), ReadError> {
-        let front = front_of(text, found.size);
-        match self.grammar().conditions.get(Condition::IntegerGroupSize) {
-            Some(size) if !self.has_groups(front, found.counts) => self.ungrouped(front, size),
-            _ => Ok(()),
-        }
-    }
-
     // Reads a front of `text` with which some literal begins. Unless `fronts` is true, a front that is a literal, but not all of
     // `text`, may not be said to be one, which takes less time.
     #[inline(always)]
     pub(crate) const fn begin(&self, text: &[u8], fronts: bool) -> Counted {
-        plain(self.grammar(), text, fronts)
+        let grammar = self.grammar();
+        let counted = plain(grammar, text, fronts);
+        if has_sizes(grammar) {
+            sized(grammar, text, counted)
+        } else {
+            counted
+        }
     }
 
     // Returns whether all of `text` is a literal that has been read.
     #[inline(always)]
     pub(crate) const fn is_whole(&self, text: &[u8], counted: Counted) -> bool {
-        if counted.complete && counted.at.size == text.len() {
-            self.has_groups(text, counted.counts)
-        } else {
-            false
-        }
+        counted.complete && counted.at.size == text.len()
     }
 
     // Returns the lengths of the parts of `text`, of which reading stops at `stop`, if it is a literal.
     #[inline(always)]
     pub(crate) const fn lengths(&self, text: &[u8], stop: At) -> Option<[usize; 9]> {
-        if stop.size == text.len() && self.is_complete(stop.read) {
-            let counts = self.count(text);
-            if self.has_groups(text, counts) {
-                return Some(counts);
-            }
+        let group = self.group_at(text, stop);
+        if stop.size == text.len() && ends(self.grammar(), stop, group) {
+            Some(self.count(text))
+        } else {
+            None
         }
-        None
     }
 
     // Returns where reading `text` stops, of which a front has been read.
@@ -118,15 +96,30 @@ impl Syntax {
     // Returns where reading `text` stops, if it goes on at `at`.
     #[inline(always)]
     pub(crate) const fn stop(&self, text: &[u8], at: At) -> At {
-        match self.step(text, at) {
+        let group = self.group_at(text, at);
+        match self.step(text, at, group) {
             None => at,
-            Some((_, next)) => self.walk(text, next),
+            Some((_, next, group)) => self.walk(text, next, group),
+        }
+    }
+
+    // Returns the last group of the bytes that have been read.
+    #[inline(always)]
+    const fn group_at(&self, text: &[u8], at: At) -> Group {
+        let grammar = self.grammar();
+        if has_sizes(grammar) {
+            match group_after(grammar, text, at.size) {
+                Some(group) => group,
+                None => unreachable!(),
+            }
+        } else {
+            FIRST
         }
     }
 
     // Returns the role of the byte that follows, and what has been read with it, or `None` if reading stops at `at`.
     #[inline(always)]
-    const fn step(&self, text: &[u8], at: At) -> Option<(Role, At)> {
+    const fn step(&self, text: &[u8], at: At, group: Group) -> Option<(Role, At, Group)> {
         let grammar = self.grammar();
         let At { size, read } = at;
         if size == text.len() {
@@ -135,16 +128,21 @@ impl Syntax {
         let Some((role, read)) = step(grammar, read, text[size]) else {
             return None;
         };
+        let Some(group) = grow(grammar, group, Some(role)) else {
+            return None;
+        };
         let size = size + 1;
-        Some((role, At { size, read }))
+        Some((role, At { size, read }, group))
     }
 
     // Returns where reading stops, step by step.
     #[cold]
-    pub(crate) const fn walk(&self, text: &[u8], at: At) -> At {
+    pub(crate) const fn walk(&self, text: &[u8], at: At, group: Group) -> At {
         let mut stop = at;
-        while let Some((_, next)) = self.step(text, stop) {
+        let mut last = group;
+        while let Some((_, next, group)) = self.step(text, stop, last) {
             stop = next;
+            last = group;
         }
         stop
     }
@@ -163,13 +161,15 @@ impl Syntax {
     const fn longest(&self, text: &[u8]) -> Option<Found> {
         let grammar = self.grammar();
         let mut at = BEGIN;
+        let mut last = FIRST;
         let mut counts = [0; 9];
         let mut found = None;
-        while let Some((role, next)) = self.step(text, at) {
+        while let Some((role, next, group)) = self.step(text, at, last) {
             let more = count_byte(counts, part_of(at.read.stage), role);
             counts = more;
             at = next;
-            if is_complete(grammar, at.read) {
+            last = group;
+            if ends(grammar, at, last) {
                 let size = at.size;
                 found = Some(Found { size, counts });
             }
@@ -177,45 +177,10 @@ impl Syntax {
         found
     }
 
-    // Returns whether what has been read is a literal.
-    #[inline(always)]
-    const fn is_complete(&self, read: Summary) -> bool {
-        is_complete(self.grammar(), read)
-    }
-
     // Returns why `text`, of which reading stopped at `stop`, is not a literal, as the result of the caller, which takes less
     // time than to copy an error.
-    #[inline(always)]
+    #[cold]
     pub(crate) const fn refuse<T>(&self, text: &[u8], stop: At) -> Result<T, ReadError> {
-        match self.grammar().conditions.get(Condition::IntegerGroupSize) {
-            Some(size) if stop.size == text.len() && self.is_complete(stop.read) => self.ungrouped(text, size),
-            _ => self.refuse_byte(text, stop),
-        }
-    }
-
-    // Returns that the integer of `text` is not in groups of `size`, and the first wrong group.
-    #[cold]
-    const fn ungrouped<T>(&self, text: &[u8], size: u8) -> Result<T, ReadError> {
-        let counts = self.count(text);
-        let grammar = self.grammar();
-        let parts = cut(text, counts);
-        let before = parts.sign.len() + parts.prefix.len();
-        let (start, end) = wrong_group(grammar, size, parts.integer);
-        Err(ReadError {
-            spot: Spot {
-                grammar,
-                read: BEGIN.read,
-                byte: None,
-                tail: [0; 3],
-                marks: Marks { size: text.len(), exponent: 0, first: before + start, run: before + end },
-                is_ungrouped: true,
-            },
-        })
-    }
-
-    // Returns why the byte that follows is not allowed, or what is missing.
-    #[cold]
-    const fn refuse_byte<T>(&self, text: &[u8], stop: At) -> Result<T, ReadError> {
         let grammar = self.grammar();
         let size = stop.size;
         let byte = byte_at(text, size);
@@ -226,9 +191,24 @@ impl Syntax {
                 byte,
                 tail: tail_at(text, size, byte),
                 marks: marks(grammar, front_of(text, size)),
-                is_ungrouped: false,
+                separated: self.group_at(text, stop).separated,
             },
         })
+    }
+}
+
+// Returns whether what has been read, with the last group `group`, is a literal.
+#[inline(always)]
+const fn ends(grammar: Grammar, at: At, group: Group) -> bool {
+    is_complete(grammar, at.read) && fits(grammar, group, None)
+}
+
+// Returns what has been found without sizes of groups, or that nothing has been read if a group has not the right size.
+#[cold]
+const fn sized(grammar: Grammar, text: &[u8], counted: Counted) -> Counted {
+    match group_after(grammar, text, counted.at.size) {
+        Some(group) if !counted.complete || fits(grammar, group, None) => counted,
+        _ => Counted { at: BEGIN, complete: false, exact: false, ..counted },
     }
 }
 

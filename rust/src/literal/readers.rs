@@ -134,8 +134,7 @@ impl<'a> Readers<'a> {
     }
 
     /// Returns the longest literal of any form that `text` begins with, of the first form if several have it, and the rest
-    /// of `text`, which may be anything. It does not find special values. Groups of digits are tested last, in this literal:
-    /// if they are wrong, it is refused, even if a later form reads it.
+    /// of `text`, which may be anything. It does not find special values.
     ///
     /// # Errors
     ///

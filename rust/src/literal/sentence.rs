@@ -5,14 +5,13 @@ use core::{fmt, ops::Range, str};
 use crate::edits::{Edit, FlagSetter};
 use crate::format_flags::{base_prefix, base_suffix, NO_FLOAT_LEADING_ZEROS, NO_INTEGER_LEADING_ZEROS};
 use crate::literal::cause::{first_unmet, Refusal};
-use crate::literal::syntax::Condition;
+use crate::literal::syntax::{Condition, Grammar};
 use crate::literal::{Place, ReadError, ReadErrorKind};
 use crate::short_text::ShortText;
 
 impl ReadError {
     /// Returns whether bytes are missing, so that a longer text may be a literal. Then
-    /// [`valid_up_to`][Self::valid_up_to] is the length of the text. It is `true`, too, of a text that only the condition on
-    /// groups of digits refuses, such as `1,2345`, which no bytes may mend.
+    /// [`valid_up_to`][Self::valid_up_to] is the length of the text.
     #[must_use]
     pub const fn is_incomplete(&self) -> bool {
         self.byte().is_none()
@@ -97,17 +96,23 @@ impl Refusal {
 impl ReadError {
     /// Returns the sentence for a condition.
     const fn unmet(&self, condition: Condition) -> ShortText {
-        let (grammar, number) = (self.spot.grammar, self.spot.grammar.conditions.number(condition));
+        let Grammar { word, conditions, .. } = self.spot.grammar;
+        let groups = ShortText::of("expected groups of ");
         let (text, verb) = match condition {
-            Condition::BasePrefix => {
-                (shown(ShortText::of("expected the prefix 0"), base_prefix(grammar.word)), " requires")
-            }
-            Condition::BaseSuffix => {
-                (shown(ShortText::of("expected the suffix "), base_suffix(grammar.word)), " requires")
-            }
+            Condition::BasePrefix => (shown(ShortText::of("expected the prefix 0"), base_prefix(word)), " requires"),
+            Condition::BaseSuffix => (shown(ShortText::of("expected the suffix "), base_suffix(word)), " requires"),
             Condition::NegativeSign => (ShortText::of("unexpected minus sign"), " forbids"),
-            Condition::IntegerGroupSize => {
-                (ShortText::of("expected groups of ").decimal(number as usize).and(" digits"), " requires")
+            Condition::IntegerGroupSize | Condition::HigherGroupSize => {
+                let last = conditions.number(Condition::IntegerGroupSize) as usize;
+                let text = match conditions.number(Condition::HigherGroupSize) {
+                    0 => groups.decimal(last).and(" digits"),
+                    higher => groups.decimal(higher as usize).and(" digits and a last one of ").decimal(last),
+                };
+                (text, " requires")
+            }
+            Condition::FractionGroupSize => {
+                let size = conditions.number(condition) as usize;
+                (groups.decimal(size).and(" fraction digits"), " requires")
             }
         };
         text.and(", which ").and(condition.name()).and(verb)

@@ -4,6 +4,7 @@
 
 use crate::error::Error;
 use crate::literal::cause::{Marks, Place, ReadErrorKind};
+use crate::literal::groups::has_sizes;
 use crate::literal::read::front_of;
 use crate::literal::steps::is_digit;
 use crate::literal::syntax::{Condition, Grammar};
@@ -13,6 +14,7 @@ use crate::word::Part;
 #[derive(Clone, Copy)]
 enum Kind {
     Digit,
+    NotDigit,
     NotSeparator,
     // Neither a separator nor a sign.
     Body,
@@ -24,6 +26,7 @@ const fn is_kind(grammar: Grammar, kind: Kind, byte: u8) -> bool {
     let separator = grammar.view().is_separator(byte);
     match kind {
         Kind::Digit => is_digit(grammar, Part::Integer, byte),
+        Kind::NotDigit => !is_digit(grammar, Part::Integer, byte),
         Kind::NotSeparator => !separator,
         Kind::Body => !(separator || byte == b'+' || byte == b'-'),
     }
@@ -61,9 +64,13 @@ const fn first(grammar: Grammar, kind: Kind, text: &[u8]) -> usize {
 pub(crate) const fn marks(grammar: Grammar, front: &[u8]) -> Marks {
     let size = front.len();
     match front {
-        [.., last] if is_kind(grammar, Kind::Body, *last) => {
-            Marks { size, exponent: size, first: first(grammar, Kind::Digit, front), run: size }
-        }
+        [.., last] if is_kind(grammar, Kind::Body, *last) => Marks {
+            size,
+            exponent: size,
+            first: first(grammar, Kind::Digit, front),
+            run: size,
+            group: group_start(grammar, front),
+        },
         _ => marks_before(grammar, front),
     }
 }
@@ -77,6 +84,17 @@ const fn marks_before(grammar: Grammar, front: &[u8]) -> Marks {
         exponent: behind(grammar, Kind::Body, front),
         first: first(grammar, Kind::Digit, front_of(front, run)),
         run,
+        group: group_start(grammar, front),
+    }
+}
+
+// Returns the index at which the last group of digits begins, or 0 if groups have no sizes.
+#[inline(always)]
+const fn group_start(grammar: Grammar, front: &[u8]) -> usize {
+    if has_sizes(grammar) {
+        behind(grammar, Kind::NotDigit, front)
+    } else {
+        0
     }
 }
 
@@ -117,11 +135,14 @@ const fn requirement_span(grammar: Grammar, marks: Marks, next: Option<u8>, numb
 }
 
 // Returns the first index and the end of the bytes to show for a condition.
-const fn condition_span(marks: Marks, next: Option<u8>, condition: Condition) -> (usize, usize) {
+const fn condition_span(grammar: Grammar, marks: Marks, next: Option<u8>, condition: Condition) -> (usize, usize) {
+    let (size, end) = (marks.size, wrong_end(marks, next));
     match condition {
         Condition::BasePrefix => (marks.first, marks.first),
-        Condition::NegativeSign => (marks.size, wrong_end(marks, next)),
-        _ => (marks.size, marks.size),
+        Condition::BaseSuffix => (size, size),
+        Condition::NegativeSign => (size, end),
+        _ if is_digit_next(grammar, next) => (marks.group, end),
+        _ => (marks.group, size),
     }
 }
 
@@ -139,7 +160,7 @@ pub(crate) const fn span(
     match kind {
         ReadErrorKind::Requirement => match unmet {
             None => requirement_span(grammar, marks, next, number),
-            Some(condition) => condition_span(marks, next, condition),
+            Some(condition) => condition_span(grammar, marks, next, condition),
         },
         ReadErrorKind::Separator(_, Place::Consecutive) | ReadErrorKind::Case | ReadErrorKind::Byte => (size, end),
         ReadErrorKind::Separator(_, _) if is_separator_next(grammar, next) => (marks.run, end),

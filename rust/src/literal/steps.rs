@@ -3,6 +3,7 @@
 //! The steps of reading: what has been read of a number, changed by one byte.
 
 use crate::format_flags::digit_separator;
+use crate::literal::groups::has_size;
 use crate::literal::syntax::{Condition, Conditions, Grammar};
 use crate::word::{Part, Role};
 
@@ -178,10 +179,15 @@ const fn is_place(grammar: Grammar, part: Part, before: bool, after: bool) -> bo
     let allowed = grammar.view().separators(part);
     match (before, after) {
         (true, true) => allowed.internal,
-        (false, true) => allowed.leading,
-        (true, false) => allowed.trailing,
+        (false, true) => allowed.leading && !has_size(grammar, part),
+        (true, false) => allowed.trailing && !has_size(grammar, part),
         (false, false) => false,
     }
+}
+
+// Returns whether several separators may follow one another in `part`.
+const fn allows_consecutive(grammar: Grammar, part: Part) -> bool {
+    grammar.view().separators(part).consecutive && !has_size(grammar, part)
 }
 
 // Returns whether an exponent is required.
@@ -310,7 +316,6 @@ const fn finishes(conditions: Conditions, read: Summary) -> bool {
 // Returns whether some literal goes on with a byte that has the role `role`, and is a plus sign if `plus` is true.
 #[inline(always)]
 pub(crate) const fn takes(grammar: Grammar, read: Summary, plus: bool, role: Role) -> bool {
-    let format = grammar.view();
     let Summary { stage, .. } = read;
     let part = part_of(stage);
     let digit = has_digit(stage);
@@ -318,7 +323,7 @@ pub(crate) const fn takes(grammar: Grammar, read: Summary, plus: bool, role: Rol
         Role::Digit => is_signed(grammar, part, stage) && gap_fits(grammar, read, true) && may_follow(grammar, stage),
         Role::Separator => {
             is_signed(grammar, part, stage)
-                && (!read.gap || format.separators(part).consecutive)
+                && (!read.gap || allows_consecutive(grammar, part))
                 && ((is_place(grammar, part, digit, true) && may_follow(grammar, stage))
                     || is_place(grammar, part, digit, false))
         }

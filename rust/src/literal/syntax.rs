@@ -2,7 +2,7 @@
 
 //! A lawful format with the bytes that a format does not define.
 
-use crate::format_flags::{base_prefix, base_suffix};
+use crate::format_flags::{base_prefix, base_suffix, digit_separator};
 use crate::literal::steps::role_at;
 use crate::word::{Format, FormatError, FormatView, Part, Role};
 
@@ -29,18 +29,30 @@ pub enum Condition {
     /// The integer of a literal has no digit separators, or has them between groups of as many digits as the number says,
     /// counted from the right.
     IntegerGroupSize,
+    /// The groups of the integer before the last have as many digits as the number says, and the first may have fewer. The
+    /// last has as many as [`IntegerGroupSize`][Self::IntegerGroupSize] says.
+    HigherGroupSize,
+    /// The fraction of a literal has no digit separators, or has them between groups of as many digits as the number says,
+    /// counted from the left.
+    FractionGroupSize,
 }
 
 /// All conditions, in the order in which they are checked and printed.
-pub const CONDITIONS: [Condition; 4] =
-    [Condition::BasePrefix, Condition::BaseSuffix, Condition::NegativeSign, Condition::IntegerGroupSize];
+pub const CONDITIONS: [Condition; 6] = [
+    Condition::BasePrefix,
+    Condition::BaseSuffix,
+    Condition::NegativeSign,
+    Condition::IntegerGroupSize,
+    Condition::HigherGroupSize,
+    Condition::FractionGroupSize,
+];
 
 impl Condition {
     /// Returns the least and the greatest number that the condition can have. Both are 1 if it has no number.
     #[must_use]
     pub const fn limits(self) -> (u8, u8) {
         match self {
-            Condition::IntegerGroupSize => (2, 8),
+            Condition::IntegerGroupSize | Condition::HigherGroupSize | Condition::FractionGroupSize => (2, 8),
             _ => (1, 1),
         }
     }
@@ -99,14 +111,6 @@ impl Conditions {
     pub(crate) const fn only(self, condition: Condition) -> Conditions {
         Conditions::NONE.with(condition, self.number(condition))
     }
-
-    // Returns the number of `condition`, or `None` if it is not one of them.
-    pub(crate) const fn get(self, condition: Condition) -> Option<u8> {
-        match self.number(condition) {
-            0 => None,
-            number => Some(number),
-        }
-    }
 }
 
 /// Why a syntax cannot have a condition. A lawful format that requires a sign allows `+`, so it can forbid `-`.
@@ -119,8 +123,8 @@ pub struct ConditionsError {
     pub kind: ConditionsErrorKind,
 }
 
-/// The kind of a [`ConditionsError`]: the number of the condition is not one that it can have, or the format has not what
-/// the condition needs.
+/// The kind of a [`ConditionsError`]: the number of the condition is not one that it can have, or neither the format nor the
+/// other conditions have what the condition needs.
 #[derive(Debug, Clone, Copy, PartialEq, Eq, Hash)]
 #[non_exhaustive]
 pub enum ConditionsErrorKind {
@@ -132,6 +136,12 @@ pub enum ConditionsErrorKind {
     NoBaseSuffix,
     /// No flag allows a separator between digits of the integer.
     NoInternalSeparator,
+    /// No flag allows a separator between digits of the fraction.
+    NoFractionSeparator,
+    /// The format has no digit separator.
+    NoSeparator,
+    /// `integer_group_size` is not one of the conditions.
+    NoIntegerGroupSize,
 }
 
 // Any format, with any options and conditions. Without options, literals are integers alone.
@@ -237,8 +247,7 @@ impl Syntax {
 const fn contradiction(grammar: Grammar, conditions: Conditions) -> Option<ConditionsError> {
     let mut index = 0;
     while index < CONDITIONS.len() {
-        let condition = CONDITIONS[index];
-        let error = fault(grammar, condition, conditions.number(condition));
+        let error = fault(grammar, conditions, CONDITIONS[index]);
         if let Some(_) = error {
             return error;
         }
@@ -247,15 +256,16 @@ const fn contradiction(grammar: Grammar, conditions: Conditions) -> Option<Condi
     None
 }
 
-// Returns what is wrong with a condition that has this number, in the format of `grammar`.
-const fn fault(grammar: Grammar, condition: Condition, number: u8) -> Option<ConditionsError> {
+// Returns what is wrong with `condition` as one of `conditions`, in the format of `grammar`.
+pub(crate) const fn fault(grammar: Grammar, conditions: Conditions, condition: Condition) -> Option<ConditionsError> {
+    let number = conditions.number(condition);
     let (least, most) = condition.limits();
     let kind = if number == 0 {
         None
     } else if number < least || most < number {
         Some(ConditionsErrorKind::Number)
     } else {
-        missing(grammar, condition)
+        missing(grammar, conditions, condition)
     };
     match kind {
         None => None,
@@ -263,13 +273,22 @@ const fn fault(grammar: Grammar, condition: Condition, number: u8) -> Option<Con
     }
 }
 
-// Returns what a condition needs and the format of `grammar` has not.
-const fn missing(grammar: Grammar, condition: Condition) -> Option<ConditionsErrorKind> {
+// Returns what a condition needs and neither the format of `grammar` nor `conditions` have.
+const fn missing(grammar: Grammar, conditions: Conditions, condition: Condition) -> Option<ConditionsErrorKind> {
     match condition {
         Condition::BasePrefix if base_prefix(grammar.word) == 0 => Some(ConditionsErrorKind::NoBasePrefix),
         Condition::BaseSuffix if base_suffix(grammar.word) == 0 => Some(ConditionsErrorKind::NoBaseSuffix),
         Condition::IntegerGroupSize if !grammar.view().integer_internal_digit_separator() => {
             Some(ConditionsErrorKind::NoInternalSeparator)
+        }
+        Condition::FractionGroupSize if !grammar.view().fraction_internal_digit_separator() => {
+            Some(ConditionsErrorKind::NoFractionSeparator)
+        }
+        Condition::IntegerGroupSize | Condition::FractionGroupSize if digit_separator(grammar.word) == 0 => {
+            Some(ConditionsErrorKind::NoSeparator)
+        }
+        Condition::HigherGroupSize if !conditions.has(Condition::IntegerGroupSize) => {
+            Some(ConditionsErrorKind::NoIntegerGroupSize)
         }
         _ => None,
     }

@@ -33,7 +33,7 @@ impl Style {
     pub const PLAIN: Style = Style { group: 0, prefix: true, suffix: true };
 
     /// Writes the integer digits in groups of `size` digits, counted from the right, where the format allows separators
-    /// between them. For `0`, there are no groups. Where the syntax requires another size, the groups have that size.
+    /// between them. For `0`, there are no groups. Where the syntax requires sizes, the groups have these.
     #[must_use]
     pub const fn group(mut self, size: usize) -> Style {
         self.group = size;

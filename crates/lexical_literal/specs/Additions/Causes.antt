@@ -7,7 +7,7 @@ use Rattle.lexical_util.specs.declared.feature_format.roles.Role.{Role}
 use Rattle.lexical_util.specs.declared.feature_format.roles.Role.TheVariants as roles
 use Rattle.lexical_util.specs.declared.format_flags.Part.{Part}
 use Rattle.lexical_util.specs.declared.format_flags.Part.TheVariants as parts
-use Rattle.lexical_literal.specs.Cause.{Allows, is_one_of, last_part, requirement_flags, with_rules}
+use Rattle.lexical_literal.specs.Cause.{is_one_of, requirement_flags}
 use Rattle.lexical_literal.specs.Notation.{Notation}
 use Rattle.lexical_literal.specs.Additions.Summary.{has_digit, is_complete, part_of, role_at, step}
 use Rattle.lexical_literal.specs.declared.span.Kind.{Kind}
@@ -26,6 +26,7 @@ lets m s (Some byte) = is_some (step m s byte)
 -- `kind_set m kind` is the set of the bytes of `kind`.
 abbrev pub kind_set : Notation → Kind → ByteSet
 kind_set m kinds.Digit byte = m.digit parts.Integer byte
+kind_set m kinds.NotDigit byte = not (m.digit parts.Integer byte)
 kind_set m kinds.NotSeparator byte = not (m.separator byte)
 kind_set m kinds.Body byte = not (m.separator byte || signs byte)
 
@@ -45,13 +46,6 @@ pub record IsWeaker (m : Notation) (A : Flag → Bool) (D : Condition → Bool) 
   pub no_more : (f : Flag) → IsTrue (A f && is_one_of requirement_flags f) → IsTrue (m.flag f)
   pub no_less : (f : Flag) → IsTrue (m.flag f) → IsTrue (A f || is_one_of requirement_flags f)
   pub conditions : (c : Condition) → IsTrue (D c) → IsTrue (m.condition c)
-
--- `IsReadOf m s front` holds if what may follow `s` is what is allowed after `front`, with fewer requirements too, and if `s`
--- is in the part that `front` ends in, unless a suffix has been read.
-pub record IsReadOf (m : Notation) (s : Summary) (front : List ℕ) : Type 0 where
-  pub decides : (next : Option ℕ) (A : Flag → Bool) (D : Condition → Bool) → IsWeaker m A D
-      → (lets (with_rules m A D) s next ≡ true) ↔ Allows (with_rules m A D) front next
-  pub part : s.ended ≡ false → part_of s.stage ≡ last_part m front
 
 -- `place_of m part stage gap role` is where `m` does not allow a separator at `stage` of `part`, before a byte with the role `role`.
 abbrev pub place_of : Notation → Part → Stage → Bool → Option Role → Place

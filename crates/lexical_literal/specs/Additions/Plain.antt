@@ -1,5 +1,5 @@
 -- What is read of a text part after part.
-use Rattle.std.specs.Prelude.{ℕ, ◌≡◌, ◌<◌, ◌≤◌, ◌+◌, ◌-◌, ◌%◌, ◌^◌, ◌==◌, ◌&&◌, if◌then◌else◌, Bool, not, IsTrue, List, [], ◌∷◌, Some, true, false, drop}
+use Rattle.std.specs.Prelude.{ℕ, ◌≡◌, ◌<◌, ◌≤◌, ◌+◌, ◌-◌, ◌%◌, ◌^◌, ◌==◌, ◌&&◌, if◌then◌else◌, Bool, not, IsTrue, List, [], ◌∷◌, None, Some, true, false, drop}
 use Rattle.std.specs.Prelude.{get_or, length, take}
 use Rattle.std.specs.Int.Digits.{number_from_digits_after}
 use Rattle.lexical_util.specs.Digits.{digit_of}
@@ -10,9 +10,10 @@ use Rattle.lexical_util.specs.declared.feature_format.roles.Role.{Role}
 use Rattle.lexical_util.specs.declared.feature_format.roles.Role.TheVariants as roles
 use Rattle.lexical_util.specs.declared.format_flags.Part.{Part}
 use Rattle.lexical_util.specs.declared.format_flags.Part.TheVariants as parts
+use Rattle.lexical_literal.specs.Groups.{has_size, has_sizes}
 use Rattle.lexical_literal.specs.Notation.{Notation, set_of_role}
 use Rattle.lexical_literal.specs.Additions.Summary.{Cuts, add_more, after_mark, cuts_of, digits_piece, has_digit, is_run, is_signed}
-use Rattle.lexical_literal.specs.Additions.Summary.{lacks_prefix, no_cuts, part_of, piece_of, scan, start, takes, tally}
+use Rattle.lexical_literal.specs.Additions.Summary.{lacks_prefix, no_cuts, part_of, piece_of, scan, start, step, takes, tally}
 use Rattle.lexical_literal.specs.declared.plain.At.{At}
 use Rattle.lexical_literal.specs.declared.plain.Opening.{Opening}
 use Rattle.lexical_literal.specs.declared.plain.Run.{Run}
@@ -43,6 +44,15 @@ pub record IsReady (m : Notation) : Type 0 where
   pub has_suffix : m.condition conditions.BaseSuffix ≡ true → m.suffix suffix ≡ true
   pub some_sign : (m.flag layout.no_positive_mantissa_sign && m.flag layout.required_mantissa_sign) ≡ false
   pub agree : (m.flag layout.no_exponent_notation && m.flag layout.required_exponent_notation) ≡ false
+  pub no_sizes : has_sizes m ≡ false
+
+-- `HasSizes m` holds if sizes of groups are at least 1, and if a separator may be between digits of a part that has one.
+pub record HasSizes (m : Notation) : Type 0 where
+  pub integer : has_size m parts.Integer ≡ true → 0 < m.number conditions.IntegerGroupSize
+  pub fraction : has_size m parts.Fraction ≡ true → 0 < m.number conditions.FractionGroupSize
+  pub internal : (part : Part) → has_size m part ≡ true → m.flag (separators_in part).internal ≡ true
+  pub separator : ℕ
+  pub has_separator : has_sizes m ≡ true → m.separator separator ≡ true
 
 -- `IsBegun m text at` holds if `at` has the summary of the first bytes of `text`, with which some literal begins, and
 -- `IsAt m text at c` if `c` has the lengths of their parts, too.
@@ -53,6 +63,10 @@ pub record IsBegun (m : Notation) (text : List ℕ) (at : At) : Type 0 where
 pub record IsAt (m : Notation) (text : List ℕ) (at : At) (c : Cuts) : Type 0 where
   pub begun : IsBegun m text at
   pub counted : tally m (Some start) no_cuts (take at.size text) ≡ c
+
+-- `IsRefused m text at` holds if a byte follows what has been read, and no literal goes on with it.
+abbrev pub IsRefused : Notation → List ℕ → At → Type 0
+IsRefused m text at = (at.size < length text) × (step m at.read (get_or text at.size 0) ≡ None)
 
 -- `IsReadOn m text at piece next` holds if some bytes of `piece`, or none, are read between `at` and `next`.
 pub record IsReadOn (m : Notation) (text : List ℕ) (at : At) (piece : Piece) (next : At) : Type 0 where

@@ -132,7 +132,8 @@ languages! {
         "hexadecimal float": binary_floats(b'x', 16, C.required_exponent_notation(true)), // rejects `0x1.8`
     };
 
-    /// Numbers in CSV, as German spreadsheets write cells of the format `#.##0,00` (RFC 4180): `1.234,50`.
+    /// Numbers in CSV, as German spreadsheets write cells of the format `#.##0,00` (RFC 4180): `1.234,50`. The
+    /// cause of `0.123` is its leading zero, since its groups are right.
     CSV_DE = { "decimal": grouped(numbers(b'e', b',', SPREADSHEET.digit_separator(NonZeroU8::new(b'.')))) };
 
     /// Numbers in CSV, as English spreadsheets write cells of the format `#,##0.00`, in quotes (RFC 4180): `"1,234.50"`. A

@@ -3,7 +3,7 @@
 //! Runs of digits are written.
 
 use crate::digit::{char_to_digit, digit_to_char};
-use crate::literal::writer::run::{Run, Source};
+use crate::literal::writer::run::{Groups, Run, Source};
 use crate::literal::writer::sink::Sink;
 use crate::number::parts::count;
 
@@ -50,8 +50,9 @@ fn characters(buffer: &mut [u8; 128], number: u128, radix: u32) -> &[u8] {
 
 // Returns whether a group ends where `left` digits are left.
 #[inline(always)]
-const fn ends_group(group: usize, left: usize) -> bool {
-    left > 0 && group > 0 && left % group == 0
+const fn ends_group(groups: Groups, left: usize) -> bool {
+    let Groups { last, higher } = groups;
+    left > 0 && higher > 0 && last <= left && (left - last) % higher == 0
 }
 
 // Returns `byte` if `condition` is true.
@@ -76,7 +77,7 @@ pub(crate) fn put_if_any<S: Sink>(sink: &mut S, byte: Option<u8>) {
 #[inline(always)]
 fn put_digit<S: Sink>(sink: &mut S, digit: u32, left: usize, run: &Run) {
     sink.put(digit_to_char(digit));
-    put_if_any(sink, only_if(ends_group(run.group, left), run.separator));
+    put_if_any(sink, only_if(ends_group(run.groups, left), run.separator));
 }
 
 // Writes the digits among bytes in groups, where `count` is the number of these digits.
@@ -106,7 +107,7 @@ fn put_or_zero<S: Sink>(sink: &mut S, bytes: &[u8], run: &Run) {
 fn put_number<S: Sink>(sink: &mut S, number: u128, run: &Run) {
     let mut buffer = [0; 128];
     let bytes = characters(&mut buffer, number, run.radix);
-    if run.group == 0 && number > 0 {
+    if run.groups.higher == 0 && number > 0 {
         sink.put_all(bytes);
     } else {
         put_or_zero(sink, bytes, run);

@@ -4,17 +4,20 @@
 
 use crate::literal::syntax::{Condition, Conditions, Options, Syntax};
 use crate::literal::writer::digits::{only_if, put_if_any, without_zeros};
-use crate::literal::writer::run::{Run, Source};
+use crate::literal::writer::run::{Groups, Run, Source};
 use crate::literal::writer::sink::{Sink, Window};
 use crate::number::parts::count;
 use crate::word::{base_prefix, base_suffix, digit_separator, FormatView};
+
+// Digits without groups.
+const NO_GROUPS: Groups = Groups { last: 0, higher: 0 };
 
 /// How numbers are written where a syntax leaves a choice.
 #[derive(Debug, Clone, Copy, PartialEq, Eq, Hash)]
 #[non_exhaustive]
 pub struct Style {
     /// The number of integer digits of a group, or 0 for digits without groups. Where the format does not allow
-    /// separators between integer digits, there are no groups. Where the syntax requires a size, groups have this size.
+    /// separators between integer digits, there are no groups. Where the syntax requires sizes, groups have these sizes.
     pub group: usize,
     /// Whether the base prefix is written, if the format has one.
     pub prefix: bool,
@@ -123,7 +126,7 @@ const fn base_byte(condition: bool, byte: u8) -> Option<u8> {
 
 // Returns a run without groups.
 const fn plain_run<'a>(source: Source<'a>, radix: u32, zero: bool) -> Run<'a> {
-    Run { source, radix, zero, group: 0, separator: 0 }
+    Run { source, radix, zero, groups: NO_GROUPS, separator: 0 }
 }
 
 // Returns the digits of a source without the zeros that they begin with.
@@ -173,7 +176,7 @@ impl<'a> Amount<'a> {
                 source: lean(self.integer, radix),
                 radix,
                 zero: self.has_zero(format),
-                group: group_of(format, conditions, style),
+                groups: groups_of(format, conditions, style),
                 separator: digit_separator(format.word()),
             },
             point: only_if(point, options.point),
@@ -229,14 +232,21 @@ const fn first_error(sign: bool, fraction: bool, exponent: bool) -> Option<Write
     }
 }
 
-// Returns the number of digits of a group, or 0 if there are no groups.
-const fn group_of(format: FormatView, conditions: Conditions, style: Style) -> usize {
-    if !format.integer_internal_digit_separator() || digit_separator(format.word()) == 0 {
-        return 0;
+// Returns the groups of an integer.
+const fn groups_of(format: FormatView, conditions: Conditions, style: Style) -> Groups {
+    if style.group == 0 || !format.integer_internal_digit_separator() || digit_separator(format.word()) == 0 {
+        return NO_GROUPS;
     }
-    match conditions.number(Condition::IntegerGroupSize) {
-        _ if style.group == 0 => 0,
-        0 => style.group,
-        size => size as usize,
+    let last = either(conditions.number(Condition::IntegerGroupSize), style.group);
+    let higher = either(conditions.number(Condition::HigherGroupSize), last);
+    Groups { last, higher }
+}
+
+// Returns the size that a condition requires, or `other` if it requires none.
+const fn either(size: u8, other: usize) -> usize {
+    if size == 0 {
+        other
+    } else {
+        size as usize
     }
 }

@@ -11,6 +11,14 @@ pub enum Source<'a> {
     Number(u128),
 }
 
+/// How many digits are in groups: in the last one, and in each before it. The first may have fewer. If `higher` is 0,
+/// there are no groups.
+#[derive(Debug, Clone, Copy)]
+pub struct Groups {
+    pub(crate) last: usize,
+    pub(crate) higher: usize,
+}
+
 /// Digits that are to be written in groups.
 #[derive(Debug, Clone, Copy)]
 pub struct Run<'a> {
@@ -19,8 +27,8 @@ pub struct Run<'a> {
     pub(crate) radix: u32,
     /// Whether a 0 stands for digits that are absent.
     pub(crate) zero: bool,
-    /// The number of digits of a group, or 0 for digits without groups.
-    pub(crate) group: usize,
+    /// The groups.
+    pub(crate) groups: Groups,
     /// What is written between groups.
     pub(crate) separator: u8,
 }

@@ -1,9 +1,9 @@
 -- What is true of every literal of a syntax.
 use Rattle.lexical_literal.specs.Notation.{notation_of}
-use Rattle.lexical_literal.proofs.LongestLemmas.{one_reading}
+use Rattle.lexical_literal.proofs.LongestLemmas.{one_sized_reading}
 use Rattle.lexical_literal.proofs.OneCauseLemmas.{one_cause, one_refusal}
 use Rattle.lexical_literal.proofs.PartLemmas.{parts_have_roles}
-use Rattle.lexical_literal.proofs.RoleLemmas.{ready}
+use Rattle.lexical_literal.proofs.RoleLemmas.{has_sizes_of, ready}
 use Rattle.lexical_literal.proofs.SameLemmas.{same_notation}
 use Rattle.lexical_literal.proofs.SpanLemmas.{span_within}
 use Rattle.lexical_literal.proofs.WriterLemmas.{digits_read, negative_read}
@@ -11,7 +11,8 @@ use Rattle.lexical_literal.proofs.laws.literal_facts.Goals as goal
 
 pub returns-clause-one_reading : goal.returns-clause-one_reading
 returns-clause-one_reading c g is l k text first second =
-    one_reading (notation_of g) (ready c.role_facts.ensures.disjoint c.role_facts.ensures.five c.role_facts.ensures.lawful g is) text l k first second
+    one_sized_reading (notation_of g) (ready c.role_facts.ensures.disjoint c.role_facts.ensures.five c.role_facts.ensures.lawful g is)
+    (has_sizes_of g is) text l k first second
 
 pub returns-clause-same_literals : goal.returns-clause-same_literals
 returns-clause-same_literals c a b same options conditions l text reads =
@@ -37,8 +38,10 @@ returns-clause-conditions c g l text reads = reads.literal.conditions
 
 pub returns-clause-digits : goal.returns-clause-digits
 returns-clause-digits c g is first digits not_zero all =
-    digits_read _ (ready c.role_facts.ensures.disjoint c.role_facts.ensures.five c.role_facts.ensures.lawful g is).roles first digits not_zero all
+    digits_read _ (ready c.role_facts.ensures.disjoint c.role_facts.ensures.five c.role_facts.ensures.lawful g is) (has_sizes_of g is)
+    first digits not_zero all
 
 pub returns-clause-negative : goal.returns-clause-negative
 returns-clause-negative c g is first digits not_zero all =
-    negative_read _ (ready c.role_facts.ensures.disjoint c.role_facts.ensures.five c.role_facts.ensures.lawful g is).roles first digits not_zero all
+    negative_read _ (ready c.role_facts.ensures.disjoint c.role_facts.ensures.five c.role_facts.ensures.lawful g is) (has_sizes_of g is)
+    first digits not_zero all

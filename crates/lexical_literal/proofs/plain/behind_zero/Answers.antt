@@ -2,7 +2,8 @@
 use Rattle.std.proofs.Common.{get_or, sym, subst, ◌+◌, ◌∙◌}
 use Rattle.lexical_util.specs.Record.{raw}
 use Rattle.lexical_util.specs.declared.format_flags.Part.TheVariants as parts
-use Rattle.lexical_literal.specs.Notation.{notation_of, radix_of}
+use Rattle.lexical_literal.specs.Notation.{radix_of}
+use Rattle.lexical_literal.specs.Additions.Sizes.{steps_of}
 use Rattle.lexical_literal.specs.Additions.Plain.{IsReadOn, at_stage}
 use Rattle.lexical_literal.specs.declared.steps.Piece.TheVariants as pieces
 use Rattle.lexical_literal.specs.declared.steps.Stage.TheVariants as stages
@@ -12,7 +13,7 @@ use Rattle.lexical_literal.proofs.plain.behind_zero.Goals as goal
 
 pub returns-in-Some-clause-run : goal.returns-in-Some-clause-run
 returns-in-Some-clause-run c =
-    let m = notation_of c.args.grammar in
+    let m = steps_of c.args.grammar in
     let text = c.args.text.now in
     let radix = radix_of (raw c.args.grammar.word) parts.Integer in
     let run = c.args.zero in
@@ -24,5 +25,5 @@ returns-in-Some-clause-run c =
     (sym c.may_follow.ensures ∙ c.if-may_follow.true) c.requires.free)) c.groups.ensures.run
 
 pub returns-in_default-clause-run : goal.returns-in_default-clause-run
-returns-in_default-clause-run c = same_run (notation_of c.args.grammar) (radix_of (raw c.args.grammar.word) parts.Integer) c.args.text.now parts.Integer
+returns-in_default-clause-run c = same_run (steps_of c.args.grammar) (radix_of (raw c.args.grammar.word) parts.Integer) c.args.text.now parts.Integer
     c.args.zero

@@ -1,7 +1,8 @@
 -- Digits, then a separator and the digit behind it.
 use Rattle.std.proofs.Common.{◌≡◌, ◌≤◌, length, sym, ap, subst, ◌∙◌, arith}
 use Rattle.lexical_util.specs.Record.{raw}
-use Rattle.lexical_literal.specs.Notation.{notation_of, radix_of}
+use Rattle.lexical_literal.specs.Notation.{radix_of}
+use Rattle.lexical_literal.specs.Additions.Sizes.{steps_of}
 use Rattle.lexical_literal.specs.Additions.Plain.{IsRunOn}
 use Rattle.lexical_literal.specs.Additions.Summary.{is_run, part_of}
 use Rattle.lexical_literal.specs.declared.plain.Run.{Run}
@@ -9,13 +10,13 @@ use Rattle.lexical_literal.proofs.SumLemmas.{both_runs, more_separated, pushed}
 use Rattle.lexical_literal.proofs.plain.groups.Goals as goal
 
 pub returns-in_default-clause-run : goal.returns-in_default-clause-run
-returns-in_default-clause-run c = both_runs (notation_of c.args.grammar) (radix_of (raw c.args.grammar.word) c.args.part) c.args.text.now c.args.part
+returns-in_default-clause-run c = both_runs (steps_of c.args.grammar) (radix_of (raw c.args.grammar.word) c.args.part) c.args.text.now c.args.part
     c.args.begun c.loop-value.run c.more_digits-run.result c.loop-value.invariant.on c.more_digits-run.ensures.run
 
 pub loop-value-preserved : goal.loop-value-preserved
 loop-value-preserved c =
     let g = c.args.grammar in
-    let m = notation_of g in
+    let m = steps_of g in
     let text = c.args.text.now in
     let radix = radix_of (raw g.word) c.args.part in
     let run = c.loop-value.run in

@@ -1,7 +1,8 @@
 -- Each digit is read behind the others.
 use Rattle.std.proofs.Common.{◌≡◌, ◌≤◌, is_some, length, sym, ap, subst, ◌∙◌, arith}
 use Rattle.lexical_util.specs.Record.{raw}
-use Rattle.lexical_literal.specs.Notation.{notation_of, radix_of}
+use Rattle.lexical_literal.specs.Notation.{radix_of}
+use Rattle.lexical_literal.specs.Additions.Sizes.{steps_of}
 use Rattle.lexical_literal.specs.Additions.Plain.{IsRunOn}
 use Rattle.lexical_literal.specs.Additions.Summary.{is_run, part_of}
 use Rattle.lexical_literal.specs.declared.plain.Run.{Run}
@@ -24,8 +25,8 @@ loop-value-preserved c =
       within = subst (λ (r : Run). r.size ≤ length text) (sym same) (omega (arith, c.in-Some.ensures.some.0));
       digits = subst (λ (r : Run). r.digits ≤ r.size) (sym same) (omega (arith, digits));
       stage = ap (λ (r : Run). r.stage) same ∙ now.stage;
-      on = subst (IsRunOn (notation_of g) radix text c.args.part c.args.begun) (sym same)
-          (both_runs (notation_of g) radix text c.args.part c.args.begun run next now.on
+      on = subst (IsRunOn (steps_of g) radix text c.args.part c.args.begun) (sym same)
+          (both_runs (steps_of g) radix text c.args.part c.args.begun run next now.on
           (more_digit g text c.args.part run v c.requires.ready.roles is_run_now (ap part_of now.stage ∙ c.requires.part) c.in-Some.ensures.some));
     }
 

@@ -1,6 +1,7 @@
 use Rattle.std.proofs.Common.{length, ◌-◌, ◌≡◌, ◌≤◌}
 use Rattle.lexical_util.specs.Record.{raw}
-use Rattle.lexical_literal.specs.Notation.{notation_of, radix_of}
+use Rattle.lexical_literal.specs.Notation.{radix_of}
+use Rattle.lexical_literal.specs.Additions.Sizes.{steps_of}
 use Rattle.lexical_literal.specs.Additions.Plain.{IsRunOn}
 use Rattle.lexical_literal.proofs.plain.more_digits.Given as goal
 
@@ -9,7 +10,7 @@ invariant-loop-value l = record {
   within : l.run.size ≤ length l.text;
   digits : l.run.digits ≤ l.run.size;
   stage : l.run.stage ≡ l.initial.run.stage;
-  on : IsRunOn (notation_of l.grammar) (radix_of (raw l.grammar.word) l.part) l.text l.part l.initial.run l.run;
+  on : IsRunOn (steps_of l.grammar) (radix_of (raw l.grammar.word) l.part) l.text l.part l.initial.run l.run;
 }
 
 abbrev pub decreases-loop-value : goal.decreases-loop-value

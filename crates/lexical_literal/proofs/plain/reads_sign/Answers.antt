@@ -1,6 +1,6 @@
 -- The byte is a sign that is allowed.
 use Rattle.std.proofs.Common.{◌==◌, ◌&&◌, ◌||◌, IsTrue, Bool, get_or, not, subst, arith}
-use Rattle.lexical_literal.specs.Notation.{notation_of}
+use Rattle.lexical_literal.specs.Additions.Sizes.{steps_of}
 use Rattle.lexical_literal.specs.Additions.Summary.{forbids_plus}
 use Rattle.lexical_literal.proofs.PlainLemmas.{read_sign}
 use Rattle.lexical_literal.proofs.plain.reads_sign.Goals as goal
@@ -9,6 +9,6 @@ pub returns-clause-on : goal.returns-clause-on
 returns-clause-on c is =
     let b = get_or c.args.text.now c.args.size 0 in
     let allowed : Bool → Bool → Bool = λ plus minus. ((b == 43) && plus) || ((b == 45) && minus) in
-    read_sign (notation_of c.args.grammar) c.args.text.now c.requires.ready.roles c.args.part c.args.size (omega (arith, c.if-size-text.false))
-    (subst (λ minus. IsTrue (allowed (not (forbids_plus (notation_of c.args.grammar) c.args.part)) minus)) c.allows_minus.ensures
+    read_sign (steps_of c.args.grammar) c.args.text.now c.requires.ready.roles c.args.part c.args.size (omega (arith, c.if-size-text.false))
+    (subst (λ minus. IsTrue (allowed (not (forbids_plus (steps_of c.args.grammar) c.args.part)) minus)) c.allows_minus.ensures
     (subst (λ plus. IsTrue (allowed plus c.allows_minus.result)) c.allows_plus.ensures is))

@@ -1,6 +1,6 @@
 -- A sign, or none.
 use Rattle.std.proofs.Common.{◌≡◌, ◌+◌, sym, subst, ◌∙◌, ap, arith}
-use Rattle.lexical_literal.specs.Notation.{notation_of}
+use Rattle.lexical_literal.specs.Additions.Sizes.{steps_of}
 use Rattle.lexical_literal.specs.Additions.Plain.{IsReadOn, fresh, at_stage}
 use Rattle.lexical_literal.specs.Additions.Summary.{is_signed, piece_of}
 use Rattle.lexical_util.specs.declared.feature_format.roles.Role.TheVariants as roles
@@ -12,12 +12,12 @@ pub returns-then-reads_sign : goal.returns-then-reads_sign
 returns-then-reads_sign c = let yes = c.if-reads_sign.true in record {
   within = let inside = c.reads_sign.ensures.inside yes in omega (arith, inside);
   on = c.reads_sign.ensures.on yes;
-  signed = signed_behind (notation_of c.args.grammar) c.args.part;
+  signed = signed_behind (steps_of c.args.grammar) c.args.part;
 }
 
 pub returns-then-is_signed : goal.returns-then-is_signed
 returns-then-is_signed c =
-    let m = notation_of c.args.grammar in
+    let m = steps_of c.args.grammar in
     let same : c.args.size + 0 ≡ c.args.size = omega arith in
     record {
       within = let within = c.requires.within in omega (arith, within);

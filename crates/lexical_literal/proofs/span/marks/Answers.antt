@@ -20,4 +20,4 @@ returns-in-len1-up c =
     let run : behind (kind_set m kinds.NotSeparator) text ≡ length text = grind arith in
     let first : c.first.result ≡ first_in (m.digit parts.Integer) (take (behind (kind_set m kinds.NotSeparator) text) text) =
     c.first.ensures ∙ ap (first_in (m.digit parts.Integer)) (sym (ap (λ n. take n text) run ∙ take-length text)) in
-    (λ i. record { size = length text; exponent = sym exponent i; first = first i; run = sym run i })
+    (λ i. record { size = length text; exponent = sym exponent i; first = first i; run = sym run i; group = c.group_start.ensures i })

@@ -11,8 +11,8 @@ invariant-loop-index g l = record {
   left : l.left ≡ places l.run.radix (drop l.index l.bytes);
   written : (start : S-type g.row.S) → (text : List ℕ) → g.S.Sink.has start l.initial.sink text
       → (middle : List ℕ) × g.S.Sink.has start l.sink middle
-      × (middle ++ grouped l.run.separator l.run.group (digits_in l.run.radix (drop l.index l.bytes))
-      ≡ text ++ grouped l.run.separator l.run.group (digits_in l.run.radix l.bytes));
+      × (middle ++ grouped l.run.separator l.run.groups (digits_in l.run.radix (drop l.index l.bytes))
+      ≡ text ++ grouped l.run.separator l.run.groups (digits_in l.run.radix l.bytes));
 }
 
 abbrev pub decreases-loop-index : goal.decreases-loop-index

@@ -5,7 +5,7 @@ use Rattle.lexical_writer.proofs.digits.put_number.Goals as goal
 pub returns-then-number-gt0 : goal.returns-then-number-gt0
 returns-then-number-gt0 g c start text has =
     let run = c.args.run.now in
-    rw (plain_text run.separator run.group run.radix c.args.number run.zero run.valid.0 c.if-run-eq0.true c.if-number-gt0.true, ← c.characters-bytes.ensures)
+    rw (plain_text run.separator run.groups run.radix c.args.number run.zero run.valid.0 c.if-run-eq0.true c.if-number-gt0.true, ← c.characters-bytes.ensures)
     (c.put_all.ensures start text has)
 
 pub returns-else-run-eq0 : goal.returns-else-run-eq0

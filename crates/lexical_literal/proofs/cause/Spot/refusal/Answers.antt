@@ -1,18 +1,22 @@
 -- Each answer is made of the cause.
 use Rattle.std.proofs.Common.{ap, ◌∙◌}
+use Rattle.lexical_literal.specs.Additions.Explained.{blame, unmet}
 use Rattle.lexical_literal.specs.Cause.{error_of, first_unmet, lowest, span_of}
-use Rattle.lexical_literal.specs.Notation.{notation_of}
+use Rattle.lexical_literal.specs.Notation.{kept, notation_of, number_of}
 use Rattle.lexical_literal.specs.declared.cause.Blame.{Blame}
+use Rattle.lexical_literal.specs.declared.cause.Stop.{Stop}
 use Rattle.lexical_literal.proofs.cause.Spot.refusal.Goals as goal
 
 pub returns : goal.returns
 returns c =
     let spot = c.args.self in
     let m = notation_of spot.grammar in
-    let blamed = c.blame-kind.ensures in
+    let stop = c.stop-stop.ensures in
+    let blamed = c.blame-kind.ensures ∙ ap (λ (t : Stop). blame (notation_of t.grammar) t.read t.group t.byte) stop in
     let kind = ap (λ (b : Blame). b.kind) blamed in
     let mask = ap (λ (b : Blame). b.mask) blamed in
-    let conditions = c.unmet-conditions.ensures in
+    let conditions = c.unmet-conditions.ensures
+    ∙ ap (λ (t : Stop). kept (unmet (notation_of t.grammar) t.read t.group t.byte) (number_of t.grammar.conditions)) stop in
     let first = c.first_unmet-unmet.ensures ∙ (λ j. first_unmet (mask j) (conditions j)) in
     let span = c.span-start.ensures ∙ (λ j. span_of m spot.marks spot.byte (kind j) (lowest (mask j)) (first j)) in
     let code = c.error.ensures ∙ (λ j. error_of m spot.marks (kind j) (lowest (mask j)) (first j) (span j).0) in

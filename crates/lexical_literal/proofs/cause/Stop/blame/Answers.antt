@@ -1,56 +1,58 @@
 -- A separator, the case of a letter, or a byte.
 use Rattle.std.proofs.Common.{ℕ, ◌≡◌, ◌≢◌, ◌==◌, Bool, true, false, if◌then◌else◌, Option, Some, refl, sym, ap, ◌∙◌, arith}
 use Rattle.std.proofs.lemmas.Bool.Decides.{nat_tests}
-use Rattle.lexical_literal.specs.Additions.Causes.{lets, place_of}
+use Rattle.lexical_literal.specs.Additions.Causes.{place_of}
 use Rattle.lexical_literal.specs.Additions.Explained.{blame, cases, mask_of, otherwise, requirements, separators}
+use Rattle.lexical_literal.specs.Additions.Sizes.{goes}
 use Rattle.lexical_literal.specs.Additions.Summary.{role_at, part_of}
 use Rattle.lexical_literal.specs.Cause.{bare}
 use Rattle.lexical_literal.specs.Notation.{Notation, notation_of}
 use Rattle.lexical_literal.specs.declared.cause.Blame.{Blame}
 use Rattle.lexical_literal.specs.declared.cause.ReadErrorKind.TheVariants as causes
+use Rattle.lexical_literal.specs.declared.groups.Group.{Group}
 use Rattle.lexical_literal.specs.declared.steps.Summary.{Summary}
 use Rattle.lexical_literal.proofs.cause.Stop.blame.Goals as goal
 
 nonzero : (n : ℕ) → n ≢ 0 → (n == 0) ≡ false
 nonzero n some = grind (arith, nat_tests)
 
-module _ (m : Notation) (s : Summary) (byte : ℕ) where
+module _ (m : Notation) (s : Summary) (g : Group) (byte : ℕ) where
   -- `by_tests t u` is why the byte cannot follow, if `t` is true of no separators and `u` of no other case.
   abbrev by_tests : Bool → Bool → Blame
   by_tests t u =
-      if t then record { kind = if u then causes.Byte else causes.Case; mask = mask_of (cases m s byte) } else record {
+      if t then record { kind = if u then causes.Byte else causes.Case; mask = mask_of (cases m s g byte) } else record {
         kind = causes.Separator (part_of s.stage) (place_of m (part_of s.stage) s.stage s.gap (role_at m (part_of s.stage) byte));
-        mask = mask_of (separators m s (Some byte));
+        mask = mask_of (separators m s g (Some byte));
       }
 
-  is_blame : (next : Option ℕ) (t u : Bool) → lets (bare m) s next ≡ false → next ≡ Some byte → (mask_of (separators m s (Some byte)) == 0) ≡ t
-      → (mask_of (cases m s byte) == 0) ≡ u → by_tests t u ≡ blame m s next
+  is_blame : (next : Option ℕ) (t u : Bool) → goes (bare m) s g next ≡ false → next ≡ Some byte → (mask_of (separators m s g (Some byte)) == 0) ≡ t
+      → (mask_of (cases m s g byte) == 0) ≡ u → by_tests t u ≡ blame m s g next
   is_blame next t u none is is_t is_u = (λ j. by_tests (sym is_t j) (sym is_u j))
-      ∙ (λ j. if sym none j then record { kind = causes.Requirement; mask = requirements m s next } else otherwise m s (sym is j))
+      ∙ (λ j. if sym none j then record { kind = causes.Requirement; mask = requirements m s g next } else otherwise m s g (sym is j))
 
 pub returns-then-separators-ne0 : goal.returns-then-separators-ne0
 returns-then-separators-ne0 c =
     let s = c.args.self.read in
     let m = notation_of c.args.self.grammar in
-    let mask = c.separators-separators.ensures ∙ ap (λ next. mask_of (separators m s next)) c.in-Some.is in
+    let mask = c.separators-separators.ensures ∙ ap (λ next. mask_of (separators m s c.args.self.group next)) c.in-Some.is in
     (λ j. record { kind = causes.Separator (c.part_of-then-separators-ne0.ensures j) (c.place.ensures j); mask = mask j })
-    ∙ is_blame m s c.in-Some.byte c.args.self.byte false _ (sym c.is_free.ensures ∙ c.if-is_free.false) c.in-Some.is
+    ∙ is_blame m s c.args.self.group c.in-Some.byte c.args.self.byte false _ (sym c.is_free.ensures ∙ c.if-is_free.false) c.in-Some.is
     (nonzero _ (λ zero. c.if-separators-ne0.true (mask ∙ zero))) refl
 
 pub returns-then-mask-eq0 : goal.returns-then-mask-eq0
 returns-then-mask-eq0 c =
     let s = c.args.self.read in
     let m = notation_of c.args.self.grammar in
-    let mask = c.separators-separators.ensures ∙ ap (λ next. mask_of (separators m s next)) c.in-Some.is in
+    let mask = c.separators-separators.ensures ∙ ap (λ next. mask_of (separators m s c.args.self.group next)) c.in-Some.is in
     (λ j. record { kind = causes.Byte; mask = c.case_flags-mask.ensures j })
-    ∙ is_blame m s c.in-Some.byte c.args.self.byte true true (sym c.is_free.ensures ∙ c.if-is_free.false) c.in-Some.is
+    ∙ is_blame m s c.args.self.group c.in-Some.byte c.args.self.byte true true (sym c.is_free.ensures ∙ c.if-is_free.false) c.in-Some.is
     (ap (λ n. n == 0) (sym mask ∙ c.if-separators-ne0.false)) (ap (λ n. n == 0) (sym c.case_flags-mask.ensures ∙ c.if-mask-eq0.true))
 
 pub returns-else-mask-eq0 : goal.returns-else-mask-eq0
 returns-else-mask-eq0 c =
     let s = c.args.self.read in
     let m = notation_of c.args.self.grammar in
-    let mask = c.separators-separators.ensures ∙ ap (λ next. mask_of (separators m s next)) c.in-Some.is in
+    let mask = c.separators-separators.ensures ∙ ap (λ next. mask_of (separators m s c.args.self.group next)) c.in-Some.is in
     (λ j. record { kind = causes.Case; mask = c.case_flags-mask.ensures j })
-    ∙ is_blame m s c.in-Some.byte c.args.self.byte true false (sym c.is_free.ensures ∙ c.if-is_free.false) c.in-Some.is
+    ∙ is_blame m s c.args.self.group c.in-Some.byte c.args.self.byte true false (sym c.is_free.ensures ∙ c.if-is_free.false) c.in-Some.is
     (ap (λ n. n == 0) (sym mask ∙ c.if-separators-ne0.false)) (nonzero _ (λ zero. c.if-mask-eq0.false (c.case_flags-mask.ensures ∙ zero)))

@@ -1,6 +1,6 @@
 use Rattle.std.proofs.Common.{◌&&◌, sym, ap, ◌∙◌, Some}
 use Rattle.lexical_util.specs.Roles.{other_case}
-use Rattle.lexical_literal.specs.Additions.Causes.{lets}
+use Rattle.lexical_literal.specs.Additions.Sizes.{goes}
 use Rattle.lexical_literal.specs.Additions.Explained.{mask_of}
 use Rattle.lexical_literal.specs.Cause.{bare, case_set}
 use Rattle.lexical_literal.specs.Notation.{notation_of}
@@ -11,11 +11,11 @@ pub returns-then-is_free : goal.returns-then-is_free
 returns-then-is_free c =
     let m = notation_of c.args.self.grammar in
     let other = c.other_case-other.ensures in
-    let allowed = sym c.if-is_free.true ∙ c.is_free.ensures ∙ ap (λ byte. lets (bare m) c.args.self.read (Some byte)) other in
+    let allowed = sym c.if-is_free.true ∙ c.is_free.ensures ∙ ap (λ byte. goes (bare m) c.args.self.read c.args.self.group (Some byte)) other in
     c.case_mask.ensures ∙ (λ j. mask_of (λ f. allowed j && case_set f m (other j)))
 
 pub returns-else-is_free : goal.returns-else-is_free
 returns-else-is_free c =
     let m = notation_of c.args.self.grammar in
-    let allowed = sym c.if-is_free.false ∙ c.is_free.ensures ∙ ap (λ byte. lets (bare m) c.args.self.read (Some byte)) c.other_case-other.ensures in
+    let allowed = sym c.if-is_free.false ∙ c.is_free.ensures ∙ ap (λ byte. goes (bare m) c.args.self.read c.args.self.group (Some byte)) c.other_case-other.ensures in
     sym no_mask ∙ (λ j. mask_of (λ f. allowed j && case_set f m (other_case c.args.byte)))

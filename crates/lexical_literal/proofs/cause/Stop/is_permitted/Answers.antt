@@ -3,7 +3,7 @@ use Rattle.std.proofs.Common.{◌≡◌, ◌^◌, ◌*◌, ◌%◌, ◌==◌, �
 use Rattle.std.proofs.lemmas.Nat.{one_shl}
 use Rattle.lexical_util.specs.Layout.{Flag, bit}
 use Rattle.lexical_util.specs.Record.{raw}
-use Rattle.lexical_literal.specs.Additions.Causes.{lets}
+use Rattle.lexical_literal.specs.Additions.Sizes.{goes}
 use Rattle.lexical_literal.specs.Additions.Summary.{no_condition}
 use Rattle.lexical_literal.specs.Cause.{bare, with_rules}
 use Rattle.lexical_literal.specs.Notation.{notation_of}
@@ -16,4 +16,4 @@ returns c f is =
     let flag = one_shl c.args.number 128 (omega arith) ∙ ap (λ k. 2 ^ k) (sym is) in
     let one : (g : Flag) → (raw (bit_or (1 * 2 ^ c.args.number % 2 ^ 128) c.bare.result)).flag g ≡ ((bit g == bit f) || (bare m).flag g) =
     λ g. flag_or g (1 * 2 ^ c.args.number % 2 ^ 128) c.bare.result ∙ (λ j. (ap (λ n. (raw n).flag g) flag ∙ flag_pow g (bit f)) j || c.bare.ensures g j) in
-    c.allows.ensures ∙ (λ j. lets (with_rules m (λ g. one g j) no_condition) c.args.self.read c.args.self.byte)
+    c.allows.ensures ∙ (λ j. goes (with_rules m (λ g. one g j) no_condition) c.args.self.read c.args.self.group c.args.self.byte)

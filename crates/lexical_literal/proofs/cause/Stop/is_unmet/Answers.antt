@@ -1,6 +1,6 @@
 use Rattle.std.proofs.Common.{◌≡◌, Bool, true, false, not, ◌&&◌, ◌||◌, sym, ap, ◌∙◌, arith}
 use Rattle.std.proofs.lemmas.Bool.{false≢true}
-use Rattle.lexical_literal.specs.Additions.Causes.{lets}
+use Rattle.lexical_literal.specs.Additions.Sizes.{goes}
 use Rattle.lexical_literal.specs.Cause.{bare, with_rules}
 use Rattle.lexical_literal.specs.Notation.{has, is_same, notation_of}
 use Rattle.lexical_literal.specs.declared.syntax.Condition.{Condition}
@@ -24,8 +24,8 @@ returns-then-is_free c =
           let set = sym c.has.ensures ∙ w.if-has.true in
           let only : (d : Condition) → has c.only.result d ≡ (is_same c.args.condition d || false) =
           λ d. ap (λ (c : Conditions). has c d) c.only.ensures ∙ has_only conditions c.args.condition d set ∙ or_false _ in
-          ap not (c.allows.ensures ∙ (λ j. lets (with_rules m (λ f. c.bare.ensures f j) (λ d. only d j)) c.args.self.read c.args.self.byte))
-          ∙ both (m.condition c.args.condition) (lets (bare m) c.args.self.read c.args.self.byte) _
+          ap not (c.allows.ensures ∙ (λ j. goes (with_rules m (λ f. c.bare.ensures f j) (λ d. only d j)) c.args.self.read c.args.self.group c.args.self.byte))
+          ∙ both (m.condition c.args.condition) (goes (bare m) c.args.self.read c.args.self.group c.args.self.byte) _
           set (sym w.is_free.ensures ∙ sym w.value-is ∙ c.if-is_free.true)
       | else-has w ↦ absurd (false≢true (sym w.if-has.false ∙ sym w.value-is ∙ c.if-is_free.true))
     ]

@@ -1,14 +1,14 @@
 use Rattle.std.proofs.Common.{◌≡◌, ◌-◌, ◌&&◌, nat_lt, if◌then◌else◌, not, true}
 use Rattle.lexical_util.specs.Layout.{Flag, bit}
 use Rattle.lexical_util.specs.Record.{raw}
-use Rattle.lexical_literal.specs.Additions.Causes.{lets}
+use Rattle.lexical_literal.specs.Additions.Sizes.{goes}
 use Rattle.lexical_literal.specs.Cause.{adding, bare}
 use Rattle.lexical_literal.specs.Notation.{notation_of}
 use Rattle.lexical_literal.proofs.cause.Stop.refusing.Given as goal
 
 abbrev pub invariant-loop-number : goal.invariant-loop-number
 invariant-loop-number l = (f : Flag) → (raw l.mask).flag f ≡ ((raw l.flags).flag f
-    && (if nat_lt (bit f) l.number then not (lets (adding f (bare (notation_of l.self.grammar))) l.self.read l.self.byte) else true))
+    && (if nat_lt (bit f) l.number then not (goes (adding f (bare (notation_of l.self.grammar))) l.self.read l.self.group l.self.byte) else true))
 
 abbrev pub decreases-loop-number : goal.decreases-loop-number
 decreases-loop-number l = 45 - l.number

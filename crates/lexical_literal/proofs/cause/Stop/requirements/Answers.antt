@@ -3,7 +3,7 @@ use Rattle.std.proofs.Common.{ℕ, ◌≡◌, ◌==◌, ◌&&◌, Bool, true, fa
 use Rattle.std.proofs.lemmas.Bool.Decides.{nat_tests}
 use Rattle.std.specs.List.{list_any}
 use Rattle.lexical_literal.specs.Notation.{all_conditions, has, kept, notation_of, number_of}
-use Rattle.lexical_literal.specs.Additions.Causes.{lets}
+use Rattle.lexical_literal.specs.Additions.Sizes.{goes}
 use Rattle.lexical_literal.specs.Additions.Explained.{some_unmet, unmet}
 use Rattle.lexical_literal.specs.Cause.{bare, requiring}
 use Rattle.lexical_literal.specs.declared.cause.Stop.{Stop}
@@ -13,12 +13,12 @@ use Rattle.lexical_literal.proofs.cause.Stop.requirements.Goals as goal
 use Rattle.lexical_literal.proofs.cause.Stop.requirements.Goals.{else-alone-eq0-via-then-alone-eq0+else-is_none, else-alone-eq0-via-else-alone-eq0}
 
 -- No condition is to blame if none is kept.
-none_is : (t : Stop) (k : Conditions) (is : Bool) → let m = notation_of t.grammar in k ≡ kept (unmet m t.read t.byte) (number_of t.grammar.conditions)
-    → is ≡ not (list_any (has k) all_conditions) → is ≡ not (some_unmet m t.read t.byte)
+none_is : (t : Stop) (k : Conditions) (is : Bool) → let m = notation_of t.grammar in k ≡ kept (unmet m t.read t.group t.byte) (number_of t.grammar.conditions)
+    → is ≡ not (list_any (has k) all_conditions) → is ≡ not (some_unmet m t.read t.group t.byte)
 none_is t k is same none =
     let m = notation_of t.grammar in
     none ∙ (λ j. not (list_any (λ d. (ap (λ (k : Conditions). has k d) same
-    ∙ has_kept t.grammar.conditions (λ d. lets (bare m) t.read t.byte && not (lets (requiring d (bare m)) t.read t.byte)) d) j) all_conditions))
+    ∙ has_kept t.grammar.conditions (λ d. goes (bare m) t.read t.group t.byte && not (goes (requiring d (bare m)) t.read t.group t.byte)) d) j) all_conditions))
 
 none_alone : (a z : ℕ) (n : Bool) → a ≡ 0 → n ≡ true → z ≡ (if (a == 0) && n then z else a)
 none_alone a z n zero none = grind (arith, nat_tests)

@@ -3,7 +3,7 @@ use Rattle.std.proofs.lemmas.Nat.{and_comm}
 use Rattle.std.specs.Int.{w128, bit_not}
 use Rattle.lexical_util.specs.Layout.{Flag}
 use Rattle.lexical_util.specs.Record.{raw}
-use Rattle.lexical_literal.specs.Additions.Causes.{lets}
+use Rattle.lexical_literal.specs.Additions.Sizes.{goes}
 use Rattle.lexical_literal.specs.Additions.Explained.{mask_of}
 use Rattle.lexical_literal.specs.Cause.{adding, bare, is_one_of, number_separator_flags}
 use Rattle.lexical_literal.specs.Notation.{notation_of}
@@ -17,7 +17,7 @@ rest s a = grind arith
 pub returns-then-is_at_gap : goal.returns-then-is_at_gap
 returns-then-is_at_gap c =
     let r = c.refusing.result in
-    let allowed = λ (f : Flag). lets (adding f (bare (notation_of c.args.self.grammar))) c.args.self.read c.args.self.byte in
+    let allowed = λ (f : Flag). goes (adding f (bare (notation_of c.args.self.grammar))) c.args.self.read c.args.self.group c.args.self.byte in
     let others : (f : Flag) → (raw (bit_not w128 r)).flag f ≡ not (is_one_of number_separator_flags f && not (allowed f)) =
     λ f. flag_not f r c.refusing.type_inv ∙ ap not (ap (λ n. (raw n).flag f) c.refusing.ensures
     ∙ mask_flags (λ f. (raw SEPARATORS).flag f && not (allowed f)) f ∙ ap (λ t. t && not (allowed f)) (separators_mask f)) in
@@ -31,4 +31,4 @@ pub returns-else-is_at_gap : goal.returns-else-is_at_gap
 returns-else-is_at_gap c =
     let gap = sym c.if-is_at_gap.false ∙ c.is_at_gap.ensures in
     sym no_mask ∙ (λ j. mask_of (λ f. gap j && (is_one_of number_separator_flags f
-    && lets (adding f (bare (notation_of c.args.self.grammar))) c.args.self.read c.args.self.byte)))
+    && goes (adding f (bare (notation_of c.args.self.grammar))) c.args.self.read c.args.self.group c.args.self.byte)))

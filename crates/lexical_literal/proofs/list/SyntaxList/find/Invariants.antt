@@ -1,11 +1,12 @@
 use Rattle.std.proofs.Common.{All, length, take, ◌-◌}
-use Rattle.lexical_literal.specs.Takes.{Refuses}
+use Rattle.lexical_literal.specs.Front.{NoLiteral}
+use Rattle.lexical_literal.specs.Notation.{notation_of}
 use Rattle.lexical_literal.proofs.FormLemmas.{IsBest, goes}
 use Rattle.lexical_literal.proofs.list.SyntaxList.find.Given as goal
 
 abbrev pub invariant-loop-form : goal.invariant-loop-form
 invariant-loop-form l = record {
-  none : All (λ g. Refuses g l.text) (take l.form l.self-inside.syntaxes.now);
+  none : All (λ g. NoLiteral (notation_of g) l.text) (take l.form l.self-inside.syntaxes.now);
   furthest : IsBest (goes l.text) l.self-inside.syntaxes.now l.form l.furthest;
 }
 

@@ -5,9 +5,8 @@ use Rattle.std.proofs.lemmas.List.Elements.{All-more}
 use Rattle.std.proofs.lemmas.Option.{slice_get-get_or, slice_get_within}
 use Rattle.std.specs.Prelude.{Some}
 use Rattle.lexical_literal.specs.Forms.{IsFormError}
-use Rattle.lexical_literal.specs.Front.{IsValidUpTo}
+use Rattle.lexical_literal.specs.Front.{IsValidUpTo, NoLiteral}
 use Rattle.lexical_literal.specs.Notation.{notation_of}
-use Rattle.lexical_literal.specs.Takes.{Refuses}
 use Rattle.lexical_literal.proofs.FormLemmas.{IsNoBetter, all_at, at_byte, elsewhere, first_error, furthest_at, none_before, other_error}
 use Rattle.lexical_literal.proofs.list.SyntaxList.refuse.Goals as goal
 use Rattle.lexical_literal.proofs.list.SyntaxList.refuse.Goals.{then-reached-stop+in-Err-refuse+else-not-is_byte-2, else-reached-stop}
@@ -17,12 +16,12 @@ refuse-requires-clause-stopped c =
     (furthest_at c.args.self.now c.syntaxes-syntaxes.result.now c.args.text.now c.args.furthest c.in-Some.first c.in-Some.stop
     c.syntaxes-syntaxes.ensures.list c.in-Some.is c.requires.furthest c.index-syntaxes-first.result c.index-syntaxes-first.is).2
 
-pub refuse-requires-clause-refuses : goal.refuse-requires-clause-refuses
-refuse-requires-clause-refuses c =
+pub refuse-requires-clause-refused : goal.refuse-requires-clause-refused
+refuse-requires-clause-refused c =
     let a = furthest_at c.args.self.now c.syntaxes-syntaxes.result.now c.args.text.now c.args.furthest c.in-Some.first c.in-Some.stop
     c.syntaxes-syntaxes.ensures.list c.in-Some.is c.requires.furthest c.index-syntaxes-first.result c.index-syntaxes-first.is in
-    let none = subst (All (λ g. Refuses g c.args.text.now)) (sym c.syntaxes-syntaxes.ensures.list) c.requires.none in
-    all_at (λ g. Refuses g c.args.text.now) c.syntaxes-syntaxes.result.now c.in-Some.first c.index-syntaxes-first.result a.1 none
+    let none = subst (All (λ g. NoLiteral (notation_of g) c.args.text.now)) (sym c.syntaxes-syntaxes.ensures.list) c.requires.none in
+    all_at (λ g. NoLiteral (notation_of g) c.args.text.now) c.syntaxes-syntaxes.result.now c.in-Some.first c.index-syntaxes-first.result a.1 none
 
 pub returns-then-not-is_byte : goal.returns-then-not-is_byte
 returns-then-not-is_byte c =

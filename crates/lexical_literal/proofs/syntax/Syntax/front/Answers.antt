@@ -1,6 +1,7 @@
 -- The longest front that is a literal, and the lengths of its parts.
 use Rattle.std.proofs.Common.{subst}
 use Rattle.lexical_literal.specs.Additions.Longest.{IsLongest}
+use Rattle.lexical_literal.specs.Notation.{notation_of}
 use Rattle.lexical_literal.proofs.LongestLemmas.{found_there, front_literal, fronted, no_front}
 use Rattle.lexical_literal.proofs.syntax.Syntax.front.Goals as goal
 
@@ -12,5 +13,5 @@ pub returns : goal.returns
 returns c = record {
   reached = c.stop-stop.ensures;
   longest = λ found is. front_literal _ _ found (subst (IsLongest _ _ _) is c.longest.ensures);
-  none = no_front c.args.self.now _ _ c.longest.ensures;
+  none = no_front (notation_of c.args.self.now) _ _ c.longest.ensures;
 }

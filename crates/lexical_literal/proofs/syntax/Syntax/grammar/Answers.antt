@@ -1,11 +1,16 @@
 -- A syntax has what reading needs.
 use Rattle.std.proofs.Common.{subst}
-use Rattle.lexical_literal.specs.Additions.Plain.{IsReady}
+use Rattle.lexical_literal.specs.Additions.Plain.{HasSizes}
 use Rattle.lexical_literal.specs.Notation.{notation_of}
+use Rattle.lexical_literal.specs.Additions.Plain.{IsReady}
+use Rattle.lexical_literal.specs.Additions.Sizes.{steps_of}
 use Rattle.lexical_literal.specs.declared.syntax.Grammar.{Grammar}
-use Rattle.lexical_literal.proofs.RoleLemmas.{ready}
+use Rattle.lexical_literal.proofs.RoleLemmas.{has_sizes_of, ready}
 use Rattle.lexical_literal.proofs.syntax.Syntax.grammar.Goals as goal
 
 pub returns-clause-ready : goal.returns-clause-ready
-returns-clause-ready c = subst (λ (g : Grammar). IsReady (notation_of g)) c.self.view_is
+returns-clause-ready c = subst (λ (g : Grammar). IsReady (steps_of g)) c.self.view_is
     (ready c.role_facts.ensures.disjoint c.role_facts.ensures.five c.role_facts.ensures.lawful _ c.self.invariant)
+
+pub returns-clause-sizes : goal.returns-clause-sizes
+returns-clause-sizes c = subst (λ (g : Grammar). HasSizes (notation_of g)) c.self.view_is (has_sizes_of _ c.self.invariant)

@@ -1,31 +1,30 @@
 -- The loop reads the text, byte by byte.
-use Rattle.std.proofs.Common.{Some, true, false, arith, refl, sym, ap, ◌∙◌}
+use Rattle.std.proofs.Common.{None, Some, true, false, arith, refl, sym, ap, ◌∙◌}
+use Rattle.lexical_literal.specs.Additions.Summary.{count, cuts_of}
+use Rattle.lexical_literal.specs.Additions.Sizes.{goes}
 use Rattle.lexical_literal.specs.Notation.{notation_of}
-use Rattle.lexical_literal.specs.Additions.Summary.{count, cuts_of, is_complete}
 use Rattle.lexical_literal.specs.declared.syntax.Grammar.{Grammar}
 use Rattle.lexical_literal.proofs.LongestLemmas.{first_counted, longest_all, more_counted}
 use Rattle.lexical_literal.proofs.syntax.Syntax.longest.Goals as goal
 
 pub loop-role-init : goal.loop-role-init
-loop-role-init c = first_counted _ c.grammar-grammar.ensures.ready c.args.text.now
+loop-role-init c = first_counted _ c.grammar-grammar.ensures.ready c.grammar-grammar.ensures.sizes c.args.text.now
 
-pub loop-role-preserved-then-is_complete : goal.loop-role-preserved-then-is_complete
-loop-role-preserved-then-is_complete c =
-    more_counted _ c.grammar-grammar.ensures.ready _ _ _ _ _ c.loop-role.invariant _ c.in-Some.ensures.next c.count_byte-more.result
+pub loop-role-preserved-then-ends : goal.loop-role-preserved-then-ends
+loop-role-preserved-then-ends c =
+    more_counted _ c.grammar-grammar.ensures.ready c.grammar-grammar.ensures.sizes _ _ _ _ _ _ _ c.loop-role.invariant _ c.in-Some.ensures.next c.count_byte-more.result
     c.count_byte-more.ensures.nine
     (c.count_byte-more.ensures.counted ∙ ap (λ part. count part (Some c.in-Some.role) (cuts_of c.loop-role.counts)) c.part_of.ensures)
-    (c.count_byte-more.ensures.small _ (omega arith) c.loop-role.invariant.small) true
-    (sym c.if-is_complete.true ∙ c.is_complete.ensures
-    ∙ ap (λ (g : Grammar). is_complete (notation_of g) c.in-Some.next.read) c.grammar-grammar.ensures.value)
+    (c.count_byte-more.ensures.small _ (omega arith) c.loop-role.invariant.small) true (sym c.if-ends.true ∙ c.ends.ensures
+    ∙ ap (λ (g : Grammar). goes (notation_of g) c.in-Some.next.read c.in-Some.group None) c.grammar-grammar.ensures.value)
 
 pub loop-role-preserved : goal.loop-role-preserved
 loop-role-preserved c =
-    more_counted _ c.grammar-grammar.ensures.ready _ _ _ _ _ c.loop-role.invariant _ c.in-Some.ensures.next c.count_byte-more.result
+    more_counted _ c.grammar-grammar.ensures.ready c.grammar-grammar.ensures.sizes _ _ _ _ _ _ _ c.loop-role.invariant _ c.in-Some.ensures.next c.count_byte-more.result
     c.count_byte-more.ensures.nine
     (c.count_byte-more.ensures.counted ∙ ap (λ part. count part (Some c.in-Some.role) (cuts_of c.loop-role.counts)) c.part_of.ensures)
-    (c.count_byte-more.ensures.small _ (omega arith) c.loop-role.invariant.small) false
-    (sym c.if-is_complete.false ∙ c.is_complete.ensures
-    ∙ ap (λ (g : Grammar). is_complete (notation_of g) c.in-Some.next.read) c.grammar-grammar.ensures.value)
+    (c.count_byte-more.ensures.small _ (omega arith) c.loop-role.invariant.small) false (sym c.if-ends.false ∙ c.ends.ensures
+    ∙ ap (λ (g : Grammar). goes (notation_of g) c.in-Some.next.read c.in-Some.group None) c.grammar-grammar.ensures.value)
 
 pub returns : goal.returns
 returns c = longest_all _ _ c.loop-role.at c.loop-role.found (c.in_default.ensures.stop refl) c.loop-role.invariant.longest

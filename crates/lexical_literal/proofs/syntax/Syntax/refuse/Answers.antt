@@ -1,23 +1,47 @@
--- A complete literal is refused for its groups alone.
-use Rattle.std.proofs.Common.{sym, ap, ◌∙◌}
-use Rattle.std.proofs.lemmas.Bool.{false_from_ne_true}
-use Rattle.lexical_literal.specs.Notation.{integer_group_size}
+-- What has been read decides what may follow, and so why what follows is refused.
+use Rattle.std.proofs.Common.{◌≡◌, refl, sym, ap, subst, ◌∙◌, take}
+use Rattle.std.specs.Prelude.{slice_get}
+use Rattle.lexical_literal.specs.Additions.Explained.{refusal_of}
+use Rattle.lexical_literal.specs.Additions.Sizes.{goes}
+use Rattle.lexical_literal.specs.Cause.{IsRefusal, marks_of}
+use Rattle.lexical_literal.specs.Notation.{notation_of}
+use Rattle.lexical_literal.specs.declared.cause.Marks.{Marks}
+use Rattle.lexical_literal.specs.declared.cause.Spot.{Spot}
+use Rattle.lexical_literal.specs.declared.groups.Group.{Group}
 use Rattle.lexical_literal.specs.declared.syntax.Grammar.{Grammar}
-use Rattle.lexical_literal.proofs.GroupLemmas.{any_groups}
-use Rattle.lexical_literal.proofs.LongestLemmas.{refused_there, whole_literal}
+use Rattle.lexical_literal.proofs.BlameLemmas.{refusal_at}
+use Rattle.lexical_literal.proofs.LongestLemmas.{refused_there}
+use Rattle.lexical_literal.proofs.StopLemmas.{goes_too, is_read_of}
 use Rattle.lexical_literal.proofs.syntax.Syntax.refuse.Goals as goal
-use Rattle.lexical_literal.proofs.syntax.Syntax.refuse.Goals.{in_default-via-in-Some+then-stop-text+else-is_complete, in_default-via-in-Some+else-stop-text}
-use Rattle.lexical_literal.proofs.syntax.Syntax.refuse.Goals.{in_default-via-in_default}
 
-pub ungrouped-requires-clause-read : goal.ungrouped-requires-clause-read
-ungrouped-requires-clause-read _ c = whole_literal _ _ _ c.requires.stopped c.if-stop-text.true (sym c.is_complete.ensures ∙ c.if-is_complete.true)
-
-pub refuse_byte-requires-clause-refused : goal.refuse_byte-requires-clause-refused
-refuse_byte-requires-clause-refused _ c = refused_there _ _ _ c.requires.stopped (λ all. elim c.in_default.branch [
-  | in_default-via-in-Some+then-stop-text+else-is_complete w ↦ sym w.is_complete.ensures ∙ w.if-is_complete.false
-  | in_default-via-in-Some+else-stop-text w ↦ absurd (w.if-stop-text.false all)
-  | in_default-via-in_default w ↦ false_from_ne_true _ (λ complete.
-      let l = whole_literal _ _ _ c.requires.stopped all complete in
-      let none = sym (ap (λ (g : Grammar). integer_group_size g.conditions) c.grammar.ensures.value) ∙ sym c.get.ensures ∙ w.in_default.is in
-      c.requires.refuses l.0 (record { reads = l.1; groups = any_groups c.args.self.now l.0 none }))
-])
+pub returns : goal.returns
+returns _ c =
+    let g = c.args.self.now in
+    let m = notation_of g in
+    let text = c.args.text.now in
+    let size = c.args.stop.size in
+    let front = take size text in
+    let s = c.args.stop.read in
+    let stopped = c.requires.stopped in
+    let of = c.grammar-grammar.ensures in
+    let group = c.group_at.result in
+    let read = c.group_at.ensures.begun.read in
+    let grouped = c.group_at.ensures.grouped in
+    let one_group : stopped.group ≡ group = let other = stopped.read.grouped in cc in
+    let refused = sym (goes_too m of.ready of.sizes front s group read grouped (slice_get text size))
+    ∙ ap (λ (group : Group). goes m s group (slice_get text size)) (sym one_group) ∙ refused_there m text c.args.stop stopped c.requires.refused in
+    let is_marks : c.marks.result ≡ marks_of m front =
+    c.marks.ensures ∙ (λ j. marks_of (notation_of (of.value j)) (c.front_of.ensures j)) in
+    let spot : Grammar → Marks → Spot = λ h k. record {
+      grammar = h;
+      read = s;
+      byte = c.byte_at-byte.result;
+      tail = c.tail_at.result;
+      marks = k;
+      separated = group.separated;
+    } in
+    subst (λ h. IsRefusal m text (refusal_of (notation_of h) (spot h c.marks.result))) (sym of.value)
+    (subst (λ k. IsRefusal m text (refusal_of m (spot g k))) (sym is_marks)
+    (refusal_at g text s group.separated c.tail_at.result (marks_of m front) size stopped.valid.within stopped.valid
+    (is_read_of m of.ready of.sizes front s group read grouped) refused
+    c.byte_at-byte.result c.byte_at-byte.ensures c.tail_at.ensures refl))

@@ -1,15 +1,15 @@
 -- What is laid out is a literal with the digits of the amount.
 use Rattle.std.proofs.Common.{IfOk}
 use Rattle.std.proofs.lemmas.Result.{IfOk-weaker}
-use Rattle.lexical_literal.specs.Literal.{text_of}
-use Rattle.lexical_literal.specs.Takes.{Takes}
+use Rattle.lexical_literal.specs.Literal.{Reads, text_of}
+use Rattle.lexical_literal.specs.Notation.{notation_of}
 use Rattle.lexical_writer.specs.Layout.{HasNumber, literal_of}
 use Rattle.lexical_writer.specs.declared.layout.Layout.{Layout}
 use Rattle.lexical_writer.proofs.LiteralLemmas.{written}
 use Rattle.lexical_writer.proofs.layout.Amount.lay_out.Goals as goal
 
 abbrev IsGood : goal.After-plan → Layout → Type 0
-IsGood c layout = Takes c.args.syntax.now (literal_of layout) (text_of (literal_of layout)) × HasNumber c.args.syntax.now c.args.self.now (literal_of layout)
+IsGood c layout = Reads (notation_of c.args.syntax.now) (literal_of layout) (text_of (literal_of layout)) × HasNumber c.args.syntax.now c.args.self.now (literal_of layout)
 
 both : (c : goal.After-plan) → IfOk c.plan.result (IsGood c)
 both c =

@@ -1,0 +1,166 @@
+-- What has been read decides what a notation with sizes of groups allows, with other flags and conditions too.
+use Rattle.std.proofs.Common.{ℕ, ◌≡◌, ◌↔◌, inl, inr, Bool, true, false, not, ◌&&◌, ◌||◌, if◌then◌else◌, IsTrue, List, [], ◌∷◌, ◌++◌, Option, Some, None}
+use Rattle.std.proofs.Common.{refl, sym, ap, subst, ◌∙◌, arith}
+use Rattle.std.proofs.lemmas.Bool.{false≢true, and_parts, and_from, cases_Bool, or_left, or_right}
+use Rattle.std.specs.Prelude.{is_some}
+use Rattle.lexical_util.specs.Layout.{Flag, separators_in}
+use Rattle.lexical_util.specs.declared.feature_format.roles.Role.{Role}
+use Rattle.lexical_util.specs.declared.format_flags.Part.{Part}
+use Rattle.lexical_util.specs.declared.format_flags.Part.TheVariants as parts
+use Rattle.lexical_literal.specs.Cause.{Allows, is_one_of, requirement_flags, with_rules}
+use Rattle.lexical_literal.specs.Groups.{has_size, has_sizes}
+use Rattle.lexical_literal.specs.Literal.{Literal, Reads}
+use Rattle.lexical_literal.specs.Notation.{Notation}
+use Rattle.lexical_literal.specs.Additions.Causes.{IsWeaker, lets}
+use Rattle.lexical_literal.specs.Additions.Plain.{HasRoles, HasSizes, IsReady}
+use Rattle.lexical_literal.specs.Additions.Sizes.{first_group, fits, follows, goes, group_after, grow, grown, is_size, makes_empty, role_next, unsized}
+use Rattle.lexical_literal.specs.Additions.Summary.{is_accepted, role_at, scan, start, step}
+use Rattle.lexical_literal.specs.declared.groups.Group.{Group}
+use Rattle.lexical_literal.specs.declared.steps.Summary.{Summary}
+use Rattle.lexical_literal.specs.declared.syntax.Condition.{Condition}
+use Rattle.lexical_literal.specs.declared.syntax.Condition.TheVariants as conditions
+use Rattle.lexical_literal.proofs.ConditionLemmas.{literal_arrives, literal_from}
+use Rattle.lexical_literal.proofs.FitLemmas.{front_fits, front_is_read_of, front_of}
+use Rattle.lexical_literal.proofs.RefusalLemmas.{other_ready, other_roles, read_too}
+use Rattle.lexical_literal.proofs.ScanLemmas.{scan_append}
+use Rattle.lexical_literal.proofs.SizeLemmas.{all_end, as_sized, as_unsized, ends, group_append, group_none, required}
+
+some_of : {X : Type 0} (o : Option X) → (o ≡ None → ⊥) → (x : X) × (o ≡ Some x)
+some_of None some = absurd (some refl)
+some_of (Some x) some = (x, refl)
+
+no_size : (m : Notation) → has_sizes m ≡ false → (part : Part) → has_size m part ≡ false
+no_size m none parts.Integer = grind arith
+no_size m none parts.Fraction = grind arith
+no_size m none parts.Exponent = refl
+
+module _ (m : Notation) (ready : IsReady (unsized m)) (sizes : HasSizes m) (front : List ℕ) (s : Summary) (g : Group)
+    (read : scan (unsized m) (Some start) front ≡ Some s) (grouped : group_after m (Some first_group) front ≡ Some g) where
+  abbrev u : Notation
+  u = unsized m
+
+  h : HasRoles m
+  h = other_roles u m.flag m.condition ready.roles
+
+  one_more : (b : ℕ) → scan u (Some start) (front ++ b ∷ []) ≡ step u s b
+  one_more b = scan_append u.condition u (Some start) front (b ∷ []) ∙ ap (λ o. scan u o (b ∷ [])) read
+
+  one_group : (b : ℕ) → group_after m (Some first_group) (front ++ b ∷ []) ≡ grow m g (role_at m g.part b)
+  one_group b = group_append m (Some first_group) front (b ∷ []) ∙ ap (λ o. group_after m o (b ∷ [])) grouped
+
+  grows : (r : Option Role) → fits m g r ≡ true → grow m g r ≡ None → ⊥
+  grows r fit none = go (has_sizes m) (rw (fit) at none) where
+    go : (sized : Bool) → (if not sized then Some g else Some (grown g r)) ≡ None → ⊥
+    go true none = let apart : Some (grown g r) ≡ None = none in cc
+    go false none = let apart : Some g ≡ None = none in cc
+
+  fitting : (r : Option Role) → (grow m g r ≡ None → ⊥) → fits m g r ≡ true
+  fitting r some = elim (cases_Bool (has_sizes m)) [
+    | inl sized ↦ go (fits m g r) (rw (sized) at some)
+    | inr none ↦ or_left _ _ (ap not (no_size m none g.part))
+  ] where
+    go : (fit : Bool) → ((if fit then Some (grown g r) else None) ≡ None → ⊥) → fit ≡ true
+    go true some = refl
+    go false some = absurd (some refl)
+
+  pub decides_there : (next : Option ℕ) → (goes m s g next ≡ true) ↔ Allows m front next
+  decides_there None = (
+    λ is.
+        let both = and_parts (is_accepted u (Some s)) (fits m g None) is in
+        let l = literal_from u ready.roles ready.no_sizes front (ap (is_accepted u) read ∙ both.0) in
+        (l.0, as_sized m h sizes l.0 front l.1 (ap (ends m) grouped ∙ both.1)),
+    λ l.
+        let both = as_unsized m h sizes l.0 front l.1 in
+        and_from _ _ (sym (ap (is_accepted u) read) ∙ rw (l.1.whole) (literal_arrives u ready.roles l.0 both.0.literal).0)
+        (sym (ap (ends m) grouped) ∙ both.1),
+  )
+  decides_there (Some b) = (
+    λ is.
+        let both = and_parts (is_some (step u s b)) (fits m g (role_at m g.part b)) is in
+        let t = some_of (step u s b) (λ none. false≢true (sym (ap is_some none) ∙ both.0)) in
+        let next = some_of (grow m g (role_at m g.part b)) (grows (role_at m g.part b) both.1) in
+        front_of m ready sizes (front ++ b ∷ []) t.0 next.0 (one_more b ∙ t.1) (one_group b ∙ next.1),
+    λ is. and_from _ _ (ap is_some (some_of (step u s b) (λ none. front_is_read_of m ready sizes (front ++ b ∷ []) is (one_more b ∙ none))).1)
+        (fitting (role_at m g.part b) (λ none. front_fits m ready sizes (front ++ b ∷ []) is (one_group b ∙ none))),
+  )
+
+-- WITH OTHER FLAGS AND CONDITIONS
+
+module _ (m : Notation) (A : Flag → Bool) (D : Condition → Bool) (weaker : IsWeaker m A D) (ready : IsReady (unsized m)) (sizes : HasSizes m) where
+  abbrev n : Notation
+  n = with_rules m A D
+
+  unsized_weaker : IsWeaker (unsized m) (unsized n).flag (unsized n).condition
+  unsized_weaker = record {
+    no_more = λ f is. let two = and_parts ((unsized n).flag f) _ is in
+        required m f (and_from _ _ (weaker.no_more f (and_from _ _ (and_parts _ (A f) two.0).1 two.1)) two.1);
+    no_less = λ f is. less (makes_empty parts.Integer f) (makes_empty parts.Fraction f) (D conditions.IntegerGroupSize) (D conditions.FractionGroupSize)
+        (m.condition conditions.IntegerGroupSize) (m.condition conditions.FractionGroupSize) (m.flag f) (A f) (is_one_of requirement_flags f)
+        (weaker.conditions conditions.IntegerGroupSize) (weaker.conditions conditions.FractionGroupSize) (weaker.no_less f) is;
+    conditions = λ c is. let two = and_parts (not (is_size c)) (D c) is in and_from _ _ two.0 (weaker.conditions c two.1);
+  } where
+    less : (i k di dk mi mk x a r : Bool) → (di ≡ true → mi ≡ true) → (dk ≡ true → mk ≡ true) → (x ≡ true → (a || r) ≡ true)
+        → (not ((i && mi) || (k && mk)) && x) ≡ true → ((not ((i && di) || (k && dk)) && a) || r) ≡ true
+    less i k di dk mi mk x a r one two three is = grind arith
+
+  some_sizes : has_sizes n ≡ true → has_sizes m ≡ true
+  some_sizes is = go (D conditions.IntegerGroupSize) (D conditions.FractionGroupSize) (m.condition conditions.IntegerGroupSize)
+      (m.condition conditions.FractionGroupSize) (weaker.conditions conditions.IntegerGroupSize) (weaker.conditions conditions.FractionGroupSize) is where
+        go : (x y a b : Bool) → (x ≡ true → a ≡ true) → (y ≡ true → b ≡ true) → (x || y) ≡ true → (a || b) ≡ true
+        go x y a b one two is = grind arith
+
+  other_sizes : HasSizes n
+  other_sizes = record {
+    integer = λ is. sizes.integer (weaker.conditions conditions.IntegerGroupSize is);
+    fraction = λ is. sizes.fraction (weaker.conditions conditions.FractionGroupSize is);
+    internal = internal;
+    separator = sizes.separator;
+    has_separator = λ is. sizes.has_separator (some_sizes is);
+  } where
+    kept : (a : Bool) → (a || false) ≡ true → a ≡ true
+    kept true is = refl
+    kept false is = is
+
+    internal : (part : Part) → has_size n part ≡ true → n.flag (separators_in part).internal ≡ true
+    internal parts.Integer is = kept _ (weaker.no_less (separators_in parts.Integer).internal (sizes.internal parts.Integer (weaker.conditions conditions.IntegerGroupSize is)))
+    internal parts.Fraction is = kept _ (weaker.no_less (separators_in parts.Fraction).internal (sizes.internal parts.Fraction (weaker.conditions conditions.FractionGroupSize is)))
+    internal parts.Exponent is = absurd (false≢true is)
+
+  -- Groups that fit still do.
+  still : (g : Group) (r : Option Role) → fits m g r ≡ true → fits n g r ≡ true
+  still g r fit = go (has_size n g.part) (has_size m g.part) (follows m g r) (sized g.part) fit where
+    sized : (part : Part) → has_size n part ≡ true → has_size m part ≡ true
+    sized parts.Integer is = weaker.conditions conditions.IntegerGroupSize is
+    sized parts.Fraction is = weaker.conditions conditions.FractionGroupSize is
+    sized parts.Exponent is = is
+
+    go : (a b t : Bool) → (a ≡ true → b ≡ true) → (not b || t) ≡ true → (not a || t) ≡ true
+    go a b t is fit = grind arith
+
+  same_groups : has_sizes n ≡ true → has_sizes m ≡ true → (g : Group) (text : List ℕ) (last : Group) → group_after m (Some g) text ≡ Some last
+      → group_after n (Some g) text ≡ Some last
+  same_groups less more g [] last is = is
+  same_groups less more g (b ∷ text) last is = go (fits m g (role_at m g.part b)) refl (rw (more) at is) (same_groups less more (grown g (role_at m g.part b)) text last) where
+    go : (f : Bool) → fits m g (role_at m g.part b) ≡ f → group_after m (if f then Some (grown g (role_at m g.part b)) else None) text ≡ Some last
+        → (group_after m (Some (grown g (role_at m g.part b))) text ≡ Some last → group_after n (Some (grown g (role_at m g.part b))) text ≡ Some last)
+        → group_after n (grow n g (role_at n g.part b)) text ≡ Some last
+    go true fit is rest = rw (less, still g (role_at m g.part b) fit) (rest is)
+    go false fit is rest = absurd (let none = group_none m text in cc)
+
+  -- What has been read decides what is allowed.
+  pub decided_of : (front : List ℕ) (s : Summary) (g : Group) → scan (unsized m) (Some start) front ≡ Some s
+      → group_after m (Some first_group) front ≡ Some g → (next : Option ℕ) → (goes n s g next ≡ true) ↔ Allows n front next
+  decided_of front s g read grouped next = elim (cases_Bool (has_sizes n)) [
+    | inl less ↦ decides_there n ready_there other_sizes front s g read_there (same_groups less (some_sizes less) first_group front g grouped) next
+    | inr none ↦ subst (λ t. (lets (unsized n) s next && t ≡ true) ↔ Allows n front next)
+        (free none first_group (role_next n parts.Integer next) ∙ sym (free none g (role_next n g.part next)))
+        (decides_there n ready_there other_sizes front s first_group read_there (all_end n none first_group front) next)
+  ] where
+    free : has_sizes n ≡ false → (g : Group) (r : Option Role) → fits n g r ≡ true
+    free none g r = or_left _ _ (ap not (no_size n none g.part))
+
+    read_there : scan (unsized n) (Some start) front ≡ Some s
+    read_there = read_too (unsized m) (unsized n).flag (unsized n).condition ready unsized_weaker front s read
+
+    ready_there : IsReady (unsized n)
+    ready_there = other_ready (unsized m) (unsized n).flag (unsized n).condition unsized_weaker ready

@@ -1,0 +1,363 @@
+-- What some literal of a notation with sizes of groups begins with: what one without begins with, if its groups fit byte by byte.
+use Rattle.std.proofs.Common.{ℕ, ◌≡◌, ◌≤◌, ◌+◌, ◌-◌, ◌==◌, inl, inr, Bool, true, false, not, ◌&&◌, ◌||◌, if◌then◌else◌, nat_le, nat_lt, List, [], ◌∷◌, ◌++◌, Option}
+use Rattle.std.proofs.Common.{Some, None, refl, sym, ap, subst, append_assoc, ◌∙◌, arith, zero, suc}
+use Rattle.std.proofs.lemmas.Bool.{false≢true, and_parts, and_from, cases_Bool, or_left, or_parts, or_right}
+use Rattle.std.proofs.lemmas.Bool.Decides.{nat_tests}
+use Rattle.std.specs.List.{list_any}
+use Rattle.lexical_util.specs.Layout.{separators_in}
+use Rattle.lexical_util.specs.declared.feature_format.roles.Role.{Role}
+use Rattle.lexical_util.specs.declared.feature_format.roles.Role.TheVariants as roles
+use Rattle.lexical_util.specs.declared.format_flags.Part.{Part}
+use Rattle.lexical_util.specs.declared.format_flags.Part.TheVariants as parts
+use Rattle.lexical_literal.specs.Front.{IsFront}
+use Rattle.lexical_literal.specs.Groups.{first_fits, has_size, has_sizes, higher, inner_fits, last_fits}
+use Rattle.lexical_literal.specs.Literal.{Literal, Reads}
+use Rattle.lexical_literal.specs.Notation.{Notation}
+use Rattle.lexical_literal.specs.Additions.Plain.{HasRoles, HasSizes, IsReady}
+use Rattle.lexical_literal.specs.Additions.Sizes.{first_group, fits, follows, group_after, grow, grown, most, unsized}
+use Rattle.lexical_literal.specs.Additions.Summary.{admits, after, after_digit, after_mark, gap_fits, has_digit, is_fresh, is_open, is_run, is_signed, lacks_prefix, may_follow, part_of, role_at, scan, start, takes, takes_in}
+use Rattle.lexical_literal.specs.Run.{is_place}
+use Rattle.lexical_literal.specs.declared.groups.Group.{Group}
+use Rattle.lexical_literal.specs.declared.syntax.Condition.TheVariants as conditions
+use Rattle.lexical_literal.specs.declared.steps.Stage.{Stage}
+use Rattle.lexical_literal.specs.declared.steps.Summary.{Summary}
+use Rattle.lexical_literal.proofs.FrontLemmas.{begins, completed_there, ended_there, front_is_read, goes_on_there, literal_there}
+use Rattle.lexical_literal.proofs.GroupLemmas.{group, not_empty}
+use Rattle.lexical_literal.proofs.RefusalLemmas.{other_roles}
+use Rattle.lexical_literal.proofs.PartOfLemmas.{none_after}
+use Rattle.lexical_literal.proofs.PlainLemmas.{admits_free}
+use Rattle.lexical_literal.proofs.ScanLemmas.{Accepts, as_digit, as_role, digit_role, is_role, moved, scan_append, took}
+use Rattle.lexical_literal.proofs.SizeLemmas.{all_end, as_sized, as_unsized, ends, group_append, group_none, same_internal}
+use Rattle.lexical_literal.proofs.StepLemmas.{bare_part, digit_part, digit_seen, mark_part, point_part}
+
+module _ (m : Notation) where
+  abbrev pub u : Notation
+  u = unsized m
+
+  -- TEXTS THAT FIT
+
+  -- `is_calm g` is true if a separator is before `g`, and its part has a size.
+  abbrev pub is_sized : Group → Bool
+  is_sized g = g.separated && has_size m g.part
+
+  grown_or : (P : Option Group → Type 0) (t f : Bool) (g next : Group) → f ≡ true → P (Some g) → P (Some next)
+      → P (if not t then Some g else (if f then Some next else None))
+  grown_or P true true g next fit same more = more
+  grown_or P false f g next fit same more = same
+  grown_or P true false g next fit same more = absurd (false≢true fit)
+
+  no_separator : (part : Part) (b : ℕ) → m.separator b ≡ false → role_at m part b ≡ Some roles.Separator → ⊥
+  no_separator part b other role = false≢true (sym other ∙ as_role m part b roles.Separator role)
+
+  -- Behind a group that need not be filled, all bytes but separators fit.
+  pub calm_ends : (g : Group) (text : List ℕ) → is_sized g ≡ false → list_any m.separator text ≡ false → ends m (group_after m (Some g) text) ≡ true
+  calm_ends g [] calm joined = fit g.separated (has_size m g.part) _ calm where
+    fit : (separated size last : Bool) → (separated && size) ≡ false → (not size || (not separated || last)) ≡ true
+    fit separated size last calm = grind arith
+  calm_ends g (b ∷ text) calm joined = go (λ g calm. calm_ends g text calm (or_parts (m.separator b) _ joined).1) (role_at m g.part b) refl where
+    fit : (separated size more : Bool) → (separated && size) ≡ false → (not size || (not separated || more)) ≡ true
+    fit separated size more calm = grind arith
+
+    go : ((g : Group) → is_sized g ≡ false → ends m (group_after m (Some g) text) ≡ true)
+        → (o : Option Role) → role_at m g.part b ≡ o → ends m (group_after m (grow m g o) text) ≡ true
+    go rest (Some roles.Separator) role = absurd (no_separator g.part b (or_parts (m.separator b) _ joined).0 role)
+    go rest (Some roles.Digit) role = grown_or (λ o. ends m (group_after m o text) ≡ true) (has_sizes m) _ g (grown g (Some roles.Digit))
+        (fit g.separated (has_size m g.part) _ calm) (rest g calm) (rest (grown g (Some roles.Digit)) calm)
+    go rest o role = grown_or (λ o. ends m (group_after m o text) ≡ true) (has_sizes m) _ g (grown g o)
+        (fit g.separated (has_size m g.part) _ calm) (rest g calm) (rest (grown g o) refl)
+
+  -- Behind a full group, all but digits and separators fit.
+  full_ends : (g : Group) (text : List ℕ) → fits m g None ≡ true → begins m (m.digit g.part) text ≡ false → list_any m.separator text ≡ false
+      → ends m (group_after m (Some g) text) ≡ true
+  full_ends g [] full begun joined = full
+  full_ends g (b ∷ text) full begun joined = elim (cases_Bool (has_sizes m)) [
+    | inl sized ↦ go (role_at m g.part b) refl sized
+    | inr none ↦ ap (ends m) (all_end m none g (b ∷ text)) ∙ full
+  ] where
+    both : (m.separator b ≡ false) × (list_any m.separator text ≡ false)
+    both = or_parts (m.separator b) _ joined
+
+    go : (o : Option Role) → role_at m g.part b ≡ o → has_sizes m ≡ true → ends m (group_after m (grow m g o) text) ≡ true
+    go (Some roles.Separator) role sized = absurd (no_separator g.part b both.0 role)
+    go (Some roles.Digit) role sized = absurd (false≢true (sym begun ∙ as_digit m g.part b role))
+    go o role sized = rw (sized, full) (calm_ends (grown g o) text refl both.1)
+
+  -- WHAT HAS BEEN READ, AND ITS LAST GROUP
+
+  -- `Open s g` holds if the group `g` behind a separator is what has been read last of a part.
+  record Open (s : Summary) (g : Group) : Type 0 where
+    going : s.ended ≡ false
+    digit : has_digit s.stage ≡ true
+    settled : lacks_prefix s.stage ≡ false
+    gap : s.gap ≡ (g.digits == 0)
+    run : s.gap ≡ false → is_run s.stage ≡ true
+    within : g.digits ≤ most m g.part
+
+  record Linked (s : Summary) (g : Group) : Type 0 where
+    part : g.part ≡ part_of s.stage
+    sized : is_sized g ≡ true → Open s g
+
+  -- No separator is before or behind the digits of a part with a size.
+  no_empty : (part : Part) → has_size m part ≡ true → (u.flag (separators_in part).leading ≡ false) × (u.flag (separators_in part).trailing ≡ false)
+  no_empty parts.Integer sized = (rw (sized) refl, rw (sized) refl)
+  no_empty parts.Fraction sized = (rw (sized) refl, rw (sized) refl)
+  no_empty parts.Exponent sized = absurd (false≢true sized)
+
+  -- After a digit and after a separator, of a part that has digits.
+  after_digits : (stage : Stage) (gap naught : Bool) → has_digit stage ≡ true → lacks_prefix stage ≡ false
+      → (lacks_prefix (after_digit stage gap naught) ≡ false) × (is_run (after_digit stage gap naught) ≡ true)
+  after_digits stage gap naught digit settled = (grind arith, grind arith)
+
+  after_separator : (stage : Stage) → has_digit stage ≡ true → (has_digit (after_mark stage) ≡ true) × (lacks_prefix (after_mark stage) ≡ false)
+  after_separator stage digit = (grind arith, grind arith)
+
+  behind_digits : (part : Part) (stage : Stage) (gap : Bool) → has_size m part ≡ true → takes_in u part stage gap false roles.Separator ≡ true
+      → has_digit stage ≡ true
+  behind_digits part stage gap sized taken = go (has_digit stage) (may_follow u stage) (no_empty part sized).0
+      (and_parts _ (is_open u part (has_digit stage) (may_follow u stage)) (and_parts (is_signed u part stage) _ taken).1).1 where
+        go : (digit next : Bool) → u.flag (separators_in part).leading ≡ false → is_open u part digit next ≡ true → digit ≡ true
+        go true next none is = refl
+        go false next none is = absurd (false≢true (sym (rw (none) refl) ∙ is))
+
+  linked_after : (s : Summary) (g : Group) (plus naught : Bool) (r : Role) → Linked s g → s.ended ≡ false → takes u s plus r ≡ true
+      → fits m g (Some r) ≡ true → Linked (after s naught r) (grown g (Some r))
+  linked_after s g plus naught roles.Digit linked going taken fit = record {
+    part = linked.part ∙ sym (digit_part s.stage s.gap naught);
+    sized = λ is. let o = linked.sized is in let more = after_digits s.stage s.gap naught o.digit o.settled in record {
+      going = going;
+      digit = digit_seen s.stage s.gap naught;
+      settled = more.0;
+      gap = grind (arith, nat_tests);
+      run = λ _. more.1;
+      within = let both = and_parts g.separated _ is in let low = below _ _ _ both.0 both.1 fit in grind (arith, nat_tests);
+    };
+  } where
+    below : (separated size small : Bool) → separated ≡ true → size ≡ true → (not size || (not separated || small)) ≡ true → small ≡ true
+    below separated size small one two is = grind arith
+  linked_after s g plus naught roles.Separator linked going taken fit = record {
+    part = linked.part ∙ sym (mark_part s.stage);
+    sized = λ is.
+        let digit = behind_digits (part_of s.stage) s.stage s.gap (ap (has_size m) (sym linked.part) ∙ is) taken in
+        let more = after_separator s.stage digit in record {
+          going = going;
+          digit = more.0;
+          settled = more.1;
+          gap = refl;
+          run = λ closed. absurd (false≢true (sym closed));
+          within = omega arith;
+        };
+  }
+  linked_after s g plus naught roles.Sign linked going taken fit =
+      record { part = linked.part ∙ sym (mark_part s.stage); sized = λ is. absurd (false≢true is) }
+  linked_after s g plus naught roles.Prefix linked going taken fit =
+      record { part = linked.part ∙ bare_part s.stage taken; sized = λ is. absurd (false≢true is) }
+  linked_after s g plus naught roles.Point linked going taken fit =
+      record { part = sym (point_part (has_digit s.stage)); sized = λ is. absurd (false≢true is) }
+  linked_after s g plus naught roles.Exponent linked going taken fit = record { part = refl; sized = λ is. absurd (false≢true is) }
+  linked_after s g plus naught roles.Suffix linked going taken fit = record { part = linked.part; sized = λ is. absurd (false≢true is) }
+
+  fit_of : (f : Bool) (next : Group) (text : List ℕ) (last : Group) → group_after m (if f then Some next else None) text ≡ Some last
+      → (f ≡ true) × (group_after m (Some next) text ≡ Some last)
+  fit_of true next text last is = (refl, is)
+  fit_of false next text last is = absurd (let none = group_none m text in cc)
+
+  linked_all : has_sizes m ≡ true → (s : Summary) (g : Group) (text : List ℕ) (t : Summary) (last : Group) → Linked s g
+      → scan u (Some s) text ≡ Some t → group_after m (Some g) text ≡ Some last → Linked t last
+  linked_all sized s g [] t last linked read grouped =
+      let same : s ≡ t = cc in let also : g ≡ last = cc in subst (λ s. Linked s last) same (subst (Linked s) also linked)
+  linked_all sized s g (b ∷ text) t last linked read grouped =
+      let one = took u.condition u s b (λ o. scan u o text ≡ Some t) (none_after u text t) read in
+      let role = ap (λ part. role_at m part b) linked.part ∙ one.plays in
+      let fit = fit_of (fits m g (Some one.role)) (grown g (Some one.role)) text last (rw (sized, role) at grouped) in
+      linked_all sized (after s (b == 48) one.role) (grown g (Some one.role)) text t last
+      (linked_after s g (b == 43) (b == 48) one.role linked one.going one.taken fit.0) one.rest fit.1
+
+  first_linked : Linked start first_group
+  first_linked = record { part = refl; sized = λ sized. absurd (false≢true sized) }
+
+  -- What has been read is in the part of its last group.
+  pub linked_there : has_sizes m ≡ true → (text : List ℕ) (s : Summary) (g : Group) → scan u (Some start) text ≡ Some s
+      → group_after m (Some first_group) text ≡ Some g → g.part ≡ part_of s.stage
+  linked_there sized text s g read grouped = (linked_all sized start first_group text s g first_linked read grouped).part
+
+  -- FRONTS
+
+  module _ (ready : IsReady u) (sizes : HasSizes m) where
+    h : HasRoles m
+    h = other_roles u m.flag m.condition ready.roles
+
+    -- `Filling text s g` holds if `text` ends in the group `g` behind a separator, of a part that has a size.
+    record Filling (text : List ℕ) (s : Summary) (g : Group) : Type 0 where
+      read : scan u (Some start) text ≡ Some s
+      grouped : group_after m (Some first_group) text ≡ Some g
+      separated : g.separated ≡ true
+      sized : has_size m g.part ≡ true
+
+    some_size : (part : Part) → has_size m part ≡ true → has_sizes m ≡ true
+    some_size parts.Integer is = or_left _ _ is
+    some_size parts.Fraction is = or_right _ _ is
+    some_size parts.Exponent is = absurd (false≢true is)
+
+    module _ (text : List ℕ) (s : Summary) (g : Group) (is : Filling text s g) where
+      linked : Linked s g
+      linked = linked_all (some_size g.part is.sized) start first_group text s g first_linked is.read is.grouped
+
+      opened : Open s g
+      opened = linked.sized (and_from _ _ is.separated is.sized)
+
+      -- One more byte that is taken and fits.
+      one_more : (b : ℕ) (r : Role) → role_at m g.part b ≡ Some r → takes u s (b == 43) r ≡ true → admits u.condition s (b == 43) (b == 48) r ≡ true
+          → follows m g (Some r) ≡ true → (grown g (Some r)).separated ≡ true → (grown g (Some r)).part ≡ g.part
+          → Filling (text ++ b ∷ []) (after s (b == 48) r) (grown g (Some r))
+      one_more b r role taken admitted follow separated part = record {
+        read = scan_append u.condition u (Some start) text (b ∷ []) ∙ ap (λ o. scan u o (b ∷ [])) is.read
+            ∙ moved u.condition u s b r (ap (λ part. role_at m part b) (sym linked.part) ∙ role) opened.going taken admitted;
+        grouped = group_append m (Some first_group) text (b ∷ []) ∙ ap (λ o. group_after m o (b ∷ [])) is.grouped ∙ grows role;
+        separated = separated;
+        sized = ap (has_size m) part ∙ is.sized;
+      } where
+        grows : role_at m g.part b ≡ Some r → grow m g (role_at m g.part b) ≡ Some (grown g (Some r))
+        grows role = rw (some_size g.part is.sized, role, is.sized, follow) refl
+
+      internal : u.flag (separators_in (part_of s.stage)).internal ≡ true
+      internal = same_internal m (part_of s.stage) (sizes.internal (part_of s.stage) (ap (has_size m) (sym linked.part) ∙ is.sized))
+
+      signed : is_signed u (part_of s.stage) s.stage ≡ true
+      signed = or_left _ _ (ap not (old s.stage opened.digit)) where
+        old : (stage : Stage) → has_digit stage ≡ true → is_fresh stage ≡ false
+        old stage digit = grind arith
+
+      follow_run : (stage : Stage) → is_run stage ≡ true → may_follow u stage ≡ true
+      follow_run stage run = grind arith
+
+      follow : may_follow u s.stage ≡ true
+      follow = elim (cases_Bool s.gap) [
+        | inl gap ↦ next (has_digit s.stage) (may_follow u s.stage) opened.digit
+            (no_empty (part_of s.stage) (ap (has_size m) (sym linked.part) ∙ is.sized)).1
+            (rw (gap) at (goes_on_there u ready text s is.read).closes)
+        | inr closed ↦ follow_run s.stage (opened.run closed)
+      ] where
+        next : (digit next : Bool) → digit ≡ true → u.flag (separators_in (part_of s.stage)).trailing ≡ false
+            → is_open u (part_of s.stage) digit next ≡ true → next ≡ true
+        next true true seen none is = refl
+        next true false seen none is = absurd (grind arith)
+        next false more seen none is = absurd (false≢true seen)
+
+      admitted : (plus naught : Bool) (r : Role) → (roles.Sign ≡ r → ⊥) → admits u.condition s plus naught r ≡ true
+      admitted plus naught r other = admits_free u s plus naught r other (free (u.condition conditions.BasePrefix) opened.settled) where
+        free : (set : Bool) → lacks_prefix s.stage ≡ false → not (set && lacks_prefix s.stage) ≡ true
+        free true settled = ap not settled
+        free false settled = refl
+
+      zero_more : nat_lt g.digits (most m g.part) ≡ true → Filling (text ++ 48 ∷ []) (after s true roles.Digit) (grown g (Some roles.Digit))
+      zero_more small = one_more 48 roles.Digit (digit_role m g.part 48 (h.zero_is_digit g.part))
+          (and_from _ _ signed (and_from _ _ (place (has_digit s.stage) s.gap opened.digit) follow))
+          (admitted false true roles.Digit (λ e. cc)) (or_right _ _ small) is.separated refl where
+            place : (digit gap : Bool) → digit ≡ true → gap_fits u (part_of s.stage) digit gap true ≡ true
+            place digit false seen = refl
+            place true true seen = internal
+            place false true seen = absurd (false≢true seen)
+
+      separator_more : s.gap ≡ false → inner_fits m g.part g.digits ≡ true
+          → Filling (text ++ sizes.separator ∷ []) (after s (sizes.separator == 48) roles.Separator) (grown g (Some roles.Separator))
+      separator_more closed fit = one_more sizes.separator roles.Separator
+          (is_role m g.part sizes.separator h roles.Separator (λ e. cc) (sizes.has_separator (some_size g.part is.sized)))
+          (and_from _ _ signed (and_from _ _ (or_left _ _ (ap not closed)) (or_left _ _ (place (has_digit s.stage) opened.digit))))
+          (admitted _ _ roles.Separator (λ e. cc)) (rw (is.separated) fit) refl refl where
+            place : (digit : Bool) → digit ≡ true → (is_place u (part_of s.stage) digit true && may_follow u s.stage) ≡ true
+            place true seen = and_from _ _ internal follow
+            place false seen = absurd (false≢true seen)
+
+    -- `Closable text` has what completes `text` to a literal.
+    abbrev Closable : List ℕ → Type 0
+    Closable text = (more : List ℕ) × (l : Literal) × Reads m l (text ++ more)
+
+    closable_from : (text x : List ℕ) → Closable (text ++ x) → Closable text
+    closable_from text x is = (x ++ is.0, is.1, subst (Reads m is.1) (append_assoc text x is.0) is.2)
+
+    -- So many zeros more, behind which the text can be completed.
+    zeros : (k : ℕ) (text : List ℕ) (s : Summary) (g : Group) → Filling text s g → g.digits + k ≤ most m g.part
+        → ((x : List ℕ) (t : Summary) (last : Group) → Filling x t last → last.part ≡ g.part → last.digits ≡ g.digits + k → Closable x) → Closable text
+    zeros zero text s g is within next = next text s g is refl (omega arith)
+    zeros (suc k) text s g is within next =
+        let small : nat_lt g.digits (most m g.part) ≡ true = let low : g.digits + suc k ≤ most m g.part = within in grind (arith, nat_tests) in
+        closable_from text (48 ∷ []) (zeros k (text ++ 48 ∷ []) (after s true roles.Digit) (grown g (Some roles.Digit)) (zero_more text s g is small)
+        (omega (arith, within)) (λ x t last more part same. next x t last more part (same ∙ omega arith)))
+
+    -- A full group.
+    close : (text : List ℕ) (s : Summary) (g : Group) → Filling text s g → last_fits m g.part g.digits ≡ true → Closable text
+    close text s g is fit =
+        let closed = opened text s g is in
+        let gap : s.gap ≡ false = closed.gap ∙ some g.digits (not_empty m g.part sizes is.sized).2 fit in
+        let end = ended_there u ready text s is.read closed.going gap (closed.run gap) in
+        let more = end.0.more in
+        let found = literal_there u ready text s is.read more end.0.accepts in
+        let full = full_ends g more (or_right _ _ (or_right _ _ fit))
+        (ap (λ part. begins u (m.digit part) more) (linked text s g is).part ∙ end.1) end.0.joined in
+        (more, found.0, as_sized m h sizes found.0 (text ++ more) found.1
+        (ap (ends m) (group_append m (Some first_group) text more ∙ ap (λ o. group_after m o more) is.grouped) ∙ full)) where
+          some : (digits : ℕ) → last_fits m g.part 0 ≡ false → last_fits m g.part digits ≡ true → (digits == 0) ≡ false
+          some zero none fit = absurd (false≢true (sym none ∙ fit))
+          some (suc digits) none fit = grind (arith, nat_tests)
+
+    close_integer : (text : List ℕ) (s : Summary) (g : Group) → Filling text s g → g.part ≡ parts.Integer → Closable text
+    close_integer text s g is part = elim (cases_Bool (nat_le g.digits (m.number conditions.IntegerGroupSize))) [
+      | inl low ↦ last text s g is part low
+      | inr high ↦
+          let within = subst (λ part. g.digits ≤ most m part) part (opened text s g is).within in
+          zeros (higher m - g.digits) text s g is (subst (λ part. g.digits + (higher m - g.digits) ≤ most m part) (sym part) (grind (arith, nat_tests)))
+          (λ x t full more same count.
+          let some : (full.digits == 0) ≡ false = grind (arith, nat_tests) in
+          let fit = subst (λ part. inner_fits m part full.digits ≡ true) (sym (same ∙ part)) (grind (arith, nat_tests)) in
+          closable_from x (sizes.separator ∷ []) (last (x ++ sizes.separator ∷ []) (after t (sizes.separator == 48) roles.Separator)
+          (grown full (Some roles.Separator)) (separator_more x t full more ((opened x t full more).gap ∙ some) fit) (same ∙ part) (grind (arith, nat_tests))))
+    ] where
+      last : (text : List ℕ) (s : Summary) (g : Group) → Filling text s g → g.part ≡ parts.Integer → nat_le g.digits (m.number conditions.IntegerGroupSize) ≡ true
+          → Closable text
+      last text s g is part low =
+          zeros (m.number conditions.IntegerGroupSize - g.digits) text s g is
+          (subst (λ part. g.digits + (m.number conditions.IntegerGroupSize - g.digits) ≤ most m part) (sym part) (grind (arith, nat_tests)))
+          (λ x t full more same count. close x t full more (subst (λ part. last_fits m part full.digits ≡ true) (sym (same ∙ part)) (grind (arith, nat_tests))))
+
+    close_fraction : (text : List ℕ) (s : Summary) (g : Group) → Filling text s g → g.part ≡ parts.Fraction → Closable text
+    close_fraction text s g is part =
+        let size = sizes.fraction (ap (has_size m) (sym part) ∙ is.sized) in
+        let within = subst (λ part. g.digits ≤ most m part) part (opened text s g is).within in
+        elim (cases_Bool (nat_lt 0 g.digits)) [
+          | inl some ↦ close text s g is (subst (λ part. last_fits m part g.digits ≡ true) (sym part) (grind (arith, nat_tests)))
+          | inr none ↦ zeros 1 text s g is (subst (λ part. g.digits + 1 ≤ most m part) (sym part) (grind (arith, nat_tests)))
+              (λ x t full more same count. close x t full more (subst (λ part. last_fits m part full.digits ≡ true) (sym (same ∙ part)) (grind (arith, nat_tests))))
+        ]
+
+    close_group : (text : List ℕ) (s : Summary) (g : Group) (part : Part) → g.part ≡ part → Filling text s g → Closable text
+    close_group text s g parts.Integer part is = close_integer text s g is part
+    close_group text s g parts.Fraction part is = close_fraction text s g is part
+    close_group text s g parts.Exponent part is = absurd (false≢true (sym (ap (has_size m) part) ∙ is.sized))
+
+    -- What has been read, and whose groups fit, is a front.
+    pub front_of : (text : List ℕ) (s : Summary) (g : Group) → scan u (Some start) text ≡ Some s → group_after m (Some first_group) text ≡ Some g
+        → IsFront m text
+    front_of text s g read grouped = let is = completed in record { more = is.0; literal = is.1; reads = is.2 } where
+      completed : Closable text
+      completed = elim (cases_Bool (is_sized g)) [
+        | inl sized ↦ let both = and_parts g.separated _ sized in
+            close_group text s g g.part refl (record { read = read; grouped = grouped; separated = both.0; sized = both.1 })
+        | inr calm ↦
+            let more = completed_there u ready text s read in
+            let found = literal_there u ready text s read more.more more.accepts in
+            (more.more, found.0, as_sized m h sizes found.0 (text ++ more.more) found.1
+            (ap (ends m) (group_append m (Some first_group) text more.more ∙ ap (λ o. group_after m o more.more) grouped)
+            ∙ calm_ends g more.more calm more.joined))
+      ]
+
+    -- A front has been read, and its groups fit.
+    pub front_is_read_of : (text : List ℕ) → IsFront m text → scan u (Some start) text ≡ None → ⊥
+    front_is_read_of text is = front_is_read u ready text (record {
+      more = is.more;
+      literal = is.literal;
+      reads = (as_unsized m h sizes is.literal (text ++ is.more) is.reads).0;
+    })
+
+    pub front_fits : (text : List ℕ) → IsFront m text → group_after m (Some first_group) text ≡ None → ⊥
+    front_fits text is none = false≢true (sym (ap (ends m) (group_append m (Some first_group) text is.more ∙ ap (λ o. group_after m o is.more) none
+        ∙ group_none m is.more)) ∙ (as_unsized m h sizes is.literal (text ++ is.more) is.reads).1)
