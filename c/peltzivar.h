@@ -35,11 +35,12 @@
  * If a call succeeds, a peltzivar_error, a peltzivar_value_status or a peltzivar_write_status is 0, a bool is true, and
  * peltzivar_read_settings returns 0. No function depends on the locale.
  *
- * Each function that ends in _text, and peltzivar_source, write a null-terminated ASCII string to a buffer of len
- * bytes, as snprintf does. If the string and its null terminator do not fit, they write only the beginning of the
- * string and a null terminator. If len is 0, they write nothing. They always return the length of the whole string, not
- * counting the null terminator. A function that returns a const char * returns a null-terminated ASCII string that
- * lasts as long as the program. A string is empty if nothing has the number or index that is passed.
+ * Each function that ends in _text, and peltzivar_source, peltzivar_sentence, peltzivar_grammar and peltzivar_regex,
+ * write a null-terminated ASCII string to a buffer of len bytes, as snprintf does. If the string and its null
+ * terminator do not fit, they write only the beginning of the string and a null terminator. If len is 0, they write
+ * nothing. They always return the length of the whole string, not counting the null terminator. A function that returns
+ * a const char * returns a null-terminated ASCII string that lasts as long as the program. A string is empty if nothing
+ * has the number or index that is passed.
  *
  * An argument that is a word, an edit, a syntax, a number or a byte may have any value. A pointer that is passed with a
  * length must point to an array of at least that many elements, but it may be null if the length is 0. An input array
@@ -86,8 +87,8 @@ typedef uint8_t peltzivar_setter;
 typedef uint32_t peltzivar_error;
 #define PELTZIVAR_NO_SETTER 255
 
-/* The number of fields, and the sizes of buffers for any string of peltzivar_source, and of any other function whose
- * name ends in `_text`. */
+/* The number of fields, and the sizes of buffers for any string of peltzivar_source, peltzivar_sentence,
+ * peltzivar_grammar and peltzivar_regex, and of any function whose name ends in `_text`. */
 #define PELTZIVAR_FIELD_COUNT 37
 #define PELTZIVAR_SOURCE_SIZE 2048
 #define PELTZIVAR_TEXT_SIZE 256
@@ -153,6 +154,15 @@ peltzivar_error peltzivar_check_syntax(const peltzivar_syntax *syntax);
 /* Writes why peltzivar_check_syntax refuses a syntax as a sentence, such as "the exponent character 'e' is a digit in
  * radix 16". If it accepts the syntax, writes an empty string. */
 size_t peltzivar_syntax_error_text(const peltzivar_syntax *syntax, char *text, size_t len);
+
+/* Write a syntax in other words, or an empty string if peltzivar_check_syntax refuses it. The sentence states what
+ * differs from decimal digits with an optional sign, point and exponent, such as "decimal; no `+`; NaN". The grammar is
+ * in the notation of W3C, with a rule a line, and begins with "Literal". The regular expression matches a whole text if
+ * and only if it is a literal. It is the same for Python, JavaScript and Rust, and has at most 500 characters. Both leave
+ * out special values. */
+size_t peltzivar_sentence(const peltzivar_syntax *syntax, char *text, size_t len);
+size_t peltzivar_grammar(const peltzivar_syntax *syntax, char *text, size_t len);
+size_t peltzivar_regex(const peltzivar_syntax *syntax, char *text, size_t len);
 
 /* LITERALS
  *

@@ -385,6 +385,9 @@ _CALLS: Dict[str, Tuple[Any, List[Any]]] = {
     "settings_lines": (c_size_t, [c_char_p, c_size_t, c_size_t, POINTER(c_size_t), c_size_t]),
     "check_syntax": (c_uint32, [POINTER(_Syntax)]),
     "syntax_error_text": (c_size_t, [POINTER(_Syntax), c_char_p, c_size_t]),
+    "sentence": (c_size_t, [POINTER(_Syntax), c_char_p, c_size_t]),
+    "grammar": (c_size_t, [POINTER(_Syntax), c_char_p, c_size_t]),
+    "regex": (c_size_t, [POINTER(_Syntax), c_char_p, c_size_t]),
     "read": (c_bool, [POINTER(_Syntax), c_char_p, c_size_t, POINTER(_Literal), POINTER(_ReadError)]),
     "read_prefix": (c_bool, [POINTER(_Syntax), c_char_p, c_size_t, POINTER(_Literal), POINTER(_ReadError)]),
     "to_i64": (c_uint8, [POINTER(_Literal), POINTER(c_int64)]),
@@ -1541,6 +1544,35 @@ class Syntax:
         """
         literal = _accepted(self, text, _read(self, _library.read_prefix, text))
         return literal, text[len(literal.text) :]
+
+    def sentence(self) -> str:
+        """Returns a sentence that states what differs from decimal digits with an optional sign, point and exponent.
+
+            >>> grouped = Syntax.of(digit_separator="'", integer_internal_digit_separator=True, integer_group_size=3)
+            >>> grouped.sentence()
+            "decimal; `'` between groups of three; NaN"
+        """
+        return _text(_library.sentence, self._by, size=_SOURCE_SIZE)
+
+    def grammar(self) -> str:
+        """Returns a grammar of the literals in the notation of W3C, with a rule a line.
+
+            >>> print(Syntax.integers(Format.of(radix=16, base_prefix="x")).grammar(), end="")
+            Literal  ::= [+-]? Prefix? Integer
+            Integer  ::= Digit+
+            Prefix   ::= "0" [Xx]
+            Digit    ::= [0-9A-Fa-f]
+        """
+        return _text(_library.grammar, self._by, size=_SOURCE_SIZE)
+
+    def regex(self) -> str:
+        """Returns a regular expression for `re.fullmatch`, of at most 500 characters. It matches a text if and only if
+        this is a literal. Special values are left out. JavaScript and Rust take it, too, between `^(?:` and `)$`.
+
+            >>> Syntax.integers(Format.of(radix=16, base_prefix="x")).regex()
+            '[+-]?(?:[0][Xx])?[0-9A-Fa-f]+'
+        """
+        return _text(_library.regex, self._by, size=_SOURCE_SIZE)
 
     def format_number(
         self, value: Union[SupportsIndex, SupportsFloat], *, group: int = 0, without_base: bool = False

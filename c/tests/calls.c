@@ -138,6 +138,9 @@ static void test_syntaxes(void) {
         CHECK(peltzivar_format_i64(refused, 1, NULL, text, sizeof text, NULL) == PELTZIVAR_WRITE_ARGUMENT);
     }
     CHECK(!peltzivar_check_syntax(&integers) && WRITES("", peltzivar_syntax_error_text(&integers, text, sizeof text)));
+    CHECK(WRITES("decimal integers; NaN", peltzivar_sentence(&integers, text, sizeof text)));
+    CHECK(WRITES("[+-]?[0-9]+", peltzivar_regex(&integers, text, sizeof text)) && !peltzivar_regex(&wrong[0], text, sizeof text));
+    CHECK(WRITES("Literal  ::= [+-]? Integer\nInteger  ::= Digit+\nDigit    ::= [0-9]\n", peltzivar_grammar(&integers, text, sizeof text)));
     CHECK(peltzivar_read(&integers, "1", 1, &literal, &error) && literal.form == 0 && !peltzivar_read(&integers, "1.", 2, NULL, NULL));
     CHECK(!peltzivar_read(&integers, "1.", 2, NULL, &error) && error.form == 0 && sizeof error.form == sizeof literal.form);
     CHECK(!peltzivar_read(&integers, "1", SIZE_MAX, NULL, &error) && !peltzivar_explain(&error, &why) && why.code == 6);

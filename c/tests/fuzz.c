@@ -122,6 +122,13 @@ static bool draw_syntax(peltzivar_word word, peltzivar_syntax *syntax) {
     const bool is_lawful = !peltzivar_check_syntax(syntax);
     WRITE(peltzivar_syntax_error_text, syntax);
     CHECK(!*text == is_lawful);
+    if (draw() % 16) return is_lawful;
+    WRITE(peltzivar_sentence, syntax);
+    CHECK(!*text != is_lawful);
+    WRITE(peltzivar_grammar, syntax);
+    CHECK(!*text != is_lawful);
+    WRITE(peltzivar_regex, syntax);
+    CHECK(!*text != is_lawful && strlen(text) <= 500);
     return is_lawful;
 }
 

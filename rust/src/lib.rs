@@ -21,6 +21,7 @@
 //! | read numbers of a format | its [`Syntax`][literal::Syntax]; [`Specials`][literal::Specials] for NaN and infinity |
 //! | compute values | [`Syntax::parse`][literal::Syntax::parse], and `try_from` of an integer type, `f64` or `f32` |
 //! | report why a text is not a number | [`ReadError`][literal::ReadError] |
+//! | describe a format to users | [`sentence`][literal::Syntax::sentence], [`grammar`][literal::Syntax::grammar] and [`regex`][literal::Syntax::regex] of its `Syntax` |
 //! | write numbers | [`Syntax::format_integer`][literal::Syntax::format_integer], [`Syntax::format_literal`][literal::Syntax::format_literal] |
 //! | write a reader of your own | [`FormatView::is_separator`], [`separators`][FormatView::separators], [`role_of`][FormatView::role_of] |
 //! | read the fields of any word, lawful or not | [`FormatView`]; [`NumberFormat`] for a word that is known at compile time |
@@ -60,9 +61,10 @@
 //! `text`, `Display`, `FromStr` and `Debug`), absent bytes as `None`, the getters of [`Format`], which call those of its
 //! view, [`Literal`][literal::Literal] around the parts that the proved code finds, `parse`, `try_from`, `to_i64` and
 //! `to_f64` around the conversions that are proved, `is_incomplete`, `span`, `settings` and `text` of
-//! [`ReadError`][literal::ReadError], the methods that panic, and the tests of slices in [`ascii`]. A build of this crate
-//! proves nothing. You trust the program that generated the files, the handwritten parts, `rustc`, and for decimal floats
-//! the standard library's `parse`, whose counterpart in Rattle is proved.
+//! [`ReadError`][literal::ReadError], `sentence`, `grammar` and `regex` of a [`Syntax`][literal::Syntax], the methods that
+//! panic, and the tests of slices in [`ascii`]. A build of this crate proves nothing. You trust the program that generated
+//! the files, the handwritten parts, `rustc`, and for decimal floats the standard library's `parse`, whose counterpart in
+//! Rattle is proved.
 #![no_std]
 #![forbid(unsafe_code)]
 

@@ -57,6 +57,7 @@ mod groups;
 mod language;
 #[allow(clippy::len_zero, reason = "as it is proved")]
 mod list;
+mod notation;
 mod number;
 mod plain;
 #[allow(clippy::needless_lifetimes, dead_code, reason = "as it is proved")]

@@ -564,6 +564,9 @@ const _: () = { fn call(it: &'static Readers<'static>, text: &'static (impl AsRe
 const _: () = { fn call(it: &'static Settings) -> Result<Syntax, FormatError> { <Settings>::build_syntax(it) } };
 const _: () = { fn call(it: &'static Settings) -> impl Iterator<Item = Finding> + Clone + 'static { <Settings>::notes(it) } };
 const _: () = { fn call(it: &'static Settings) -> impl Iterator<Item = Finding> + Clone + 'static { <Settings>::reasons(it) } };
+const _: () = { fn call(it: &'static Syntax) -> impl Display { <Syntax>::grammar(it) } };
+const _: () = { fn call(it: &'static Syntax) -> impl Display { <Syntax>::regex(it) } };
+const _: () = { fn call(it: &'static Syntax) -> impl Display { <Syntax>::sentence(it) } };
 const _: () = { fn call(it: &'static Syntax, literal: &'static Literal<'static>, style: Style) -> Result<Written<'static>, WriteError> { <Syntax>::format_literal(it, literal, style) } };
 const _: () = { fn call(it: &'static Syntax, text: &'static (impl AsRef<[u8]> + ?Sized)) -> Result<(Literal<'static>, &'static [u8]), ReadError> { <Syntax>::read_prefix(it, text) } };
 const _: () = { fn call(it: &'static Syntax, text: &'static (impl AsRef<[u8]> + ?Sized)) -> Result<Literal<'static>, ReadError> { <Syntax>::read(it, text) } };

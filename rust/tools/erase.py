@@ -92,6 +92,7 @@ REPLACED = [
     # Calls with these names are written by hand: they return a byte, a `Literal` or a range.
     ("syntax.rt", "pub const fn options(&self)", "pub(crate) const fn options(&self)"),
     ("cause.rt", "pub const fn span(&self)", "#[doc(hidden)] pub const fn bounds(&self)"),
+    ("syntax.rt", "pub(crate) const fn grammar(&self)", "pub(crate) const fn as_grammar(&self)"),
 ]
 
 # Files in which each function is const in plain Rust. Rattle's `split_at` is not, nor is what calls it.
@@ -99,6 +100,7 @@ CONST = ("read.rt", "list.rt", "span.rt")
 
 # Texts that plain Rust replaces in every file, wherever they occur.
 EVERYWHERE = [
+    (".grammar()", ".as_grammar()"),
     ("fn fmt<W: fmt::Write>(&self, f: &mut fmt::Formatter<W>)", "fn fmt(&self, f: &mut fmt::Formatter<'_>)"),
     ("rattlefmt::skip", "rustfmt::skip"),
 ]

@@ -270,6 +270,18 @@ calls! {
         write_text(text, len, Syntax::checked(syntax).err())
     }
 
+    fn peltzivar_sentence(syntax: Option<&Syntax>, text: *mut u8, len: usize) -> usize {
+        write_text(text, len, Syntax::checked(syntax).ok().map(|it| it.sentence()))
+    }
+
+    fn peltzivar_grammar(syntax: Option<&Syntax>, text: *mut u8, len: usize) -> usize {
+        write_text(text, len, Syntax::checked(syntax).ok().map(|it| it.grammar()))
+    }
+
+    fn peltzivar_regex(syntax: Option<&Syntax>, text: *mut u8, len: usize) -> usize {
+        write_text(text, len, Syntax::checked(syntax).ok().map(|it| it.regex()))
+    }
+
     fn peltzivar_read(
         syntax: Option<&Syntax>, text: *const u8, len: usize, literal: Out<Literal>, error: Out<ReadError>
     ) -> bool {

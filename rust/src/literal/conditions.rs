@@ -121,7 +121,7 @@ impl Conditions {
 impl Syntax {
     /// Returns why the format contradicts each of `conditions` that it contradicts. `with_conditions` returns the first.
     pub fn contradictions(self, conditions: Conditions) -> impl Iterator<Item = ConditionsError> + Clone {
-        CONDITIONS.into_iter().filter_map(move |it| fault(self.grammar(), conditions, it))
+        CONDITIONS.into_iter().filter_map(move |it| fault(self.as_grammar(), conditions, it))
     }
 
     /// Returns the syntax that [`with_conditions`][Self::with_conditions] returns, for constants.

@@ -63,7 +63,7 @@ impl<'a> Specials<'a> {
     /// A text can be both a literal and a special value, such as `inf` in radix 36.
     #[must_use]
     pub const fn read(&self, syntax: &Syntax, text: &[u8]) -> Option<Special> {
-        let grammar = syntax.grammar();
+        let grammar = syntax.as_grammar();
         let (sign, rest) = split_sign(text);
         if !allows(grammar, sign) {
             return None;

@@ -203,7 +203,7 @@ impl Syntax {
     ///
     /// If the format contradicts the conditions, returns the error of the first that it contradicts.
     pub const fn with_conditions(self, conditions: Conditions) -> Result<Syntax, ConditionsError> {
-        match contradiction(self.grammar(), conditions) {
+        match contradiction(self.as_grammar(), conditions) {
             None => Ok(Syntax { format: self.format, options: self.options, conditions }),
             Some(error) => Err(error),
         }
@@ -230,7 +230,7 @@ impl Syntax {
     /// Returns the only role of `byte`, or `None` if it plays no role.
     #[must_use]
     pub const fn role_of(&self, byte: u8) -> Option<Role> {
-        let grammar = self.grammar();
+        let grammar = self.as_grammar();
         match role_at(grammar, Part::Integer, byte) {
             None => role_at(grammar, Part::Exponent, byte),
             role => role,
@@ -238,7 +238,7 @@ impl Syntax {
     }
 
     // Returns the format, the options and the conditions.
-    pub(crate) const fn grammar(&self) -> Grammar {
+    pub(crate) const fn as_grammar(&self) -> Grammar {
         Grammar { word: self.format.word(), options: self.options, conditions: self.conditions }
     }
 }

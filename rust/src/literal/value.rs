@@ -339,7 +339,7 @@ impl Syntax {
     /// are both 10 or both powers of two. Where this is true, [`Literal::to_f64`] returns no error.
     #[must_use]
     pub const fn supports_floats(&self) -> bool {
-        float::supports_floats(self.grammar().view())
+        float::supports_floats(self.as_grammar().view())
     }
 }
 

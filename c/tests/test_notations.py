@@ -1,0 +1,300 @@
+"""Tests the regular expressions and the grammars of syntaxes: they have the texts that the library reads, and no others.
+
+`make -C c check` compares a tenth of the texts. This compares all of them, and prints how many, in some five minutes:
+
+    EVERY=1 PELTZIVAR_LIBRARY=.. python3 c/tests/test_notations.py
+"""
+import itertools
+import json
+import os
+import pathlib
+import random
+import re
+import shutil
+import subprocess
+import sys
+import time
+import unittest
+
+TESTS = pathlib.Path(__file__).resolve().parent
+TOP = TESTS.parent.parent
+sys.path.insert(0, str(TESTS.parent))
+import peltzivar
+from peltzivar import Language, Syntax
+
+EVERY = "EVERY" in os.environ
+READ = peltzivar._library.read
+FLAGS = re.findall(r"^\| \d+ \| `(\w+)` \| (true|false) \|", (TOP / "docs/FORMAT.md").read_text(), re.M)
+ROWS = re.findall(r"^\w+ [+-]!? +(\S+)", (TOP / "rust/tests/literals.txt").read_text(), re.M)
+FORMS = [form for language in Language for form in language.forms.values()]
+# What a regular expression may have, and the words of a grammar.
+PIECES = r"(?:\[(?:\\[tnvfr\\\]\[^]|[^\\\]\[^])+\]|\(\?:|\)|[?*+|]|\{\d(?:,\d)?\})*"
+WORD = r"\[.*?\]|\"[^\"]*\"|'[^']*'|#x\w+|\w+|."
+# All kinds of a byte, of which the last are not visible or have to be escaped.
+BYTES = "_',.~eExXhHpPzZ#&-\"`/ \\[]^\t\n\v\f\r"
+
+# For settings, what the sentence has beside "decimal" and "NaN", or lacks. All bytes that they need are set.
+PHRASES = {
+    "required_integer_digits=true": ["digits required before `.`"],
+    "required_fraction_digits=true": ["digits required after `.`"],
+    "required_exponent_digits=false": ["digits optional after `e`"],
+    "required_mantissa_digits=false": ["mantissa digits optional"],
+    "required_mantissa_digits=false required_integer_digits=true": ["digits required before `.`"],
+    "no_positive_mantissa_sign=true": ["no `+`"],
+    "required_mantissa_sign=true": ["sign required"],
+    "no_exponent_notation=true": ["no exponent"],
+    "no_positive_exponent_sign=true": ["no `+` after `e`"],
+    "required_exponent_sign=true": ["sign required after `e`"],
+    "no_exponent_without_fraction=true": ["no exponent without `.`"],
+    "no_special=true": ["NaN"],
+    "case_sensitive_special=true": ["NaN", "case-sensitive NaN"],
+    "no_integer_leading_zeros=true": ["no leading zeros in integers"],
+    "no_float_leading_zeros=true": ["no leading zeros in floats"],
+    "no_integer_leading_zeros=true no_float_leading_zeros=true": ["no leading zeros"],
+    "no_integer_leading_zeros=true required_exponent_notation=true": ["exponent required"],
+    "required_exponent_notation=true": ["exponent required"],
+    "case_sensitive_exponent=true": ["no `E`"],
+    "case_sensitive_exponent=true exponent=94": ["exponent `^`"],
+    "case_sensitive_base_prefix=true base_prefix='x'": ["optional prefix `0x`", "no `0X`"],
+    "case_sensitive_base_suffix=true base_suffix='H'": ["optional suffix `H`", "no `h`"],
+    "integer_internal_digit_separator=true": ["`_` between digits in the integer"],
+    "fraction_internal_digit_separator=true": ["`_` between digits in the fraction"],
+    "exponent_internal_digit_separator=true": ["`_` between digits in the exponent"],
+    "internal_digit_separator=true": ["`_` between digits"],
+    "internal_digit_separator=true no_exponent_notation=true": ["`_` between digits", "no exponent"],
+    "integer_leading_digit_separator=true": ["`_` before digits in the integer"],
+    "fraction_leading_digit_separator=true": ["`_` before digits in the fraction"],
+    "exponent_leading_digit_separator=true": ["`_` before digits in the exponent"],
+    "integer_trailing_digit_separator=true": ["`_` after digits in the integer"],
+    "fraction_trailing_digit_separator=true": ["`_` after digits in the fraction"],
+    "exponent_trailing_digit_separator=true": ["`_` after digits in the exponent"],
+    "leading_digit_separator=true integer_consecutive_digit_separator=true": ["`_` before digits", "several `_` in a row in the integer"],
+    "leading_digit_separator=true fraction_consecutive_digit_separator=true": ["`_` before digits", "several `_` in a row in the fraction"],
+    "leading_digit_separator=true exponent_consecutive_digit_separator=true": ["`_` before digits", "several `_` in a row in the exponent"],
+    "special_digit_separator=true": ["`_` in NaN"],
+    "mantissa_radix=16 exponent='p'": ["decimal", "hexadecimal", "exponent `p`", "exponent base 16", "hexadecimal exponent digits"],
+    "mantissa_radix=2 exponent_base=2 exponent_radix=10 base_suffix='b'": ["decimal", "binary", "optional suffix `b`", "exponent base 2"],
+    "mantissa_radix=12 exponent=none point=none": ["decimal", "radix-12 integers"],
+    "point=','": ["point `,`"],
+    "point=9 digit_separator=96 integer_internal_digit_separator=true": ["point `byte 9`", "`byte 96` between digits in the integer"],
+    "base_prefix='b' required_base_prefix=true no_integer_leading_zeros=true": ["prefix `0b`"],
+    "base_suffix='h' required_base_suffix=true": ["suffix `h`"],
+    "no_negative_mantissa_sign=true": ["no `-`"],
+    "internal_digit_separator=true integer_group_size=4": ["`_` between groups of four", "`_` between digits in the fraction and the exponent"],
+    "integer_internal_digit_separator=true integer_group_size=3 higher_group_size=2": ["`_` between groups of two and a last one of three"],
+    "fraction_internal_digit_separator=true fraction_group_size=5": ["`_` between groups of five in the fraction"],
+    "fraction_internal_digit_separator=true fraction_group_size=5 exponent=none point=none": ["decimal", "decimal integers"],
+}
+
+
+def changes():
+    """Yields settings that change a flag, or add a condition. A separator in a row needs a place."""
+    for name, default in FLAGS:
+        part = name.partition("_consecutive_digit_separator")[0]
+        yield {name: default == "false"} if part == name else {f"{part}_digit_separator_flags": True}
+    for name in peltzivar._CONDITIONS:
+        part = name.partition("_group_size")[0].replace("higher", "integer")
+        sizes = {"integer_group_size": 2} if name.startswith("higher") else {}
+        for size in (2, 3):
+            yield {**sizes, name: size, f"{part}_internal_digit_separator": True} if "size" in name else {name: True}
+
+
+def syntax_of(**fields):
+    """Returns a syntax with all bytes, or None if it would not be lawful."""
+    if any("separator" in name for name in fields):
+        fields.setdefault("digit_separator", "_")
+    try:
+        return Syntax.of(**{"base_prefix": "x", "base_suffix": "h", **fields})
+    except ValueError:
+        return None
+
+
+def grammar_regex(grammar):
+    """Returns a regular expression for the first rule of a grammar in the notation of W3C."""
+    rows = [re.fullmatch(r"(\w+) +::= (.*)", line).groups() for line in grammar.splitlines()]
+    rules = dict(rows)
+    used = {"Literal"}
+
+    def translated(word):
+        if word in rules:
+            used.add(word)
+            return f"(?:{expression(word)})"
+        text = chr(int(word[2:], 16)) if word.startswith("#x") else word[1:-1] if word[0] in "\"'" else None
+        return word.strip() if text is None else re.escape(text)
+
+    def expression(name):
+        return "".join(map(translated, re.findall(WORD, rules[name])))
+
+    found = expression("Literal")
+    assert sorted(used) == sorted(name for name, _ in rows) and rows[0][0] == "Literal", grammar
+    return found
+
+
+class Texts:
+    """The ways to decide whether a text is a literal of a syntax."""
+
+    compared = accepted = 0
+
+    def __init__(self, syntax, has_grammar=True):
+        regex, self.syntax = syntax.regex(), syntax
+        assert re.fullmatch(PIECES, regex) and len(regex) <= 500, regex
+        self.notations = [regex, grammar_regex(syntax.grammar())][: 1 + has_grammar]
+        self.matches = [re.compile(it.encode()).fullmatch for it in self.notations]
+
+    def reads(self, text):
+        return READ(self.syntax._by, text, len(text), None, None)
+
+    def compare(self, texts):
+        by, matches = self.syntax._by, self.matches
+        for text in texts:
+            is_literal = READ(by, text, len(text), None, None)
+            Texts.compared += 1
+            Texts.accepted += is_literal
+            for matches_all in matches:
+                if (matches_all(text) is not None) != is_literal:
+                    raise AssertionError(f"{text} {is_literal} {self.syntax} {self.notations}")
+
+
+def all_texts(alphabet, size):
+    return (bytes(it) for length in range(size + 1) for it in itertools.product(alphabet, repeat=length))
+
+
+def random_syntax(at):
+    """Returns a lawful syntax whose fields are chosen by chance."""
+    while True:
+        fields = {name: at.random() < 0.2 for name, _ in FLAGS if not name.startswith("no_special")}
+        parts = ("integer", "fraction", "exponent")
+        fields.update({f"{it}_digit_separator_flags": True for it in parts if at.random() < 0.3})
+        fields.update(dict(zip(("digit_separator", "base_prefix", "base_suffix", "exponent", "point"), at.sample(BYTES, 5))))
+        fields["mantissa_radix"], fields["exponent_radix"] = at.choice([2, 8, 10, 10, 11, 16, 36]), at.choice([0, 10, 16])
+        for change in at.sample(CONDITIONS, at.choice([0, 0, 1, 2])):
+            fields.update({name: it if it is True else at.choice([2, 3, 4]) for name, it in change.items()})
+        syntax = syntax_of(**fields)
+        if syntax:
+            return syntax
+
+
+def random_text(syntax, at):
+    """Returns a text like a literal, with one change or none."""
+    format, sizes = syntax.format, [getattr(syntax, it) for it in peltzivar._CONDITIONS if "size" in it]
+    separator = format.digit_separator or ""
+
+    def run(radix):
+        digits = "".join(at.choice("0001" + "123456789abcdefghijklmnopqrstuvwxyzABCDEF"[: radix - 1]) for _ in range(at.choice([0, 1, 1, 2, 3, 4, 8])))
+        kind, size = at.random(), at.choice([*filter(None, sizes), 3])
+        if kind < 0.3:
+            return separator.join(digits[max(0, end - size) : end] for end in range(len(digits) % size or size, len(digits) + size, size))
+        if kind < 0.4:
+            return separator.join(digits[start : start + size] for start in range(0, len(digits), size))
+        return "".join(it + separator * (at.random() < 0.1) for it in ["", *digits]) if kind < 0.7 else digits
+
+    def maybe(*pieces):
+        return "".join(pieces) * (at.random() < 0.6)
+
+    sign, prefix, mark = at.choice(["", "", "+", "-"]), format.base_prefix or "", syntax.exponent or ""
+    prefix = maybe("0", at.choice([prefix.lower(), prefix.upper(), prefix])) if prefix else ""
+    exponent = maybe(at.choice([mark, mark, mark.swapcase()]), at.choice(["", "+", "-"]), run(format.exponent_radix))
+    suffix = maybe(at.choice([format.base_suffix or "", (format.base_suffix or "").swapcase()]))
+    text = sign + prefix + run(format.mantissa_radix) + maybe(syntax.point or "", run(format.mantissa_radix)) + exponent + suffix
+    place, other = at.randrange(len(text) + 1), at.choice(["", "0", "1", "+", "-", separator, prefix[1:], syntax.point or "", mark, "\0"])
+    return (text if at.random() < 0.5 else text[:place] + other + text[place + at.choice([0, 1]) :]).encode()
+
+
+ALPHABETS = b"01+.e_xh", b"01-.E_XH"
+CHANGES = [*changes()]
+CONDITIONS = CHANGES[len(FLAGS) :]
+
+
+class Notations(unittest.TestCase):
+    def tearDown(self):
+        if EVERY:
+            print(f"{self.id()}: {Texts.compared} texts, of which {Texts.accepted} are literals")
+        Texts.compared = Texts.accepted = 0
+
+    def test_all_texts_of_up_to_six_bytes_for_each_flag_and_condition(self):
+        for change in CHANGES:
+            texts = Texts(syntax_of(**change), False)
+            texts.compare(itertools.chain(*(all_texts(it, 6 if EVERY else 5) for it in ALPHABETS)))
+
+    def test_all_texts_of_up_to_four_bytes_for_pairs(self):
+        for one, other in itertools.combinations(CHANGES, 2):
+            if syntax := syntax_of(**one | other):
+                Texts(syntax).compare(itertools.chain(*(all_texts(it, 4 if EVERY else 3) for it in ALPHABETS)))
+
+    def test_integers_alone(self):
+        for change in CHANGES:
+            if syntax := syntax_of(**change, exponent=None, point=None):
+                Texts(syntax).compare(all_texts(b"012+-_xh", 5 if EVERY else 4))
+
+    def test_changed_literals_a_third_of_which_is_accepted(self):
+        at, count = random.Random(1), 100_000 if EVERY else 10_000
+        while Texts.compared < count:
+            texts = Texts(random_syntax(at))
+            found = [random_text(texts.syntax, at) for _ in range(300)]
+            literals = [it for it in found if texts.reads(it)]
+            texts.compare(literals + [it for it in found if not texts.reads(it)][: 2 * len(literals)])
+        self.assertGreaterEqual(3 * Texts.accepted, Texts.compared)
+
+    def test_forms_of_languages(self):
+        at = random.Random(2)
+        for syntax in FORMS:
+            texts = [it.encode() for it in ROWS] + [random_text(syntax, at) for _ in range(1000 if EVERY else 100)]
+            Texts(syntax).compare(texts)
+
+    def test_sentences_state_each_difference(self):
+        for settings, phrases in PHRASES.items():
+            lines = settings.split()
+            separator = ["digit_separator=95"] * ("digit_separator=true" in settings and "digit_separator=96" not in settings)
+            sentence = Syntax.of(*lines, *separator).sentence()
+            self.assertEqual({*sentence.split("; ")} ^ {"decimal", "NaN"}, {*phrases}, settings)
+        self.assertEqual([it for it, _ in FLAGS if f"{it}=" not in " ".join(PHRASES)], [])
+        flags = ("no_integer_leading_zeros", "no_positive_mantissa_sign", "integer_internal_digit_separator")
+        syntax = Syntax.of(digit_separator="'", integer_group_size=3, **dict.fromkeys(flags, True))
+        self.assertEqual(syntax.sentence(), "decimal; `'` between groups of three; no `+`; NaN; no leading zeros in integers")
+
+    @unittest.skipUnless(shutil.which("node"), "node is missing")
+    def test_javascript_matches_the_same_texts(self):
+        at = random.Random(3)
+        syntaxes = FORMS + [random_syntax(at) for _ in range(1000 if EVERY else 100)]
+        rows = [(it, [random_text(it, at) for _ in range(100)]) for it in syntaxes]
+        code = "console.log(JSON.stringify(JSON.parse(require('fs').readFileSync(0)).map(([it, texts]) => texts.map("
+        code += "text => +new RegExp(`^(?:${it})$`).test(text)))))"
+        text = json.dumps([(it.regex(), [text.decode() for text in texts]) for it, texts in rows])
+        found = json.loads(subprocess.run(["node", "-e", code], input=text, capture_output=True, text=True, check=True).stdout)
+        for (syntax, texts), answers in zip(rows, found):
+            self.assertEqual(answers, [*map(Texts(syntax, False).reads, texts)], syntax)
+
+    def test_no_regular_expression_has_more_than_500_characters(self):
+        places = ("digit_separator_flags", "internal_digit_separator")
+        flags = [it for it, _ in FLAGS if "separator" not in it and "special" not in it and "case" not in it]
+        sizes = {it: 8 - ("higher" in it) for it in peltzivar._CONDITIONS if "size" in it}
+        longest = 0
+        for values in itertools.product((False, True), repeat=len(flags)):
+            if not EVERY and sum(values) > 3:
+                continue
+            fields = dict(zip(flags, values))
+            for bytes, radix in ((("\\", "]", "[", "^", "\t"), 36), (("\\", "x", "h", "p", "^"), 33 - 9)):
+                names = ("digit_separator", "base_prefix", "base_suffix", "exponent", "point")
+                for more in ({}, sizes):
+                    syntax = syntax_of(**fields, **dict(zip(names, bytes)), digit_separator_flags=True, mantissa_radix=radix, **more)
+                    longest = max(longest, len(syntax.regex()) if syntax else 0)
+        if EVERY:
+            print(longest)
+        self.assertLessEqual(longest, 500)
+
+    def test_time_grows_with_the_length_alone(self):
+        def seconds(match, text):
+            start = time.process_time()
+            self.assertIsNone(match(text))
+            return time.process_time() - start
+
+        for syntax in {*FORMS[:: 1 if EVERY else 5], *map(lambda it: syntax_of(**it), CHANGES)}:
+            match, separator = re.compile(syntax.regex().encode()).fullmatch, (syntax.format.digit_separator or "").encode()
+            for digits in (b"1", b"0", b"1" + separator, b"111" + separator):
+                short, long = (digits * (count // len(digits)) + b"\0" for count in (50_000, 100_000))
+                times = (seconds(match, long) <= 3 * seconds(match, short) for _ in range(9))
+                self.assertTrue(any(times), syntax.regex())
+
+
+if __name__ == "__main__":
+    unittest.main(verbosity=2)

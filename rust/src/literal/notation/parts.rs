@@ -1,0 +1,114 @@
+//! The parts of a literal as expressions.
+
+use super::expression::{Expression, Pool};
+use crate::literal::steps::{self, allows_minus, allows_plus, is_digit, is_separator, needs_exponent};
+use crate::literal::syntax::{Condition, Conditions, Grammar};
+use crate::word::Part;
+
+/// Returns the sizes of the last group of the integer, of its others, and of those of the fraction. None is 0.
+pub(super) fn group_sizes(conditions: Conditions) -> [u8; 3] {
+    let sizes = [Condition::IntegerGroupSize, Condition::HigherGroupSize, Condition::FractionGroupSize];
+    let [last, higher, fraction] = sizes.map(|it| conditions.number(it));
+    [last, if higher == 0 { last } else { higher }, fraction]
+}
+
+/// Returns whether leading zeros are forbidden in integers, and whether in floats. Both are the same if no literal is
+/// an integer, or none a float.
+pub(super) fn leading_zeros(grammar: Grammar) -> [bool; 2] {
+    let flags = [grammar.view().no_integer_leading_zeros(), grammar.view().no_float_leading_zeros()];
+    let [integers, floats] = flags.map(|is_set| is_set && !grammar.conditions.has(Condition::BasePrefix));
+    match grammar.options {
+        None => [integers, integers],
+        Some(_) if needs_exponent(grammar) => [floats, floats],
+        Some(_) => [integers, floats],
+    }
+}
+
+/// Returns the literals.
+pub(super) fn literal(pool: &Pool, grammar: Grammar) -> Expression<'_> {
+    let (view, conditions, is_float) = (grammar.view(), grammar.conditions, grammar.options.is_some());
+    let has_exponent = is_float && !view.no_exponent_notation();
+    let sign =
+        |part| pool.byte(|it| it == b'+' && allows_plus(grammar, part) || it == b'-' && allows_minus(grammar, part));
+    let digit = pool.byte(|it| is_digit(grammar, Part::Integer, it)).named("Digit");
+    let exponent_digit = match view.exponent_radix() == view.mantissa_radix() {
+        true => digit,
+        false => pool.byte(|it| is_digit(grammar, Part::Exponent, it)).when(has_exponent).named("ExponentDigit"),
+    };
+    let mark = pool.byte(|it| steps::is_exponent_character(grammar, it)).when(has_exponent);
+    let prefix = (pool.byte(|it| it == b'0') + pool.byte(|it| view.is_base_prefix(it))).named("Prefix");
+    let front = prefix.required(conditions.has(Condition::BasePrefix));
+    let [exponent, ..] = runs(pool, grammar, Part::Exponent, [prefix, exponent_digit]);
+    let exponent = sign(Part::Exponent).required(view.required_exponent_sign())
+        + exponent.required(view.required_exponent_digits());
+    let exponent = (mark + exponent).named("Exponent");
+    let [fraction, ..] = runs(pool, grammar, Part::Fraction, [prefix, digit]);
+    let fraction = fraction.when(is_float).named("Fraction");
+    let point = pool.byte(|it| steps::is_point(grammar, it));
+    let [integer, strict, led] = runs(pool, grammar, Part::Integer, [prefix, digit]);
+    let number = match leading_zeros(grammar) {
+        [false, false] => front + numbers(grammar, [front.times(0, Some(0)), integer, point, fraction, exponent]),
+        [true, false] => front + floats(grammar, [integer, point, fraction, exponent]) | strict,
+        [zeros, true] => numbers(grammar, [front, strict, point, fraction, exponent]) | led.when(!zeros),
+    };
+    let suffix = pool.byte(|it| view.is_base_suffix(it)).required(conditions.has(Condition::BaseSuffix));
+    sign(Part::Integer).required(view.required_mantissa_sign()) + number + suffix
+}
+
+/// Returns the digits of a part with its separators, those without a leading zero or behind the prefix, and those with
+/// a leading zero.
+fn runs<'a>(pool: &'a Pool, grammar: Grammar, part: Part, [prefix, digit]: [Expression<'a>; 2]) -> [Expression<'a>; 3] {
+    let separator = pool.byte(|it| is_separator(grammar, it));
+    let exactly = |size| digit.times(size, Some(size));
+    // What is in groups, and what is behind its first digit.
+    let groups = match (part, group_sizes(grammar.conditions)) {
+        (Part::Integer, [last @ 1..=u8::MAX, higher, _]) => {
+            let [lowest, others] = [last, higher].map(|size| separator + exactly(size));
+            let behind = if last == higher { lowest.times(1, None) } else { others.times(0, None) + lowest };
+            Some([digit.times(1, Some(higher)) + behind, digit.times(0, Some(higher - 1)) + behind])
+        }
+        (Part::Fraction, [.., size @ 1..=u8::MAX]) => {
+            Some([(exactly(size) + separator).times(1, None) + digit.times(1, Some(size)); 2])
+        }
+        _ => None,
+    };
+    let allowed = grammar.view().separators(part);
+    let some = if allowed.consecutive { separator.times(1, None) } else { separator };
+    let [before, between, after] = [allowed.leading, allowed.internal, allowed.trailing]
+        .map(|is_allowed| some.when(is_allowed && groups.is_none()));
+    let (before, after) = (before.required(false), after.required(false));
+    let [whole, rest] = groups.unwrap_or([digit.when(false); 2]);
+    let digits = |least| digit.times(least, None) + (between + digit.times(1, None)).times(0, None);
+    let zero = before + pool.byte(|it| it == b'0');
+    let first = prefix + before + digit | before + pool.byte(|it| it != b'0' && is_digit(grammar, part, it));
+    let led = zero + between.required(false) + (digits(1) | rest) + after;
+    [before + (digits(1) | whole) + after, (first + (digits(0) | rest) | zero) + after, led]
+}
+
+/// Returns the numbers whose integer is `integer`, and the floats that have none behind `front`.
+fn numbers<'a>(grammar: Grammar, [front, integer, point, fraction, exponent]: [Expression<'a>; 5]) -> Expression<'a> {
+    let (view, needs_exponent) = (grammar.view(), needs_exponent(grammar));
+    let (needs_point, needs_digits) = (view.no_exponent_without_fraction(), view.required_mantissa_digits());
+    let exponents = exponent.required(needs_exponent);
+    let none = exponents.times(0, Some(0));
+    let (after_point, at_end) = if needs_point { (exponents, none) } else { (none, exponents) };
+    let fractions = fraction.required(view.required_fraction_digits());
+    let alone = if needs_digits { fraction } else { fractions };
+    let rest = (point + fractions + after_point).required(needs_exponent && needs_point);
+    let no_integer = (front + point + alone + after_point).when(!view.required_integer_digits());
+    let no_digits = (front + exponent).when(!view.required_integer_digits() && !needs_digits && !needs_point);
+    (integer.named("Integer") + rest | no_integer) + at_end | no_digits
+}
+
+/// Returns the floats without the prefix, if they may have leading zeros.
+fn floats<'a>(grammar: Grammar, [integer, point, fraction, exponent]: [Expression<'a>; 4]) -> Expression<'a> {
+    let (view, integer) = (grammar.view(), integer.named("Integer"));
+    let no_digit = point.when(!view.required_fraction_digits());
+    let no_fraction = match view.no_exponent_without_fraction() {
+        true => no_digit + exponent.required(false),
+        false => no_digit | no_digit.required(false) + exponent,
+    };
+    let any = integer.required(view.required_integer_digits());
+    let some = integer.required(view.required_integer_digits() || view.required_mantissa_digits());
+    any + point + fraction + exponent.required(false) | some + no_fraction
+}
