@@ -1,44 +1,46 @@
 //! The value of a literal as a value of a float type.
 
-ghost use Rattle.std.specs.Prelude.{ℕ, ◌≡◌, ◌↔◌, ◌||◌, false, IfErr, IfOk, IfSome, IsOk, IsSome, IsTrue};
+ghost use Rattle.std.specs.Prelude.{ℕ, ◌≡◌, ◌↔◌, ◌≤◌, ◌^◌, ◌||◌, false, min, IfErr, IfOk, IfSome, IsOk, IsSome, IsTrue};
 ghost use Rattle.std.specs.Float.{NotNan};
 ghost use Rattle.std.specs.Float.Ieee.{round};
 ghost use Rattle.core.specs.Dec2flt.Rounding.{IsNearestBits};
+ghost use Rattle.lexical_util.specs.Layout as layout;
 ghost use Rattle.lexical_util.specs.Record.{raw};
-ghost use Rattle.lexical_literal.specs.Parts.{literal_of};
+ghost use Rattle.lexical_literal.specs.Read.{exponent, mantissa};
 ghost use Rattle.lexical_number.specs.Binary.{format_of};
+ghost use Rattle.lexical_number.specs.Leading.{Leads};
 ghost use Rattle.lexical_value.specs.Float.{is_binary, is_decimal, nearest};
 ghost use Rattle.lexical_value.specs.Value.{denominator, numerator};
 ghost use Rattle.lexical_value.specs.declared.integer.ValueErrorKind.TheVariants as kinds;
 
 use crate::integer::{ValueErrorKind, is_minus};
-use lexical_literal::read::Parts;
-use lexical_number::decimal::decimal_to_float;
+use lexical_literal::literal::Literal;
+use lexical_number::decimal::{decimal_to_float, digits_to_float};
 use lexical_number::float::Float;
 use lexical_number::leading::{Leading, push_all, saturating};
-use lexical_number::parts::{bits_of, count, raised_bits};
+use lexical_number::parts::{bits_of, raised_bits};
 use lexical_util::format::NumberFormat;
 
-/// Returns the value of a literal of `format` as a value of a float type: rounded once to the nearest float, or to the even
-/// one if two are as near. The value is infinite if it is that large. Its sign is that of the literal, also for 0.
+/// Returns the value of a literal as a value of a float type: rounded once to the nearest float, or to the even one if two
+/// are as near. The value is infinite if it is that large. Its sign is that of the literal, also for 0.
 ///
 /// # Errors
 ///
 /// If the mantissa radix and the exponent base are neither both 10 nor both powers of two, of any literal.
-pub fn to_float<F: Float>(format: NumberFormat, parts: &Parts) -> Result<F, ValueErrorKind>
-    ensures supported { IsTrue (is_decimal (raw format) || is_binary (raw format)) ↔ IsOk result }
+pub fn to_float<F: Float>(literal: &Literal) -> Result<F, ValueErrorKind>
+    ensures supported { IsTrue (is_decimal (raw literal.now.format) || is_binary (raw literal.now.format)) ↔ IsOk result }
     ensures error { IfErr result (λ kind. kind ≡ kinds.UnsupportedRadix) }
-    ensures value { IfOk result (λ value. F.value value ≡ nearest (format_of F.DOUBLE) (raw format) (literal_of parts.now)) }
+    ensures value { IfOk result (λ value. F.value value ≡ nearest (format_of F.DOUBLE) (raw literal.now.format) literal.now.literal) }
     ensures no_nan { IfOk result (λ value. NotNan (F.value value)) }
 {
-    let size = if has_decimal_floats(format) {
-        decimal_size(format, parts)
-    } else if let Some(bits) = binary_size(F::DOUBLE, format, parts) {
+    let size = if has_decimal_floats(literal.format()) {
+        decimal_size(literal)
+    } else if let Some(bits) = binary_size(F::DOUBLE, literal) {
         F::from_magnitude(bits)
     } else {
         return Err(ValueErrorKind::UnsupportedRadix);
     };
-    Ok(signed(size, is_minus(parts.sign)))
+    Ok(signed(size, is_minus(literal.cut().sign)))
 }
 
 // Returns a float with a sign.
@@ -71,39 +73,72 @@ const fn has_decimal_floats(format: NumberFormat) -> bool
     format.mantissa_radix() == 10 && format.exponent_base() == 10
 }
 
-// Returns the float nearest to a decimal literal, without its sign.
-fn decimal_size<F: Float>(format: NumberFormat, parts: &Parts) -> F
-    requires { IsTrue (is_decimal (raw format)) }
-    ensures { F.value result ≡ round (format_of F.DOUBLE) false (numerator (raw format) (literal_of parts.now))
-        (denominator (raw format) (literal_of parts.now)) }
+// Returns the number that the exponent digits of a literal represent, or `2 ^ 90` if that is less.
+#[inline(always)]
+fn exponent_of(literal: &Literal) -> u128
+    ensures { result ≡ min (exponent (raw literal.now.format) literal.now.literal) (2 ^ 90) }
 {
+    match literal.scale() {
+        Some(exponent) => exponent as u128,
+        None => saturating(literal.cut().exponent, literal.format().exponent_radix()),
+    }
+}
+
+// Returns the float nearest to a decimal literal, without its sign.
+#[inline(always)]
+fn decimal_size<F: Float>(literal: &Literal) -> F
+    requires { IsTrue (is_decimal (raw literal.now.format)) }
+    ensures { F.value result ≡ round (format_of F.DOUBLE) false (numerator (raw literal.now.format) literal.now.literal)
+        (denominator (raw literal.now.format) literal.now.literal) }
+{
+    let parts = literal.cut();
     let negative = is_minus(parts.exponent_sign);
-    let exponent = saturating(parts.exponent, format.exponent_radix());
-    decimal_to_float(parts.integer, parts.fraction, negative, exponent)
+    if let (Some(mantissa), Some(exponent)) = (literal.mantissa(), literal.scale()) {
+        return digits_to_float(mantissa, literal.places() as u64, negative, exponent);
+    }
+    decimal_to_float(parts.integer, parts.fraction, negative, exponent_of(literal))
+}
+
+// Returns the leading digits of the number that the integer and fraction digits of a literal represent together.
+#[inline(always)]
+fn leading_of(literal: &Literal) -> Leading
+    ensures value { Leads ((raw literal.now.format).byte layout.mantissa_radix) (mantissa (raw literal.now.format) literal.now.literal)
+        result.digits result.more result.dropped }
+    ensures dropped { result.dropped ≤ 2 ^ 65 }
+{
+    if let Some(mantissa) = literal.mantissa() {
+        return Leading {
+            digits: mantissa as u128,
+            ..Leading::ZERO
+        };
+    }
+    let (parts, radix) = (literal.cut(), literal.format().mantissa_radix());
+    let integer = push_all(Leading::ZERO, radix, parts.integer);
+    push_all(integer, radix, parts.fraction)
 }
 
 // Returns the bits of the float nearest to a literal, without its sign, or `None` if a radix is not a power of two.
-pub(crate) const fn binary_size(double: bool, format: NumberFormat, parts: &Parts) -> Option<u64>
-    ensures some { IsTrue (is_binary (raw format)) ↔ IsSome result }
-    ensures value { IfSome result (λ bits. IsNearestBits (format_of double) (numerator (raw format) (literal_of parts.now))
-        (denominator (raw format) (literal_of parts.now)) bits) }
+pub(crate) fn binary_size(double: bool, literal: &Literal) -> Option<u64>
+    ensures some { IsTrue (is_binary (raw literal.now.format)) ↔ IsSome result }
+    ensures value { IfSome result (λ bits. IsNearestBits (format_of double) (numerator (raw literal.now.format) literal.now.literal)
+        (denominator (raw literal.now.format) literal.now.literal) bits) }
 {
-    let radix = format.mantissa_radix();
-    let Some(radix_bits) = bits_of(radix) else {
+    let format = literal.format();
+    let Some(radix_bits) = bits_of(format.mantissa_radix()) else {
         return None;
     };
     let Some(base_bits) = bits_of(format.exponent_base()) else {
         return None;
     };
-    let leading = push_all(
-        push_all(Leading::ZERO, radix, parts.integer),
-        radix,
-        parts.fraction,
-    );
-    let places = count(parts.fraction, radix) as u64;
-    let negative = is_minus(parts.exponent_sign);
-    let exponent = saturating(parts.exponent, format.exponent_radix());
+    let places = literal.places() as u64;
+    let negative = is_minus(literal.cut().exponent_sign);
     Some(raised_bits(
-        double, leading, radix_bits, places, negative, exponent, base_bits,
+        double,
+        leading_of(literal),
+        radix_bits,
+        places,
+        negative,
+        exponent_of(literal),
+        base_bits,
     ))
 }

@@ -1,18 +1,16 @@
 //! The value of a literal as a value of an integer type.
 
-ghost use Rattle.std.specs.Prelude.{◌≡◌, ◌↔◌, if◌then◌else◌, true, IfSome, IsNone, IsTrue, MatchResult};
-ghost use Rattle.lexical_util.specs.Layout as layout;
+ghost use Rattle.std.specs.Prelude.{◌≡◌, ◌↔◌, if◌then◌else◌, IfSome, IsNone, IsTrue, MatchResult};
 ghost use Rattle.lexical_util.specs.Record.{raw};
 ghost use Rattle.lexical_literal.specs.Literal.{is_float};
-ghost use Rattle.lexical_literal.specs.Parts.{literal_of};
-ghost use Rattle.lexical_value.specs.Integer.{IsInteger, IsNoInteger};
+ghost use Rattle.lexical_number.specs.Numeral.{size_of};
+ghost use Rattle.lexical_value.specs.Integer.{IsInteger, IsNoInteger, integer_size};
 ghost use Rattle.lexical_value.specs.Value.{is_minus};
 ghost use Rattle.lexical_value.specs.declared.integer.ValueErrorKind.TheVariants as kinds;
 
-use lexical_literal::read::Parts;
+use lexical_literal::literal::Literal;
 use lexical_number::integer::Integer;
-use lexical_number::numeral::Numeral;
-use lexical_util::format::NumberFormat;
+use lexical_number::numeral::{Magnitude, Numeral};
 
 /// Why a number has no value in a type.
 #[derive(Debug, Clone, Copy, PartialEq, Eq, Hash)]
@@ -43,16 +41,16 @@ impl ValueErrorKind {
     }
 }
 
-/// Returns the value of a literal of `format` as a value of an integer type. The value of `-0` is 0.
+/// Returns the value of a literal as a value of an integer type. The value of `-0` is 0.
 ///
 /// # Errors
 ///
 /// If the literal has a decimal point or an exponent, or if its value is not in the range of the type, returns which.
-pub fn to_integer<T: Integer>(format: NumberFormat, parts: &Parts) -> Result<T, ValueErrorKind>
-    ensures { MatchResult result (λ value. IsInteger (raw format) (literal_of parts.now) (T.range.value value))
-        (IsNoInteger T.range.least T.range.largest (raw format) (literal_of parts.now)) }
+pub fn to_integer<T: Integer>(literal: &Literal) -> Result<T, ValueErrorKind>
+    ensures { MatchResult result (λ value. IsInteger (raw literal.now.format) literal.now.literal (T.range.value value))
+        (IsNoInteger T.range.least T.range.largest (raw literal.now.format) literal.now.literal) }
 {
-    let Some(numeral) = integer_digits(format, parts) else {
+    let Some(numeral) = integer_numeral(literal) else {
         return Err(ValueErrorKind::Float);
     };
     match T::from_numeral(&numeral) {
@@ -61,26 +59,25 @@ pub fn to_integer<T: Integer>(format: NumberFormat, parts: &Parts) -> Result<T, 
     }
 }
 
-// Returns the sign and the digits of a literal, or `None` if it has a decimal point or an exponent.
+// Returns the sign of a literal, and its number or, if it has many digits, these, or `None` if it has a decimal point or an
+// exponent.
 #[inline(always)]
-pub(crate) const fn integer_digits<'a>(
-    format: NumberFormat,
-    parts: &Parts<'a>,
-) -> Option<Numeral<'a>>
-    ensures float { IsTrue (is_float (literal_of parts.now)) ↔ IsNone result }
-    ensures negative { IfSome result (λ numeral. numeral.negative ≡ is_minus (literal_of parts.now).sign) }
-    ensures bytes { IfSome result (λ numeral. numeral.bytes.now ≡ (literal_of parts.now).integer) }
-    ensures radix { IfSome result (λ numeral. numeral.radix ≡ (raw format).byte layout.mantissa_radix) }
-    ensures separated { IfSome result (λ numeral. numeral.separated ≡ true) }
+pub(crate) fn integer_numeral<'a>(literal: &Literal<'a>) -> Option<Numeral<'a>>
+    ensures float { IsTrue (is_float literal.now.literal) ↔ IsNone result }
+    ensures negative { IfSome result (λ numeral. numeral.negative ≡ is_minus literal.now.literal.sign) }
+    ensures size { IfSome result (λ numeral. size_of numeral ≡ integer_size (raw literal.now.format) literal.now.literal) }
 {
+    let parts = literal.cut();
     if !matches!(parts.point, []) || !matches!(parts.exponent_character, []) {
         return None;
     }
+    let magnitude = match literal.mantissa() {
+        Some(word) => Magnitude::Word(word),
+        None => Magnitude::Digits(parts.integer, literal.format().mantissa_radix()),
+    };
     Some(Numeral {
         negative: is_minus(parts.sign),
-        bytes: parts.integer,
-        radix: format.mantissa_radix(),
-        separated: true,
+        magnitude,
     })
 }
 

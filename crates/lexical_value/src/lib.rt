@@ -7,5 +7,3 @@ pub mod float;
 pub mod integer;
 pub mod laws;
 pub mod parse;
-mod plain;
-mod plain_float;

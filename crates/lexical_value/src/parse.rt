@@ -7,8 +7,6 @@ ghost use Rattle.lexical_value.specs.Parsed.{IsParsed, IsParsedFloat};
 
 use crate::float::to_float;
 use crate::integer::{ValueErrorKind, to_integer};
-use crate::plain::plain_integer;
-use crate::plain_float::plain_float;
 use lexical_literal::cause::ReadError;
 use lexical_literal::syntax::Syntax;
 use lexical_number::float::Float;
@@ -31,11 +29,8 @@ pub enum ParseError {
 pub fn parse_integer<T: Integer>(syntax: &Syntax, text: &[u8]) -> Result<T, ParseError>
     ensures { IsParsed T.range syntax.now text.now result }
 {
-    if let Some(value) = plain_integer(*syntax, text) {
-        return Ok(value);
-    }
     match syntax.read(text) {
-        Ok(parts) => match to_integer(syntax.format().view(), &parts) {
+        Ok(literal) => match to_integer(&literal) {
             Ok(value) => Ok(value),
             Err(kind) => Err(ParseError::Value(kind)),
         },
@@ -52,11 +47,8 @@ pub fn parse_float<F: Float>(syntax: &Syntax, text: &[u8]) -> Result<F, ParseErr
     ensures value { IsParsedFloat (format_of F.DOUBLE) F.value syntax.now text.now result }
     ensures no_nan { IfOk result (λ value. NotNan (F.value value)) }
 {
-    if let Some(value) = plain_float(*syntax, text) {
-        return Ok(value);
-    }
     match syntax.read(text) {
-        Ok(parts) => match to_float(syntax.format().view(), &parts) {
+        Ok(literal) => match to_float(&literal) {
             Ok(value) => Ok(value),
             Err(kind) => Err(ParseError::Value(kind)),
         },

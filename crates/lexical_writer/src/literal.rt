@@ -5,35 +5,37 @@ ghost use Rattle.lexical_util.specs.Record.{raw};
 ghost use Rattle.lexical_literal.specs.Literal.{Reads, text_of};
 ghost use Rattle.lexical_literal.specs.Notation.{notation_of};
 ghost use Rattle.lexical_literal.specs.Parts.{literal_of};
+ghost use Rattle.lexical_literal.specs.declared.read.Parts.{Parts};
 ghost use Rattle.lexical_value.specs.Value.{is_minus};
 ghost use Rattle.lexical_writer.specs.Conversion.{IsConverted, SameFraction, amount_of, fraction_of, has_power, power_of, source_of};
 ghost use Rattle.lexical_writer.specs.Layout.{literal_of as written};
 
 use crate::layout::{Amount, Layout, Power, Style, WriteError};
 use crate::run::Source;
+use lexical_literal::literal::Literal;
 use lexical_literal::read::Parts;
 use lexical_literal::syntax::Syntax;
-use lexical_number::numeral::Numeral;
+use lexical_number::numeral::{Magnitude, Numeral};
 use lexical_util::format::NumberFormat;
 
-/// Returns how a literal of `format` is written as a literal of `syntax`.
+/// Returns how a literal is written as a literal of `syntax`.
 ///
 /// # Errors
 ///
 /// If the literal cannot be written, returns why. The exponent digits are not moved where no exponent is allowed.
 pub fn format_literal<'a>(
-    format: NumberFormat,
-    parts: &Parts<'a>,
+    literal: &Literal<'a>,
     syntax: &Syntax,
     style: Style,
 ) -> Result<Layout<'a>, WriteError>
     // What is written is a literal, with the value of the literal that was given.
     ensures literal { IfOk result (λ layout. Reads (notation_of syntax.now) (written layout) (text_of (written layout))) }
     ensures value { IfOk result (λ layout.
-        SameFraction (raw format) (literal_of parts.now) (raw syntax.now.word) (written layout)) }
-    ensures parts { IsConverted (raw format) parts.now syntax.now style result }
+        SameFraction (raw literal.now.format) literal.now.literal (raw syntax.now.word) (written layout)) }
+    ensures parts { (parts : Parts) × (literal_of parts ≡ literal.now.literal)
+        × IsConverted (raw literal.now.format) parts syntax.now style result }
 {
-    let amount = amount_of(format, parts, syntax.format().view())?;
+    let amount = amount_of(literal.format(), &literal.cut(), syntax.format().view())?;
     amount.lay_out(syntax, style)
 }
 
@@ -104,9 +106,7 @@ fn source_of<'a>(bytes: &'a [u8], from: u32, to: u32) -> Result<Source<'a>, Writ
     }
     let exponent = Numeral {
         negative: false,
-        bytes,
-        radix: from,
-        separated: true,
+        magnitude: Magnitude::Digits(bytes, from),
     };
     match exponent.as_u128() {
         Some(size) => Ok(Source::Number(size)),
