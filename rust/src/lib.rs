@@ -97,6 +97,7 @@ mod number {
     pub(crate) mod numeral;
     pub(crate) mod parts;
     pub(crate) mod powers;
+    pub(crate) mod word;
 }
 mod numeral;
 #[doc(hidden)]

@@ -96,7 +96,21 @@ REPLACED = [
 ]
 
 # Files in which each function is const in plain Rust. Rattle's `split_at` is not, nor is what calls it.
-CONST = ("read.rt", "list.rt", "span.rt")
+LITERAL = "lexical_literal/src/literal.rt"
+CONST = ("read.rt", "list.rt", "span.rt", LITERAL)
+
+# The fields and the calls of a `Literal`, around which its calls in plain Rust are written by hand.
+FIELDS = "    text: &'a [u8],\n    counts: [usize; 9],\n    view:"
+REPLACED.append((LITERAL, FIELDS, re.sub(r"(text|counts):", r"pub(super) \1:", FIELDS)))
+for name in ("format", "cut", "mantissa", "places", "scale"):
+    REPLACED.append((LITERAL, f"pub const fn {name}(&self)", f"pub(crate) const fn {name}(&self)"))
+
+# A syntax that is not lawful can have any radix.
+REPLACED.append(("lexical_number/src/word.rt", "MOST[radix as usize] as usize", "if radix <= 36 { MOST[radix as usize] as usize } else { 0 }"))
+
+# Constants have values, too.
+for file, name in ("integer", "integer_numeral"), ("float", "binary_size"), ("float", "exponent_of"), ("float", "leading_of"):
+    REPLACED.append((f"lexical_value/src/{file}.rt", f"fn {name}", f"const fn {name}"))
 
 # Texts that plain Rust replaces in every file, wherever they occur.
 EVERYWHERE = [
@@ -138,6 +152,7 @@ REPLACED += [
     ("long.rt", "#[derive(Drop)]\n", ""),
     ("list.rt", "#[derive(Drop)]", "#[derive(Debug, Clone, Copy, PartialEq, Eq)]"),
     ("sink.rt", "#[derive(Drop)]", "#[derive(Debug)]"),
+    (LITERAL, "#[derive(Drop)]", "#[derive(Clone, Copy, PartialEq, Eq, Hash)]"),
     # `Debug` prints the answers.
     ("cause.rt", "#[derive(Debug, Clone, Copy, PartialEq, Eq, Hash)]\npub struct ReadError {", "#[derive(Clone, Copy, PartialEq, Eq, Hash)]\npub struct ReadError {"),
     ("lawful.rt", "Eq)]\npub struct FormatError", "Eq, Hash)]\npub struct FormatError"),
@@ -265,7 +280,8 @@ class Source:
 def replaced(path):
     """Returns a source after the replacements. Each keeps the number of lines, so lines keep their numbers."""
     text = path.read_text()
-    text = re.sub(r"(?<!const )\bfn (?=\w+[<(])", "const fn ", text) if path.name in CONST else text
+    if any(path.match(file) for file in CONST):
+        text = re.sub(r"(?<!const )\bfn (?=\w+[<(])", "const fn ", text)
     for file, old, new in REPLACED:
         if path.match(file):
             if text.count(old) != 1:

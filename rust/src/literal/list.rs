@@ -4,6 +4,7 @@
 
 use crate::literal::cause::ReadError;
 use crate::literal::groups::FIRST;
+use crate::literal::literal::Literal;
 use crate::literal::plain::{At, BEGIN};
 use crate::literal::read::Found;
 use crate::literal::syntax::Syntax;
@@ -42,20 +43,19 @@ impl<'a> SyntaxList<'a> {
         self.syntaxes
     }
 
-    // Returns the index of the first form of which `text` is a literal, and the lengths of its parts, or why it is one of no form.
-    pub(crate) const fn find(&self, text: &[u8]) -> Result<(usize, [usize; 9]), FormError> {
+    // Returns the index of the first form that takes `text`, and the literal, or why no form takes it.
+    pub(crate) const fn find<'t>(&self, text: &'t [u8]) -> Result<(usize, Literal<'t>), FormError> {
         let mut furthest = None;
         let mut form = 0;
         while form < self.syntaxes.len() {
             let syntax = &self.syntaxes[form];
             let counted = syntax.begin(text, false);
             if syntax.is_whole(text, counted) {
-                let counts = counted.counts;
-                return Ok((form, counts));
+                return Ok((form, syntax.literal(text, counted.counts, counted.sums)));
             }
             let stop = syntax.reach(text, counted);
             match syntax.lengths(text, stop) {
-                Some(counts) => return Ok((form, counts)),
+                Some(counts) => return Ok((form, syntax.summed(text, counts))),
                 None => furthest = further(furthest, form, stop),
             }
             form += 1;

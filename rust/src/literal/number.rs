@@ -6,9 +6,8 @@ use core::{iter::FusedIterator, slice};
 use crate::digit::char_to_valid_digit_const;
 use crate::format_flags::Part;
 use crate::literal::plain::At;
-use crate::literal::read::{cut, Found, Parts};
-use crate::literal::{ReadError, Syntax};
-use crate::view::FormatView;
+use crate::literal::read::Found;
+use crate::literal::{Literal, ReadError, Syntax};
 
 impl Syntax {
     /// Returns the exponent character, or `None` if literals are integers.
@@ -42,7 +41,7 @@ impl Syntax {
     pub const fn read_bytes<'t>(&self, text: &'t [u8]) -> Result<Literal<'t>, ReadError> {
         let counted = self.begin(text, false);
         if self.is_whole(text, counted) {
-            Ok(self.literal(text, counted.counts))
+            Ok(self.literal(text, counted.counts, counted.sums))
         } else if counted.exact {
             self.refuse(text, counted.at)
         } else {
@@ -55,7 +54,7 @@ impl Syntax {
     const fn read_slowly<'t>(&self, text: &'t [u8], at: At) -> Result<Literal<'t>, ReadError> {
         let stop = self.stop(text, at);
         match self.lengths(text, stop) {
-            Some(counts) => Ok(self.literal(text, counts)),
+            Some(counts) => Ok(self.summed(text, counts)),
             None => self.refuse(text, stop),
         }
     }
@@ -94,54 +93,13 @@ impl Syntax {
             (stop, None) => self.refuse(text, stop),
             (_, Some(Found { size, counts })) => {
                 let (text, rest) = text.split_at(size);
-                Ok((self.literal(text, counts), rest))
+                Ok((self.summed(text, counts), rest))
             }
         }
     }
-
-    /// Returns the literal `text`, whose parts have these lengths.
-    pub(super) const fn literal<'t>(&self, text: &'t [u8], counts: [usize; 9]) -> Literal<'t> {
-        Literal { text, counts, view: self.format().view() }
-    }
-}
-
-/// A text that was read as a literal: its parts, and the values of its digits.
-///
-/// A part that is absent has no bytes. All bytes are ASCII. Two literals are equal if they have the same format, up to
-/// its [normal form][crate::Format::normal_form], and the same parts.
-///
-/// An integer type of Rust, `f64` or `f32` can be made from a literal. Some of these can be made in a constant. A [`Syntax`]
-/// can [parse][Syntax::parse] a text in one call.
-///
-/// ```
-/// use peltzivar::literal::{Language, ParseError, ValueErrorKind};
-///
-/// let literal = Language::TOML.read("-9_223_372_036_854_775_808")?.literal().unwrap();
-/// assert_eq!(i64::try_from(literal), Ok(i64::MIN));
-/// assert_eq!(i32::try_from(literal).unwrap_err().to_string(), "below -2147483648, the least i32");
-/// assert_eq!(Language::RUST.parse::<u16>("0xFFFF")?, u16::MAX);
-///
-/// // A float is no integer, even if its value is whole.
-/// let literal = Language::CSV_EN.read("1,234.50")?.literal().unwrap();
-/// assert_eq!(literal.to_i64().unwrap_err().kind(), ValueErrorKind::Float);
-/// assert_eq!(f64::try_from(literal)?, 1234.5);
-/// # Ok::<(), ParseError>(())
-/// ```
-#[derive(Clone, Copy, PartialEq, Eq, Hash)]
-pub struct Literal<'a> {
-    pub(super) text: &'a [u8],
-    /// The lengths of the parts, by which [`cut`] finds a part when it is asked for.
-    pub(super) counts: [usize; 9],
-    /// The format, in normal form.
-    pub(super) view: FormatView,
 }
 
 impl<'a> Literal<'a> {
-    #[inline]
-    pub(super) const fn cut(&self) -> Parts<'a> {
-        cut(self.text, self.counts)
-    }
-
     /// Returns the lengths of the nine parts, in the order of the text.
     #[doc(hidden)]
     #[must_use]
@@ -181,8 +139,8 @@ impl<'a> Literal<'a> {
     #[must_use]
     pub const fn radix(&self, part: Part) -> u32 {
         match part {
-            Part::Integer | Part::Fraction => self.view.mantissa_radix(),
-            Part::Exponent => self.view.exponent_radix(),
+            Part::Integer | Part::Fraction => self.format().mantissa_radix(),
+            Part::Exponent => self.format().exponent_radix(),
         }
     }
 
@@ -193,7 +151,7 @@ impl<'a> Literal<'a> {
             Part::Fraction => self.fraction(),
             Part::Exponent => self.exponent(),
         };
-        let (bytes, separator) = (bytes.iter(), self.view.digit_separator());
+        let (bytes, separator) = (bytes.iter(), self.format().digit_separator());
         let separator = separator.map_or(0, |byte| byte.get());
         Digits { bytes, separator }
     }

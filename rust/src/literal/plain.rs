@@ -19,12 +19,29 @@ pub(crate) struct At {
     pub(crate) read: Summary,
 }
 
-// What has been read of a text. If `complete` is true, it is a literal, and its parts have the lengths `counts`. If `exact` is
-// true, the byte that follows is refused.
+// The number of digits, and the number that they represent, modulo `2 ^ 64`.
+#[derive(Clone, Copy)]
+pub(crate) struct Sum {
+    pub(crate) digits: usize,
+    pub(crate) value: u64,
+}
+
+// The sums of the digits of a literal: of those of the integer and the fraction together, and of those of the exponent. There are
+// `places` digits of the fraction.
+#[derive(Clone, Copy)]
+pub(crate) struct Sums {
+    pub(crate) mantissa: Sum,
+    pub(crate) places: usize,
+    pub(crate) exponent: Sum,
+}
+
+// What has been read of a text. If `complete` is true, it is a literal, and its parts have the lengths `counts`, and its digits the
+// sums. If `exact` is true, the byte that follows is refused.
 #[derive(Clone, Copy)]
 pub(crate) struct Counted {
     pub(crate) at: At,
     pub(crate) counts: [usize; 9],
+    pub(crate) sums: Sums,
     pub(crate) complete: bool,
     pub(crate) exact: bool,
 }
@@ -39,7 +56,7 @@ pub(crate) struct Run {
     pub(crate) sum: u64,
 }
 
-// The lengths of the parts up to the fraction.
+// The lengths of the parts up to the fraction, and the number of the digits of the fraction.
 #[derive(Clone, Copy)]
 pub(crate) struct Sizes {
     pub(crate) sign: usize,
@@ -47,6 +64,7 @@ pub(crate) struct Sizes {
     pub(crate) integer: usize,
     pub(crate) point: usize,
     pub(crate) fraction: usize,
+    pub(crate) places: usize,
 }
 
 // What comes before the digits of the integer: the lengths of the sign and of the prefix, the index behind them, and the stage
@@ -62,6 +80,9 @@ pub(crate) struct Opening {
 // Nothing has been read.
 pub(crate) const BEGIN: At = At { size: 0, read: START };
 
+// The sum of no digits.
+const NOTHING: Sum = Sum { digits: 0, value: 0 };
+
 // Returns where `size` bytes have been read, of which the last is no separator and no suffix.
 #[inline(always)]
 const fn at_stage(size: usize, stage: Stage) -> At {
@@ -71,7 +92,13 @@ const fn at_stage(size: usize, stage: Stage) -> At {
 // Returns that reading stops at `at`, where no literal has been found.
 #[inline(always)]
 const fn stopped(_grammar: Grammar, _text: &[u8], at: At, exact: bool) -> Counted {
-    Counted { at, counts: [0; 9], complete: false, exact }
+    Counted {
+        at,
+        counts: [0; 9],
+        sums: Sums { mantissa: NOTHING, places: 0, exponent: NOTHING },
+        complete: false,
+        exact,
+    }
 }
 
 // Returns whether a sign of the mantissa, or of the exponent, follows and is read.
@@ -167,15 +194,14 @@ const fn groups(grammar: Grammar, text: &[u8], part: Part, begun: Run) -> Run {
     }
 }
 
-// Reads the digits of `part` that begin at `from`, behind `stage`, and separators between them.
+// Reads the digits of `part` that follow, and separators between them.
 #[inline(always)]
-const fn digits(grammar: Grammar, text: &[u8], part: Part, from: usize, stage: Stage, before: u64) -> Run {
-    let none = Run { size: from, stage, digits: 0, sum: before };
-    let Some(value) = value_at(grammar, text, part, from) else {
-        return none;
+const fn digits(grammar: Grammar, text: &[u8], part: Part, begun: Run) -> Run {
+    let Some(value) = value_at(grammar, text, part, begun.size) else {
+        return begun;
     };
-    let one = push(grammar, part, none, value, 1);
-    if text[from] == b'0' && awaits_integer(stage) {
+    let one = push(grammar, part, begun, value, 1);
+    if text[begun.size] == b'0' && awaits_integer(begun.stage) {
         let stage = Stage::Bare;
         behind_zero(grammar, text, Run { stage, ..one })
     } else {
@@ -242,11 +268,12 @@ const fn without_prefix(grammar: Grammar, text: &[u8], sign: usize) -> Counted {
 #[inline(always)]
 const fn integer(grammar: Grammar, text: &[u8], fronts: bool, opening: Opening) -> Counted {
     let Opening { sign, prefix, size, stage } = opening;
-    let run = digits(grammar, text, Part::Integer, size, stage, 0);
+    let begun = Run { size, stage, digits: 0, sum: 0 };
+    let run = digits(grammar, text, Part::Integer, begun);
     if run.size == size {
         return stopped(grammar, text, at_stage(size, stage), false);
     }
-    let sizes = Sizes { sign, prefix, integer: run.size - size, point: 0, fraction: 0 };
+    let sizes = Sizes { sign, prefix, integer: run.size - size, point: 0, fraction: 0, places: 0 };
     let at = at_stage(run.size, run.stage);
     if run.size < text.len() && is_point(grammar, text[run.size]) && takes(grammar, at.read, false, Role::Point) {
         return fraction(grammar, text, fronts, sizes, run);
@@ -259,11 +286,12 @@ const fn integer(grammar: Grammar, text: &[u8], fronts: bool, opening: Opening) 
 const fn fraction(grammar: Grammar, text: &[u8], fronts: bool, sizes: Sizes, integer: Run) -> Counted {
     let from = integer.size + 1;
     let stage = after_point(integer.stage);
-    let run = digits(grammar, text, Part::Fraction, from, stage, integer.sum);
+    let begun = Run { size: from, stage, ..integer };
+    let run = digits(grammar, text, Part::Fraction, begun);
     if run.size == from {
         return stopped(grammar, text, at_stage(from, stage), false);
     }
-    let sizes = Sizes { point: 1, fraction: run.size - from, ..sizes };
+    let sizes = Sizes { point: 1, fraction: run.size - from, places: run.digits - integer.digits, ..sizes };
     behind_mantissa(grammar, text, fronts, sizes, run)
 }
 
@@ -275,22 +303,32 @@ const fn behind_mantissa(grammar: Grammar, text: &[u8], fronts: bool, sizes: Siz
         && is_exponent_character(grammar, text[run.size])
         && takes(grammar, at.read, false, Role::Exponent)
     {
-        exponent(grammar, text, fronts, sizes, run.size + 1)
+        exponent(grammar, text, fronts, sizes, run)
     } else {
-        end(grammar, text, fronts, at, sizes, [0; 3])
+        end(grammar, text, fronts, at, sizes, [0; 3], all_sums(sizes, run, NOTHING))
     }
+}
+
+// Returns the sums of the digits of the mantissa and of the exponent.
+#[inline(always)]
+const fn all_sums(sizes: Sizes, mantissa: Run, exponent: Sum) -> Sums {
+    Sums { mantissa: Sum { digits: mantissa.digits, value: mantissa.sum }, places: sizes.places, exponent }
 }
 
 // Reads the exponent behind its character, and what follows it.
 #[inline(always)]
-const fn exponent(grammar: Grammar, text: &[u8], fronts: bool, sizes: Sizes, size: usize) -> Counted {
+const fn exponent(grammar: Grammar, text: &[u8], fronts: bool, sizes: Sizes, mantissa: Run) -> Counted {
+    let size = mantissa.size + 1;
     let Some(sign) = sign(grammar, text, Part::Exponent, size) else {
         return stopped(grammar, text, at_stage(size, Stage::Mark), false);
     };
     let from = size + sign;
-    let run = digits(grammar, text, Part::Exponent, from, behind_sign(Part::Exponent, sign), 0);
+    let begun = Run { size: from, stage: behind_sign(Part::Exponent, sign), digits: 0, sum: 0 };
+    let run = digits(grammar, text, Part::Exponent, begun);
     let at = at_stage(run.size, run.stage);
-    end(grammar, text, fronts, at, sizes, [1, sign, run.size - from])
+    let exponent = Sum { digits: run.digits, value: run.sum };
+    let scale = [1, sign, run.size - from];
+    end(grammar, text, fronts, at, sizes, scale, all_sums(sizes, mantissa, exponent))
 }
 
 // Returns whether `byte` is neither a digit nor a separator, and no base prefix, and follows digits.
@@ -307,14 +345,23 @@ const fn is_passed(grammar: Grammar, stage: Stage, byte: u8) -> bool {
 
 // Reads the suffix, if it follows.
 #[inline(always)]
-const fn end(grammar: Grammar, text: &[u8], fronts: bool, at: At, sizes: Sizes, scale: [usize; 3]) -> Counted {
-    let Sizes { sign, prefix, integer, point, fraction } = sizes;
+const fn end(
+    grammar: Grammar,
+    text: &[u8],
+    fronts: bool,
+    at: At,
+    sizes: Sizes,
+    scale: [usize; 3],
+    sums: Sums,
+) -> Counted {
+    let Sizes { sign, prefix, integer, point, fraction, .. } = sizes;
     let At { size, read } = at;
     if size < text.len() && grammar.view().is_base_suffix(text[size]) && takes(grammar, read, false, Role::Suffix) {
         let read = Summary { ended: true, ..read };
         return Counted {
             at: At { size: size + 1, read },
             counts: [sign, prefix, integer, point, fraction, scale[0], scale[1], scale[2], 1],
+            sums,
             complete: is_complete(grammar, read),
             exact: false,
         };
@@ -326,6 +373,7 @@ const fn end(grammar: Grammar, text: &[u8], fronts: bool, at: At, sizes: Sizes, 
     Counted {
         at,
         counts: [sign, prefix, integer, point, fraction, scale[0], scale[1], scale[2], 0],
+        sums,
         complete: is_complete(grammar, read),
         exact: false,
     }

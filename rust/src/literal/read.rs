@@ -57,7 +57,7 @@ impl Syntax {
     // `text`, may not be said to be one, which takes less time.
     #[inline(always)]
     pub(crate) const fn begin(&self, text: &[u8], fronts: bool) -> Counted {
-        let grammar = self.grammar();
+        let grammar = self.as_grammar();
         let counted = plain(grammar, text, fronts);
         if has_sizes(grammar) {
             sized(grammar, text, counted)
@@ -76,7 +76,7 @@ impl Syntax {
     #[inline(always)]
     pub(crate) const fn lengths(&self, text: &[u8], stop: At) -> Option<[usize; 9]> {
         let group = self.group_at(text, stop);
-        if stop.size == text.len() && ends(self.grammar(), stop, group) {
+        if stop.size == text.len() && ends(self.as_grammar(), stop, group) {
             Some(self.count(text))
         } else {
             None
@@ -106,7 +106,7 @@ impl Syntax {
     // Returns the last group of the bytes that have been read.
     #[inline(always)]
     const fn group_at(&self, text: &[u8], at: At) -> Group {
-        let grammar = self.grammar();
+        let grammar = self.as_grammar();
         if has_sizes(grammar) {
             match group_after(grammar, text, at.size) {
                 Some(group) => group,
@@ -120,7 +120,7 @@ impl Syntax {
     // Returns the role of the byte that follows, and what has been read with it, or `None` if reading stops at `at`.
     #[inline(always)]
     const fn step(&self, text: &[u8], at: At, group: Group) -> Option<(Role, At, Group)> {
-        let grammar = self.grammar();
+        let grammar = self.as_grammar();
         let At { size, read } = at;
         if size == text.len() {
             return None;
@@ -159,7 +159,7 @@ impl Syntax {
     // Returns the longest front of `text` that is a literal, and the lengths of its parts, if there is one.
     #[cold]
     const fn longest(&self, text: &[u8]) -> Option<Found> {
-        let grammar = self.grammar();
+        let grammar = self.as_grammar();
         let mut at = BEGIN;
         let mut last = FIRST;
         let mut counts = [0; 9];
@@ -181,7 +181,7 @@ impl Syntax {
     // time than to copy an error.
     #[cold]
     pub(crate) const fn refuse<T>(&self, text: &[u8], stop: At) -> Result<T, ReadError> {
-        let grammar = self.grammar();
+        let grammar = self.as_grammar();
         let size = stop.size;
         let byte = byte_at(text, size);
         Err(ReadError {

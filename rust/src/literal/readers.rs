@@ -125,7 +125,7 @@ impl<'a> Readers<'a> {
     /// Returns what [`read`][Self::read] returns, also in a constant.
     pub const fn read_bytes<'t>(&self, text: &'t [u8]) -> Result<Number<'t>, FormError> {
         match self.list.find(text) {
-            Ok((form, counts)) => Ok(self.number(form, text, counts)),
+            Ok((form, literal)) => Ok(Number::Literal { literal, form }),
             Err(error) => match self.specials.read(&self.as_slice()[0], text) {
                 Some(special) => Ok(Number::Special(special)),
                 None => Err(error),
@@ -148,7 +148,7 @@ impl<'a> Readers<'a> {
         match self.list.find_front(text) {
             Ok((form, Found { size, counts })) => {
                 let (text, rest) = text.split_at(size);
-                Ok((self.number(form, text, counts), rest))
+                Ok((Number::Literal { literal: self.as_slice()[form].summed(text, counts), form }, rest))
             }
             Err(error) => Err(error),
         }
@@ -160,16 +160,7 @@ impl<'a> Readers<'a> {
     ///
     /// If `text` is not a number, or if its value is not one of the type, returns why.
     pub fn parse<T: FromLiteral>(&self, text: impl AsRef<[u8]>) -> Result<T, ParseError> {
-        let text = text.as_ref();
-        // What the first form takes is of the first form.
-        match T::from_plain(&self.as_slice()[0], text) {
-            Some(value) => Ok(value),
-            None => Ok(T::try_from(self.read_bytes(text)?)?),
-        }
-    }
-
-    const fn number<'t>(&self, form: usize, text: &'t [u8], counts: [usize; 9]) -> Number<'t> {
-        Number::Literal { literal: self.as_slice()[form].literal(text, counts), form }
+        Ok(T::try_from(self.read_bytes(text.as_ref())?)?)
     }
 }
 

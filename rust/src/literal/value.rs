@@ -3,24 +3,16 @@
 use core::fmt::{self, Write};
 
 use crate::format_flags::Part;
-use crate::literal::read::Parts;
 use crate::literal::{Literal, Number, ReadError, Sign, Special, Spelling, Syntax};
 
 mod float;
 mod integer;
-#[allow(clippy::len_zero, clippy::nonminimal_bool, clippy::redundant_pattern_matching, reason = "as it is proved")]
-mod plain;
-#[allow(clippy::len_zero, reason = "as it is proved")]
-mod plain_float;
 
 pub use integer::ValueErrorKind;
 
 use crate::number::float::Float;
-use crate::number::integer::Integer;
 use float::{binary_size, to_float};
-use integer::{integer_digits, to_integer};
-use plain::plain_integer;
-use plain_float::{plain_float, text_to_float};
+use integer::{integer_numeral, to_integer};
 
 /// A type that can be [parsed][Syntax::parse]: each integer type of Rust, `f64` and `f32`.
 ///
@@ -38,9 +30,6 @@ pub trait Sealed:
 {
     /// What errors name.
     const TARGET: &'static Target;
-
-    /// Returns the value of some literals that are digits alone, and `None` for all other texts.
-    fn from_plain(syntax: &Syntax, text: &[u8]) -> Option<Self>;
 }
 
 impl<'a> Literal<'a> {
@@ -59,7 +48,7 @@ impl<'a> Literal<'a> {
     /// ```
     #[must_use]
     pub fn plain(&self) -> Option<impl fmt::Display + Clone + 'a> {
-        let radixes = [self.view.mantissa_radix(), self.view.exponent_base(), self.view.exponent_radix()];
+        let radixes = [self.format().mantissa_radix(), self.format().exponent_base(), self.format().exponent_radix()];
         (radixes == [10; 3] || !self.is_float()).then_some(Plain(*self))
     }
 }
@@ -174,31 +163,15 @@ impl fmt::Display for ParseError {
 /// It prints the error that it holds, so that error is not its source.
 impl core::error::Error for ParseError {}
 
-fn integer_of<T: Integer>(literal: Literal<'_>, parts: &Parts<'_>) -> Result<T, ValueErrorKind> {
-    to_integer(literal.view, parts)
-}
-
-fn float_of<F: Float>(literal: Literal<'_>, parts: &Parts<'_>) -> Result<F, ValueErrorKind> {
-    match text_to_float(literal.view, literal.as_bytes(), parts) {
-        Some(value) => Ok(value),
-        None => to_float(literal.view, parts),
-    }
-}
-
-/// Makes the conversions to types, by their calls for plain texts, for literals, and for NaN and infinity.
+/// Makes the conversions to types, by their calls for literals, and for NaN and infinity.
 macro_rules! conversions {
-    ($($type:ident)*: $plain:ident, $convert:ident, $special:expr) => {
+    ($($type:ident)*: $convert:ident, $special:expr) => {
         $(
             impl FromLiteral for $type {}
 
             impl Sealed for $type {
                 const TARGET: &'static Target =
                     &Target { name: stringify!($type), least: $type::MIN as i128, largest: $type::MAX as u128 };
-
-                #[inline]
-                fn from_plain(syntax: &Syntax, text: &[u8]) -> Option<$type> {
-                    $plain(*syntax, text)
-                }
             }
 
             /// Makes the value from its literal. That of a float is rounded once.
@@ -207,7 +180,7 @@ macro_rules! conversions {
 
                 #[inline]
                 fn try_from(literal: Literal<'_>) -> Result<$type, ValueError> {
-                    $convert(literal, &literal.cut()).map_err(ValueError::of::<$type>)
+                    $convert(&literal).map_err(ValueError::of::<$type>)
                 }
             }
 
@@ -227,10 +200,10 @@ macro_rules! conversions {
 }
 
 conversions! {
-    u8 u16 u32 u64 usize u128 i8 i16 i32 i64 isize i128: plain_integer, integer_of, |_| Err(ValueErrorKind::Special)
+    u8 u16 u32 u64 usize u128 i8 i16 i32 i64 isize i128: to_integer, |_| Err(ValueErrorKind::Special)
 }
-conversions! { f64: plain_float, float_of, |special: Special| Ok(special.to_f64()) }
-conversions! { f32: plain_float, float_of, |special: Special| Ok(special.to_f32()) }
+conversions! { f64: to_float, |special: Special| Ok(special.to_f64()) }
+conversions! { f32: to_float, |special: Special| Ok(special.to_f32()) }
 
 /// Makes the calls for constants.
 macro_rules! constant_calls {
@@ -243,7 +216,7 @@ macro_rules! constant_calls {
                 ///
                 /// If the literal is a float, or if its value is not one of the type, returns which.
                 pub const fn $name(self) -> Result<$type, ValueError> {
-                    let kind = match integer_digits(self.view, &self.cut()) {
+                    let kind = match integer_numeral(&self) {
                         None => ValueErrorKind::Float,
                         Some(numeral) => match numeral.$call() {
                             Some(value) => return Ok(value),
@@ -282,7 +255,7 @@ macro_rules! floats {
                 ///
                 /// If they are not both powers of two.
                 pub const fn $binary_to_float(self) -> Result<$type, ValueError> {
-                    match binary_size(<$type as Float>::DOUBLE, self.view, &self.cut()) {
+                    match binary_size(<$type as Float>::DOUBLE, &self) {
                         Some(bits) if self.is_negative() => Ok(-$type::from_bits(bits as $bits)),
                         Some(bits) => Ok($type::from_bits(bits as $bits)),
                         None => Err(ValueError::of::<$type>(ValueErrorKind::UnsupportedRadix)),
@@ -328,11 +301,7 @@ impl Syntax {
     ///
     /// If `text` is not a literal, or if its value is not one of the type, returns why.
     pub fn parse<T: FromLiteral>(&self, text: impl AsRef<[u8]>) -> Result<T, ParseError> {
-        let text = text.as_ref();
-        match T::from_plain(self, text) {
-            Some(value) => Ok(value),
-            None => Ok(T::try_from(self.read_bytes(text)?)?),
-        }
+        Ok(T::try_from(self.read_bytes(text.as_ref())?)?)
     }
 
     /// Returns whether literals have values of float types: whether the mantissa radix and the exponent base of the format

@@ -100,7 +100,7 @@ impl Syntax {
     /// If the literal cannot be written, returns why. The digits of a literal with an exponent are not moved, even where no
     /// exponent is allowed.
     pub fn format_literal<'a>(&self, literal: &Literal<'a>, style: Style) -> Result<Written<'a>, WriteError> {
-        literal::format_literal(literal.view, &literal.cut(), self, style).map(Written::new)
+        literal::format_literal(literal, self, style).map(Written::new)
     }
 }
 

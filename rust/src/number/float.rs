@@ -13,9 +13,6 @@ pub trait Float: Copy {
     /// Returns the float with the other sign.
     fn negated(self) -> Self;
 
-    /// Returns the float nearest to the number that `text` writes.
-    fn from_text(text: &str) -> Self;
-
     /// Returns `digits * 10 ^ scale`, or `digits / 10 ^ scale` if `over` is true, rounded once, if both numbers are floats.
     fn by_ten_to(digits: u64, scale: u64, over: bool) -> Option<Self>;
 }
@@ -41,11 +38,6 @@ impl Float for f64 {
         -self
     }
 
-    #[inline]
-    fn from_text(text: &str) -> f64 {
-        text.parse().unwrap_or(0.0)
-    }
-
     #[inline(always)]
     fn by_ten_to(digits: u64, scale: u64, over: bool) -> Option<f64> {
         if digits > 1 << 53 || scale > 22 {
@@ -67,11 +59,6 @@ impl Float for f32 {
     #[inline(always)]
     fn negated(self) -> f32 {
         -self
-    }
-
-    #[inline]
-    fn from_text(text: &str) -> f32 {
-        text.parse().unwrap_or(0.0)
     }
 
     #[inline(always)]

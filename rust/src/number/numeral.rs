@@ -1,40 +1,42 @@
 // Made by rust/tools/erase.py from crates/lexical_number/src/numeral.rt: change that file.
 
-//! Digits with a sign, and the number that they represent.
+//! Numbers with a sign, by their value or by their digits.
 
 use crate::digit::char_to_digit;
 
-/// Digits with a sign.
+/// A number without a sign.
+#[derive(Debug, Clone, Copy, PartialEq, Eq, Hash)]
+pub enum Magnitude<'a> {
+    /// The number itself.
+    Word(u64),
+    /// The number that the digits among bytes represent in a radix, with the highest one first. Letters of both cases are
+    /// digits. Other bytes are skipped.
+    Digits(&'a [u8], u32),
+}
+
+/// A number with a sign.
 #[derive(Debug, Clone, Copy, PartialEq, Eq, Hash)]
 pub struct Numeral<'a> {
     /// Whether the sign is `-`.
     pub negative: bool,
-    /// The digits, with the highest one first. Letters of both cases are digits.
-    pub bytes: &'a [u8],
-    /// The radix of the digits.
-    pub radix: u32,
-    /// Whether bytes that are not digits are skipped. If this is false, such bytes have no number.
-    pub separated: bool,
+    /// The number without its sign.
+    pub magnitude: Magnitude<'a>,
 }
 
-// Returns the size of a numeral in a type, or `None` if it is above `$most`.
+// Returns the number that the digits among `$bytes` represent in `$radix`, or `None` if it is above `$most`.
 macro_rules! size {
-    ($numeral:ident, $type:ident, $most:ident) => {{
+    ($bytes:ident, $radix:ident, $type:ident, $most:ident) => {{
         let mut size: $type = 0;
         let mut index = 0;
-        while index < $numeral.bytes.len() {
-            match char_to_digit($numeral.bytes[index], $numeral.radix) {
-                Some(digit) => {
-                    let Some(shifted) = size.checked_mul($numeral.radix as $type) else {
-                        return None;
-                    };
-                    match shifted.checked_add(digit as $type) {
-                        Some(longer) if longer <= $most => size = longer,
-                        _ => return None,
-                    }
+        while index < $bytes.len() {
+            if let Some(digit) = char_to_digit($bytes[index], $radix) {
+                let Some(shifted) = size.checked_mul($radix as $type) else {
+                    return None;
+                };
+                match shifted.checked_add(digit as $type) {
+                    Some(longer) if longer <= $most => size = longer,
+                    _ => return None,
                 }
-                None if $numeral.separated => (),
-                None => return None,
             }
             index += 1;
         }
@@ -42,15 +44,27 @@ macro_rules! size {
     }};
 }
 
+const fn size(bytes: &[u8], radix: u32, most: u64) -> Option<u64> {
+    size!(bytes, radix, u64, most)
+}
+
+const fn wide_size(bytes: &[u8], radix: u32, most: u128) -> Option<u128> {
+    size!(bytes, radix, u128, most)
+}
+
 impl Numeral<'_> {
     /// Returns the number without its sign, or `None` if the value is not between `-least` and `largest`.
     ///
-    /// It looks at no byte behind the first digit by which the number is too large.
+    /// Of digits, it looks at no byte behind the first by which the number is too large.
     #[must_use]
     #[inline(always)]
     pub const fn size(&self, least: u64, largest: u64) -> Option<u64> {
         let most = if self.negative { least } else { largest };
-        size!(self, u64, most)
+        match self.magnitude {
+            Magnitude::Word(word) if word <= most => Some(word),
+            Magnitude::Word(_) => None,
+            Magnitude::Digits(bytes, radix) => size(bytes, radix, most),
+        }
     }
 
     /// Returns the number without its sign, as [`size`][Self::size] does, with 128 bits.
@@ -58,7 +72,11 @@ impl Numeral<'_> {
     #[inline(always)]
     pub const fn wide_size(&self, least: u128, largest: u128) -> Option<u128> {
         let most = if self.negative { least } else { largest };
-        size!(self, u128, most)
+        match self.magnitude {
+            Magnitude::Word(word) if word as u128 <= most => Some(word as u128),
+            Magnitude::Word(_) => None,
+            Magnitude::Digits(bytes, radix) => wide_size(bytes, radix, most),
+        }
     }
 
     /// Returns the value, or `None` if it is not a `u64`.

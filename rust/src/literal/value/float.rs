@@ -2,29 +2,29 @@
 
 //! The value of a literal as a value of a float type.
 
-use crate::literal::read::Parts;
+use crate::literal::literal::Literal;
 use crate::literal::value::integer::{is_minus, ValueErrorKind};
-use crate::number::decimal::decimal_to_float;
+use crate::number::decimal::{decimal_to_float, digits_to_float};
 use crate::number::float::Float;
 use crate::number::leading::{push_all, saturating, Leading};
-use crate::number::parts::{bits_of, count, raised_bits};
+use crate::number::parts::{bits_of, raised_bits};
 use crate::word::FormatView;
 
-/// Returns the value of a literal of `format` as a value of a float type: rounded once to the nearest float, or to the even
-/// one if two are as near. The value is infinite if it is that large. Its sign is that of the literal, also for 0.
+/// Returns the value of a literal as a value of a float type: rounded once to the nearest float, or to the even one if two
+/// are as near. The value is infinite if it is that large. Its sign is that of the literal, also for 0.
 ///
 /// # Errors
 ///
 /// If the mantissa radix and the exponent base are neither both 10 nor both powers of two, of any literal.
-pub fn to_float<F: Float>(format: FormatView, parts: &Parts) -> Result<F, ValueErrorKind> {
-    let size = if has_decimal_floats(format) {
-        decimal_size(format, parts)
-    } else if let Some(bits) = binary_size(F::DOUBLE, format, parts) {
+pub fn to_float<F: Float>(literal: &Literal) -> Result<F, ValueErrorKind> {
+    let size = if has_decimal_floats(literal.format()) {
+        decimal_size(literal)
+    } else if let Some(bits) = binary_size(F::DOUBLE, literal) {
         F::from_magnitude(bits)
     } else {
         return Err(ValueErrorKind::UnsupportedRadix);
     };
-    Ok(signed(size, is_minus(parts.sign)))
+    Ok(signed(size, is_minus(literal.cut().sign)))
 }
 
 // Returns a float with a sign.
@@ -51,25 +51,47 @@ const fn has_decimal_floats(format: FormatView) -> bool {
     format.mantissa_radix() == 10 && format.exponent_base() == 10
 }
 
+// Returns the number that the exponent digits of a literal represent, or `2 ^ 90` if that is less.
+#[inline(always)]
+const fn exponent_of(literal: &Literal) -> u128 {
+    match literal.scale() {
+        Some(exponent) => exponent as u128,
+        None => saturating(literal.cut().exponent, literal.format().exponent_radix()),
+    }
+}
+
 // Returns the float nearest to a decimal literal, without its sign.
-fn decimal_size<F: Float>(format: FormatView, parts: &Parts) -> F {
+#[inline(always)]
+fn decimal_size<F: Float>(literal: &Literal) -> F {
+    let parts = literal.cut();
     let negative = is_minus(parts.exponent_sign);
-    let exponent = saturating(parts.exponent, format.exponent_radix());
-    decimal_to_float(parts.integer, parts.fraction, negative, exponent)
+    if let (Some(mantissa), Some(exponent)) = (literal.mantissa(), literal.scale()) {
+        return digits_to_float(mantissa, literal.places() as u64, negative, exponent);
+    }
+    decimal_to_float(parts.integer, parts.fraction, negative, exponent_of(literal))
+}
+
+// Returns the leading digits of the number that the integer and fraction digits of a literal represent together.
+#[inline(always)]
+const fn leading_of(literal: &Literal) -> Leading {
+    if let Some(mantissa) = literal.mantissa() {
+        return Leading { digits: mantissa as u128, ..Leading::ZERO };
+    }
+    let (parts, radix) = (literal.cut(), literal.format().mantissa_radix());
+    let integer = push_all(Leading::ZERO, radix, parts.integer);
+    push_all(integer, radix, parts.fraction)
 }
 
 // Returns the bits of the float nearest to a literal, without its sign, or `None` if a radix is not a power of two.
-pub(crate) const fn binary_size(double: bool, format: FormatView, parts: &Parts) -> Option<u64> {
-    let radix = format.mantissa_radix();
-    let Some(radix_bits) = bits_of(radix) else {
+pub(crate) const fn binary_size(double: bool, literal: &Literal) -> Option<u64> {
+    let format = literal.format();
+    let Some(radix_bits) = bits_of(format.mantissa_radix()) else {
         return None;
     };
     let Some(base_bits) = bits_of(format.exponent_base()) else {
         return None;
     };
-    let leading = push_all(push_all(Leading::ZERO, radix, parts.integer), radix, parts.fraction);
-    let places = count(parts.fraction, radix) as u64;
-    let negative = is_minus(parts.exponent_sign);
-    let exponent = saturating(parts.exponent, format.exponent_radix());
-    Some(raised_bits(double, leading, radix_bits, places, negative, exponent, base_bits))
+    let places = literal.places() as u64;
+    let negative = is_minus(literal.cut().exponent_sign);
+    Some(raised_bits(double, leading_of(literal), radix_bits, places, negative, exponent_of(literal), base_bits))
 }

@@ -2,10 +2,9 @@
 
 //! The value of a literal as a value of an integer type.
 
-use crate::literal::read::Parts;
+use crate::literal::literal::Literal;
 use crate::number::integer::Integer;
-use crate::number::numeral::Numeral;
-use crate::word::FormatView;
+use crate::number::numeral::{Magnitude, Numeral};
 
 /// Why a number has no value in a type.
 #[derive(Debug, Clone, Copy, PartialEq, Eq, Hash)]
@@ -35,13 +34,13 @@ impl ValueErrorKind {
     }
 }
 
-/// Returns the value of a literal of `format` as a value of an integer type. The value of `-0` is 0.
+/// Returns the value of a literal as a value of an integer type. The value of `-0` is 0.
 ///
 /// # Errors
 ///
 /// If the literal has a decimal point or an exponent, or if its value is not in the range of the type, returns which.
-pub fn to_integer<T: Integer>(format: FormatView, parts: &Parts) -> Result<T, ValueErrorKind> {
-    let Some(numeral) = integer_digits(format, parts) else {
+pub fn to_integer<T: Integer>(literal: &Literal) -> Result<T, ValueErrorKind> {
+    let Some(numeral) = integer_numeral(literal) else {
         return Err(ValueErrorKind::Float);
     };
     match T::from_numeral(&numeral) {
@@ -50,18 +49,19 @@ pub fn to_integer<T: Integer>(format: FormatView, parts: &Parts) -> Result<T, Va
     }
 }
 
-// Returns the sign and the digits of a literal, or `None` if it has a decimal point or an exponent.
+// Returns the sign of a literal, and its number or, if it has many digits, these, or `None` if it has a decimal point or an
+// exponent.
 #[inline(always)]
-pub(crate) const fn integer_digits<'a>(format: FormatView, parts: &Parts<'a>) -> Option<Numeral<'a>> {
+pub(crate) const fn integer_numeral<'a>(literal: &Literal<'a>) -> Option<Numeral<'a>> {
+    let parts = literal.cut();
     if !matches!(parts.point, []) || !matches!(parts.exponent_character, []) {
         return None;
     }
-    Some(Numeral {
-        negative: is_minus(parts.sign),
-        bytes: parts.integer,
-        radix: format.mantissa_radix(),
-        separated: true,
-    })
+    let magnitude = match literal.mantissa() {
+        Some(word) => Magnitude::Word(word),
+        None => Magnitude::Digits(parts.integer, literal.format().mantissa_radix()),
+    };
+    Some(Numeral { negative: is_minus(parts.sign), magnitude })
 }
 
 // Returns whether a sign is a minus sign.

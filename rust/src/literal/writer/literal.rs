@@ -2,25 +2,21 @@
 
 //! Literals are written as literals of another syntax.
 
+use crate::literal::literal::Literal;
 use crate::literal::read::Parts;
 use crate::literal::syntax::Syntax;
 use crate::literal::writer::layout::{Amount, Layout, Power, Style, WriteError};
 use crate::literal::writer::run::Source;
-use crate::number::numeral::Numeral;
+use crate::number::numeral::{Magnitude, Numeral};
 use crate::word::FormatView;
 
-/// Returns how a literal of `format` is written as a literal of `syntax`.
+/// Returns how a literal is written as a literal of `syntax`.
 ///
 /// # Errors
 ///
 /// If the literal cannot be written, returns why. The exponent digits are not moved where no exponent is allowed.
-pub fn format_literal<'a>(
-    format: FormatView,
-    parts: &Parts<'a>,
-    syntax: &Syntax,
-    style: Style,
-) -> Result<Layout<'a>, WriteError> {
-    let amount = amount_of(format, parts, syntax.format().view())?;
+pub fn format_literal<'a>(literal: &Literal<'a>, syntax: &Syntax, style: Style) -> Result<Layout<'a>, WriteError> {
+    let amount = amount_of(literal.format(), &literal.cut(), syntax.format().view())?;
     amount.lay_out(syntax, style)
 }
 
@@ -68,7 +64,7 @@ fn source_of<'a>(bytes: &'a [u8], from: u32, to: u32) -> Result<Source<'a>, Writ
     if from == to {
         return Ok(Source::Bytes(bytes));
     }
-    let exponent = Numeral { negative: false, bytes, radix: from, separated: true };
+    let exponent = Numeral { negative: false, magnitude: Magnitude::Digits(bytes, from) };
     match exponent.as_u128() {
         Some(size) => Ok(Source::Number(size)),
         None => Err(WriteError::Exponent),

@@ -1,0 +1,124 @@
+// Made by rust/tools/erase.py from crates/lexical_literal/src/literal.rt: change that file.
+
+//! Literals that were read, and the numbers that their digits represent.
+
+use crate::literal::plain::{Sum, Sums};
+use crate::literal::read::{cut, Parts};
+use crate::literal::syntax::Syntax;
+use crate::number::parts::count;
+use crate::number::word::{add_all, fits, word};
+use crate::word::FormatView;
+
+/// A text that was read as a literal: its parts, and the numbers that its digits represent.
+#[derive(Clone, Copy, PartialEq, Eq, Hash)]
+pub struct Literal<'a> {
+    pub(super) text: &'a [u8],
+    pub(super) counts: [usize; 9],
+    view: FormatView,
+    mantissa: Option<u64>,
+    places: usize,
+    exponent: Option<u64>,
+}
+
+impl<'a> Literal<'a> {
+    /// Returns the format by which the literal was read.
+    #[must_use]
+    #[inline(always)]
+    pub(crate) const fn format(&self) -> FormatView {
+        self.view
+    }
+
+    /// Returns the parts.
+    #[must_use]
+    #[inline(always)]
+    pub(crate) const fn cut(&self) -> Parts<'a> {
+        cut(self.text, self.counts)
+    }
+
+    /// Returns the number that the digits of the integer and the fraction represent together, if they are so few behind their
+    /// leading zeros that each number of so many digits is below `2 ^ 64`: 19 in radix 10, and 16 in radix 16.
+    #[must_use]
+    #[inline(always)]
+    pub(crate) const fn mantissa(&self) -> Option<u64> {
+        self.mantissa
+    }
+
+    /// Returns the number of digits of the fraction.
+    #[must_use]
+    #[inline(always)]
+    pub(crate) const fn places(&self) -> usize {
+        self.places
+    }
+
+    /// Returns the number that the digits of the exponent represent, if they are so few, as [`mantissa`][Self::mantissa] does.
+    #[must_use]
+    #[inline(always)]
+    pub(crate) const fn scale(&self) -> Option<u64> {
+        self.exponent
+    }
+}
+
+impl Syntax {
+    // Returns the literal `text`, of which the parts have the lengths `counts`, and the digits these sums.
+    #[inline(always)]
+    pub(crate) const fn literal<'a>(&self, text: &'a [u8], counts: [usize; 9], sums: Sums) -> Literal<'a> {
+        let view = self.format().view();
+        let Sums {
+            mantissa: Sum { digits, value },
+            places,
+            exponent: Sum { digits: exponent_digits, value: exponent_value },
+        } = sums;
+        Literal {
+            text,
+            counts,
+            view,
+            mantissa: mantissa(view.mantissa_radix(), text, counts, digits, value),
+            places,
+            exponent: exponent(view.exponent_radix(), text, counts, exponent_digits, exponent_value),
+        }
+    }
+
+    // Returns the literal `text`, of which the parts have the lengths `counts`.
+    #[cold]
+    pub(crate) const fn summed<'a>(&self, text: &'a [u8], counts: [usize; 9]) -> Literal<'a> {
+        let view = self.format().view();
+        let sums = sums_of(view.mantissa_radix(), view.exponent_radix(), &cut(text, counts));
+        self.literal(text, counts, sums)
+    }
+}
+
+// Returns the sums of the digits of `parts`.
+const fn sums_of(radix: u32, exponent_radix: u32, parts: &Parts) -> Sums {
+    let places = count(parts.fraction, radix);
+    Sums {
+        mantissa: Sum {
+            digits: count(parts.integer, radix) + places,
+            value: add_all(add_all(0, parts.integer, radix), parts.fraction, radix),
+        },
+        places,
+        exponent: Sum {
+            digits: count(parts.exponent, exponent_radix),
+            value: add_all(0, parts.exponent, exponent_radix),
+        },
+    }
+}
+
+// Returns the number that the digits of the integer and the fraction represent together, if they are few. There are `digits` of
+// them, and `sum` is the number modulo `2 ^ 64`.
+#[inline(always)]
+const fn mantissa(radix: u32, text: &[u8], counts: [usize; 9], digits: usize, sum: u64) -> Option<u64> {
+    if fits(radix, digits) {
+        return Some(sum);
+    }
+    let parts = cut(text, counts);
+    word(radix, parts.integer, parts.fraction, digits, sum)
+}
+
+// Returns the number that the digits of the exponent represent, if they are few, as `mantissa` does.
+#[inline(always)]
+const fn exponent(radix: u32, text: &[u8], counts: [usize; 9], digits: usize, sum: u64) -> Option<u64> {
+    if fits(radix, digits) {
+        return Some(sum);
+    }
+    word(radix, cut(text, counts).exponent, &[], digits, sum)
+}
