@@ -55,7 +55,7 @@ static void test_constants(void) {
     CHECK(is_word(peltzivar_pack(&starts[0]), 0x00000A0000000000, 0xC) && is_word(words[0], 0x00000A0000000000, 0xC));
     CHECK(is_word(peltzivar_pack(&PELTZIVAR_NEW_FIELDS), PELTZIVAR_STANDARD.high, PELTZIVAR_STANDARD.low));
     CHECK(sizeof(peltzivar_word) == 16 && sizeof(peltzivar_fields) == 16 && sizeof(peltzivar_edit) == 2);
-    CHECK(sizeof(peltzivar_read_error) == 128 && sizeof(peltzivar_literal) == 288);
+    CHECK(sizeof(peltzivar_read_error) == 128 && sizeof(peltzivar_literal) == 320);
     CHECK(sizeof(peltzivar_syntax) == 32 && sizeof(peltzivar_explanation) == 48);
 }
 

@@ -49,6 +49,20 @@ impl Syntax {
         }
     }
 
+    /// Returns what `then` makes of what [`read`][Self::read] returns, for callers that need not have it in memory.
+    #[doc(hidden)]
+    #[inline(always)]
+    pub fn read_then<'t, R>(&self, text: &'t [u8], then: impl FnOnce(Result<Literal<'t>, ReadError>) -> R) -> R {
+        let counted = self.begin(text, false);
+        if self.is_whole(text, counted) {
+            then(Ok(self.literal(text, counted.counts, counted.sums)))
+        } else if counted.exact {
+            then(self.refuse(text, counted.at))
+        } else {
+            then(self.read_slowly(text, counted.at))
+        }
+    }
+
     // Returns what `read` returns, where `at` has been read.
     #[inline(never)]
     const fn read_slowly<'t>(&self, text: &'t [u8], at: At) -> Result<Literal<'t>, ReadError> {
