@@ -194,7 +194,7 @@ typedef struct {
     size_t size;
     bool is_float;
     uint8_t form;
-    uint64_t counts[18];
+    uint64_t numbers[18];
 } peltzivar_literal;
 
 /* Where reading stopped. The first `valid_up_to` bytes are the longest beginning of the text that some literal begins

@@ -1,6 +1,8 @@
 # shellcheck shell=bash
 # compare/run and bench/run source this file. UPSTREAM names the sources of lexical-util 1.0.7: its folder, or a folder
 # with its files as src--src--NAME.rs.txt. WORK names a folder to build in and keep. By default, it is temporary.
+# PROFILE=default builds with cargo's own release profile: 16 units, and no optimisation across crates. PEERS names a folder
+# of crates, from which the driver takes lexical-core.
 : "${UPSTREAM:?needs the folder of the sources of lexical-util 1.0.7, such as those that cargo vendor fetches}"
 repository=$(cd "$(dirname "${BASH_SOURCE[0]}")/.." && pwd)
 if [ -n "${WORK:-}" ]; then
@@ -14,7 +16,8 @@ fi
 # manifest NAME DEPENDENCY=FOLDER.. writes the manifest of a crate to stdout.
 manifest() {
     printf '[package]\nname = "%s"\nversion = "0.0.0"\nedition = "2021"\n\n[workspace]\n' "$1"
-    printf '\n[profile.release]\nopt-level = 3\nlto = "fat"\ncodegen-units = 1\n\n[dependencies]\n'
+    [ "${PROFILE:-}" = default ] || printf '\n[profile.release]\nopt-level = 3\nlto = "fat"\ncodegen-units = 1\n'
+    printf '\n[dependencies]\n'
     local dependency
     for dependency in "${@:2}"; do
         printf '%s = { path = "%s" }\n' "${dependency%%=*}" "${dependency#*=}"
@@ -54,9 +57,12 @@ driver() {
     "$repository/compare/rows.py" "$work/upstream/src" > "$work/tree/compare/rust/src/rows.rs"
     {
         manifest driver "peltzivar=$work/tree/rust" "upstream=$work/upstream"
+        [ -z "${PEERS:-}" ] || printf 'lexical-core = { version = "0.7.6", features = ["format"] }\n'
         printf '\n[[bin]]\nname = "driver"\npath = "%s/rust/src/main.rs"\n' "$work/tree/$2"
     } > "$work/driver/Cargo.toml"
-    local flags="-C target-cpu=$4 -C llvm-args=-x86-branches-within-32B-boundaries --check-cfg=cfg(old) ${5:-}"
-    (cd "$work/driver" && RUSTFLAGS=$flags CARGO_TARGET_DIR=$work/target-$4 cargo build --release --offline --quiet)
+    local flags="-C target-cpu=$4 -C llvm-args=-x86-branches-within-32B-boundaries --check-cfg=cfg(old,peers) ${5:-}"
+    local source=()
+    [ -z "${PEERS:-}" ] || flags+=' --cfg peers' source=(--config 'source.crates-io.replace-with="peers"' --config "source.peers.directory=\"$PEERS\"")
+    (cd "$work/driver" && RUSTFLAGS=$flags CARGO_TARGET_DIR=$work/target-$4 cargo "${source[@]}" build --release --offline --quiet)
     cp "$work/target-$4/release/driver" "$work/$3"
 }

@@ -113,6 +113,8 @@ impl Syntax {
             let ended = more.iter().map(|text| [text, &[suffix][..]].concat());
             more = iter::once(vec![]).chain(ended).collect();
         }
+        more.sort_by_key(|text| (text.len(), text.clone()));
+        more.dedup();
         Self { word, is_integers: options.is_none(), roles: array::from_fn(|byte| role_of(byte as u8)), more }
     }
 
@@ -212,8 +214,8 @@ impl Syntax {
         let positive = if self.is_integers { InvalidPositiveSign } else { InvalidPositiveMantissaSign };
         let missing = if self.is_integers { MissingSign } else { MissingMantissaSign };
         let groups = |number, run: &Range<usize>| {
-            let group = self.group(text, run, end);
             let is_grouped = !is_set(word, number) || self.is_grouped(word, &text[run.clone()], number);
+            let group = if is_grouped { here() } else { self.group(text, run, end) };
             (number, is_grouped, group.clone(), InvalidDigit(group.start))
         };
         [

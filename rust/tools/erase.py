@@ -60,7 +60,7 @@ COPIED = {
     "lexical_tests/src/*.rt": "tests/known",
     "numfmt/src/tests/rows.rt": "numfmt/tests/program",
 }
-NOT_COPIED = {"lib.rt", "example.rt", "values.rt"}
+NOT_COPIED = {"lib.rt", "example.rt", "groups.rt", "values.rt"}
 
 # The forms of tests in Rattle, and in plain Rust.
 TEST_FORMS = [
@@ -96,21 +96,7 @@ REPLACED = [
 ]
 
 # Files in which each function is const in plain Rust. Rattle's `split_at` is not, nor is what calls it.
-LITERAL = "lexical_literal/src/literal.rt"
-CONST = ("read.rt", "list.rt", "span.rt", LITERAL)
-
-# The fields and the calls of a `Literal`, around which its calls in plain Rust are written by hand.
-FIELDS = "    text: &'a [u8],\n    counts: [usize; 9],\n    view:"
-REPLACED.append((LITERAL, FIELDS, re.sub(r"(text|counts):", r"pub(super) \1:", FIELDS)))
-for name in ("format", "cut", "mantissa", "places", "scale"):
-    REPLACED.append((LITERAL, f"pub const fn {name}(&self)", f"pub(crate) const fn {name}(&self)"))
-
-# A syntax that is not lawful can have any radix.
-REPLACED.append(("lexical_number/src/word.rt", "MOST[radix as usize] as usize", "if radix <= 36 { MOST[radix as usize] as usize } else { 0 }"))
-
-# Constants have values, too.
-for file, name in ("integer", "integer_numeral"), ("float", "binary_size"), ("float", "exponent_of"), ("float", "leading_of"):
-    REPLACED.append((f"lexical_value/src/{file}.rt", f"fn {name}", f"const fn {name}"))
+CONST = ("lexical_literal/src/read.rt", "list.rt", "span.rt", "lexical_literal/src/literal.rt")
 
 # Texts that plain Rust replaces in every file, wherever they occur.
 EVERYWHERE = [
@@ -151,6 +137,21 @@ REPLACED += [
     ("big.rt", "#[derive(Drop)]\n", ""),
     ("long.rt", "#[derive(Drop)]\n", ""),
     ("list.rt", "#[derive(Drop)]", "#[derive(Debug, Clone, Copy, PartialEq, Eq)]"),
+    # Its other calls are written by hand. Their results depend on what is compared.
+    ("lexical_literal/src/literal.rt", "#[derive(Drop)]", "#[derive(Clone, Copy, PartialEq, Eq, Hash)]"),
+    ("lexical_literal/src/literal.rt", "    text: &'a [u8],\n    counts", "    pub(crate) text: &'a [u8],\n    pub(crate) counts"),
+    ("lexical_literal/src/literal.rt", "    view: NumberFormat,", "    pub(crate) view: NumberFormat,"),
+    ("lexical_literal/src/literal.rt", "pub const fn format(&self)", "pub(crate) const fn format(&self)"),
+    ("lexical_literal/src/literal.rt", "pub const fn cut(&self)", "pub(crate) const fn cut(&self)"),
+    ("lexical_literal/src/literal.rt", "pub const fn mantissa(&self)", "pub(crate) const fn mantissa(&self)"),
+    ("lexical_literal/src/literal.rt", "pub const fn places(&self)", "pub(crate) const fn places(&self)"),
+    ("lexical_literal/src/literal.rt", "pub const fn scale(&self)", "pub(crate) const fn scale(&self)"),
+    # Calls for constants.
+    ("lexical_value/src/integer.rt", "pub(crate) fn integer_digits", "pub(crate) const fn integer_digits"),
+    ("lexical_value/src/integer.rt", "\nfn magnitude", "\nconst fn magnitude"),
+    ("lexical_value/src/float.rt", "pub(crate) fn binary_size", "pub(crate) const fn binary_size"),
+    ("lexical_value/src/float.rt", "\nfn leading", "\nconst fn leading"),
+    ("lexical_value/src/float.rt", "\nfn scale", "\nconst fn scale"),
     ("sink.rt", "#[derive(Drop)]", "#[derive(Debug)]"),
     (LITERAL, "#[derive(Drop)]", "#[derive(Clone, Copy, PartialEq, Eq, Hash)]"),
     # `Debug` prints the answers.
@@ -280,8 +281,7 @@ class Source:
 def replaced(path):
     """Returns a source after the replacements. Each keeps the number of lines, so lines keep their numbers."""
     text = path.read_text()
-    if any(path.match(file) for file in CONST):
-        text = re.sub(r"(?<!const )\bfn (?=\w+[<(])", "const fn ", text)
+    text = re.sub(r"(?<!const )\bfn (?=\w+[<(])", "const fn ", text) if any(path.match(it) for it in CONST) else text
     for file, old, new in REPLACED:
         if path.match(file):
             if text.count(old) != 1:

@@ -5,6 +5,8 @@ use crate::calls::*;
 use crate::list;
 use crate::measure::Row;
 use crate::random::Random;
+#[cfg(peers)]
+use lexical_core::NumberFormat;
 use peltzivar::literal::Language;
 use std::fmt::Write;
 use std::hint::black_box;
@@ -128,6 +130,14 @@ calls! {
     parse_integer: |_group| |text| black_box(text.parse::<i64>()).is_ok();
 }
 
+#[cfg(peers)]
+calls! {
+    peer_integer: |_group| |text| black_box(lexical_core::parse::<i64>(text.as_bytes())).is_ok();
+    peer_float: |_group| |text| black_box(lexical_core::parse::<f64>(text.as_bytes())).is_ok();
+    peer_group: |_group| |text| black_box(lexical_core::parse_format::<i64>(text.as_bytes(), NumberFormat::RUBY_LITERAL)).is_ok();
+    peer_decimal: |_group| |text| black_box(lexical_core::parse_format::<f64>(text.as_bytes(), NumberFormat::RUBY_LITERAL)).is_ok();
+}
+
 /// Returns how many texts a call returns `true` for.
 fn count<F: Fn(&str) -> bool>(texts: Texts, call_of: impl Fn(&Group) -> F) -> u64 {
     let counts = texts.iter().map(|group| {
@@ -179,6 +189,13 @@ pub fn rows() -> Vec<Row> {
     let hexadecimal = of_form(Language::C, 4, || format!("0x1.{}p{}", fixed(random, 13), random.below(100)));
     let form = |form| Group::new((Language::C, form), 20_000, || of_c(random, form), |_, _| true);
     let forms = Vec::from([0, 1, 2, 3, 4].map(form)).leak();
+    let long_integers = of_form(Language::JSON, 0, || 1.to_string() + &fixed(random, 17));
+    let wrong_integers = of_form(Language::JSON, 0, || {
+        let mut text = integer(random, None);
+        text.insert(random.below(text.len() as u64 + 1) as usize, random.pick(b"_x; ") as char);
+        text
+    });
+    let decimals = of_form(Language::TOML, 0, || integer(random, Some('_')) + "." + &fixed(random, 2));
     macro_rules! rows {
         ($($name:expr, $texts:ident.$call:ident, $others:ident.$other:ident;)*) => {
             vec![$({
@@ -204,16 +221,33 @@ pub fn rows() -> Vec<Row> {
         "Syntax::read, byte appended, over accepted", appended.refuses, accepted.reader;
         "Syntax::read and text, inserted, over accepted", inserted.prints, accepted.reader;
         "Syntax::parse, 1 to 9 digits, over parse", integers.value, integers.parse_integer;
+        "Syntax::parse, 18 digits, over parse", long_integers.value, long_integers.parse_integer;
+        "Syntax::parse, refused, over parse", wrong_integers.value, wrong_integers.parse_integer;
         "Syntax::parse, grouped, over Syntax::read", grouped.value, grouped.reader;
         "Syntax::parse, prefixed, over Syntax::read", prefixed.value, prefixed.reader;
         "Syntax::parse::<f64>, mixed, over parse", mixed.float, mixed.parse;
         "Syntax::parse::<f64>, one shape, over parse", shape.float, shape.parse;
         "Syntax::parse::<f64>, money, over parse", money.float, money.parse;
+        "Syntax::parse::<f64>, grouped, over Syntax::read", decimals.float, decimals.reader;
         "Syntax::parse::<f64>, 17 digits, over parse", exponents.float, exponents.parse;
         "Syntax::parse::<f64>, fractions, over parse", fractions.float, fractions.parse;
         "Syntax::parse::<f64>, 100 digits, over parse", long.float, long.parse;
         "Syntax::parse::<f64>, hexadecimal, over Syntax::read", hexadecimal.float, hexadecimal.reader;
     };
     rows.push(written(random));
+    #[cfg(peers)]
+    rows.extend(rows! {
+        "Syntax::parse, 1 to 9 digits, over lexical-core", integers.value, integers.peer_integer;
+        "Syntax::parse, 18 digits, over lexical-core", long_integers.value, long_integers.peer_integer;
+        "Syntax::parse, refused, over lexical-core", wrong_integers.value, wrong_integers.peer_integer;
+        "Syntax::parse, grouped, over lexical-core", grouped.value, grouped.peer_group;
+        "Syntax::parse::<f64>, mixed, over lexical-core", mixed.float, mixed.peer_float;
+        "Syntax::parse::<f64>, one shape, over lexical-core", shape.float, shape.peer_float;
+        "Syntax::parse::<f64>, money, over lexical-core", money.float, money.peer_float;
+        "Syntax::parse::<f64>, grouped, over lexical-core", decimals.float, decimals.peer_decimal;
+        "Syntax::parse::<f64>, 17 digits, over lexical-core", exponents.float, exponents.peer_float;
+        "Syntax::parse::<f64>, fractions, over lexical-core", fractions.float, fractions.peer_float;
+        "Syntax::parse::<f64>, 100 digits, over lexical-core", long.float, long.peer_float;
+    });
     rows
 }

@@ -12,9 +12,8 @@ ghost use Rattle.lexical_util.specs.Options.{OptionsFit};
 ghost use Rattle.lexical_util.specs.Writes.{write_byte, write_flags};
 ghost use Rattle.lexical_util.specs.Edits.{edited};
 ghost use Rattle.lexical_util.specs.NormalForm.{normal_form_of};
-ghost use Rattle.lexical_literal.specs.Literal.{Literal};
-ghost use Rattle.lexical_literal.specs.Notation.{no_conditions};
-ghost use Rattle.lexical_literal.specs.Takes.{Takes};
+ghost use Rattle.lexical_literal.specs.Literal.{Literal, Reads};
+ghost use Rattle.lexical_literal.specs.Notation.{no_conditions, notation_of};
 ghost use Rattle.lexical_number.specs.Numeral.{unsigned};
 ghost use Rattle.lexical_value.specs.Parsed.{IsParsed};
 
@@ -74,7 +73,7 @@ pub fn decimal() -> Syntax
 
 /// Returns whether `text` is a literal of `syntax`.
 pub fn is_literal(syntax: &Syntax, text: &[u8]) -> bool
-    ensures { IsTrue result ↔ ((l : Literal) × Takes syntax.now l text.now) }
+    ensures { IsTrue result ↔ ((l : Literal) × Reads (notation_of syntax.now) l text.now) }
 {
     match syntax.read(text) {
         Ok(_) => true,

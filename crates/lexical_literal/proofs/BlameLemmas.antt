@@ -36,10 +36,9 @@ use Rattle.lexical_literal.specs.declared.syntax.Condition.TheVariants as condit
 use Rattle.lexical_literal.specs.declared.syntax.Grammar.{Grammar}
 use Rattle.lexical_literal.proofs.CauseLemmas.{flag_zero, found_in, mask_flags, none_of, only_mask, only_none, same_flag, some_of}
 use Rattle.lexical_literal.proofs.GroupLemmas.{same_unsized}
-use Rattle.lexical_literal.proofs.JointLemmas.{at_next, each_passes, free_allows, free_is, going, joint, leads, passes, split}
+use Rattle.lexical_literal.proofs.JointLemmas.{at_next, each_passes, free_allows, free_is, going, joint, leads, passes, sizing, split}
 use Rattle.lexical_literal.proofs.NumberLemmas.{has_kept, none_of_all}
-use Rattle.lexical_literal.proofs.RefusalLemmas.{KeepsPlaces, apart}
-use Rattle.lexical_literal.proofs.SizeLemmas.{keeps}
+use Rattle.lexical_literal.proofs.RefusalLemmas.{apart}
 
 -- FEWER REQUIREMENTS
 
@@ -107,14 +106,13 @@ module _ (m : Notation) (s : Summary) (g : Group) (next : Option ℕ) (allowed :
   goes_with : (c : Condition) → m.condition c ≡ true → goes (only c) s g next ≡ true
   goes_with c set = met (m.condition c) (goes (bare m) s g next) _ (none_unmet c) allowed set
 
-  parts_with : (c : Condition) → m.condition c ≡ true
-      → ((free_allows m (unsized (only c)) s next ≡ true) × (passes m (unsized (only c)).condition s next ≡ true)) × (fits (only c) g role ≡ true)
-  parts_with c set =
-      let both = and_parts (lets (unsized (only c)) s next) _ (goes_with c set) in
-      (and_parts _ _ (sym (split m (unsized (only c)).flag (unsized (only c)).condition s next) ∙ both.0), both.1)
+  -- What goes on with some conditions, the flags and these let go on.
+  parts_with : (C : Condition → Bool) → goes (sizing m C) s g next ≡ true
+      → (free_allows m (unsized (sizing m C)) s next ≡ true) × (passes m (unsized (sizing m C)).condition s next ≡ true)
+  parts_with C is = and_parts _ _ (sym (split m (unsized (sizing m C)).flag (unsized (sizing m C)).condition s next) ∙ (and_parts _ _ is).0)
 
   fit : fits m g role ≡ true
-  fit = go g.part (follows m g role) (λ c set. (parts_with c set).1) where
+  fit = go g.part (follows m g role) (λ c set. (and_parts _ _ (goes_with c set)).1) where
     sized : (x t : Bool) → (x ≡ true → t ≡ true) → (not x || t) ≡ true
     sized true t is = is refl
     sized false t is = refl
@@ -126,47 +124,31 @@ module _ (m : Notation) (s : Summary) (g : Group) (next : Option ℕ) (allowed :
 
   flags_refuse : free_allows m (unsized m) s next ≡ false
   flags_refuse = flags _ _ _ (ap (λ t. t && fits m g role) (sym (split m (unsized m).flag (unsized m).condition s next)) ∙ refused)
-      (each_passes m m.condition s next (λ c set. (parts_with c set).0.1)) fit where
+      (each_passes m m.condition s next (λ c set. (parts_with (only c).condition (goes_with c set)).1)) fit where
         flags : (f p t : Bool) → ((f && p) && t) ≡ false → p ≡ true → t ≡ true → f ≡ false
         flags f p t none pass last = grind arith
 
-  leading : (B : Flag → Bool) (D : Condition → Bool) → KeepsPlaces (with_rules m B D) (unsized m).flag no_condition (part_of s.stage)
-      → free_allows m (with_rules m B D) s next ≡ true → leads m ≡ true
-  leading B D kept free = joint m s next (going m (with_rules m B D) (unsized m) s next free flags_refuse) B D kept
+  leading : (C : Condition → Bool) (part : Part) → part_of s.stage ≡ part → has_size (sizing m C) part ≡ has_size m part
+      → goes (sizing m C) s g next ≡ true → leads m ≡ true
+  leading C part at sized is =
+      let free = (parts_with C is).0 in
+      joint m s next (going m (unsized (sizing m C)) (unsized m) s next free flags_refuse) C
+      (subst (λ part. has_size (sizing m C) part ≡ has_size m part) (sym at) sized)
       (record { each = λ f is. sym (goes_free m (adding f (bare m)).flag s g next) ∙ with_flag (binds m f) _ (none_alone f) is }) free flags_refuse where
         with_flag : (x y : Bool) → (x && not y) ≡ false → x ≡ true → y ≡ true
         with_flag x y none set = grind arith
 
-  -- In a part with a size, this refuses empty groups.
-  in_part : (part : Part) → part_of s.stage ≡ part → leads m ≡ true
-  in_part part at = elim (cases_Bool (has_size m part)) [
-    | inl sized ↦ sized_part part at sized
-    | inr none ↦ leading (bare m).flag no_condition (free_places none) (sym (goes_free m (bare m).flag s g next) ∙ allowed)
-  ] where
-    free_places : has_size m part ≡ false → KeepsPlaces (bare m) (unsized m).flag no_condition (part_of s.stage)
-    free_places none = let keep = keeps m (part_of s.stage) (ap (has_size m) at ∙ none) in record {
-      leading = λ set. keep.leading (and_parts _ _ set).0;
-      internal = λ set. keep.internal (and_parts _ _ set).0;
-      trailing = λ set. keep.trailing (and_parts _ _ set).0;
-      consecutive = λ set. keep.consecutive (and_parts _ _ set).0;
-    }
+  by_size : (c : Condition) (part : Part) → part_of s.stage ≡ part → has_size (only c) part ≡ true → has_size (bare m) part ≡ false
+      → has_size m part ≡ m.condition c → leads m ≡ true
+  by_size c part at one none sized = elim (cases_Bool (m.condition c)) [
+    | inl set ↦ leading (only c).condition part at (one ∙ sym (sized ∙ set)) (goes_with c set)
+    | inr unset ↦ leading no_condition part at (none ∙ sym (sized ∙ unset)) allowed
+  ]
 
-    sized_part : (part : Part) → part_of s.stage ≡ part → has_size m part ≡ true → leads m ≡ true
-    sized_part parts.Integer at sized = leading (unsized (only conditions.IntegerGroupSize)).flag (unsized (only conditions.IntegerGroupSize)).condition
-        (subst (KeepsPlaces (unsized (only conditions.IntegerGroupSize)) (unsized m).flag no_condition) (sym at) (record {
-          leading = λ set. absurd (false≢true set);
-          internal = λ set. (and_parts _ _ set).0;
-          trailing = λ set. absurd (false≢true set);
-          consecutive = λ set. absurd (false≢true set);
-        })) (parts_with conditions.IntegerGroupSize sized).0.0
-    sized_part parts.Fraction at sized = leading (unsized (only conditions.FractionGroupSize)).flag (unsized (only conditions.FractionGroupSize)).condition
-        (subst (KeepsPlaces (unsized (only conditions.FractionGroupSize)) (unsized m).flag no_condition) (sym at) (record {
-          leading = λ set. absurd (false≢true set);
-          internal = λ set. (and_parts _ _ set).0;
-          trailing = λ set. absurd (false≢true set);
-          consecutive = λ set. absurd (false≢true set);
-        })) (parts_with conditions.FractionGroupSize sized).0.0
-    sized_part parts.Exponent at sized = absurd (false≢true sized)
+  in_part : (part : Part) → part_of s.stage ≡ part → leads m ≡ true
+  in_part parts.Integer at = by_size conditions.IntegerGroupSize parts.Integer at refl refl refl
+  in_part parts.Fraction at = by_size conditions.FractionGroupSize parts.Fraction at refl refl refl
+  in_part parts.Exponent at = leading no_condition parts.Exponent at refl allowed
 
   -- A flag on leading zeros is to blame.
   some_zero : SomeFlag (zeros m)

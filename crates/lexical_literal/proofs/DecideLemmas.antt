@@ -1,7 +1,7 @@
 -- What has been read decides what a notation with sizes of groups allows, with other flags and conditions too.
-use Rattle.std.proofs.Common.{ℕ, ◌≡◌, ◌↔◌, inl, inr, Bool, true, false, not, ◌&&◌, ◌||◌, if◌then◌else◌, IsTrue, List, [], ◌∷◌, ◌++◌, Option, Some, None}
+use Rattle.std.proofs.Common.{ℕ, ◌≡◌, ◌↔◌, inl, inr, Bool, true, false, not, ◌&&◌, ◌||◌, if◌then◌else◌, List, [], ◌∷◌, ◌++◌, Option, Some, None}
 use Rattle.std.proofs.Common.{refl, sym, ap, subst, ◌∙◌, arith}
-use Rattle.std.proofs.lemmas.Bool.{false≢true, and_parts, and_from, cases_Bool, or_left, or_right}
+use Rattle.std.proofs.lemmas.Bool.{false≢true, and_parts, and_from, cases_Bool, or_left}
 use Rattle.std.specs.Prelude.{is_some}
 use Rattle.lexical_util.specs.Layout.{Flag, separators_in}
 use Rattle.lexical_util.specs.declared.feature_format.roles.Role.{Role}
@@ -9,7 +9,6 @@ use Rattle.lexical_util.specs.declared.format_flags.Part.{Part}
 use Rattle.lexical_util.specs.declared.format_flags.Part.TheVariants as parts
 use Rattle.lexical_literal.specs.Cause.{Allows, is_one_of, requirement_flags, with_rules}
 use Rattle.lexical_literal.specs.Groups.{has_size, has_sizes}
-use Rattle.lexical_literal.specs.Literal.{Literal, Reads}
 use Rattle.lexical_literal.specs.Notation.{Notation}
 use Rattle.lexical_literal.specs.Additions.Causes.{IsWeaker, lets}
 use Rattle.lexical_literal.specs.Additions.Plain.{HasRoles, HasSizes, IsReady}
@@ -126,14 +125,14 @@ module _ (m : Notation) (A : Flag → Bool) (D : Condition → Bool) (weaker : I
     internal parts.Fraction is = kept _ (weaker.no_less (separators_in parts.Fraction).internal (sizes.internal parts.Fraction (weaker.conditions conditions.FractionGroupSize is)))
     internal parts.Exponent is = absurd (false≢true is)
 
+  pub sized_too : (part : Part) → has_size n part ≡ true → has_size m part ≡ true
+  sized_too parts.Integer is = weaker.conditions conditions.IntegerGroupSize is
+  sized_too parts.Fraction is = weaker.conditions conditions.FractionGroupSize is
+  sized_too parts.Exponent is = is
+
   -- Groups that fit still do.
   still : (g : Group) (r : Option Role) → fits m g r ≡ true → fits n g r ≡ true
-  still g r fit = go (has_size n g.part) (has_size m g.part) (follows m g r) (sized g.part) fit where
-    sized : (part : Part) → has_size n part ≡ true → has_size m part ≡ true
-    sized parts.Integer is = weaker.conditions conditions.IntegerGroupSize is
-    sized parts.Fraction is = weaker.conditions conditions.FractionGroupSize is
-    sized parts.Exponent is = is
-
+  still g r fit = go (has_size n g.part) (has_size m g.part) (follows m g r) (sized_too g.part) fit where
     go : (a b t : Bool) → (a ≡ true → b ≡ true) → (not b || t) ≡ true → (not a || t) ≡ true
     go a b t is fit = grind arith
 

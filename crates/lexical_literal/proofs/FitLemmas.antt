@@ -10,7 +10,7 @@ use Rattle.lexical_util.specs.declared.feature_format.roles.Role.TheVariants as 
 use Rattle.lexical_util.specs.declared.format_flags.Part.{Part}
 use Rattle.lexical_util.specs.declared.format_flags.Part.TheVariants as parts
 use Rattle.lexical_literal.specs.Front.{IsFront}
-use Rattle.lexical_literal.specs.Groups.{first_fits, has_size, has_sizes, higher, inner_fits, last_fits}
+use Rattle.lexical_literal.specs.Groups.{has_size, has_sizes, higher, inner_fits, last_fits}
 use Rattle.lexical_literal.specs.Literal.{Literal, Reads}
 use Rattle.lexical_literal.specs.Notation.{Notation}
 use Rattle.lexical_literal.specs.Additions.Plain.{HasRoles, HasSizes, IsReady}
@@ -22,11 +22,11 @@ use Rattle.lexical_literal.specs.declared.syntax.Condition.TheVariants as condit
 use Rattle.lexical_literal.specs.declared.steps.Stage.{Stage}
 use Rattle.lexical_literal.specs.declared.steps.Summary.{Summary}
 use Rattle.lexical_literal.proofs.FrontLemmas.{begins, completed_there, ended_there, front_is_read, goes_on_there, literal_there}
-use Rattle.lexical_literal.proofs.GroupLemmas.{group, not_empty}
+use Rattle.lexical_literal.proofs.GroupLemmas.{not_empty}
 use Rattle.lexical_literal.proofs.RefusalLemmas.{other_roles}
 use Rattle.lexical_literal.proofs.PartOfLemmas.{none_after}
 use Rattle.lexical_literal.proofs.PlainLemmas.{admits_free}
-use Rattle.lexical_literal.proofs.ScanLemmas.{Accepts, as_digit, as_role, digit_role, is_role, moved, scan_append, took}
+use Rattle.lexical_literal.proofs.ScanLemmas.{as_digit, as_role, digit_role, is_role, moved, scan_append, took}
 use Rattle.lexical_literal.proofs.SizeLemmas.{all_end, as_sized, as_unsized, ends, group_append, group_none, same_internal}
 use Rattle.lexical_literal.proofs.StepLemmas.{bare_part, digit_part, digit_seen, mark_part, point_part}
 
@@ -180,6 +180,11 @@ module _ (m : Notation) where
       → group_after m (Some first_group) text ≡ Some g → g.part ≡ part_of s.stage
   linked_there sized text s g read grouped = (linked_all sized start first_group text s g first_linked read grouped).part
 
+  pub some_size : (part : Part) → has_size m part ≡ true → has_sizes m ≡ true
+  some_size parts.Integer is = or_left _ _ is
+  some_size parts.Fraction is = or_right _ _ is
+  some_size parts.Exponent is = absurd (false≢true is)
+
   -- FRONTS
 
   module _ (ready : IsReady u) (sizes : HasSizes m) where
@@ -192,11 +197,6 @@ module _ (m : Notation) where
       grouped : group_after m (Some first_group) text ≡ Some g
       separated : g.separated ≡ true
       sized : has_size m g.part ≡ true
-
-    some_size : (part : Part) → has_size m part ≡ true → has_sizes m ≡ true
-    some_size parts.Integer is = or_left _ _ is
-    some_size parts.Fraction is = or_right _ _ is
-    some_size parts.Exponent is = absurd (false≢true is)
 
     module _ (text : List ℕ) (s : Summary) (g : Group) (is : Filling text s g) where
       linked : Linked s g

@@ -1,5 +1,5 @@
 -- Groups, counted at once and byte by byte, and runs without empty groups.
-use Rattle.std.proofs.Common.{ℕ, ◌≡◌, ◌<◌, ◌≤◌, ◌+◌, ◌==◌, inl, inr, Bool, true, false, not, ◌&&◌, ◌||◌, if◌then◌else◌, nat_lt, List, [], ◌∷◌, Some, None, zero, suc}
+use Rattle.std.proofs.Common.{ℕ, ◌≡◌, ◌≤◌, ◌+◌, ◌==◌, inl, inr, Bool, true, false, not, ◌&&◌, ◌||◌, if◌then◌else◌, nat_lt, List, [], ◌∷◌, Some, None, zero, suc}
 use Rattle.std.proofs.Common.{refl, sym, ap, subst, ◌∙◌, arith}
 use Rattle.std.proofs.lemmas.Bool.{false≢true, and_parts, and_from, cases_Bool, false_from_ne_true, or_left, or_right}
 use Rattle.std.proofs.lemmas.Bool.Decides.{nat_tests}
@@ -9,7 +9,6 @@ use Rattle.lexical_util.specs.declared.format_flags.Part.{Part}
 use Rattle.lexical_util.specs.declared.format_flags.Part.TheVariants as parts
 use Rattle.lexical_literal.specs.Groups.{all_fit, first_fits, group_sizes, has_size, inner_fits, is_grouped, last_fits, one_more, rest_fits}
 use Rattle.lexical_literal.specs.Notation.{Notation}
-use Rattle.lexical_literal.specs.Run.{is_run}
 use Rattle.lexical_literal.specs.Additions.Summary.{gap_fits}
 use Rattle.lexical_literal.specs.Additions.Sizes.{follows, grown, is_size, makes_empty, most, unsized}
 use Rattle.lexical_literal.specs.declared.groups.Group.{Group}
@@ -17,7 +16,7 @@ use Rattle.lexical_literal.specs.Additions.Plain.{HasRoles, HasSizes}
 use Rattle.lexical_literal.specs.Cause.{with_rules}
 use Rattle.lexical_literal.specs.declared.syntax.Condition.{Condition}
 use Rattle.lexical_literal.specs.declared.syntax.Condition.TheVariants as conditions
-use Rattle.lexical_literal.proofs.RunLemmas.{is_rest, rest_of_none}
+use Rattle.lexical_literal.proofs.RunLemmas.{is_rest}
 use Rattle.lexical_literal.proofs.ScanLemmas.{as_role, digit_role}
 
 -- `group part separated digits` is a group of `part`.

@@ -8,8 +8,8 @@ use Rattle.lexical_util.specs.declared.feature_format.roles.Role.{Role}
 use Rattle.lexical_util.specs.declared.feature_format.roles.Role.TheVariants as roles
 use Rattle.lexical_util.specs.declared.format_flags.Part.{Part}
 use Rattle.lexical_util.specs.declared.format_flags.Part.TheVariants as parts
+use Rattle.lexical_literal.specs.Groups.{has_size}
 use Rattle.lexical_literal.specs.Notation.{Notation, is_same}
-use Rattle.lexical_literal.specs.Run.{is_place}
 use Rattle.lexical_literal.specs.Cause.{adding, bare, binds, is_at, is_one_of, number_separator_flags, with_rules}
 use Rattle.lexical_literal.specs.Additions.Causes.{is_separator, lets, place_of}
 use Rattle.lexical_literal.specs.Additions.Summary.{admits, after, complete_by, continues, digits_suffice, ends, finishes, has_digit, implies, may_follow}
@@ -133,13 +133,22 @@ module _ (m : Notation) where
   led stages.Zero none = grind arith
   led _ none = absurd (false≢true (sym none))
 
-  -- What is allowed with the flags `B`, which allow no separator that `u` refuses, and with each requirement alone.
-  module _ (B : Flag → Bool) (D : Condition → Bool) where
+  -- What is allowed without requirements but the sizes in `C`, of which one is on `part` if `m` has one, and with each flag alone.
+  module _ (C : Condition → Bool) where
+    abbrev pub sizing : Notation
+    sizing = with_rules m (bare m).flag C
+
     abbrev b : Notation
-    b = with_rules m B D
+    b = unsized sizing
 
     abbrev Kept : Part → Type 0
     Kept part = KeepsPlaces b u.flag no_condition part
+
+    kept_in : (part : Part) → has_size sizing part ≡ has_size m part → Kept part
+    kept_in parts.Exponent same =
+        record { leading = λ set. grind arith; internal = λ set. grind arith; trailing = λ set. grind arith; consecutive = λ set. grind arith }
+    kept_in _ same =
+        record { leading = λ set. grind arith; internal = λ set. grind arith; trailing = λ set. grind arith; consecutive = λ set. grind arith }
 
     kept_gap : (part : Part) → Kept part → (digit gap next : Bool) → gap_fits b part digit gap next ≡ true → gap_fits u part digit gap next ≡ true
     kept_gap part kept digit gap next is =
@@ -205,7 +214,9 @@ module _ (m : Notation) where
         → is_signed u part stage ≡ true → takes_in b part stage gap plus role ≡ true → takes_in u part stage gap plus role ≡ false
         → may_follow u stage ≡ false
     shut part kept stage gap plus roles.Digit is sign free refused =
-        let fit = kept_gap part kept (has_digit stage) gap true in grind arith
+        let two = and_parts (gap_fits b part (has_digit stage) gap true) _ (and_parts (is_signed b part stage) _ free).1 in
+        let fit = kept_gap part kept (has_digit stage) gap true two.0 in
+        false_from_ne_true _ (λ may. false≢true (sym refused ∙ and_from _ _ sign (and_from _ _ fit may)))
     shut part kept stage gap plus roles.Separator is sign free refused =
         let two = and_parts (not gap || b.flag (separators_in part).consecutive) _ (and_parts (is_signed b part stage) _ free).1 in
         let more = either_kept (not gap) _ _ kept.consecutive two.0 in
@@ -251,10 +262,10 @@ module _ (m : Notation) where
     same = λ j n. sym (allows_is n s next unended) j
 
     -- What no flag refuses alone, a flag on leading zeros refuses with another flag, or where groups have sizes.
-    pub joint : (B : Flag → Bool) (D : Condition → Bool) → Kept B D (part_of s.stage) → Alone (λ n. free_allows n s next)
-        → free_allows (b B D) s next ≡ true → free_allows u s next ≡ false → leads ≡ true
-    joint B D kept = subst (λ P. Alone P → P (b B D) ≡ true → P u ≡ false → leads ≡ true) same
-        (joint_role B D (part_of s.stage) kept s.stage s.gap (is_plus_next next) o)
+    pub joint : (C : Condition → Bool) → has_size (sizing C) (part_of s.stage) ≡ has_size m (part_of s.stage) → Alone (λ n. free_allows n s next)
+        → free_allows (b C) s next ≡ true → free_allows u s next ≡ false → leads ≡ true
+    joint C sized = subst (λ P. Alone P → P (b C) ≡ true → P u ≡ false → leads ≡ true) same
+        (joint_role C (part_of s.stage) (kept_in C (part_of s.stage) sized) s.stage s.gap (is_plus_next next) o)
 
   -- A flag that allows the byte is of the place and the part.
   pub at_next : (f : Flag) (s : Summary) (byte : ℕ) → is_one_of number_separator_flags f ≡ true → free_allows (bare m) s (Some byte) ≡ false

@@ -1,18 +1,21 @@
 -- Fronts of a text, and where the loop is left.
 use Rattle.std.proofs.Common.{ℕ, Bool, IsNone, Option, if◌then◌else◌, ◌≡◌, ◌<◌, ◌≤◌, ◌+◌, ◌&&◌, ◌||◌, ◌⊎◌, not, inl, inr, true, false, List, [], ◌∷◌, ◌++◌, length}
-use Rattle.std.proofs.Common.{get_or, replicate, take, drop, Some, None, refl, sym, ap, subst, append_assoc, append-nil, take-append-drop, ◌∙◌, arith}
+use Rattle.std.proofs.Common.{Ok, get_or, replicate, take, drop, Some, None, refl, sym, ap, subst, append_assoc, append-nil, take-append-drop, ◌∙◌, arith}
 use Rattle.std.specs.Prelude.{is_some, slice_get}
 use Rattle.std.proofs.lemmas.Bool.{false≢true, and_from, and_parts, cases_Bool, cases_lt, false_from_ne_true, or_parts}
 use Rattle.std.proofs.lemmas.Option.{slice_get-get_or, slice_get_past}
 use Rattle.std.proofs.lemmas.List.{length-take-le, take-take, take_more, take_all}
-use Rattle.lexical_literal.specs.Notation.{Notation}
-use Rattle.lexical_literal.specs.Literal.{Literal, IsLiteral, Reads}
+use Rattle.lexical_literal.specs.Notation.{Notation, notation_of}
+use Rattle.lexical_literal.specs.Literal.{Literal, IsLiteral, Reads, text_of}
+use Rattle.lexical_literal.specs.Parts.{IsRead, literal_of}
+use Rattle.lexical_literal.specs.declared.read.Parts.{Parts}
+use Rattle.lexical_literal.specs.declared.syntax.Grammar.{Grammar}
 use Rattle.lexical_literal.specs.Additions.Summary.{count, cuts_of, role_at, scan, step, is_accepted, is_complete, part_of, tally, start, no_cuts, HasLengths}
 use Rattle.lexical_literal.specs.Front.{IsFront, IsValidUpTo, NoFront, NoLiteral, ReadsFront}
 use Rattle.lexical_literal.specs.Additions.Longest.{HasBegun, HasFound, IsCountedFront, IsFronted, IsLongest, IsMeasured, IsStopped, IsUnderway}
 use Rattle.lexical_literal.specs.Additions.Sizes.{first_group, fits, goes, group_after, grow, grown, unsized}
 use Rattle.lexical_literal.specs.Groups.{has_sizes}
-use Rattle.lexical_literal.specs.Additions.Plain.{HasRoles, HasSizes, IsReady, IsAt, IsBegun, IsRefused}
+use Rattle.lexical_literal.specs.Additions.Plain.{HasRoles, HasSizes, IsReady, IsAt, IsRefused}
 use Rattle.lexical_literal.specs.declared.read.Found.{Found}
 use Rattle.lexical_literal.specs.declared.plain.At.{At}
 use Rattle.lexical_literal.specs.declared.plain.Counted.{Counted}
@@ -151,6 +154,15 @@ found_whole m text counted has complete all =
       literal = (l.0, subst (Reads m l.0) same l.1);
       counted = λ k reads. has.lengths complete k (subst (Reads m k) (sym same) reads);
     }
+
+-- A text that is measured is read if it is cut into parts of these lengths.
+pub read_whole : (g : Grammar) (text counts : List ℕ) (parts : Parts) → IsMeasured (notation_of g) text counts
+    → ((l : Literal) → text ≡ text_of l → HasLengths l (cuts_of counts) → literal_of parts ≡ l) → IsRead g text (Ok parts)
+read_whole g text counts parts is cut = let l = is.literal in record {
+  found = subst (λ l. Reads (notation_of g) l text) (sym (cut l.0 l.1.whole (is.counted l.0 l.1))) l.1;
+  only = λ k reads. cut k reads.whole (is.counted k reads);
+  error = tt;
+}
 
 -- What a pass finds that seeks the longest front.
 pub fronted : (m : Notation) (text : List ℕ) (stop : At) (found : Found) → IsStopped m text stop → IsCountedFront m text found

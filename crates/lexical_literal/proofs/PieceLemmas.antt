@@ -9,8 +9,7 @@ use Rattle.lexical_literal.specs.Cause.{Explained}
 use Rattle.lexical_literal.specs.Front.{ReadsFront}
 use Rattle.lexical_literal.specs.Parts.{IsRead}
 use Rattle.lexical_literal.specs.Read.{Read}
-use Rattle.lexical_literal.specs.Takes.{AreGroups, Takes}
-use Rattle.lexical_literal.specs.Additions.Longest.{IsGroupedFront, IsMeasured}
+use Rattle.lexical_literal.specs.Additions.Longest.{IsCountedFront, IsMeasured}
 use Rattle.lexical_literal.specs.declared.syntax.Grammar.{Grammar}
 use Rattle.lexical_literal.specs.Additions.Read.{IsCut, cut}
 use Rattle.lexical_literal.specs.Additions.Summary.{Cuts, HasLengths, cuts_of}
@@ -61,34 +60,34 @@ is_cut m text c l reads has = let same = sym (cut_is text c l reads.whole has) i
 abbrev pub read_as : Grammar → List ℕ → List ℕ → Read
 read_as g text counts = record { format = g.word; literal = cut text (cuts_of counts) }
 
-module _ (g : Grammar) (text counts : List ℕ) (is : IsMeasured g text counts true) where
+module _ (g : Grammar) (text counts : List ℕ) (is : IsMeasured (notation_of g) text counts) where
   pub measured_cut : IsCut (notation_of g) text (cuts_of counts)
-  measured_cut = let l = is.takes refl in is_cut (notation_of g) text (cuts_of counts) l.0 l.1.reads (is.counted l.0 l.1)
+  measured_cut = let l = is.literal in is_cut (notation_of g) text (cuts_of counts) l.0 l.1 (is.counted l.0 l.1)
 
-  pub whole_read : (read : Read) → read ≡ read_as g text counts → (read.format ≡ g.word) × Takes g read.literal text
+  same_literal : (read : Read) → read ≡ read_as g text counts → (l : Literal) → Reads (notation_of g) l text → read.literal ≡ l
+  same_literal read same l reads = ap (λ (r : Read). r.literal) same ∙ cut_is text (cuts_of counts) l reads.whole (is.counted l reads)
+
+  pub whole_read : (read : Read) → read ≡ read_as g text counts → (read.format ≡ g.word) × Reads (notation_of g) read.literal text
   whole_read read same =
-      let l = is.takes refl in
-      let literal : read.literal ≡ l.0 = ap (λ (r : Read). r.literal) same ∙ cut_is text (cuts_of counts) l.0 l.1.reads.whole (is.counted l.0 l.1) in
-      (ap (λ (r : Read). r.format) same, subst (λ (k : Literal). Takes g k text) (sym literal) l.1)
+      let l = is.literal in
+      (ap (λ (r : Read). r.format) same, subst (λ (k : Literal). Reads (notation_of g) k text) (sym (same_literal read same l.0 l.1)) l.1)
 
   pub is_read : (read : Read) → read ≡ read_as g text counts → IsRead g text (Ok read)
-  is_read read same = record {
-    found = whole_read read same;
-    only = λ l takes. ap (λ (r : Read). r.literal) same ∙ cut_is text (cuts_of counts) l takes.reads.whole (is.counted l takes);
-    error = tt;
-  }
+  is_read read same = record { found = whole_read read same; only = same_literal read same; error = tt }
 
 module _ (g : Grammar) (text front : List ℕ) (size : ℕ) (counts : List ℕ) (at : front ≡ take size text)
-    (is : IsGroupedFront g text (record { size = size; counts = counts })) where
-  pub front_cut : IsCut (notation_of g) front (cuts_of counts)
-  front_cut = is_cut (notation_of g) front (cuts_of counts) is.0 (subst (Reads (notation_of g) is.0) (sym at) is.1.reads) is.3
+    (is : IsCountedFront (notation_of g) text (record { size = size; counts = counts })) where
+  front_reads : Reads (notation_of g) is.literal front
+  front_reads = subst (Reads (notation_of g) is.literal) (sym at) is.reads.reads
 
-  pub front_read : (read : Read) → read ≡ read_as g front counts
-      → (read.format ≡ g.word) × ReadsFront (notation_of g) read.literal text size × AreGroups g read.literal
+  lengths : HasLengths is.literal (cuts_of counts)
+  lengths = is.counted is.literal is.reads.reads
+
+  pub front_cut : IsCut (notation_of g) front (cuts_of counts)
+  front_cut = is_cut (notation_of g) front (cuts_of counts) is.literal front_reads lengths
+
+  pub front_read : (read : Read) → read ≡ read_as g front counts → (read.format ≡ g.word) × ReadsFront (notation_of g) read.literal text size
   front_read read same =
-      let literal : read.literal ≡ is.0 = ap (λ (r : Read). r.literal) same
-      ∙ cut_is front (cuts_of counts) is.0 (at ∙ is.1.reads.whole) is.3 in (
-        ap (λ (r : Read). r.format) same,
-        subst (λ (k : Literal). ReadsFront (notation_of g) k text size) (sym literal) is.1,
-        subst (λ (k : Literal). AreGroups g k) (sym literal) is.2,
-      )
+      let literal : read.literal ≡ is.literal
+      = ap (λ (r : Read). r.literal) same ∙ cut_is front (cuts_of counts) is.literal front_reads.whole lengths in
+      (ap (λ (r : Read). r.format) same, subst (λ (k : Literal). ReadsFront (notation_of g) k text size) (sym literal) is.reads)

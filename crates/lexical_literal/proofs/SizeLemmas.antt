@@ -12,11 +12,11 @@ use Rattle.lexical_util.specs.declared.format_flags.Part.{Part}
 use Rattle.lexical_util.specs.declared.format_flags.Part.TheVariants as parts
 use Rattle.lexical_literal.specs.Cause.{is_one_of, requirement_flags}
 use Rattle.lexical_literal.specs.Groups.{has_size, has_sizes, is_grouped}
-use Rattle.lexical_literal.specs.Literal.{Literal, IsLiteral, IsSpelled, Reads, condition, is_absent, is_none_or_one, is_none_or_prefix, requirement, text_of}
+use Rattle.lexical_literal.specs.Literal.{Literal, IsSpelled, Reads, condition, is_absent, is_none_or_one, is_none_or_prefix, requirement, text_of}
 use Rattle.lexical_literal.specs.Notation.{Notation}
 use Rattle.lexical_literal.specs.Readings.{AllIn, run_byte}
 use Rattle.lexical_literal.specs.Run.{is_run}
-use Rattle.lexical_literal.specs.Additions.Plain.{HasRoles, HasSizes, IsReady}
+use Rattle.lexical_literal.specs.Additions.Plain.{HasRoles, HasSizes}
 use Rattle.lexical_literal.specs.Additions.Sizes.{first_group, fits, follows, group_after, grow, grown, is_idle, is_size, makes_empty, next_part, unsized}
 use Rattle.lexical_literal.specs.Additions.Summary.{role_at}
 use Rattle.lexical_literal.specs.declared.groups.Group.{Group}
@@ -223,7 +223,7 @@ module _ (m : Notation) where
   as_spelled : (l : Literal) → IsSpelled u l → IsSpelled m l
   as_spelled = spelled_too u m.flag m.condition required (λ f set. or_left _ _ (kept_flag f set))
 
-  pub keeps : (part : Part) → has_size m part ≡ false → KeepsPlaces m u.flag u.condition part
+  keeps : (part : Part) → has_size m part ≡ false → KeepsPlaces m u.flag u.condition part
   keeps parts.Integer none =
       record { leading = λ set. rw (none) set; internal = λ set. set; trailing = λ set. rw (none) set; consecutive = λ set. rw (none) set }
   keeps parts.Fraction none =

@@ -5,7 +5,6 @@ use Rattle.lexical_literal.specs.Front.{ReadsFront}
 use Rattle.lexical_literal.specs.Literal.{Literal}
 use Rattle.lexical_literal.specs.Notation.{notation_of}
 use Rattle.lexical_literal.specs.Read.{Read}
-use Rattle.lexical_literal.specs.Takes.{AreGroups, IsError, IsUngroupedFront, NoFront, Refuses, Takes}
 use Rattle.lexical_literal.specs.declared.cause.ReadErrorKind.{ReadErrorKind}
 use Rattle.lexical_literal.specs.declared.cause.ReadErrorKind.TheVariants as causes
 use Rattle.lexical_literal.specs.declared.cause.Refusal.{Refusal}
@@ -14,11 +13,11 @@ use Rattle.lexical_literal.specs.declared.number.FormFront.{FormFront}
 use Rattle.lexical_literal.specs.declared.number.FormLiteral.{FormLiteral}
 use Rattle.lexical_literal.specs.declared.syntax.Grammar.{Grammar}
 
--- `IsFirst forms text form read` holds if the form with the index `form` takes `text` as the literal `read`, and no form before it
--- takes `text`.
+-- `IsFirst forms text form read` holds if `text` is the literal `read` of the form with the index `form`, and a literal of no form
+-- before it.
 pub record IsFirst (forms : List Grammar) (text : List ℕ) (form : ℕ) (read : Read) : Type 0 where
-  pub takes : IsSomeAnd (slice_get forms form) (λ g. (read.format ≡ g.word) × Takes g read.literal text)
-  pub before : All (λ g. Refuses g text) (take form forms)
+  pub reads : IsSomeAnd (slice_get forms form) (λ g. (read.format ≡ g.word) × Reads (notation_of g) read.literal text)
+  pub before : All (λ g. NoLiteral (notation_of g) text) (take form forms)
 
 -- `IsGreatest P forms form size` holds if `P` holds of the form with the index `form` and of `size`, of no form before it and
 -- of as great a number, and of no form and of a greater one.
@@ -51,11 +50,11 @@ pub record IsFormError (forms : List Grammar) (text : List ℕ) (error : FormErr
   pub furthest : IsGreatest (Reaches text) forms error.form (reach error.error.refusal)
   pub refusal : IsSomeAnd (slice_get forms error.form) (λ g. IsError g text error.error.refusal)
 
--- `IsReadByForms forms text result` holds if `result` has the first form that takes `text`, and the literal, or the error of a text
--- that no form takes.
+-- `IsReadByForms forms text result` holds if `result` has the first form of which `text` is a literal, and the literal, or the error
+-- of a text that is a literal of no form.
 pub record IsReadByForms (forms : List Grammar) (text : List ℕ) (result : Result FormLiteral FormError) : Type 0 where
   pub found : IfOk result (λ number. IsFirst forms text number.form number.literal)
-  pub none : IsErr result → All (λ g. Refuses g text) forms
+  pub none : IsErr result → All (λ g. NoLiteral (notation_of g) text) forms
   pub error : IfErr result (IsFormError forms text)
 
 -- `IsFormFrontError forms text error` holds if `error` is that of a text of which no front is a literal of a form, or if the
@@ -72,5 +71,5 @@ pub record IsFrontByForms (forms : List Grammar) (text : List ℕ) (result : Res
   pub found : IfOk result (λ front.
       IsSomeAnd (slice_get forms front.form)
       (λ g. (front.literal.format ≡ g.word) × ReadsFront (notation_of g) front.literal.literal text front.size))
-  pub grouped : IfOk result (λ front. IsSomeAnd (slice_get forms front.form) (λ g. AreGroups g front.literal.literal))
-  pub error : IfErr result (IsFormFrontError forms text)
+  pub none : IsErr result → All (λ g. NoFront (notation_of g) text) forms
+  pub error : IfErr result (IsFormError forms text)

@@ -1,11 +1,10 @@
 -- What reading returns: a literal, or an error.
-use Rattle.std.specs.Prelude.{ℕ, ◌≡◌, IfErr, IfOk, IsOkAnd, List, Result}
-use Rattle.lexical_literal.specs.Cause.{Explained}
-use Rattle.lexical_literal.specs.Front.{ReadsFront}
-use Rattle.lexical_literal.specs.Literal.{Literal}
+use Rattle.std.specs.Prelude.{ℕ, ◌≡◌, IfErr, IfOk, IsErr, IsOkAnd, List, Result}
+use Rattle.lexical_literal.specs.Cause.{Explained, IsRefusal}
+use Rattle.lexical_literal.specs.Front.{NoFront, ReadsFront}
+use Rattle.lexical_literal.specs.Literal.{Literal, Reads}
 use Rattle.lexical_literal.specs.Notation.{notation_of}
 use Rattle.lexical_literal.specs.Read.{Read}
-use Rattle.lexical_literal.specs.Takes.{AreGroups, IsError, IsFrontError, Takes}
 use Rattle.lexical_literal.specs.declared.syntax.Grammar.{Grammar}
 use Rattle.lexical_literal.specs.declared.number.Front.{Front}
 use Rattle.lexical_literal.specs.declared.read.Parts.{Parts}
@@ -28,9 +27,9 @@ literal_of parts = record {
 -- that is not a literal.
 pub record IsRead (g : Grammar) (text : List ℕ) (result : Result Read Explained) : Type 0 where
   -- The text is a literal with the parts that are returned.
-  pub found : IfOk result (λ read. (read.format ≡ g.word) × Takes g read.literal text)
+  pub found : IfOk result (λ read. (read.format ≡ g.word) × Reads (notation_of g) read.literal text)
   -- A literal has no other parts, and they are returned.
-  pub only : (l : Literal) → Takes g l text → IsOkAnd result (λ read. read.literal ≡ l)
+  pub only : (l : Literal) → Reads (notation_of g) l text → IsOkAnd result (λ read. read.literal ≡ l)
   -- An error says how far the text is right, why it is not a literal, and which bytes to show.
   pub error : IfErr result (λ error. IsError g text error.refusal)
 
@@ -39,7 +38,6 @@ pub record IsRead (g : Grammar) (text : List ℕ) (result : Result Read Explaine
 pub record IsReadPrefix (g : Grammar) (text : List ℕ) (result : Result Front Explained) : Type 0 where
   -- A front of the text is a literal with the parts that are returned, and no longer front is a literal.
   pub found : IfOk result (λ front. (front.literal.format ≡ g.word) × ReadsFront (notation_of g) front.literal.literal text front.size)
-  -- The integer of this literal is in groups.
-  pub grouped : IfOk result (λ front. AreGroups g front.literal.literal)
-  -- An error says that no front is a literal, or that the integer of the longest one is not in groups.
-  pub error : IfErr result (λ error. IsFrontError g text error.refusal)
+  -- If no front is a literal, an error says why the text is not one.
+  pub none : IsErr result → NoFront (notation_of g) text
+  pub error : IfErr result (λ error. IsRefusal (notation_of g) text error.refusal)

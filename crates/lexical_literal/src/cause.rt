@@ -180,7 +180,7 @@ impl ReadError {
     pub(crate) const fn is_byte(&self) -> bool
         ensures { result ≡ is_byte self.now.refusal.kind }
     {
-        matches!(self.spot.stop().blame().kind, ReadErrorKind::Byte)
+        self.spot.is_byte()
     }
 
     // Returns all answers. It finds the cause once.
@@ -192,6 +192,13 @@ impl ReadError {
 }
 
 impl Spot {
+    // Returns whether the cause is a wrong byte. It takes less time than all answers.
+    const fn is_byte(self) -> bool
+        ensures { result ≡ is_byte (refusal_of (notation_of self.grammar) self).kind }
+    {
+        matches!(self.stop().blame().kind, ReadErrorKind::Byte)
+    }
+
     // Returns what has been read, and the byte that cannot follow.
     const fn stop(self) -> Stop
         ensures { result ≡ record { grammar = self.grammar; read = self.read; group = group_at self; byte = self.byte } }
@@ -424,7 +431,7 @@ impl Stop {
         unmet
     }
 
-    // Returns whether the syntax has a condition, and it alone refuses what cannot follow.
+    // Returns whether the syntax has a condition that alone refuses what cannot follow.
     const fn is_unmet(self, condition: Condition) -> bool
         ensures { result ≡ unmet (notation_of self.grammar) self.read self.group self.byte condition }
     {

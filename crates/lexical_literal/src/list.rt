@@ -7,8 +7,8 @@ ghost use Rattle.lexical_literal.specs.Front.{NoLiteral};
 ghost use Rattle.lexical_literal.specs.Notation.{notation_of};
 
 use crate::cause::ReadError;
-use crate::literal::Literal;
 use crate::groups::FIRST;
+use crate::literal::Literal;
 use crate::plain::{At, BEGIN};
 use crate::read::Found;
 use crate::syntax::Syntax;
@@ -63,7 +63,7 @@ impl<'a> SyntaxList<'a> {
         self.syntaxes
     }
 
-    // Returns the index of the first form that takes `text`, and the literal, or why no form takes it.
+    // Returns the index of the first form of which `text` is a literal, and the literal, or why it is one of no form.
     pub(crate) fn find<'t>(&self, text: &'t [u8]) -> Result<(usize, Literal<'t>), FormError>
         ensures { IsFoundForm self.now text.now result }
     {

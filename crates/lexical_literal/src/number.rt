@@ -44,7 +44,7 @@ impl Syntax {
     // Returns what `read` returns, where `at` has been read.
     #[inline(never)]
     fn read_slowly<'a>(&self, text: &'a [u8], at: At) -> Result<Literal<'a>, ReadError>
-        requires { IsBegun (notation_of self.now) text.now at }
+        requires { (group : Group) × IsUnderway (notation_of self.now) text.now at group }
         ensures { IsRead self.now text.now result }
     {
         let stop = self.stop(text, at);

@@ -8,8 +8,8 @@ ghost use Rattle.lexical_literal.specs.Notation.{Notation, radix_of};
 ghost use Rattle.lexical_literal.specs.Additions.Longest.{HasFound};
 ghost use Rattle.lexical_literal.specs.Additions.Plain.{IsAt, IsBegun, IsDigitAt, IsOpened, IsOver, IsPassed, IsReadOn, IsReady, IsRefused, IsRunOn, IsSeparated, IsSign};
 ghost use Rattle.lexical_literal.specs.Additions.Plain.{behind_sign, counts_of, fresh, is_free, at_stage};
-ghost use Rattle.lexical_literal.specs.Additions.Read.{AreSums, IsMantissa, IsSummed, cut};
 ghost use Rattle.lexical_literal.specs.Additions.Sizes.{steps_of};
+ghost use Rattle.lexical_literal.specs.Additions.Read.{AreSums, IsMantissa, IsSummed, cut};
 ghost use Rattle.lexical_literal.specs.Additions.Summary.{Cuts, after_mark, after_point, awaits_integer, cuts_of, has_digit, is_bare, is_fresh};
 ghost use Rattle.lexical_literal.specs.Additions.Summary.{is_run, is_signed, part_of, piece_of, with_prefix};
 ghost use Rattle.lexical_literal.specs.declared.steps.Piece.TheVariants as pieces;
@@ -118,9 +118,9 @@ const fn at_stage(size: usize, stage: Stage) -> At
 // Returns that reading stops at `at`, where no literal has been found.
 #[inline(always)]
 const fn stopped(_grammar: Grammar, _text: &[u8], at: At, exact: bool) -> Counted
-    requires begun { IsBegun (notation_of _grammar) _text.now at }
-    requires exact { IsTrue exact → (at.size < length _text.now) × IsStopped (notation_of _grammar) _text.now at }
-    ensures found { HasFound (notation_of _grammar) _text.now result }
+    requires begun { IsBegun (steps_of _grammar) _text.now at }
+    requires exact { IsTrue exact → IsRefused (steps_of _grammar) _text.now at }
+    ensures found { HasFound (steps_of _grammar) _text.now result }
     ensures summed { IsSummed (raw _grammar.word) _text.now result }
 {
     Counted {
@@ -295,17 +295,17 @@ const fn groups(grammar: Grammar, text: &[u8], part: Part, begun: Run) -> Run
 // Reads the digits of `part` that follow, and separators between them.
 #[inline(always)]
 const fn digits(grammar: Grammar, text: &[u8], part: Part, begun: Run) -> Run
-    requires ready { IsReady (notation_of grammar) }
+    requires ready { IsReady (steps_of grammar) }
     requires within { begun.size ≤ length text.now }
     requires digits { begun.digits ≤ begun.size }
     requires none { has_digit begun.stage ≡ false }
-    requires signed { is_signed (notation_of grammar) part begun.stage ≡ true }
+    requires signed { is_signed (steps_of grammar) part begun.stage ≡ true }
     requires part { part_of begun.stage ≡ part }
-    requires free { is_free (notation_of grammar) begun.stage ≡ true }
-    ensures free { is_free (notation_of grammar) result.stage ≡ true }
-    ensures run { IsRunOn (notation_of grammar) (radix_of (raw grammar.word) part) text.now part begun result }
+    requires free { is_free (steps_of grammar) begun.stage ≡ true }
+    ensures free { is_free (steps_of grammar) result.stage ≡ true }
+    ensures run { IsRunOn (steps_of grammar) (radix_of (raw grammar.word) part) text.now part begun result }
     ensures digits { result.digits ≤ result.size }
-    ensures over { IsOver (notation_of grammar) text.now part result }
+    ensures over { IsOver (steps_of grammar) text.now part result }
     ensures part { part_of result.stage ≡ part }
 {
     let Some(value) = value_at(grammar, text, part, begun.size) else {
@@ -328,11 +328,11 @@ const fn behind_zero(grammar: Grammar, text: &[u8], zero: Run) -> Run
     requires within { zero.size ≤ length text.now }
     requires digits { zero.digits ≤ zero.size }
     requires bare { zero.stage ≡ Stage.Bare }
-    requires free { is_free (notation_of grammar) Stage.Bare ≡ true }
+    requires free { is_free (steps_of grammar) Stage.Bare ≡ true }
     ensures digits { result.digits ≤ result.size }
-    ensures free { is_free (notation_of grammar) result.stage ≡ true }
-    ensures run { IsRunOn (notation_of grammar) (radix_of (raw grammar.word) Part.Integer) text.now Part.Integer zero result }
-    ensures over { IsOver (notation_of grammar) text.now Part.Integer result }
+    ensures free { is_free (steps_of grammar) result.stage ≡ true }
+    ensures run { IsRunOn (steps_of grammar) (radix_of (raw grammar.word) Part.Integer) text.now Part.Integer zero result }
+    ensures over { IsOver (steps_of grammar) text.now Part.Integer result }
     ensures part { part_of result.stage ≡ Part.Integer }
 {
     match value_at(grammar, text, Part::Integer, zero.size) {
@@ -349,8 +349,8 @@ const fn behind_zero(grammar: Grammar, text: &[u8], zero: Run) -> Run
 // `text`, may not be said to be one, which takes less time.
 #[inline(always)]
 pub(crate) const fn plain(grammar: Grammar, text: &[u8], fronts: bool) -> Counted
-    requires ready { IsReady (notation_of grammar) }
-    ensures found { HasFound (notation_of grammar) text.now result }
+    requires ready { IsReady (steps_of grammar) }
+    ensures found { HasFound (steps_of grammar) text.now result }
     ensures summed { IsSummed (raw grammar.word) text.now result }
 {
     let Some(sign) = sign(grammar, text, Part::Integer, 0) else {
@@ -403,9 +403,9 @@ const fn misses_prefix(grammar: Grammar, text: &[u8], size: usize) -> bool
 #[tactic(auto, using(crate::proofs::JoinLemmas::zero_only))]
 #[inline(always)]
 const fn without_prefix(grammar: Grammar, text: &[u8], sign: usize) -> Counted
-    requires ready { IsReady (notation_of grammar) }
-    requires sign { IsSign (notation_of grammar) text.now Part.Integer 0 sign }
-    ensures found { HasFound (notation_of grammar) text.now result }
+    requires ready { IsReady (steps_of grammar) }
+    requires sign { IsSign (steps_of grammar) text.now Part.Integer 0 sign }
+    ensures found { HasFound (steps_of grammar) text.now result }
     ensures summed { IsSummed (raw grammar.word) text.now result }
 {
     if sign < text.len() && text[sign] == b'0' {
@@ -428,9 +428,9 @@ const fn without_prefix(grammar: Grammar, text: &[u8], sign: usize) -> Counted
 // Reads the integer, and what follows it.
 #[inline(always)]
 const fn integer(grammar: Grammar, text: &[u8], fronts: bool, opening: Opening) -> Counted
-    requires ready { IsReady (notation_of grammar) }
-    requires opened { IsOpened (notation_of grammar) text.now opening }
-    ensures found { HasFound (notation_of grammar) text.now result }
+    requires ready { IsReady (steps_of grammar) }
+    requires opened { IsOpened (steps_of grammar) text.now opening }
+    ensures found { HasFound (steps_of grammar) text.now result }
     ensures summed { IsSummed (raw grammar.word) text.now result }
 {
     let Opening {
@@ -483,7 +483,7 @@ const fn fraction(
     requires none { (sizes.point ≡ 0) × (sizes.fraction ≡ 0) }
     requires digits { integer.digits ≤ integer.size }
     requires mantissa { IsMantissa (raw grammar.word) text.now sizes integer }
-    ensures found { HasFound (notation_of grammar) text.now result }
+    ensures found { HasFound (steps_of grammar) text.now result }
     ensures summed { IsSummed (raw grammar.word) text.now result }
 {
     let from = integer.size + 1;
@@ -515,13 +515,13 @@ const fn behind_mantissa(
     sizes: Sizes,
     run: Run,
 ) -> Counted
-    requires ready { IsReady (notation_of grammar) }
-    requires at { IsAt (notation_of grammar) text.now (at_stage run.size run.stage) (cuts_of (counts_of sizes 0 0 0 0)) }
-    requires free { is_free (notation_of grammar) run.stage ≡ true }
-    requires over { IsOver (notation_of grammar) text.now (part_of run.stage) run }
-    requires point { IsPassed (notation_of grammar) text.now (at_stage run.size run.stage) Role.Point }
+    requires ready { IsReady (steps_of grammar) }
+    requires at { IsAt (steps_of grammar) text.now (at_stage run.size run.stage) (cuts_of (counts_of sizes 0 0 0 0)) }
+    requires free { is_free (steps_of grammar) run.stage ≡ true }
+    requires over { IsOver (steps_of grammar) text.now (part_of run.stage) run }
+    requires point { IsPassed (steps_of grammar) text.now (at_stage run.size run.stage) Role.Point }
     requires mantissa { IsMantissa (raw grammar.word) text.now sizes run }
-    ensures found { HasFound (notation_of grammar) text.now result }
+    ensures found { HasFound (steps_of grammar) text.now result }
     ensures summed { IsSummed (raw grammar.word) text.now result }
 {
     let at = at_stage(run.size, run.stage);
@@ -571,11 +571,11 @@ const fn exponent(
     sizes: Sizes,
     mantissa: Run,
 ) -> Counted
-    requires ready { IsReady (notation_of grammar) }
+    requires ready { IsReady (steps_of grammar) }
     requires within { mantissa.size < length text.now }
-    requires at { IsAt (notation_of grammar) text.now (at_stage (mantissa.size + 1) Stage.Mark) (cuts_of (counts_of sizes 1 0 0 0)) }
+    requires at { IsAt (steps_of grammar) text.now (at_stage (mantissa.size + 1) Stage.Mark) (cuts_of (counts_of sizes 1 0 0 0)) }
     requires mantissa { IsMantissa (raw grammar.word) text.now sizes mantissa }
-    ensures found { HasFound (notation_of grammar) text.now result }
+    ensures found { HasFound (steps_of grammar) text.now result }
     ensures summed { IsSummed (raw grammar.word) text.now result }
 {
     let size = mantissa.size + 1;
@@ -643,12 +643,12 @@ const fn end(
     requires going { at.read.ended ≡ false }
     requires free { is_free (steps_of grammar) at.read.stage ≡ true }
     requires over { is_run at.read.stage ≡ true → at.size < length text.now
-        → (notation_of grammar).digit (part_of at.read.stage) (get_or text.now at.size 0) ≡ false }
-    requires point { IsPassed (notation_of grammar) text.now at Role.Point }
-    requires exponent { IsPassed (notation_of grammar) text.now at Role.Exponent }
+        → (steps_of grammar).digit (part_of at.read.stage) (get_or text.now at.size 0) ≡ false }
+    requires point { IsPassed (steps_of grammar) text.now at Role.Point }
+    requires exponent { IsPassed (steps_of grammar) text.now at Role.Exponent }
     requires sums { AreSums (raw grammar.word)
         (cut text.now (cuts_of (counts_of sizes (get_or scale 0 0) (get_or scale 1 0) (get_or scale 2 0) 0))) sums }
-    ensures found { HasFound (notation_of grammar) text.now result }
+    ensures found { HasFound (steps_of grammar) text.now result }
     ensures summed { IsSummed (raw grammar.word) text.now result }
 {
     let Sizes {

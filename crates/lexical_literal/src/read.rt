@@ -3,22 +3,17 @@
 ghost use Rattle.std.specs.Prelude.{◌≡◌, ◌+◌, ◌++◌, ◌∷◌, ◌<◌, ◌≤◌, ◌^◌, Bool, IfSome, Some, IsErrAnd, IsNone, IsTrue, None, ℕ, List};
 ghost use Rattle.std.specs.Prelude.{[], false, get_or, true, length, slice_get, take};
 ghost use Rattle.lexical_literal.specs.Additions.Explained.{tail_byte};
-ghost use Rattle.lexical_literal.specs.Additions.Longest.{HasFound, IsCountedFront, IsFronted, IsGrouped, IsLongest, IsMeasured, IsStopped};
-ghost use Rattle.lexical_literal.specs.Additions.Plain.{IsBegun};
-ghost use Rattle.lexical_literal.specs.Additions.Read.{IsSummed};
-ghost use Rattle.lexical_literal.specs.Additions.Summary.{HasLengths, count, cuts_of, is_complete, part_of, role_at};
-ghost use Rattle.lexical_literal.specs.Additions.Causes.{lets};
 ghost use Rattle.lexical_literal.specs.Additions.Longest.{HasBegun, HasFound, IsFronted, IsLongest, IsMeasured, IsStopped, IsUnderway};
 ghost use Rattle.lexical_literal.specs.Additions.Plain.{HasSizes, IsReady};
+ghost use Rattle.lexical_literal.specs.Additions.Read.{IsSummed};
 ghost use Rattle.lexical_literal.specs.Additions.Sizes.{goes, steps_of};
 ghost use Rattle.lexical_literal.specs.Additions.Summary.{HasLengths, count, cuts_of, part_of, role_at};
 ghost use Rattle.lexical_literal.specs.Cause.{IsRefusal, tail_of, tail_size};
 ghost use Rattle.lexical_literal.specs.Front.{NoLiteral};
 ghost use Rattle.lexical_literal.specs.Literal.{Literal, Reads, text_of};
-ghost use Rattle.lexical_literal.specs.Notation.{integer_group_size, notation_of};
-ghost use Rattle.lexical_util.specs.Record.{raw};
 ghost use Rattle.lexical_literal.specs.Notation.{notation_of};
 ghost use Rattle.lexical_literal.specs.declared.groups.Group.{Group};
+ghost use Rattle.lexical_util.specs.Record.{raw};
 ghost use Rattle.lexical_literal.specs.Parts.{literal_of};
 
 use crate::cause::{ReadError, Spot};
@@ -83,7 +78,8 @@ impl Syntax {
     // `text`, may not be said to be one, which takes less time.
     #[inline(always)]
     pub(crate) const fn begin(&self, text: &[u8], fronts: bool) -> Counted
-        ensures { HasBegun (notation_of self.now) text.now result }
+        ensures begun { HasBegun (notation_of self.now) text.now result }
+        ensures summed { IsSummed (raw self.now.word) text.now result }
     {
         let grammar = self.grammar();
         let counted = plain(grammar, text, fronts);
@@ -98,7 +94,8 @@ impl Syntax {
     #[inline(always)]
     pub(crate) const fn is_whole(&self, text: &[u8], counted: Counted) -> bool
         requires { HasBegun (notation_of self.now) text.now counted }
-        ensures { IsTrue result → IsMeasured (notation_of self.now) text.now counted.counts }
+        ensures measured { IsTrue result → IsMeasured (notation_of self.now) text.now counted.counts }
+        ensures complete { IsTrue result → IsTrue counted.complete }
     {
         counted.complete && counted.at.size == text.len()
     }
@@ -271,7 +268,8 @@ const fn sized(grammar: Grammar, text: &[u8], counted: Counted) -> Counted
     requires ready { IsReady (steps_of grammar) }
     requires sizes { HasSizes (notation_of grammar) }
     requires found { HasFound (steps_of grammar) text.now counted }
-    ensures { HasBegun (notation_of grammar) text.now result }
+    ensures begun { HasBegun (notation_of grammar) text.now result }
+    ensures summed { IsSummed (raw grammar.word) text.now counted → IsSummed (raw grammar.word) text.now result }
 {
     match group_after(grammar, text, counted.at.size) {
         Some(group) if !counted.complete || fits(grammar, group, None) => counted,

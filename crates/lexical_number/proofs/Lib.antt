@@ -1,4 +1,6 @@
 pub mod NumberLemmas
+mod BigLemmas
+mod NearLemmas
 pub mod WordLemmas
 mod BinaryLemmas
 mod TenLemmas

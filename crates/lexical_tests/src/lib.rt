@@ -7,6 +7,7 @@ mod bytes;
 mod edits;
 mod errors;
 mod example;
+mod groups;
 mod roles;
 mod rules;
 mod specials;

@@ -85,7 +85,9 @@ fn an_error_is_that_of_the_form_that_goes_furthest(rt: HostRuntime) -> Result<()
 fn bits(word: u128, text: &str) -> Option<(u64, u32)> {
     let format = Format::new(word).ok()?;
     let syntax = Syntax::new(format, b'^', b'.').ok()?;
-    let literal = syntax.read(text.as_bytes()).ok()?;
+    let Ok(literal) = syntax.read(text.as_bytes()) else {
+        return None;
+    };
     match (
         to_float::<f64>(&literal),
         parse_float::<f32>(&syntax, text.as_bytes()),
@@ -155,10 +157,10 @@ fn numbers_are_written(rt: HostRuntime) -> Result<(), Fail> {
     assert_eq!(rt; layout.write(&mut buffer), 8);
     assert_eq!(rt; buffer.as_slice(), b"-1234567".as_slice());
     let comma = Syntax::new(format, b'e', b',').ok().ok_or("a syntax")?;
-    let literal = comma.read(b"-0012,50e+3").ok().ok_or("a literal")?;
-    let layout = format_literal(&literal, &syntax, PLAIN)
-        .ok()
-        .ok_or("a layout")?;
+    let Ok(literal) = comma.read(b"-0012,50e+3") else {
+        return Err("a literal".into());
+    };
+    let layout = format_literal(&literal, &syntax, PLAIN).ok().ok_or("a layout")?;
     assert_eq!(rt; layout.write(&mut buffer), 8);
     assert_eq!(rt; buffer.as_slice(), b"-12.50E3".as_slice());
     Ok(())

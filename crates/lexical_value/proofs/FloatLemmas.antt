@@ -1,19 +1,21 @@
 -- The fraction that a literal is, by its parts, and floats that are no NaN.
-use Rattle.std.proofs.Common.{ℕ, ◌≡◌, ◌+◌, ◌*◌, ◌^◌, ◌++◌, length, not, Bool, true, false, cond, ap, ◌∙◌, refl, subst, sym, zero, suc}
+use Rattle.std.proofs.Common.{ℕ, ◌≡◌, ◌+◌, ◌*◌, ◌^◌, ◌++◌, ◌<◌, ◌≤◌, ◌==◌, length, not, Option, Some, None, IfSome, arith, Bool, true, false, cond, ap, ◌∙◌, refl, subst, sym, zero, suc}
 use lib.Ieee.{Float, Format, emax, inf, is_nan, low, odd, prec, round, units}
 use lib.Ieee.Fits.{round_is}
+use Rattle.std.proofs.Math.Nat.{pow-zero}
+use Rattle.std.proofs.lemmas.Bool.{and_parts, eqb-true}
+use Rattle.std.proofs.lemmas.Bool.Decides.{nat_tests}
+use Rattle.lexical_value.specs.Float.{is_decimal}
 use Rattle.core.specs.Prelude.{T, ltb}
 use Rattle.std.specs.Float.{NotNan}
-use Rattle.std.specs.Str.Parse.{AllDigits}
 use Rattle.lexical_util.specs.Layout as layout
 use Rattle.lexical_util.specs.Record.{Record, effective_exponent_base, effective_exponent_radix}
 use Rattle.lexical_literal.specs.Literal.{Literal}
 use Rattle.lexical_number.specs.Binary.{raised_down, raised_up}
-use Rattle.lexical_number.specs.Leading.{Leads}
+use Rattle.lexical_number.specs.Leading.{IsCutTo, Leads}
 use Rattle.lexical_number.specs.Number.{number, places}
-use Rattle.lexical_value.specs.Private.{TakesDecimals}
-use Rattle.lexical_value.specs.Value.{denominator, is_minus, mantissa, numerator}
-use Rattle.lexical_value.proofs.DigitLemmas.{counted}
+use Rattle.lexical_literal.specs.Read.{exponent, mantissa}
+use Rattle.lexical_value.specs.Value.{denominator, is_minus, numerator}
 
 -- What holds of the fraction by its parts holds of the value of the literal.
 pub of_value : (P : ℕ → ℕ → Type 0) (r : Record) (l : Literal) (n m b e k : ℕ) (s : Bool) → n ≡ mantissa r l → m ≡ r.byte layout.mantissa_radix
@@ -23,13 +25,6 @@ of_value P r l n m b e k s N M B E K S is =
     let up : n * raised_up s b e ≡ numerator r l = λ i. N i * raised_up (S i) (B i) (E i) in
     let down : m ^ k * raised_down s b e ≡ denominator r l = λ i. M i ^ K i * raised_down (S i) (B i) (E i) in
     subst (λ d. P (numerator r l) d) down (subst (λ n. P n (m ^ k * raised_down s b e)) up is)
-
--- What holds of the fraction by its decimal digits holds of the value of the literal.
-pub of_decimal : (P : ℕ → ℕ → Type 0) (r : Record) (l : Literal) (n e : ℕ) (s : Bool) → TakesDecimals r → AllDigits 10 l.fraction
-    → n ≡ number 10 (l.integer ++ l.fraction) → e ≡ number 10 l.exponent → s ≡ is_minus l.exponent_sign
-    → P (n * raised_up s 10 e) (10 ^ length l.fraction * raised_down s 10 e) → P (numerator r l) (denominator r l)
-of_decimal P r l n e s decimal digits N E S is =
-    rw (decimal.base, decimal.exponent_radix, decimal.radix, counted l.fraction digits, ← N, ← E, ← S) is
 
 -- A rounded fraction is no NaN.
 odd_number : (d : ℕ) (s : Bool) (q k l : ℕ) → is_nan (odd d s q k l) ≡ false
@@ -58,3 +53,21 @@ by_bits radix bits n digits dropped more is = subst (λ r. Leads r n digits more
 pub not_true : (b : Bool) → (b ≡ true → false ≡ true) → b ≡ false
 not_true true apart = sym (apart refl)
 not_true false apart = refl
+
+-- A number of one word is led by itself.
+pub leads_all : (radix n : ℕ) → 1 ≤ radix → n < 2 ^ 64 → Leads radix n n false 0
+leads_all radix n some small = record {
+  cut = subst (λ unit. IsCutTo n n false unit) (sym (pow-zero radix))
+      (record { from = omega arith; below = omega arith; some = grind (arith, nat_tests) });
+  small = omega (arith, some, small);
+  long = λ h. absurd (omega (arith, h));
+}
+
+-- In a decimal format, the radix and the base are 10.
+pub decimals : (r : Record) → is_decimal r ≡ true → (10 ≡ r.byte layout.mantissa_radix) × (10 ≡ effective_exponent_base r)
+decimals r is = let both = and_parts (r.byte layout.mantissa_radix == 10) (effective_exponent_base r == 10) is in
+    (sym (eqb-true _ _ both.0), sym (eqb-true _ _ both.1))
+
+pub if_some : {X : Type 0} (o : Option X) (P Q : X → Type 0) → ((x : X) → P x → Q x) → IfSome o P → IfSome o Q
+if_some None P Q f is = tt
+if_some (Some x) P Q f is = f x is

@@ -1,5 +1,2 @@
 mod FloatLemmas
-mod TextLemmas
-mod PlainLemmas
 mod ValueLemmas
-mod DigitLemmas

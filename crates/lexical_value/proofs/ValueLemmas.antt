@@ -14,7 +14,8 @@ use Rattle.lexical_literal.specs.Literal.{Literal, Reads, is_float}
 use Rattle.lexical_literal.specs.Notation.{Notation}
 use Rattle.lexical_number.specs.Number.{digits_in, number}
 use Rattle.lexical_value.specs.Integer.{integer_size}
-use Rattle.lexical_value.specs.Value.{SameDigits, SameValue, mantissa, numerator, power, spelled}
+use Rattle.lexical_literal.specs.Read.{mantissa}
+use Rattle.lexical_value.specs.Value.{SameDigits, SameValue, numerator, power, spelled}
 
 -- The value depends on the mantissa radix, and on the effective exponent base and radix.
 pub same_word : (r s : Record) (l : Literal) → SameFormat r s → SameValue r l s l
@@ -71,14 +72,17 @@ module _ (r : Record) (m : Notation) (l k : Literal) (same : SameDigits m l k)
     denominator = λ i. radix ^ length (same_fraction i) * (if same.exponent_sign i then same_power i else 1);
   }
 
+-- Without fraction digits, the mantissa is the number that the integer digits represent.
+pub integer_mantissa : (r : Record) (l : Literal) → l.fraction ≡ [] → mantissa r l ≡ integer_size r l
+integer_mantissa r l none = ap (number (r.byte layout.mantissa_radix)) (ap (λ bytes. l.integer ++ bytes) none ∙ append-nil l.integer)
+
 -- Without fraction and exponent, the numerator is the number that the integer digits represent.
 pub integer_numerator : (m : Notation) (r : Record) (l : Literal) (text : List ℕ) → Reads m l text → IsFalse (is_float l)
     → numerator r l ≡ integer_size r l
 integer_numerator m r l text reads whole =
     let fraction : l.fraction ≡ [] = reads.literal.spelled.after_point (grind arith) in
     let exponent : l.exponent ≡ [] = (reads.literal.spelled.after_character (grind arith)).1 in
-    let same : mantissa r l ≡ integer_size r l =
-    ap (number (r.byte layout.mantissa_radix)) (ap (λ bytes. l.integer ++ bytes) fraction ∙ append-nil l.integer) in
+    let same = integer_mantissa r l fraction in
     let base = effective_exponent_base r in
     let one : power r l ≡ 1 = ap (λ bytes. base ^ number (effective_exponent_radix r) bytes) exponent ∙ pow-zero base in
     grind (arith, same, one)

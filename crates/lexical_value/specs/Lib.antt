@@ -2,4 +2,3 @@ pub mod Value
 pub mod Integer
 pub mod Float
 pub mod Parsed
-pub mod Private

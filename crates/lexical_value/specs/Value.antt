@@ -1,20 +1,17 @@
 -- The value of a literal, which is a fraction with a sign.
-use Rattle.std.specs.Prelude.{ℕ, ◌≡◌, ◌*◌, ◌^◌, ◌==◌, not, Bool, false, if◌then◌else◌, List, [], ◌∷◌, ◌++◌, filter, map}
+use Rattle.std.specs.Prelude.{ℕ, ◌≡◌, ◌*◌, ◌^◌, ◌==◌, not, Bool, false, if◌then◌else◌, List, [], ◌∷◌, filter, map}
 use Rattle.lexical_util.specs.Digits.{uppercase}
 use Rattle.lexical_util.specs.Layout as layout
-use Rattle.lexical_util.specs.Record.{Record, effective_exponent_base, effective_exponent_radix}
+use Rattle.lexical_util.specs.Record.{Record, effective_exponent_base}
 use Rattle.lexical_literal.specs.Literal.{Literal}
 use Rattle.lexical_literal.specs.Notation.{Notation}
-use Rattle.lexical_number.specs.Number.{number, places}
+use Rattle.lexical_literal.specs.Read.{exponent, mantissa}
+use Rattle.lexical_number.specs.Number.{places}
 
 -- `is_minus sign` is true if `sign` begins with a minus sign.
 abbrev pub is_minus : List ℕ → Bool
 is_minus [] = false
 is_minus (byte ∷ bytes) = byte == 45
-
--- `mantissa r l` is the number that the integer and fraction digits of `l` represent together.
-abbrev pub mantissa : Record → Literal → ℕ
-mantissa r l = number (r.byte layout.mantissa_radix) (l.integer ++ l.fraction)
 
 -- `scale r l` is the mantissa radix to the power of the number of fraction digits of `l`.
 abbrev pub scale : Record → Literal → ℕ
@@ -22,7 +19,7 @@ scale r l = r.byte layout.mantissa_radix ^ places (r.byte layout.mantissa_radix)
 
 -- `power r l` is the exponent base to the power of the number that the exponent digits of `l` represent.
 abbrev pub power : Record → Literal → ℕ
-power r l = effective_exponent_base r ^ number (effective_exponent_radix r) l.exponent
+power r l = effective_exponent_base r ^ exponent r l
 
 -- The value of `l` is `numerator r l` over `denominator r l`, with the sign of `l`.
 abbrev pub numerator : Record → Literal → ℕ

@@ -1,14 +1,16 @@
 //! The value of a literal as a value of an integer type.
 
-ghost use Rattle.std.specs.Prelude.{◌≡◌, ◌↔◌, if◌then◌else◌, IfSome, IsNone, IsTrue, MatchResult};
+ghost use Rattle.std.specs.Prelude.{◌≡◌, ◌↔◌, if◌then◌else◌, [], IfSome, IsNone, IsTrue, MatchResult};
 ghost use Rattle.lexical_util.specs.Record.{raw};
 ghost use Rattle.lexical_literal.specs.Literal.{is_float};
-ghost use Rattle.lexical_number.specs.Numeral.{size_of};
+ghost use Rattle.lexical_literal.specs.Parts.{literal_of};
+ghost use Rattle.lexical_number.specs.Numeral.{magnitude_size, size_of};
 ghost use Rattle.lexical_value.specs.Integer.{IsInteger, IsNoInteger, integer_size};
 ghost use Rattle.lexical_value.specs.Value.{is_minus};
 ghost use Rattle.lexical_value.specs.declared.integer.ValueErrorKind.TheVariants as kinds;
 
 use lexical_literal::literal::Literal;
+use lexical_literal::read::Parts;
 use lexical_number::integer::Integer;
 use lexical_number::numeral::{Magnitude, Numeral};
 
@@ -46,11 +48,12 @@ impl ValueErrorKind {
 /// # Errors
 ///
 /// If the literal has a decimal point or an exponent, or if its value is not in the range of the type, returns which.
+#[inline(always)]
 pub fn to_integer<T: Integer>(literal: &Literal) -> Result<T, ValueErrorKind>
     ensures { MatchResult result (λ value. IsInteger (raw literal.now.format) literal.now.literal (T.range.value value))
         (IsNoInteger T.range.least T.range.largest (raw literal.now.format) literal.now.literal) }
 {
-    let Some(numeral) = integer_numeral(literal) else {
+    let Some(numeral) = integer_digits(literal) else {
         return Err(ValueErrorKind::Float);
     };
     match T::from_numeral(&numeral) {
@@ -59,16 +62,15 @@ pub fn to_integer<T: Integer>(literal: &Literal) -> Result<T, ValueErrorKind>
     }
 }
 
-// Returns the sign of a literal, and its number or, if it has many digits, these, or `None` if it has a decimal point or an
-// exponent.
+// Returns the sign and the number of a literal, or `None` if it has a decimal point or an exponent.
 #[inline(always)]
-pub(crate) fn integer_numeral<'a>(literal: &Literal<'a>) -> Option<Numeral<'a>>
+pub(crate) fn integer_digits<'a>(literal: &Literal<'a>) -> Option<Numeral<'a>>
     ensures float { IsTrue (is_float literal.now.literal) ↔ IsNone result }
     ensures negative { IfSome result (λ numeral. numeral.negative ≡ is_minus literal.now.literal.sign) }
     ensures size { IfSome result (λ numeral. size_of numeral ≡ integer_size (raw literal.now.format) literal.now.literal) }
 {
     let parts = literal.cut();
-    if !matches!(parts.point, []) || !matches!(parts.exponent_character, []) {
+    if is_float(&parts) {
         return None;
     }
     let magnitude = match literal.mantissa() {
@@ -77,8 +79,29 @@ pub(crate) fn integer_numeral<'a>(literal: &Literal<'a>) -> Option<Numeral<'a>>
     };
     Some(Numeral {
         negative: is_minus(parts.sign),
-        magnitude,
+        magnitude: magnitude(literal, parts.integer),
     })
+}
+
+// Returns whether there is a decimal point or an exponent.
+#[inline(always)]
+const fn is_float(parts: &Parts) -> bool
+    ensures { result ≡ is_float (literal_of parts.now) }
+{
+    !matches!(parts.point, []) || !matches!(parts.exponent_character, [])
+}
+
+// Returns the number that the digits of the integer represent, by itself if it is known.
+#[inline(always)]
+fn magnitude<'a>(literal: &Literal<'a>, integer: &'a [u8]) -> Magnitude<'a>
+    requires integer { integer.now ≡ literal.now.literal.integer }
+    requires fraction { literal.now.literal.fraction ≡ [] }
+    ensures { magnitude_size result ≡ integer_size (raw literal.now.format) literal.now.literal }
+{
+    match literal.mantissa() {
+        Some(size) => Magnitude::Word(size),
+        None => Magnitude::Digits(integer, literal.format().mantissa_radix()),
+    }
 }
 
 // Returns whether a sign is a minus sign.

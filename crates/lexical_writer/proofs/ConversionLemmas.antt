@@ -13,7 +13,8 @@ use Rattle.lexical_literal.specs.declared.read.Parts.{Parts}
 use Rattle.lexical_literal.specs.declared.syntax.Grammar.{Grammar}
 use Rattle.lexical_number.proofs.NumberLemmas.{number_after-append}
 use Rattle.lexical_number.specs.Number.{digits_in, number}
-use Rattle.lexical_value.specs.Value.{is_minus, mantissa, power, scale}
+use Rattle.lexical_literal.specs.Read.{mantissa}
+use Rattle.lexical_value.specs.Value.{is_minus, power, scale}
 use Rattle.lexical_writer.specs.Conversion.{SameFraction, amount_of, fraction_of, source_of}
 use Rattle.lexical_writer.specs.Digits.{or_zero, size_of, values_of}
 use Rattle.lexical_writer.specs.Layout.{HasNumber, given_fraction, given_power}

@@ -5,6 +5,8 @@ use Rattle.std.specs.Result.{MatchResult, result_map_both}
 use Rattle.lexical_util.specs.Layout as layout
 use Rattle.lexical_util.specs.Record.{Record, raw, effective_exponent_base, effective_exponent_radix}
 use Rattle.lexical_literal.specs.Literal.{Literal, is_absent, is_present}
+use Rattle.lexical_literal.specs.Parts.{literal_of}
+use Rattle.lexical_literal.specs.Read.{Read}
 use Rattle.lexical_literal.specs.declared.read.Parts.{Parts}
 use Rattle.lexical_literal.specs.declared.syntax.Grammar.{Grammar}
 use Rattle.lexical_number.specs.Number.{number}
@@ -61,3 +63,8 @@ amount_of r parts s =
 -- `IsConverted r parts g style result` holds if `result` is what is written for `parts`, or why it cannot be written.
 abbrev pub IsConverted : Record → Parts → Grammar → Style → Result Layout WriteError → Type 0
 IsConverted r parts g style result = MatchResult (amount_of r parts (raw g.word)) (λ amount. IsLaidOut g style amount result) (λ error. result ≡ Err error)
+
+-- `IsWritten read g style result` holds if `result` is what is written for bytes that are the parts of `read`, or why it cannot be
+-- written.
+abbrev pub IsWritten : Read → Grammar → Style → Result Layout WriteError → Type 0
+IsWritten read g style result = (parts : Parts) × (literal_of parts ≡ read.literal) × IsConverted (raw read.format) parts g style result

@@ -7,7 +7,7 @@ ghost use Rattle.lexical_literal.specs.Notation.{notation_of};
 ghost use Rattle.lexical_literal.specs.Parts.{literal_of};
 ghost use Rattle.lexical_literal.specs.declared.read.Parts.{Parts};
 ghost use Rattle.lexical_value.specs.Value.{is_minus};
-ghost use Rattle.lexical_writer.specs.Conversion.{IsConverted, SameFraction, amount_of, fraction_of, has_power, power_of, source_of};
+ghost use Rattle.lexical_writer.specs.Conversion.{IsConverted, IsWritten, SameFraction, amount_of, fraction_of, has_power, power_of, source_of};
 ghost use Rattle.lexical_writer.specs.Layout.{literal_of as written};
 
 use crate::layout::{Amount, Layout, Power, Style, WriteError};
@@ -29,6 +29,21 @@ pub fn format_literal<'a>(
     style: Style,
 ) -> Result<Layout<'a>, WriteError>
     // What is written is a literal, with the value of the literal that was given.
+    ensures literal { IfOk result (λ layout. Reads (notation_of syntax.now) (written layout) (text_of (written layout))) }
+    ensures value { IfOk result (λ layout.
+        SameFraction (raw literal.now.format) literal.now.literal (raw syntax.now.word) (written layout)) }
+    ensures parts { IsWritten literal.now syntax.now style result }
+{
+    convert(literal.format(), &literal.cut(), syntax, style)
+}
+
+// Returns how a literal of `format` with these parts is written as a literal of `syntax`, or why it cannot be.
+fn convert<'a>(
+    format: NumberFormat,
+    parts: &Parts<'a>,
+    syntax: &Syntax,
+    style: Style,
+) -> Result<Layout<'a>, WriteError>
     ensures literal { IfOk result (λ layout. Reads (notation_of syntax.now) (written layout) (text_of (written layout))) }
     ensures value { IfOk result (λ layout.
         SameFraction (raw literal.now.format) literal.now.literal (raw syntax.now.word) (written layout)) }

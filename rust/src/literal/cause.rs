@@ -140,7 +140,7 @@ impl ReadError {
 
     // Returns whether the cause is a wrong byte.
     pub(crate) const fn is_byte(&self) -> bool {
-        matches!(self.spot.stop().blame().kind, ReadErrorKind::Byte)
+        self.spot.is_byte()
     }
 
     // Returns all answers. It finds the cause once.
@@ -150,6 +150,11 @@ impl ReadError {
 }
 
 impl Spot {
+    // Returns whether the cause is a wrong byte. It takes less time than all answers.
+    const fn is_byte(self) -> bool {
+        matches!(self.stop().blame().kind, ReadErrorKind::Byte)
+    }
+
     // Returns what has been read, and the byte that cannot follow.
     const fn stop(self) -> Stop {
         let Spot { grammar, read, byte, separated, marks, .. } = self;
@@ -328,7 +333,7 @@ impl Stop {
         unmet
     }
 
-    // Returns whether the syntax has a condition, and it alone refuses what cannot follow.
+    // Returns whether the syntax has a condition that alone refuses what cannot follow.
     const fn is_unmet(self, condition: Condition) -> bool {
         self.grammar.conditions.has(condition)
             && self.is_free()

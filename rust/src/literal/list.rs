@@ -3,7 +3,6 @@
 //! Lists of syntaxes: the numbers of a language that has several forms, such as `10`, `0x1F` and `0b1`.
 
 use crate::literal::cause::ReadError;
-use crate::literal::groups::FIRST;
 use crate::literal::literal::Literal;
 use crate::literal::plain::{At, BEGIN};
 use crate::literal::read::Found;

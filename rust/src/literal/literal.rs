@@ -12,9 +12,9 @@ use crate::word::FormatView;
 /// A text that was read as a literal: its parts, and the numbers that its digits represent.
 #[derive(Clone, Copy, PartialEq, Eq, Hash)]
 pub struct Literal<'a> {
-    pub(super) text: &'a [u8],
-    pub(super) counts: [usize; 9],
-    view: FormatView,
+    pub(crate) text: &'a [u8],
+    pub(crate) counts: [usize; 9],
+    pub(crate) view: FormatView,
     mantissa: Option<u64>,
     places: usize,
     exponent: Option<u64>,

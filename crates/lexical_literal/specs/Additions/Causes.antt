@@ -1,5 +1,5 @@
 -- What decides the cause of a refusal, computed from what has been read.
-use Rattle.std.specs.Prelude.{ℕ, ◌≡◌, ◌&&◌, ◌||◌, ◌↔◌, IsTrue, List, not, if◌then◌else◌, Bool, true, false, Option, Some, None, is_some}
+use Rattle.std.specs.Prelude.{ℕ, ◌&&◌, ◌||◌, IsTrue, not, if◌then◌else◌, Bool, true, false, Option, Some, None, is_some}
 use Rattle.lexical_util.specs.Ascii.{ByteSet}
 use Rattle.lexical_util.specs.Layout.{Flag, separators_in}
 use Rattle.lexical_util.specs.Roles.{signs}

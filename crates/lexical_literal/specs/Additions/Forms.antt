@@ -1,8 +1,8 @@
 -- What one pass over several forms finds.
 use Rattle.std.specs.Prelude.{ℕ, if◌then◌else◌, nat_lt, IfErr, IfOk, IsErr, IsSomeAnd, List, Option, Some, None, Result, All, slice_get}
-use Rattle.lexical_literal.specs.Additions.Longest.{IsCountedFront, IsGroupedFront, IsStopped}
-use Rattle.lexical_literal.specs.Forms.{HasFront, IsFirst, IsFormError, IsFormFrontError, IsGreatest}
-use Rattle.lexical_literal.specs.Front.{IsValidUpTo}
+use Rattle.lexical_literal.specs.Additions.Longest.{IsCountedFront, IsStopped}
+use Rattle.lexical_literal.specs.Forms.{HasFront, IsFirst, IsFormError, IsGreatest}
+use Rattle.lexical_literal.specs.Front.{IsValidUpTo, NoFront, NoLiteral}
 use Rattle.lexical_literal.specs.Read.{Read}
 use Rattle.lexical_literal.specs.Notation.{notation_of}
 use Rattle.lexical_literal.specs.Takes.{Refuses}
@@ -25,11 +25,11 @@ abbrev pub longer : Option (ℕ × Found) → ℕ → Option Found → Option (�
 longer longest form None = longest
 longer longest form (Some found) = greater (λ (found : Found). found.size) longest form found
 
--- `IsFoundForm forms text result` holds if `result` has the first form that takes `text` and the literal, or the error of a text
--- that no form takes.
+-- `IsFoundForm forms text result` holds if `result` has the first form of which `text` is a literal, and the literal, or the error of
+-- a text that is a literal of no form.
 pub record IsFoundForm (forms : List Grammar) (text : List ℕ) (result : Result (ℕ × Read) FormError) : Type 0 where
   pub found : IfOk result (λ found. IsFirst forms text found.0 found.1)
-  pub none : IsErr result → All (λ g. Refuses g text) forms
+  pub none : IsErr result → All (λ g. NoLiteral (notation_of g) text) forms
   pub error : IfErr result (IsFormError forms text)
 
 -- `IsFoundFrontForm forms text result` holds if `result` has the longest front of `text` that is a literal of a form, apart from

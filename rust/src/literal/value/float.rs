@@ -16,6 +16,7 @@ use crate::word::FormatView;
 /// # Errors
 ///
 /// If the mantissa radix and the exponent base are neither both 10 nor both powers of two, of any literal.
+#[inline(always)]
 pub fn to_float<F: Float>(literal: &Literal) -> Result<F, ValueErrorKind> {
     let size = if has_decimal_floats(literal.format()) {
         decimal_size(literal)
@@ -63,35 +64,74 @@ const fn exponent_of(literal: &Literal) -> u128 {
 // Returns the float nearest to a decimal literal, without its sign.
 #[inline(always)]
 fn decimal_size<F: Float>(literal: &Literal) -> F {
-    let parts = literal.cut();
-    let negative = is_minus(parts.exponent_sign);
-    if let (Some(mantissa), Some(exponent)) = (literal.mantissa(), literal.scale()) {
-        return digits_to_float(mantissa, literal.places() as u64, negative, exponent);
+    match short_size(literal) {
+        Some(size) => size,
+        None => long_size(literal),
     }
-    decimal_to_float(parts.integer, parts.fraction, negative, exponent_of(literal))
 }
 
-// Returns the leading digits of the number that the integer and fraction digits of a literal represent together.
+// Returns the float nearest to a decimal literal, without its sign, if its numbers are known and decide it.
 #[inline(always)]
-const fn leading_of(literal: &Literal) -> Leading {
-    if let Some(mantissa) = literal.mantissa() {
-        return Leading { digits: mantissa as u128, ..Leading::ZERO };
+fn short_size<F: Float>(literal: &Literal) -> Option<F> {
+    let parts = literal.cut();
+    let (Some(digits), Some(exponent)) = (literal.mantissa(), literal.scale()) else {
+        return None;
+    };
+    let places = literal.places();
+    if exponent > 9999 || places > parts.fraction.len() {
+        return None;
     }
-    let (parts, radix) = (literal.cut(), literal.format().mantissa_radix());
-    let integer = push_all(Leading::ZERO, radix, parts.integer);
-    push_all(integer, radix, parts.fraction)
+    let negative = is_minus(parts.exponent_sign);
+    digits_to_float(digits, places as u64, negative, exponent)
+}
+
+// Returns the float nearest to a decimal literal, without its sign, by its digits.
+#[cold]
+fn long_size<F: Float>(literal: &Literal) -> F {
+    let parts = literal.cut();
+    let negative = is_minus(parts.exponent_sign);
+    let exponent = saturating(parts.exponent, literal.format().exponent_radix());
+    decimal_to_float(parts.integer, parts.fraction, negative, exponent)
 }
 
 // Returns the bits of the float nearest to a literal, without its sign, or `None` if a radix is not a power of two.
 pub(crate) const fn binary_size(double: bool, literal: &Literal) -> Option<u64> {
     let format = literal.format();
-    let Some(radix_bits) = bits_of(format.mantissa_radix()) else {
+    let radix = format.mantissa_radix();
+    let Some(radix_bits) = bits_of(radix) else {
         return None;
     };
     let Some(base_bits) = bits_of(format.exponent_base()) else {
         return None;
     };
+    let leading = leading(literal, radix);
     let places = literal.places() as u64;
     let negative = is_minus(literal.cut().exponent_sign);
-    Some(raised_bits(double, leading_of(literal), radix_bits, places, negative, exponent_of(literal), base_bits))
+    let exponent = scale(literal);
+    Some(raised_bits(double, leading, radix_bits, places, negative, exponent, base_bits))
+}
+
+// Returns all digits of a number as its leading digits.
+const fn whole(size: u64) -> Leading {
+    Leading { digits: size as u128, ..Leading::ZERO }
+}
+
+// Returns the leading digits of the mantissa, all of them if it is known.
+const fn leading(literal: &Literal, radix: u32) -> Leading {
+    match literal.mantissa() {
+        Some(size) => whole(size),
+        None => {
+            let parts = literal.cut();
+            let integer = push_all(Leading::ZERO, radix, parts.integer);
+            push_all(integer, radix, parts.fraction)
+        }
+    }
+}
+
+// Returns the exponent, or `2 ^ 90` if that is less.
+const fn scale(literal: &Literal) -> u128 {
+    match literal.scale() {
+        Some(exponent) => exponent as u128,
+        None => saturating(literal.cut().exponent, literal.format().exponent_radix()),
+    }
 }

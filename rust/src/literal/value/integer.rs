@@ -3,6 +3,7 @@
 //! The value of a literal as a value of an integer type.
 
 use crate::literal::literal::Literal;
+use crate::literal::read::Parts;
 use crate::number::integer::Integer;
 use crate::number::numeral::{Magnitude, Numeral};
 
@@ -39,8 +40,9 @@ impl ValueErrorKind {
 /// # Errors
 ///
 /// If the literal has a decimal point or an exponent, or if its value is not in the range of the type, returns which.
+#[inline(always)]
 pub fn to_integer<T: Integer>(literal: &Literal) -> Result<T, ValueErrorKind> {
-    let Some(numeral) = integer_numeral(literal) else {
+    let Some(numeral) = integer_digits(literal) else {
         return Err(ValueErrorKind::Float);
     };
     match T::from_numeral(&numeral) {
@@ -49,19 +51,29 @@ pub fn to_integer<T: Integer>(literal: &Literal) -> Result<T, ValueErrorKind> {
     }
 }
 
-// Returns the sign of a literal, and its number or, if it has many digits, these, or `None` if it has a decimal point or an
-// exponent.
+// Returns the sign and the number of a literal, or `None` if it has a decimal point or an exponent.
 #[inline(always)]
-pub(crate) const fn integer_numeral<'a>(literal: &Literal<'a>) -> Option<Numeral<'a>> {
+pub(crate) const fn integer_digits<'a>(literal: &Literal<'a>) -> Option<Numeral<'a>> {
     let parts = literal.cut();
-    if !matches!(parts.point, []) || !matches!(parts.exponent_character, []) {
+    if is_float(&parts) {
         return None;
     }
-    let magnitude = match literal.mantissa() {
-        Some(word) => Magnitude::Word(word),
-        None => Magnitude::Digits(parts.integer, literal.format().mantissa_radix()),
-    };
-    Some(Numeral { negative: is_minus(parts.sign), magnitude })
+    Some(Numeral { negative: is_minus(parts.sign), magnitude: magnitude(literal, parts.integer) })
+}
+
+// Returns whether there is a decimal point or an exponent.
+#[inline(always)]
+const fn is_float(parts: &Parts) -> bool {
+    !matches!(parts.point, []) || !matches!(parts.exponent_character, [])
+}
+
+// Returns the number that the digits of the integer represent, by itself if it is known.
+#[inline(always)]
+const fn magnitude<'a>(literal: &Literal<'a>, integer: &'a [u8]) -> Magnitude<'a> {
+    match literal.mantissa() {
+        Some(size) => Magnitude::Word(size),
+        None => Magnitude::Digits(integer, literal.format().mantissa_radix()),
+    }
 }
 
 // Returns whether a sign is a minus sign.

@@ -16,7 +16,12 @@ use crate::word::FormatView;
 ///
 /// If the literal cannot be written, returns why. The exponent digits are not moved where no exponent is allowed.
 pub fn format_literal<'a>(literal: &Literal<'a>, syntax: &Syntax, style: Style) -> Result<Layout<'a>, WriteError> {
-    let amount = amount_of(literal.format(), &literal.cut(), syntax.format().view())?;
+    convert(literal.format(), &literal.cut(), syntax, style)
+}
+
+// Returns how a literal of `format` with these parts is written as a literal of `syntax`, or why it cannot be.
+fn convert<'a>(format: FormatView, parts: &Parts<'a>, syntax: &Syntax, style: Style) -> Result<Layout<'a>, WriteError> {
+    let amount = amount_of(format, parts, syntax.format().view())?;
     amount.lay_out(syntax, style)
 }
 

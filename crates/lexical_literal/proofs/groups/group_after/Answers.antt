@@ -1,5 +1,5 @@
 -- The loop reads the text, byte by byte.
-use Rattle.std.proofs.Common.{◌+◌, drop, get_or, take, sym, ap, ◌∙◌, arith}
+use Rattle.std.proofs.Common.{◌+◌, drop, take, sym, ap, ◌∙◌, arith}
 use Rattle.lexical_literal.specs.Additions.Sizes.{group_after, grow}
 use Rattle.lexical_literal.specs.Notation.{notation_of}
 use Rattle.lexical_literal.proofs.SizeLemmas.{group_none, group_step, grown_small}

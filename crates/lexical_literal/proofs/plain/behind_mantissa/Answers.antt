@@ -1,7 +1,7 @@
 -- An exponent is read, where its character follows.
 use Rattle.std.proofs.Common.{◌≡◌, true, false, sym, subst, ◌∙◌}
 use Rattle.lexical_util.specs.Record.{raw}
-use Rattle.lexical_literal.specs.Notation.{notation_of}
+use Rattle.lexical_literal.specs.Additions.Sizes.{steps_of}
 use Rattle.lexical_literal.specs.Additions.Summary.{takes}
 use Rattle.lexical_literal.specs.declared.plain.At.{At}
 use Rattle.lexical_util.specs.declared.feature_format.roles.Role.TheVariants as roles
@@ -18,5 +18,5 @@ exponent-requires-clause-at c =
     ∙ c.if-takes.true)) c.requires.free c.requires.at
 
 pub end-requires-clause-sums : goal.end-requires-clause-sums
-end-requires-clause-sums c = mantissa_sums (notation_of c.args.grammar) (raw c.args.grammar.word) c.args.text.now c.args.sizes c.args.run c.all_sums.result
+end-requires-clause-sums c = mantissa_sums (steps_of c.args.grammar) (raw c.args.grammar.word) c.args.text.now c.args.sizes c.args.run c.all_sums.result
     c.requires.mantissa c.all_sums.ensures

@@ -44,7 +44,7 @@ returns-then-awaits_integer-clause-run c =
     let begun : awaits_integer c.args.begun.stage ≡ true = sym c.awaits_integer.ensures ∙ c.if-awaits_integer.true in
     first_digit g text part _ c.push-one.result c.behind_zero.result c.in-Some.value stages.Bare true c.requires.ready.roles c.requires.part c.requires.none
     c.requires.signed c.requires.free c.in-Some.ensures.some c.push-one.ensures (λ j. naught j && begun j) refl
-    (subst (λ part. IsRunOn (notation_of g) (radix_of (raw g.word) part) text part (record c.push-one.result { stage = stages.Bare }) c.behind_zero.result)
+    (subst (λ part. IsRunOn (steps_of g) (radix_of (raw g.word) part) text part (record c.push-one.result { stage = stages.Bare }) c.behind_zero.result)
     (sym (awaited_part c.args.begun.stage begun) ∙ c.requires.part) c.behind_zero.ensures.run)
 
 pub returns-else-text-begun-eq48-clause-run : goal.returns-else-text-begun-eq48-clause-run
@@ -60,4 +60,4 @@ returns-else-text-begun-eq48-clause-run c =
     c.groups.ensures.run
 
 pub returns-in_default-clause-run : goal.returns-in_default-clause-run
-returns-in_default-clause-run c = same_run (notation_of c.args.grammar) (radix_of (raw c.args.grammar.word) c.args.part) c.args.text.now c.args.part c.args.begun
+returns-in_default-clause-run c = same_run (steps_of c.args.grammar) (radix_of (raw c.args.grammar.word) c.args.part) c.args.text.now c.args.part c.args.begun

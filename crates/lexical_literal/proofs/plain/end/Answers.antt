@@ -16,7 +16,7 @@ use Rattle.lexical_literal.proofs.plain.end.Goals.{else-size-text-via-else-size-
 
 pub returns-then-takes-clause-found : goal.returns-then-takes-clause-found
 returns-then-takes-clause-found c =
-    let m = notation_of c.args.grammar in
+    let m = steps_of c.args.grammar in
     let text = c.args.text.now in
     let at = c.args.at in
     complete_at m c.requires.ready text _ (suffix_at m text c.requires.ready.roles c.args.sizes _ _ _ at c.if-size-text.true

@@ -1,7 +1,7 @@
 -- The exponent, and its sign.
 use Rattle.std.proofs.Common.{◌≡◌, ◌+◌, ◌-◌, sym, subst, true, false}
 use Rattle.lexical_util.specs.Record.{raw}
-use Rattle.lexical_literal.specs.Notation.{notation_of}
+use Rattle.lexical_literal.specs.Additions.Sizes.{steps_of}
 use Rattle.lexical_literal.specs.Additions.Plain.{IsAt, IsReadOn, counts_of, is_free, at_stage}
 use Rattle.lexical_literal.specs.Additions.Summary.{cuts_of, has_digit, is_signed, part_of}
 use Rattle.lexical_literal.specs.declared.plain.At.{At}
@@ -40,5 +40,5 @@ end-requires-clause-at c =
     c.digits-run.ensures.run.on))
 
 pub end-requires-clause-sums : goal.end-requires-clause-sums
-end-requires-clause-sums c = exponent_sums (notation_of c.args.grammar) (raw c.args.grammar.word) c.args.text.now c.args.sizes c.in-Some.sign
+end-requires-clause-sums c = exponent_sums (steps_of c.args.grammar) (raw c.args.grammar.word) c.args.text.now c.args.sizes c.in-Some.sign
     c.behind_sign.result c.args.mantissa c.digits-run.result c.all_sums.result c.requires.mantissa c.digits-run.ensures.run c.all_sums.ensures

@@ -1,7 +1,7 @@
 -- The fraction, and what follows it.
 use Rattle.std.proofs.Common.{◌≡◌, ◌+◌, ◌-◌, arith, sym, subst, true, false}
 use Rattle.lexical_util.specs.Record.{raw}
-use Rattle.lexical_literal.specs.Notation.{notation_of}
+use Rattle.lexical_literal.specs.Additions.Sizes.{steps_of}
 use Rattle.lexical_literal.specs.Additions.Plain.{IsReadOn, is_free, at_stage}
 use Rattle.lexical_literal.specs.Additions.Summary.{after_point, has_digit, is_signed, part_of}
 use Rattle.lexical_literal.specs.declared.steps.Piece.TheVariants as pieces
@@ -40,5 +40,5 @@ pub overflow_sub-sizes : goal.overflow_sub-sizes
 overflow_sub-sizes c = omega (arith, c.digits-run.ensures.run.digits)
 
 pub behind_mantissa-requires-clause-mantissa : goal.behind_mantissa-requires-clause-mantissa
-behind_mantissa-requires-clause-mantissa c = fraction_sum (notation_of c.args.grammar) (raw c.args.grammar.word) c.args.text.now c.args.sizes
+behind_mantissa-requires-clause-mantissa c = fraction_sum (steps_of c.args.grammar) (raw c.args.grammar.word) c.args.text.now c.args.sizes
     c.after_point-stage.result c.args.integer c.digits-run.result c.requires.none.0 c.requires.none.1 c.requires.mantissa c.digits-run.ensures.run

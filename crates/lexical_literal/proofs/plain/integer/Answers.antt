@@ -1,7 +1,7 @@
 -- The integer, and what follows it.
 use Rattle.std.proofs.Common.{◌≡◌, ◌-◌, sym, subst, ◌∙◌, refl, true, false}
 use Rattle.lexical_util.specs.Record.{raw}
-use Rattle.lexical_literal.specs.Notation.{notation_of}
+use Rattle.lexical_literal.specs.Additions.Sizes.{steps_of}
 use Rattle.lexical_literal.specs.Additions.Summary.{takes}
 use Rattle.lexical_literal.specs.declared.plain.At.{At}
 use Rattle.lexical_literal.specs.declared.plain.Sizes.{Sizes}
@@ -26,9 +26,9 @@ behind_mantissa-requires-clause-at c = integer_at (notation_of c.args.grammar) c
     c.digits-run.result.stage c.digits-run.ensures.run.on
 
 pub fraction-requires-clause-mantissa : goal.fraction-requires-clause-mantissa
-fraction-requires-clause-mantissa c = integer_sum (notation_of c.args.grammar) (raw c.args.grammar.word) c.args.text.now c.args.opening c.digits-run.result
+fraction-requires-clause-mantissa c = integer_sum (steps_of c.args.grammar) (raw c.args.grammar.word) c.args.text.now c.args.opening c.digits-run.result
     c.requires.opened c.digits-run.ensures.run
 
 pub behind_mantissa-requires-clause-mantissa : goal.behind_mantissa-requires-clause-mantissa
-behind_mantissa-requires-clause-mantissa c = integer_sum (notation_of c.args.grammar) (raw c.args.grammar.word) c.args.text.now c.args.opening
+behind_mantissa-requires-clause-mantissa c = integer_sum (steps_of c.args.grammar) (raw c.args.grammar.word) c.args.text.now c.args.opening
     c.digits-run.result c.requires.opened c.digits-run.ensures.run

@@ -1,8 +1,7 @@
 -- Nothing but the base prefix may follow its zero.
-use Rattle.std.proofs.Common.{◌<◌, ◌+◌, get_or, length, sym, subst}
+use Rattle.std.proofs.Common.{◌+◌, get_or, sym, subst}
 use Rattle.lexical_literal.specs.Additions.Sizes.{steps_of}
 use Rattle.lexical_literal.specs.Additions.Plain.{IsRefused}
-use Rattle.lexical_literal.specs.declared.plain.At.{At}
 use Rattle.lexical_literal.proofs.PassedLemmas.{zero_passed}
 use Rattle.lexical_literal.proofs.plain.without_prefix.Goals as goal
 

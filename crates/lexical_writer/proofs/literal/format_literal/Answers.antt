@@ -1,15 +1,21 @@
--- What is written of a literal has its value.
-use Rattle.std.proofs.Common.{◌∙◌, ap, sym}
-use Rattle.std.proofs.lemmas.Result.{IfOk-weaker}
+-- The parts and the format are those of the literal.
+use Rattle.std.proofs.Common.{IfOk, subst}
 use Rattle.lexical_util.specs.Record.{raw}
-use Rattle.lexical_writer.specs.Conversion.{amount_of}
+use Rattle.lexical_literal.specs.Literal.{Literal}
+use Rattle.lexical_writer.specs.Conversion.{IsConverted, SameFraction}
 use Rattle.lexical_writer.specs.Layout.{literal_of}
-use Rattle.lexical_writer.proofs.ConversionLemmas.{same_fraction}
 use Rattle.lexical_writer.proofs.literal.format_literal.Goals as goal
 
 pub returns-clause-value : goal.returns-clause-value
 returns-clause-value c =
-    let word = c.view.ensures.word ∙ c.format.ensures.word in
-    IfOk-weaker _ _ _ (λ layout. same_fraction (raw c.args.format) c.args.parts.now c.args.syntax.now c.in_ok-amount.amount
-    (ap (λ w. amount_of (raw c.args.format) c.args.parts.now (raw w)) (sym word) ∙ sym c.amount_of.ensures ∙ c.in_ok-amount.was) (literal_of layout))
-    c.lay_out.ensures.number
+    let s = raw c.args.syntax.now.word in
+    subst (λ w. IfOk c.convert.result (λ layout. SameFraction (raw w) c.args.literal.now.literal s (literal_of layout))) c.format.ensures
+    (subst (λ (l : Literal). IfOk c.convert.result (λ layout. SameFraction (raw c.format.result) l s (literal_of layout))) c.cut.ensures.parts
+    c.convert.ensures.value)
+
+pub returns-clause-parts : goal.returns-clause-parts
+returns-clause-parts c = (
+  c.cut.result,
+  c.cut.ensures.parts,
+  subst (λ w. IsConverted (raw w) c.cut.result c.args.syntax.now c.args.style c.convert.result) c.format.ensures c.convert.ensures.parts,
+)

@@ -27,7 +27,7 @@ returns-then-is_whole c =
     let here = slice_get-get_or forms c.loop-form.form c.index-self-form.result c.loop-form-test.true in
     rw (← c.self.view_is) (record {
       found = record {
-        takes = subst (λ o. IsSomeAnd o (λ g. (read.format ≡ g.word) × Takes g read.literal c.args.text.now)) (sym here) is;
+        reads = subst (λ o. IsSomeAnd o (λ g. (read.format ≡ g.word) × Reads (notation_of g) read.literal c.args.text.now)) (sym here) is;
         before = c.loop-form.invariant.none;
       };
       none = λ err. absurd (false≢true err);
@@ -42,7 +42,7 @@ returns-in-Some c =
     let here = slice_get-get_or forms c.loop-form.form c.index-self-form.result c.loop-form-test.true in
     rw (← c.self.view_is) (record {
       found = record {
-        takes = subst (λ o. IsSomeAnd o (λ g. (read.format ≡ g.word) × Takes g read.literal c.args.text.now)) (sym here) is;
+        reads = subst (λ o. IsSomeAnd o (λ g. (read.format ≡ g.word) × Reads (notation_of g) read.literal c.args.text.now)) (sym here) is;
         before = c.loop-form.invariant.none;
       };
       none = λ err. absurd (false≢true err);

@@ -50,6 +50,14 @@ loop-form-init c =
     (subst P c.index-syntaxes-first.is (at_byte forms c.args.text.now c.in-Some.first c.in-Some.stop.size a.0 c.index-syntaxes-first.result
     c.in-Err.error.refusal c.in-Err.ensures a.2.valid (sym c.if-not-is_byte.ensures)))
 
+pub refuse-requires-then-reached-stop-clause-refused : goal.refuse-requires-then-reached-stop-clause-refused
+refuse-requires-then-reached-stop-clause-refused c =
+    let forms = c.syntaxes-syntaxes.result.now in
+    let g = c.index-syntaxes-form.result in
+    let at = slice_get-get_or forms c.loop-form.form g c.loop-form-test.true ∙ ap Some (sym c.index-syntaxes-form.is) in
+    let none = subst (All (λ g. NoLiteral (notation_of g) c.args.text.now)) (sym c.syntaxes-syntaxes.ensures.list) c.requires.none in
+    all_at (λ g. NoLiteral (notation_of g) c.args.text.now) forms c.loop-form.form g at none
+
 pub returns-then-not-is_byte-2 : goal.returns-then-not-is_byte-2
 returns-then-not-is_byte-2 c =
     let forms = c.syntaxes-syntaxes.result.now in

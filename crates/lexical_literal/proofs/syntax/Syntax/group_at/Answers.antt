@@ -1,6 +1,5 @@
 -- The groups of what has been read fit.
-use Rattle.std.proofs.Common.{◌≡◌, Some, None, take, refl, sym, ap, subst, ◌∙◌}
-use Rattle.lexical_literal.specs.Additions.Longest.{IsUnderway}
+use Rattle.std.proofs.Common.{◌≡◌, Some, None, take, sym, ap, ◌∙◌}
 use Rattle.lexical_literal.specs.Additions.Sizes.{first_group, group_after}
 use Rattle.lexical_literal.specs.Groups.{has_sizes}
 use Rattle.lexical_literal.specs.Notation.{notation_of}

@@ -1,11 +1,14 @@
--- A text of which no front is a literal is none, and is not refused for its groups.
-use Rattle.std.proofs.Common.{ℕ, List, Result, Ok, Err, IsErrAnd, inl, ap, refl, is_some}
-use Rattle.lexical_literal.specs.Cause.{Explained}
+-- A text of which no front is a literal is none.
+use Rattle.std.proofs.Common.{ℕ, List, Result, Ok, Err, IsErrAnd, ap, is_some}
+use Rattle.std.proofs.lemmas.Bool.{false≢true}
+use Rattle.lexical_literal.specs.Cause.{Explained, IsRefusal}
+use Rattle.lexical_literal.specs.Front.{NoFront}
+use Rattle.lexical_literal.specs.Notation.{notation_of}
 use Rattle.lexical_literal.specs.Parts.{IsReadPrefix}
 use Rattle.lexical_literal.specs.Takes.{IsError, NoFront}
 use Rattle.lexical_literal.specs.declared.number.Front.{Front}
 use Rattle.lexical_literal.specs.declared.syntax.Grammar.{Grammar}
-use Rattle.lexical_literal.proofs.FormLemmas.{front_error, none_whole}
+use Rattle.lexical_literal.proofs.FormLemmas.{none_whole}
 use Rattle.lexical_literal.proofs.PieceLemmas.{front_cut, front_read}
 use Rattle.lexical_literal.proofs.syntax.Syntax.read_prefix.Goals as goal
 
@@ -21,15 +24,17 @@ pub returns-in-None : goal.returns-in-None
 returns-in-None c =
     refused c.args.self.now c.args.text.now c.refuse.result (c.front-found.ensures.none (ap is_some c.in-None.is)) c.refuse.ensures
 
-pub grouped-requires : goal.grouped-requires
-grouped-requires c = c.front-found.ensures.longest c.in-Some.found c.in-Some.is
+pub front_of-requires : goal.front_of-requires
+front_of-requires c = (c.front-found.ensures.longest c.in-Some.found c.in-Some.is).reads.within
 
 pub summed-literal-requires : goal.summed-literal-requires
 summed-literal-requires c = front_cut c.args.self.now c.args.text.now c.front_of.result.now c.in-Some.found.size c.in-Some.found.counts c.front_of.ensures
-    (c.in-Ok.ensures.grouped refl)
+    (c.front-found.ensures.longest c.in-Some.found c.in-Some.is)
 
-pub returns-in-Ok : goal.returns-in-Ok
-returns-in-Ok c =
-    let is = front_read c.args.self.now c.args.text.now c.front_of.result.now c.in-Some.found.size c.in-Some.found.counts c.front_of.ensures
-    (c.in-Ok.ensures.grouped refl) c.summed-literal.result c.summed-literal.ensures in
-    record { found = (is.0, is.1); grouped = is.2; error = tt }
+pub returns-in-Some : goal.returns-in-Some
+returns-in-Some c = record {
+  found = front_read c.args.self.now c.args.text.now c.front_of.result.now c.in-Some.found.size c.in-Some.found.counts c.front_of.ensures
+      (c.front-found.ensures.longest c.in-Some.found c.in-Some.is) c.summed-literal.result c.summed-literal.ensures;
+  none = λ err. absurd (false≢true err);
+  error = tt;
+}

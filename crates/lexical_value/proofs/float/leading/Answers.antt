@@ -1,0 +1,25 @@
+-- All digits, or the leading ones.
+use Rattle.std.proofs.Common.{◌≡◌, ◌++◌, sym, subst, ◌∙◌}
+use Rattle.lexical_util.specs.Record.{raw}
+use Rattle.lexical_literal.specs.Parts.{literal_of}
+use Rattle.lexical_literal.specs.Read.{mantissa}
+use Rattle.lexical_number.specs.Leading.{Leads, number_after}
+use Rattle.lexical_number.specs.Number.{number}
+use Rattle.lexical_number.proofs.LeadingLemmas.{starts}
+use Rattle.lexical_number.proofs.NumberLemmas.{number_after-append}
+use Rattle.lexical_value.proofs.float.leading.Goals as goal
+
+pub returns-in-Some-clause-leads : goal.returns-in-Some-clause-leads
+returns-in-Some-clause-leads c =
+    subst (λ n. Leads c.args.radix n c.whole.result.digits c.whole.result.more c.whole.result.dropped) c.in-Some.ensures.value
+    (c.whole.ensures.leads c.args.radix c.requires.some)
+
+pub returns-in-None-clause-leads : goal.returns-in-None-clause-leads
+returns-in-None-clause-leads c =
+    let radix = c.args.radix in
+    let l = literal_of c.cut-parts.result in
+    let whole : number_after radix (number_after radix 0 l.integer) l.fraction ≡ mantissa (raw c.args.literal.now.format) c.args.literal.now.literal =
+    sym (number_after-append radix 0 l.integer l.fraction)
+    ∙ (λ j. number (c.requires.radix j) ((c.cut-parts.ensures.parts j).integer ++ (c.cut-parts.ensures.parts j).fraction)) in
+    subst (λ n. Leads radix n c.push_all.result.digits c.push_all.result.more c.push_all.result.dropped) whole
+    (c.push_all.ensures.value _ (c.push_all-integer.ensures.value 0 (starts radix)))
