@@ -133,10 +133,10 @@ pub behind_digit : (m : Notation) (radix : ℕ) (text : List ℕ) (part : Part) 
 behind_digit m radix text part run stage v one last digit same on = both_runs m radix text part run (record one { stage = stage }) last
     (subst (λ (one : Run). IsRunOn m radix text part run (record one { stage = stage })) (sym same) (one_digit m radix text part run stage v digit on))
 
-module _ (g : Grammar) (text : List ℕ) (part : Part) (run : Run) (v : ℕ) (h : HasRoles (notation_of g)) (is : is_run run.stage ≡ true)
+module _ (g : Grammar) (text : List ℕ) (part : Part) (run : Run) (v : ℕ) (h : HasRoles (steps_of g)) (is : is_run run.stage ≡ true)
     (in_part : part_of run.stage ≡ part) where
   abbrev m : Notation
-  m = notation_of g
+  m = steps_of g
 
   abbrev radix : ℕ
   radix = radix_of (raw g.word) part

@@ -1,8 +1,9 @@
 -- Several forms of one language: which form has a text, and which error a text has that is of no form.
-use Rattle.std.specs.Prelude.{ℕ, ◌≡◌, ◌+◌, ◌*◌, ◌<◌, ◌≤◌, ◌⊎◌, Bool, true, false, if◌then◌else◌, IfErr, IfOk, IsErr, IsSomeAnd, List, Result, All}
+use Rattle.std.specs.Prelude.{ℕ, ◌≡◌, ◌+◌, ◌*◌, ◌<◌, ◌≤◌, Bool, true, false, if◌then◌else◌, IfErr, IfOk, IsErr, IsSomeAnd, List, Result, All}
 use Rattle.std.specs.Prelude.{slice_get, take}
-use Rattle.lexical_literal.specs.Front.{ReadsFront}
-use Rattle.lexical_literal.specs.Literal.{Literal}
+use Rattle.lexical_literal.specs.Cause.{IsRefusal}
+use Rattle.lexical_literal.specs.Front.{NoFront, NoLiteral, ReadsFront}
+use Rattle.lexical_literal.specs.Literal.{Literal, Reads}
 use Rattle.lexical_literal.specs.Notation.{notation_of}
 use Rattle.lexical_literal.specs.Read.{Read}
 use Rattle.lexical_literal.specs.declared.cause.ReadErrorKind.{ReadErrorKind}
@@ -37,10 +38,9 @@ reach error = 2 * error.valid_up_to + (if is_byte error.kind then 0 else 1)
 
 -- `Reaches text g n` holds if an error of `text` in the form `g` has the reach `n`.
 abbrev pub Reaches : List ℕ → Grammar → ℕ → Type 0
-Reaches text g n = (error : Refusal) × IsError g text error × (reach error ≡ n)
+Reaches text g n = (error : Refusal) × IsRefusal (notation_of g) text error × (reach error ≡ n)
 
--- `HasFront text g size` holds if the longest front of `text` that is a literal of the form `g`, apart from its
--- groups, has `size` bytes.
+-- `HasFront text g size` holds if the longest front of `text` that is a literal of the form `g` has `size` bytes.
 abbrev pub HasFront : List ℕ → Grammar → ℕ → Type 0
 HasFront text g size = (l : Literal) × ReadsFront (notation_of g) l text size
 
@@ -48,7 +48,7 @@ HasFront text g size = (l : Literal) × ReadsFront (notation_of g) l text size
 -- whose cause is not a wrong byte, or the first if the cause of each is one.
 pub record IsFormError (forms : List Grammar) (text : List ℕ) (error : FormError) : Type 0 where
   pub furthest : IsGreatest (Reaches text) forms error.form (reach error.error.refusal)
-  pub refusal : IsSomeAnd (slice_get forms error.form) (λ g. IsError g text error.error.refusal)
+  pub refusal : IsSomeAnd (slice_get forms error.form) (λ g. IsRefusal (notation_of g) text error.error.refusal)
 
 -- `IsReadByForms forms text result` holds if `result` has the first form of which `text` is a literal, and the literal, or the error
 -- of a text that is a literal of no form.
@@ -57,15 +57,8 @@ pub record IsReadByForms (forms : List Grammar) (text : List ℕ) (result : Resu
   pub none : IsErr result → All (λ g. NoLiteral (notation_of g) text) forms
   pub error : IfErr result (IsFormError forms text)
 
--- `IsFormFrontError forms text error` holds if `error` is that of a text of which no front is a literal of a form, or if the
--- longest front that is one, of the first form of equals, is not in groups, and `error` says this.
-abbrev pub IsFormFrontError : List Grammar → List ℕ → FormError → Type 0
-IsFormFrontError forms text error = (All (NoFront text) forms × IsFormError forms text error)
-    ⊎ ((size : ℕ) × IsGreatest (HasFront text) forms error.form size
-    × IsSomeAnd (slice_get forms error.form) (λ g. IsUngroupedFront g text size error.error.refusal))
-
--- `IsFrontByForms forms text result` holds if `result` has the longest front of `text` that is a literal of a form, apart from
--- its groups, of the first form of equals, with its parts, and this front is in groups, or an error.
+-- `IsFrontByForms forms text result` holds if `result` has the longest front of `text` that is a literal of a form, of the first
+-- form of equals, with its parts, or the error of a text for which there is no such front.
 pub record IsFrontByForms (forms : List Grammar) (text : List ℕ) (result : Result FormFront FormError) : Type 0 where
   pub longest : IfOk result (λ front. IsGreatest (HasFront text) forms front.form front.size)
   pub found : IfOk result (λ front.

@@ -31,10 +31,10 @@ pub record IsRead (g : Grammar) (text : List ℕ) (result : Result Read Explaine
   -- A literal has no other parts, and they are returned.
   pub only : (l : Literal) → Reads (notation_of g) l text → IsOkAnd result (λ read. read.literal ≡ l)
   -- An error says how far the text is right, why it is not a literal, and which bytes to show.
-  pub error : IfErr result (λ error. IsError g text error.refusal)
+  pub error : IfErr result (λ error. IsRefusal (notation_of g) text error.refusal)
 
--- `IsReadPrefix g text result` holds if `result` has the longest front of `text` that is a literal, apart from its groups,
--- with its parts, and this front is in groups, or is the error of a text for which there is no such front.
+-- `IsReadPrefix g text result` holds if `result` has the longest front of `text` that is a literal, with its parts, or is the
+-- error of a text for which there is no such front.
 pub record IsReadPrefix (g : Grammar) (text : List ℕ) (result : Result Front Explained) : Type 0 where
   -- A front of the text is a literal with the parts that are returned, and no longer front is a literal.
   pub found : IfOk result (λ front. (front.literal.format ≡ g.word) × ReadsFront (notation_of g) front.literal.literal text front.size)

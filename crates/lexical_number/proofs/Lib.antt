@@ -6,7 +6,4 @@ mod BinaryLemmas
 mod TenLemmas
 pub mod LeadingLemmas
 mod PartsLemmas
-mod ScaledLemmas
-mod StickyLemmas
-mod TakenLemmas
 mod PowersLemmas

@@ -5,12 +5,10 @@ ghost use Rattle.std.specs.Prelude.{ℕ, ◌≡◌, ◌≤◌, ◌^◌, ◌↔�
 ghost use Rattle.std.specs.Float.{NotNan};
 ghost use Rattle.std.specs.Float.Ieee.{round};
 ghost use Rattle.core.specs.Dec2flt.Rounding.{IsNearestBits};
-ghost use Rattle.lexical_util.specs.Layout as layout;
 ghost use Rattle.lexical_util.specs.Record.{raw};
 ghost use Rattle.lexical_literal.specs.Read.{exponent, mantissa};
 ghost use Rattle.lexical_number.specs.Leading.{Leads};
 ghost use Rattle.lexical_number.specs.Binary.{format_of};
-ghost use Rattle.lexical_number.specs.Leading.{Leads};
 ghost use Rattle.lexical_value.specs.Float.{is_binary, is_decimal, nearest};
 ghost use Rattle.lexical_value.specs.Value.{denominator, numerator};
 ghost use Rattle.lexical_value.specs.declared.integer.ValueErrorKind.TheVariants as kinds;
@@ -140,13 +138,7 @@ pub(crate) fn binary_size(double: bool, literal: &Literal) -> Option<u64>
     let negative = is_minus(literal.cut().exponent_sign);
     let exponent = scale(literal);
     Some(raised_bits(
-        double,
-        leading_of(literal),
-        radix_bits,
-        places,
-        negative,
-        exponent_of(literal),
-        base_bits,
+        double, leading, radix_bits, places, negative, exponent, base_bits,
     ))
 }
 

@@ -73,10 +73,6 @@ pub(crate) fn integer_digits<'a>(literal: &Literal<'a>) -> Option<Numeral<'a>>
     if is_float(&parts) {
         return None;
     }
-    let magnitude = match literal.mantissa() {
-        Some(word) => Magnitude::Word(word),
-        None => Magnitude::Digits(parts.integer, literal.format().mantissa_radix()),
-    };
     Some(Numeral {
         negative: is_minus(parts.sign),
         magnitude: magnitude(literal, parts.integer),

@@ -5,7 +5,6 @@ ghost use Rattle.lexical_util.specs.Record.{raw};
 ghost use Rattle.lexical_literal.specs.Literal.{Reads, text_of};
 ghost use Rattle.lexical_literal.specs.Notation.{notation_of};
 ghost use Rattle.lexical_literal.specs.Parts.{literal_of};
-ghost use Rattle.lexical_literal.specs.declared.read.Parts.{Parts};
 ghost use Rattle.lexical_value.specs.Value.{is_minus};
 ghost use Rattle.lexical_writer.specs.Conversion.{IsConverted, IsWritten, SameFraction, amount_of, fraction_of, has_power, power_of, source_of};
 ghost use Rattle.lexical_writer.specs.Layout.{literal_of as written};
@@ -46,11 +45,10 @@ fn convert<'a>(
 ) -> Result<Layout<'a>, WriteError>
     ensures literal { IfOk result (λ layout. Reads (notation_of syntax.now) (written layout) (text_of (written layout))) }
     ensures value { IfOk result (λ layout.
-        SameFraction (raw literal.now.format) literal.now.literal (raw syntax.now.word) (written layout)) }
-    ensures parts { (parts : Parts) × (literal_of parts ≡ literal.now.literal)
-        × IsConverted (raw literal.now.format) parts syntax.now style result }
+        SameFraction (raw format) (literal_of parts.now) (raw syntax.now.word) (written layout)) }
+    ensures parts { IsConverted (raw format) parts.now syntax.now style result }
 {
-    let amount = amount_of(literal.format(), &literal.cut(), syntax.format().view())?;
+    let amount = amount_of(format, parts, syntax.format().view())?;
     amount.lay_out(syntax, style)
 }
 

@@ -5,7 +5,6 @@ use Rattle.lexical_literal.specs.Forms.{HasFront, IsFirst, IsFormError, IsGreate
 use Rattle.lexical_literal.specs.Front.{IsValidUpTo, NoFront, NoLiteral}
 use Rattle.lexical_literal.specs.Read.{Read}
 use Rattle.lexical_literal.specs.Notation.{notation_of}
-use Rattle.lexical_literal.specs.Takes.{Refuses}
 use Rattle.lexical_literal.specs.declared.list.FormError.{FormError}
 use Rattle.lexical_literal.specs.declared.read.Found.{Found}
 use Rattle.lexical_literal.specs.declared.plain.At.{At}
@@ -32,21 +31,15 @@ pub record IsFoundForm (forms : List Grammar) (text : List ℕ) (result : Result
   pub none : IsErr result → All (λ g. NoLiteral (notation_of g) text) forms
   pub error : IfErr result (IsFormError forms text)
 
--- `IsFoundFrontForm forms text result` holds if `result` has the longest front of `text` that is a literal of a form, apart from
--- its groups, of the first form of equals, and the lengths of its parts, and this front is in groups, or an error.
+-- `IsFoundFrontForm forms text result` holds if `result` has the longest front of `text` that is a literal of a form, of the
+-- first form of equals, and the lengths of its parts, or the error of a text for which there is no such front.
 pub record IsFoundFrontForm (forms : List Grammar) (text : List ℕ) (result : Result (ℕ × Found) FormError) : Type 0 where
   pub longest : IfOk result (λ found. IsGreatest (HasFront text) forms found.0 found.1.size)
-  pub found : IfOk result (λ found. IsSomeAnd (slice_get forms found.0) (λ g. IsGroupedFront g text found.1))
-  pub error : IfErr result (IsFormFrontError forms text)
+  pub found : IfOk result (λ found. IsSomeAnd (slice_get forms found.0) (λ g. IsCountedFront (notation_of g) text found.1))
+  pub none : IsErr result → All (λ g. NoFront (notation_of g) text) forms
+  pub error : IfErr result (IsFormError forms text)
 
--- `IsLongestForm forms text form found` holds if `found` is the longest front of `text` that is a literal of a form, apart from
--- its groups, and `form` the index of the first form of equals.
-pub record IsLongestForm (forms : List Grammar) (text : List ℕ) (form : ℕ) (found : Found) : Type 0 where
-  pub greatest : IsGreatest (HasFront text) forms form found.size
-  pub here : IsSomeAnd (slice_get forms form) (λ g. IsCountedFront (notation_of g) text found)
-
--- `GoesTo text g size` holds if some literal of the form `g`, apart from its groups, begins with the first `size` bytes of
--- `text`, and none with more.
+-- `GoesTo text g size` holds if some literal of the form `g` begins with the first `size` bytes of `text`, and none with more.
 abbrev pub GoesTo : List ℕ → Grammar → ℕ → Type 0
 GoesTo text g size = IsValidUpTo (notation_of g) text size
 

@@ -11,7 +11,7 @@ use Rattle.lexical_literal.proofs.plain.behind_mantissa.Goals as goal
 
 pub exponent-requires-clause-at : goal.exponent-requires-clause-at
 exponent-requires-clause-at c =
-    let m = notation_of c.args.grammar in
+    let m = steps_of c.args.grammar in
     mark_at m c.args.text.now c.requires.ready.roles c.args.sizes c.args.run.size c.args.run.stage c.if-run-text.true
     (sym c.is_exponent_character.ensures ∙ c.if-is_exponent_character.true)
     (subst (λ (at : At). takes m at.read false roles.Exponent ≡ true) c.at_stage-at.ensures (sym c.takes.ensures

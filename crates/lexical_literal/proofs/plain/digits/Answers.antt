@@ -2,7 +2,8 @@
 use Rattle.std.proofs.Common.{ℕ, ◌≡◌, ◌+◌, ◌==◌, ◌&&◌, Bool, List, true, false, get_or, if◌then◌else◌, refl, sym, ap, subst, ◌∙◌, arith}
 use Rattle.lexical_util.specs.Record.{raw}
 use Rattle.lexical_util.specs.declared.format_flags.Part.{Part}
-use Rattle.lexical_literal.specs.Notation.{notation_of, radix_of}
+use Rattle.lexical_literal.specs.Notation.{radix_of}
+use Rattle.lexical_literal.specs.Additions.Sizes.{steps_of}
 use Rattle.lexical_literal.specs.Additions.Plain.{HasRoles, IsDigitAt, IsReadOn, IsRunOn, at_stage, is_free}
 use Rattle.lexical_literal.specs.Additions.Summary.{awaits_integer, digits_of, digits_piece, has_digit, is_signed, part_of}
 use Rattle.lexical_literal.specs.declared.plain.Run.{Run}
@@ -16,18 +17,18 @@ use Rattle.lexical_literal.proofs.plain.digits.Goals as goal
 use Rattle.lexical_literal.proofs.plain.digits.Goals.{else-text-begun-eq48-via-then-text-begun-eq48+else-awaits_integer}
 use Rattle.lexical_literal.proofs.plain.digits.Goals.{else-text-begun-eq48-via-else-text-begun-eq48}
 
-first_digit : (g : Grammar) (text : List ℕ) (part : Part) (none one last : Run) (v : ℕ) (stage : Stage) (leads : Bool) → HasRoles (notation_of g)
-    → part_of none.stage ≡ part → has_digit none.stage ≡ false → is_signed (notation_of g) part none.stage ≡ true → is_free (notation_of g) none.stage ≡ true
+first_digit : (g : Grammar) (text : List ℕ) (part : Part) (none one last : Run) (v : ℕ) (stage : Stage) (leads : Bool) → HasRoles (steps_of g)
+    → part_of none.stage ≡ part → has_digit none.stage ≡ false → is_signed (steps_of g) part none.stage ≡ true → is_free (steps_of g) none.stage ≡ true
     → IsDigitAt (radix_of (raw g.word) part) text none.size v → one ≡ pushed (radix_of (raw g.word) part) none v 1
     → ((get_or text none.size 0 == 48) && awaits_integer none.stage) ≡ leads → (if leads then stages.Bare else digits_of part) ≡ stage
-    → IsRunOn (notation_of g) (radix_of (raw g.word) part) text part (record one { stage = stage }) last
-    → IsRunOn (notation_of g) (radix_of (raw g.word) part) text part none last
+    → IsRunOn (steps_of g) (radix_of (raw g.word) part) text part (record one { stage = stage }) last
+    → IsRunOn (steps_of g) (radix_of (raw g.word) part) text part none last
 first_digit g text part none one last v stage leads h in_part lacks signed free digit same first is =
     let radix = radix_of (raw g.word) part in
-    behind_digit (notation_of g) radix text part none stage v one last digit same
-    (subst (λ stage. IsReadOn (notation_of g) text (at_stage none.size none.stage) (digits_piece part) (at_stage (none.size + 1) stage))
+    behind_digit (steps_of g) radix text part none stage v one last digit same
+    (subst (λ stage. IsReadOn (steps_of g) text (at_stage none.size none.stage) (digits_piece part) (at_stage (none.size + 1) stage))
     (ap (λ leads. if leads then stages.Bare else digits_of part) first ∙ is)
-    (read_first (notation_of g) text h part none.size none.stage in_part digit.0 (is_digit radix (get_or text none.size 0) v digit.1) lacks signed free))
+    (read_first (steps_of g) text h part none.size none.stage in_part digit.0 (is_digit radix (get_or text none.size 0) v digit.1) lacks signed free))
 
 begun_later : (zero awaits : Bool) → awaits ≡ false → (zero && awaits) ≡ false
 begun_later zero awaits is = grind arith

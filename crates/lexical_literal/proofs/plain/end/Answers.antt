@@ -4,10 +4,10 @@ use Rattle.std.proofs.lemmas.Bool.{false≢true}
 use Rattle.lexical_util.specs.Record.{raw}
 use Rattle.lexical_util.specs.Roles.{suffix}
 use Rattle.lexical_util.specs.declared.feature_format.roles.Role.TheVariants as roles
-use Rattle.lexical_literal.specs.Notation.{notation_of}
+use Rattle.lexical_literal.specs.Additions.Sizes.{steps_of}
 use Rattle.lexical_literal.specs.Additions.Summary.{takes}
 use Rattle.lexical_literal.proofs.JoinLemmas.{suffix_at}
-use Rattle.lexical_literal.proofs.LongestLemmas.{complete_at, stops_at}
+use Rattle.lexical_literal.proofs.LongestLemmas.{complete_at}
 use Rattle.lexical_literal.proofs.PassedLemmas.{passed}
 use Rattle.lexical_literal.proofs.plain.end.Goals as goal
 use Rattle.lexical_literal.proofs.plain.end.Goals.{else-size-text-via-then-size-text+then-is_base_suffix+else-takes}
@@ -34,7 +34,7 @@ returns-clause-summed c _ = c.requires.sums
 
 pub stopped-requires-clause-exact : goal.stopped-requires-clause-exact
 stopped-requires-clause-exact c holds =
-    let m = notation_of c.args.grammar in
+    let m = steps_of c.args.grammar in
     let at = c.args.at in
     let b = get_or c.args.text.now at.size 0 in
     let inside = c.if-size-text-2.true in
@@ -47,4 +47,4 @@ stopped-requires-clause-exact c holds =
     let is = c.is_passed-exact.ensures in
     let none = passed m at.read b (is.digit holds) (is.separator holds) (is.fresh holds) (is.prefix holds) (c.requires.point inside)
     (c.requires.exponent inside) suffix_passed in
-    (inside, stops_at m c.requires.ready c.args.text.now at c.requires.at.begun (λ _. none))
+    (inside, none)

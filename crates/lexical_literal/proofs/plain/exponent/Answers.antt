@@ -13,23 +13,23 @@ use Rattle.lexical_literal.proofs.plain.exponent.Goals as goal
 
 pub digits-run-requires-clause-none : goal.digits-run-requires-clause-none
 digits-run-requires-clause-none c =
-    subst (λ stage. has_digit stage ≡ false) (sym c.behind_sign.ensures) (exponent_behind (notation_of c.args.grammar) c.in-Some.sign).0
+    subst (λ stage. has_digit stage ≡ false) (sym c.behind_sign.ensures) (exponent_behind (steps_of c.args.grammar) c.in-Some.sign).0
 
 pub digits-run-requires-clause-signed : goal.digits-run-requires-clause-signed
-digits-run-requires-clause-signed c = subst (λ stage. is_signed (notation_of c.args.grammar) parts.Exponent stage ≡ true) (sym c.behind_sign.ensures)
+digits-run-requires-clause-signed c = subst (λ stage. is_signed (steps_of c.args.grammar) parts.Exponent stage ≡ true) (sym c.behind_sign.ensures)
     c.in-Some.ensures.signed
 
 pub digits-run-requires-clause-free : goal.digits-run-requires-clause-free
-digits-run-requires-clause-free c = subst (λ stage. is_free (notation_of c.args.grammar) stage ≡ true) (sym c.behind_sign.ensures)
-    (exponent_behind (notation_of c.args.grammar) c.in-Some.sign).2
+digits-run-requires-clause-free c = subst (λ stage. is_free (steps_of c.args.grammar) stage ≡ true) (sym c.behind_sign.ensures)
+    (exponent_behind (steps_of c.args.grammar) c.in-Some.sign).2
 
 pub digits-run-requires-clause-part : goal.digits-run-requires-clause-part
 digits-run-requires-clause-part c = subst (λ stage. part_of stage ≡ parts.Exponent) (sym c.behind_sign.ensures)
-    (exponent_behind (notation_of c.args.grammar) c.in-Some.sign).1
+    (exponent_behind (steps_of c.args.grammar) c.in-Some.sign).1
 
 pub end-requires-clause-at : goal.end-requires-clause-at
 end-requires-clause-at c =
-    let m = notation_of c.args.grammar in
+    let m = steps_of c.args.grammar in
     let text = c.args.text.now in
     let run = c.digits-run.result in
     let sign = c.in-Some.sign in

@@ -12,23 +12,23 @@ use Rattle.lexical_literal.proofs.plain.fraction.Goals as goal
 
 pub digits-run-requires-clause-none : goal.digits-run-requires-clause-none
 digits-run-requires-clause-none c =
-    subst (λ stage. has_digit stage ≡ false) (sym c.after_point-stage.ensures) (behind_point (notation_of c.args.grammar) (has_digit c.args.integer.stage)).0
+    subst (λ stage. has_digit stage ≡ false) (sym c.after_point-stage.ensures) (behind_point (steps_of c.args.grammar) (has_digit c.args.integer.stage)).0
 
 pub digits-run-requires-clause-signed : goal.digits-run-requires-clause-signed
-digits-run-requires-clause-signed c = subst (λ stage. is_signed (notation_of c.args.grammar) parts.Fraction stage ≡ true) (sym c.after_point-stage.ensures)
-    (behind_point (notation_of c.args.grammar) (has_digit c.args.integer.stage)).1
+digits-run-requires-clause-signed c = subst (λ stage. is_signed (steps_of c.args.grammar) parts.Fraction stage ≡ true) (sym c.after_point-stage.ensures)
+    (behind_point (steps_of c.args.grammar) (has_digit c.args.integer.stage)).1
 
 pub digits-run-requires-clause-free : goal.digits-run-requires-clause-free
-digits-run-requires-clause-free c = subst (λ stage. is_free (notation_of c.args.grammar) stage ≡ true) (sym c.after_point-stage.ensures)
-    (behind_point (notation_of c.args.grammar) (has_digit c.args.integer.stage)).3
+digits-run-requires-clause-free c = subst (λ stage. is_free (steps_of c.args.grammar) stage ≡ true) (sym c.after_point-stage.ensures)
+    (behind_point (steps_of c.args.grammar) (has_digit c.args.integer.stage)).3
 
 pub digits-run-requires-clause-part : goal.digits-run-requires-clause-part
 digits-run-requires-clause-part c = subst (λ stage. part_of stage ≡ parts.Fraction) (sym c.after_point-stage.ensures)
-    (behind_point (notation_of c.args.grammar) (has_digit c.args.integer.stage)).2
+    (behind_point (steps_of c.args.grammar) (has_digit c.args.integer.stage)).2
 
 pub behind_mantissa-requires-clause-at : goal.behind_mantissa-requires-clause-at
 behind_mantissa-requires-clause-at c =
-    let m = notation_of c.args.grammar in
+    let m = steps_of c.args.grammar in
     let text = c.args.text.now in
     let run = c.digits-run.result in
     let from = c.args.integer.size + 1 in

@@ -12,7 +12,7 @@ use Rattle.lexical_literal.proofs.plain.integer.Goals as goal
 
 pub fraction-requires-clause-at : goal.fraction-requires-clause-at
 fraction-requires-clause-at c =
-    let m = notation_of c.args.grammar in
+    let m = steps_of c.args.grammar in
     let text = c.args.text.now in
     let run = c.digits-run.result in
     let o = c.args.opening in
@@ -22,7 +22,7 @@ fraction-requires-clause-at c =
     (integer_at m text o c.requires.opened run.size run.stage c.digits-run.ensures.run.on)
 
 pub behind_mantissa-requires-clause-at : goal.behind_mantissa-requires-clause-at
-behind_mantissa-requires-clause-at c = integer_at (notation_of c.args.grammar) c.args.text.now c.args.opening c.requires.opened c.digits-run.result.size
+behind_mantissa-requires-clause-at c = integer_at (steps_of c.args.grammar) c.args.text.now c.args.opening c.requires.opened c.digits-run.result.size
     c.digits-run.result.stage c.digits-run.ensures.run.on
 
 pub fraction-requires-clause-mantissa : goal.fraction-requires-clause-mantissa

@@ -3,7 +3,9 @@ use Rattle.std.proofs.Common.{◌≡◌, ◌+◌, IsSomeAnd, refl, sym, subst}
 use Rattle.std.proofs.lemmas.Bool.{false≢true}
 use Rattle.std.proofs.lemmas.List.Elements.{All-more}
 use Rattle.std.proofs.lemmas.Option.{slice_get-get_or}
-use Rattle.lexical_literal.specs.Takes.{Refuses, Takes}
+use Rattle.lexical_literal.specs.Front.{NoLiteral}
+use Rattle.lexical_literal.specs.Literal.{Reads}
+use Rattle.lexical_literal.specs.Notation.{notation_of}
 use Rattle.lexical_literal.proofs.FormLemmas.{IsBest, all_tried, best_more, furthest_is, goes}
 use Rattle.lexical_literal.proofs.PieceLemmas.{measured_cut, whole_read}
 use Rattle.lexical_literal.proofs.list.SyntaxList.find.Goals as goal
@@ -54,7 +56,7 @@ loop-form-preserved c =
     let forms = c.self.inside.syntaxes.now in
     let i = c.loop-form.form in
     record {
-      none = All-more (λ g. Refuses g c.args.text.now) forms i c.index-self-form.result c.loop-form-test.true c.loop-form.invariant.none
+      none = All-more (λ g. NoLiteral (notation_of g) c.args.text.now) forms i c.index-self-form.result c.loop-form-test.true c.loop-form.invariant.none
           (c.in-None.ensures.none refl);
       furthest = subst (IsBest (goes c.args.text.now) forms (i + 1)) (sym c.further-furthest.ensures)
           (best_more (goes c.args.text.now) forms i c.index-self-form.result c.loop-form-test.true c.reach-stop.result
@@ -67,12 +69,12 @@ refuse-requires-clause-furthest c = rw (← c.self.view_is) (furthest_is c.self.
 
 pub refuse-requires-clause-none : goal.refuse-requires-clause-none
 refuse-requires-clause-none c = rw (← c.self.view_is) (all_tried c.self.inside.syntaxes.now c.args.text.now c.loop-form.form
-    c.loop-form-test.false (λ g. Refuses g c.args.text.now) c.loop-form.invariant.none)
+    c.loop-form-test.false (λ g. NoLiteral (notation_of g) c.args.text.now) c.loop-form.invariant.none)
 
 pub returns : goal.returns
 returns c = record {
   found = tt;
   none = λ _. rw (← c.self.view_is) (all_tried c.self.inside.syntaxes.now c.args.text.now c.loop-form.form
-      c.loop-form-test.false (λ g. Refuses g c.args.text.now) c.loop-form.invariant.none);
+      c.loop-form-test.false (λ g. NoLiteral (notation_of g) c.args.text.now) c.loop-form.invariant.none);
   error = c.refuse.ensures;
 }

@@ -8,10 +8,12 @@ use Rattle.lexical_literal.specs.Additions.Sizes.{steps_of}
 use Rattle.lexical_literal.specs.Additions.Read.{IsSummed}
 use Rattle.lexical_literal.specs.Notation.{notation_of}
 use Rattle.lexical_literal.specs.declared.syntax.Grammar.{Grammar}
+use Rattle.lexical_literal.proofs.LongestLemmas.{begun_free}
 use Rattle.lexical_literal.proofs.syntax.Syntax.begin.Goals as goal
 
-pub plain-requires : goal.plain-requires
-plain-requires c = record { ready = subst (λ (g : Grammar). IsReady (notation_of g)) (sym c.grammar.ensures.value) c.grammar.ensures.ready }
+pub plain-counted-requires : goal.plain-counted-requires
+plain-counted-requires c =
+    record { ready = subst (λ (g : Grammar). IsReady (steps_of g)) (sym c.grammar-grammar.ensures.value) c.grammar-grammar.ensures.ready }
 
 pub sized-requires-clause-ready : goal.sized-requires-clause-ready
 sized-requires-clause-ready c = subst (λ (g : Grammar). IsReady (steps_of g)) (sym c.grammar-grammar.ensures.value) c.grammar-grammar.ensures.ready

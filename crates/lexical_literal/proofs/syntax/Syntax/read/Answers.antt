@@ -1,6 +1,8 @@
 -- A text with a byte that is refused is no literal.
 use Rattle.std.proofs.Common.{ℕ, List, Result, Ok, Err, IsErrAnd, arith}
-use Rattle.lexical_literal.specs.Cause.{Explained}
+use Rattle.lexical_literal.specs.Cause.{Explained, IsRefusal}
+use Rattle.lexical_literal.specs.Front.{NoLiteral}
+use Rattle.lexical_literal.specs.Notation.{notation_of}
 use Rattle.lexical_literal.specs.Parts.{IsRead}
 use Rattle.lexical_literal.specs.Read.{Read}
 use Rattle.lexical_literal.specs.declared.syntax.Grammar.{Grammar}
@@ -11,7 +13,7 @@ use Rattle.lexical_literal.proofs.syntax.Syntax.read.Goals as goal
 refused : (g : Grammar) (text : List ℕ) (r : Result Read Explained) → NoLiteral (notation_of g) text
     → IsErrAnd r (λ error. IsRefusal (notation_of g) text error.refusal) → IsRead g text r
 refused g text (Ok _) none is = absurd is
-refused g text (Err _) none is = record { found = tt; only = λ l takes. absurd (none l takes); error = is }
+refused g text (Err _) none is = record { found = tt; only = λ l reads. absurd (none l reads); error = is }
 
 pub refuse-requires-clause-refused : goal.refuse-requires-clause-refused
 refuse-requires-clause-refused c =
