@@ -295,7 +295,7 @@ class _Literal(Structure):
         ("size", c_size_t),
         ("is_float", c_bool),
         ("form", c_uint8),
-        ("counts", c_uint64 * 18),
+        ("numbers", c_uint64 * 18),
     ]
 
 

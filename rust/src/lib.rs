@@ -96,7 +96,6 @@ mod number {
     pub(crate) mod nearest;
     pub(crate) mod numeral;
     pub(crate) mod parts;
-    pub(crate) mod word;
     pub(crate) mod powers;
     pub(crate) mod word;
 }

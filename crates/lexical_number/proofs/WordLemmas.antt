@@ -39,7 +39,7 @@ fits_is radix digits low high =
           let grows : radix ^ digits ≤ radix ^ most radix = pow-le-pow_right {n = radix} (omega arith) {i = digits} {j = most radix} below in
           omega (arith, grows, row.0),
       λ is. go (nat_le digits (most radix)) refl (λ over. let grows : radix ^ (most radix + 1) ≤ radix ^ digits =
-      pow-le-pow_right {n = radix} (omega arith) {i = most radix + 1} {j = digits} over in omega (arith, grows, row.1, is)),
+          pow-le-pow_right {n = radix} (omega arith) {i = most radix + 1} {j = digits} over in omega (arith, grows, row.1, is)),
     ) where
       go : (test : Bool) → nat_le digits (most radix) ≡ test → (most radix + 1 ≤ digits → ⊥) → IsTrue test
       go true is none = refl

@@ -13,5 +13,5 @@ mod long;
 pub mod nearest;
 pub mod numeral;
 pub mod parts;
-pub mod word;
 mod powers;
+pub mod word;

@@ -160,7 +160,9 @@ fn numbers_are_written(rt: HostRuntime) -> Result<(), Fail> {
     let Ok(literal) = comma.read(b"-0012,50e+3") else {
         return Err("a literal".into());
     };
-    let layout = format_literal(&literal, &syntax, PLAIN).ok().ok_or("a layout")?;
+    let layout = format_literal(&literal, &syntax, PLAIN)
+        .ok()
+        .ok_or("a layout")?;
     assert_eq!(rt; layout.write(&mut buffer), 8);
     assert_eq!(rt; buffer.as_slice(), b"-12.50E3".as_slice());
     Ok(())

@@ -39,6 +39,12 @@ impl Syntax {
 
     /// Returns what [`read`][Self::read] returns, also in a constant.
     pub const fn read_bytes<'t>(&self, text: &'t [u8]) -> Result<Literal<'t>, ReadError> {
+        self.read_here(text)
+    }
+
+    /// Returns what [`read`][Self::read] returns, to a caller that needs a part of it.
+    #[inline(always)]
+    pub(super) const fn read_here<'t>(&self, text: &'t [u8]) -> Result<Literal<'t>, ReadError> {
         let counted = self.begin(text, false);
         if self.is_whole(text, counted) {
             Ok(self.literal(text, counted.counts, counted.sums))

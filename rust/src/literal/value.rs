@@ -301,7 +301,7 @@ impl Syntax {
     ///
     /// If `text` is not a literal, or if its value is not one of the type, returns why.
     pub fn parse<T: FromLiteral>(&self, text: impl AsRef<[u8]>) -> Result<T, ParseError> {
-        Ok(T::try_from(self.read_bytes(text.as_ref())?)?)
+        Ok(T::try_from(self.read_here(text.as_ref())?)?)
     }
 
     /// Returns whether literals have values of float types: whether the mantissa radix and the exponent base of the format
