@@ -147,11 +147,11 @@ REPLACED += [
     ("lexical_literal/src/literal.rt", "pub const fn places(&self)", "pub(crate) const fn places(&self)"),
     ("lexical_literal/src/literal.rt", "pub const fn scale(&self)", "pub(crate) const fn scale(&self)"),
     # Calls for constants.
-    ("lexical_value/src/integer.rt", "pub(crate) fn integer_digits", "pub(crate) const fn integer_digits"),
+    ("lexical_value/src/integer.rt", "pub(crate) fn integer_numeral", "pub(crate) const fn integer_numeral"),
     ("lexical_value/src/integer.rt", "\nfn magnitude", "\nconst fn magnitude"),
     ("lexical_value/src/float.rt", "pub(crate) fn binary_size", "pub(crate) const fn binary_size"),
-    ("lexical_value/src/float.rt", "\nfn leading", "\nconst fn leading"),
-    ("lexical_value/src/float.rt", "\nfn scale", "\nconst fn scale"),
+    ("lexical_value/src/float.rt", "\nfn leading_of", "\nconst fn leading_of"),
+    ("lexical_value/src/float.rt", "\nfn exponent_of", "\nconst fn exponent_of"),
     ("sink.rt", "#[derive(Drop)]", "#[derive(Debug)]"),
     (LITERAL, "#[derive(Drop)]", "#[derive(Clone, Copy, PartialEq, Eq, Hash)]"),
     # `Debug` prints the answers.

@@ -1,9 +1,8 @@
 //! Float types.
 
-ghost use Rattle.std.specs.Prelude.{◌≡◌, ℕ, ◌*◌, ◌^◌, ◌<◌, ◌≤◌, Bool, true, false, IfSome, Some, from_bits, if◌then◌else◌};
+ghost use Rattle.std.specs.Prelude.{◌≡◌, ℕ, ◌*◌, ◌^◌, ◌<◌, ◌≤◌, Bool, true, false, IfSome, from_bits, if◌then◌else◌};
 ghost use Rattle.std.specs.Float as float;
 ghost use Rattle.std.specs.Float.Ieee.{hid, neg, ones, round};
-ghost use Rattle.std.specs.Float.Parse.{parse_float};
 ghost use Rattle.lexical_number.specs.Binary.{format_of};
 
 /// A float type.
@@ -24,10 +23,6 @@ pub trait Float: Copy {
     /// Returns the float with the other sign.
     fn negated(self) -> Self
         ensures { value result ≡ neg (value self) };
-
-    /// Returns the float nearest to the number that `text` writes.
-    fn from_text(text: &str) -> Self
-        ensures { (x : float.Float) → parse_float (format_of DOUBLE) text.now ≡ Some x → value result ≡ x };
 
     /// Returns `digits * 10 ^ scale`, or `digits / 10 ^ scale` if `over` is true, rounded once, if both numbers are floats.
     fn by_ten_to(digits: u64, scale: u64, over: bool) -> Option<Self>
@@ -62,11 +57,6 @@ impl Float for f64 {
         -self
     }
 
-    #[inline]
-    fn from_text(text: &str) -> f64 {
-        text.parse().unwrap_or(0.0)
-    }
-
     #[inline(always)]
     fn by_ten_to(digits: u64, scale: u64, over: bool) -> Option<f64> {
         if digits > 1 << 53 || scale > 22 {
@@ -93,11 +83,6 @@ impl Float for f32 {
     #[inline(always)]
     fn negated(self) -> f32 {
         -self
-    }
-
-    #[inline]
-    fn from_text(text: &str) -> f32 {
-        text.parse().unwrap_or(0.0)
     }
 
     #[inline(always)]

@@ -68,6 +68,97 @@ fn integers_have_values(rt: HostRuntime) {
     assert!(rt; matches!(read_decimal(b"1.5"), Err(ParseError::Read(_))));
 }
 
+// Radixes, and `2 ^ 128` in each.
+#[rattlefmt::skip]
+const RADIXES: [(u32, &str); 5] = [
+    (2, "100000000000000000000000000000000000000000000000000000000000000000000000000000000000000000000000000000000000000000000000000000000"),
+    (3, "202201102121002021012000211012011021221022212021111001022110211020010021100121011"),
+    (10, "340282366920938463463374607431768211456"),
+    (16, "100000000000000000000000000000000"),
+    (36, "F5LXX1ZZ5PNORYNQGLHZMSP34"),
+];
+
+// The characters of digits.
+const CHARACTERS: [u8; 36] = *b"0123456789ABCDEFGHIJKLMNOPQRSTUVWXYZ";
+
+// Returns the value of the integer with a sign, a size above 0 and a radix.
+fn value_of<T: Integer>(negative: bool, size: u128, radix: u32) -> Option<Result<T, ParseError>>
+    requires { (2 ≤ radix) × (radix ≤ 36) }
+{
+    let mut bytes = [b'-'; 129];
+    let mut start = 129;
+    let mut left = size;
+    while left > 0 && start > 1 {
+        start -= 1;
+        bytes[start] = CHARACTERS[(left % radix as u128) as usize];
+        left /= radix as u128;
+    }
+    integer_in(radix, &bytes[start - negative as usize..])
+}
+
+// Returns the value of an integer in a radix.
+fn integer_in<T: Integer>(radix: u32, text: &[u8]) -> Option<Result<T, ParseError>>
+    requires { radix ≤ 36 }
+{
+    let syntax = Syntax::integers(Format::new((radix as u128 * 0x01010100) << 96 | 12).ok()?);
+    Some(parse_integer(&syntax, text))
+}
+
+// Returns whether both ends of a type, from `-below` to `most`, have values in a radix, and the numbers beside them have none.
+fn has_ends<T: Integer + PartialEq>(
+    least: T,
+    below: u128,
+    largest: T,
+    most: u128,
+    radix: u32,
+) -> bool
+    requires radix { (2 ≤ radix) × (radix ≤ 36) }
+    requires small { below < 2 ^ 128 - 1 }
+{
+    let last = value_of::<T>(false, most, radix);
+    let first = value_of::<T>(true, below, radix);
+    let under = value_of::<T>(true, below + 1, radix);
+    let over = match most.checked_add(1) {
+        Some(size) => value_of::<T>(false, size, radix),
+        None => Some(Err(ParseError::Value(ValueErrorKind::TooLarge))),
+    };
+    matches!(last, Some(Ok(value)) if value == largest)
+        && (below == 0 || matches!(first, Some(Ok(value)) if value == least))
+        && matches!(
+            under,
+            Some(Err(ParseError::Value(ValueErrorKind::TooSmall)))
+        )
+        && matches!(over, Some(Err(ParseError::Value(ValueErrorKind::TooLarge))))
+}
+
+// Tests both ends of a type in a radix.
+macro_rules! ends {
+    ($rt:ident, $radix:ident, $unsigned:ident, $signed:ident) => {
+        let most = $unsigned::MAX as u128;
+        assert!($rt; has_ends::<$unsigned>(0, 0, $unsigned::MAX, most, $radix));
+        assert!($rt; has_ends::<$signed>($signed::MIN, most / 2 + 1, $signed::MAX, most / 2, $radix));
+    };
+}
+
+#[test]
+fn integers_have_both_ends(rt: HostRuntime) {
+    for (radix, above) in RADIXES {
+        ends!(rt, radix, u8, i8);
+        ends!(rt, radix, u16, i16);
+        ends!(rt, radix, u32, i32);
+        ends!(rt, radix, u64, i64);
+        ends!(rt, radix, usize, isize);
+        ends!(rt, radix, u128, i128);
+        let above = integer_in::<u128>(radix, above.as_bytes());
+        assert!(rt;
+            matches!(
+                above,
+                Some(Err(ParseError::Value(ValueErrorKind::TooLarge)))
+            )
+        );
+    }
+}
+
 #[test]
 fn an_error_is_that_of_the_form_that_goes_furthest(rt: HostRuntime) -> Result<(), Fail> {
     let decimal = Format::new(STANDARD).ok().ok_or("a format")?;
@@ -128,16 +219,26 @@ fn floats_are_rounded_once(rt: HostRuntime) {
     assert!(rt; integer::<u8>(TERNARY, "12").is_some() && bits(TERNARY, "12").is_none());
 }
 
+// A number between two floats, of which the lower one is even, and a digit behind it.
+const ABOVE_A_TIE: &str = "\
+    0.00000000000000000000000000000000000000000000000000000000000000000000000000000000000000000000000000000000000000000000000000000000\
+    0000000000000000000000000000000000000000000000000000000000000000000000000000000000000000000000000000000000000000000000000000000000\
+    0000000000000000000000000000000000000000000000000445014771701440202508199667279499186358524265859260511351695091228726223124931264\
+    0695305412711894243178380137008083052315457825154530323827726959236845743044099361970891187471508150509418060480375117378320411851\
+    9353387964161152051487413083163272520124606023105869053620631175265621765214646643181420505164043632222668006474326056011713528291\
+    5796422274554896821334728738317548403413978098469341510556195293821919814730032341053661708792231510873354131880491105553390278848\
+    5678121901775450062980622457102958163711745945687733011032421168917765671370549738710820782247758425096706189168706278216333529937\
+    6138075114200886249979505279101870966346394401564490729731565935244123171539810221213221201847003580761626016356864581135848683152\
+    1563686919762403704226016998291015625001\
+    ";
+
 #[test]
-fn the_last_of_1000_digits_breaks_a_tie(rt: HostRuntime) -> Result<(), Fail> {
-    let mut text = [b'0'; 1000];
-    text[..17].copy_from_slice(b"9007199254740993.");
-    let tie = std::str::from_utf8(&text).ok().ok_or("a text")?;
-    assert!(rt; bits(DECIMAL, tie) == Some((0x4340_0000_0000_0000, 0x5A00_0000)));
-    text[999] = b'1';
-    let above = std::str::from_utf8(&text).ok().ok_or("a text")?;
-    assert!(rt; bits(DECIMAL, above) == Some((0x4340_0000_0000_0001, 0x5A00_0000)));
-    Ok(())
+fn a_tie_of_770_digits_is_even_unless_a_digit_follows(rt: HostRuntime) {
+    let below = 0x001F_FFFF_FFFF_FFFE;
+    assert!(rt;
+        matches!(ABOVE_A_TIE.strip_suffix("001"), Some(tie) if bits(DECIMAL, tie) == Some((below, 0)))
+    );
+    assert!(rt; bits(DECIMAL, ABOVE_A_TIE) == Some((below + 1, 0)));
 }
 
 const PLAIN: Style = Style {

@@ -1,5 +1,5 @@
 -- The fraction that a literal is, by its parts, and floats that are no NaN.
-use Rattle.std.proofs.Common.{ℕ, ◌≡◌, ◌+◌, ◌*◌, ◌^◌, ◌++◌, ◌<◌, ◌≤◌, ◌==◌, length, not, Option, Some, None, IfSome, arith, Bool, true, false, cond, ap, ◌∙◌, refl, subst, sym, zero, suc}
+use Rattle.std.proofs.Common.{ℕ, ◌≡◌, ◌+◌, ◌*◌, ◌^◌, ◌++◌, ◌<◌, ◌≤◌, ◌==◌, length, not, arith, Bool, true, false, cond, ap, ◌∙◌, refl, subst, sym, zero, suc}
 use lib.Ieee.{Float, Format, emax, inf, is_nan, low, odd, prec, round, units}
 use lib.Ieee.Fits.{round_is}
 use Rattle.std.proofs.Math.Nat.{pow-zero}
@@ -67,7 +67,3 @@ leads_all radix n some small = record {
 pub decimals : (r : Record) → is_decimal r ≡ true → (10 ≡ r.byte layout.mantissa_radix) × (10 ≡ effective_exponent_base r)
 decimals r is = let both = and_parts (r.byte layout.mantissa_radix == 10) (effective_exponent_base r == 10) is in
     (sym (eqb-true _ _ both.0), sym (eqb-true _ _ both.1))
-
-pub if_some : {X : Type 0} (o : Option X) (P Q : X → Type 0) → ((x : X) → P x → Q x) → IfSome o P → IfSome o Q
-if_some None P Q f is = tt
-if_some (Some x) P Q f is = f x is

@@ -76,11 +76,15 @@ module _ (r : Record) (m : Notation) (l k : Literal) (same : SameDigits m l k)
 pub integer_mantissa : (r : Record) (l : Literal) → l.fraction ≡ [] → mantissa r l ≡ integer_size r l
 integer_mantissa r l none = ap (number (r.byte layout.mantissa_radix)) (ap (λ bytes. l.integer ++ bytes) none ∙ append-nil l.integer)
 
+-- Without a decimal point, there is no fraction.
+pub no_fraction : (m : Notation) (l : Literal) (text : List ℕ) → Reads m l text → IsFalse (is_float l) → l.fraction ≡ []
+no_fraction m l text reads whole = reads.literal.spelled.after_point (grind arith)
+
 -- Without fraction and exponent, the numerator is the number that the integer digits represent.
 pub integer_numerator : (m : Notation) (r : Record) (l : Literal) (text : List ℕ) → Reads m l text → IsFalse (is_float l)
     → numerator r l ≡ integer_size r l
 integer_numerator m r l text reads whole =
-    let fraction : l.fraction ≡ [] = reads.literal.spelled.after_point (grind arith) in
+    let fraction = no_fraction m l text reads whole in
     let exponent : l.exponent ≡ [] = (reads.literal.spelled.after_character (grind arith)).1 in
     let same = integer_mantissa r l fraction in
     let base = effective_exponent_base r in

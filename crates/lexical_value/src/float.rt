@@ -1,14 +1,14 @@
 //! The value of a literal as a value of a float type.
 
-ghost use Rattle.lexical_util.specs.Layout as layout;
-ghost use Rattle.std.specs.Prelude.{ℕ, ◌≡◌, ◌≤◌, ◌^◌, ◌↔◌, ◌||◌, min, false, IfErr, IfOk, IfSome, IsOk, IsSome, IsTrue};
+ghost use Rattle.std.specs.Prelude.{ℕ, ◌≡◌, ◌↔◌, ◌≤◌, ◌^◌, ◌||◌, false, min, IfErr, IfOk, IfSome, IsOk, IsSome, IsTrue};
 ghost use Rattle.std.specs.Float.{NotNan};
 ghost use Rattle.std.specs.Float.Ieee.{round};
 ghost use Rattle.core.specs.Dec2flt.Rounding.{IsNearestBits};
+ghost use Rattle.lexical_util.specs.Layout as layout;
 ghost use Rattle.lexical_util.specs.Record.{raw};
 ghost use Rattle.lexical_literal.specs.Read.{exponent, mantissa};
-ghost use Rattle.lexical_number.specs.Leading.{Leads};
 ghost use Rattle.lexical_number.specs.Binary.{format_of};
+ghost use Rattle.lexical_number.specs.Leading.{Leads};
 ghost use Rattle.lexical_value.specs.Float.{is_binary, is_decimal, nearest};
 ghost use Rattle.lexical_value.specs.Value.{denominator, numerator};
 ghost use Rattle.lexical_value.specs.declared.integer.ValueErrorKind.TheVariants as kinds;
@@ -27,7 +27,6 @@ use lexical_util::format::NumberFormat;
 /// # Errors
 ///
 /// If the mantissa radix and the exponent base are neither both 10 nor both powers of two, of any literal.
-#[inline(always)]
 pub fn to_float<F: Float>(literal: &Literal) -> Result<F, ValueErrorKind>
     ensures supported { IsTrue (is_decimal (raw literal.now.format) || is_binary (raw literal.now.format)) ↔ IsOk result }
     ensures error { IfErr result (λ kind. kind ≡ kinds.UnsupportedRadix) }
@@ -74,6 +73,17 @@ const fn has_decimal_floats(format: NumberFormat) -> bool
     format.mantissa_radix() == 10 && format.exponent_base() == 10
 }
 
+// Returns the number that the exponent digits of a literal represent, or `2 ^ 90` if that is less.
+#[inline(always)]
+fn exponent_of(literal: &Literal) -> u128
+    ensures { result ≡ min (exponent (raw literal.now.format) literal.now.literal) (2 ^ 90) }
+{
+    match literal.scale() {
+        Some(exponent) => exponent as u128,
+        None => saturating(literal.cut().exponent, literal.format().exponent_radix()),
+    }
+}
+
 // Returns the float nearest to a decimal literal, without its sign.
 #[inline(always)]
 fn decimal_size<F: Float>(literal: &Literal) -> F
@@ -81,42 +91,17 @@ fn decimal_size<F: Float>(literal: &Literal) -> F
     ensures { F.value result ≡ round (format_of F.DOUBLE) false (numerator (raw literal.now.format) literal.now.literal)
         (denominator (raw literal.now.format) literal.now.literal) }
 {
-    match short_size(literal) {
-        Some(size) => size,
-        None => long_size(literal),
-    }
-}
-
-// Returns the float nearest to a decimal literal, without its sign, if its numbers are known and decide it.
-#[inline(always)]
-fn short_size<F: Float>(literal: &Literal) -> Option<F>
-    requires { IsTrue (is_decimal (raw literal.now.format)) }
-    ensures { IfSome result (λ size. F.value size ≡ round (format_of F.DOUBLE) false (numerator (raw literal.now.format) literal.now.literal)
-        (denominator (raw literal.now.format) literal.now.literal)) }
-{
-    let parts = literal.cut();
-    let (Some(digits), Some(exponent)) = (literal.mantissa(), literal.scale()) else {
-        return None;
-    };
-    let places = literal.places();
-    if exponent > 9999 || places > parts.fraction.len() {
-        return None;
-    }
-    let negative = is_minus(parts.exponent_sign);
-    digits_to_float(digits, places as u64, negative, exponent)
-}
-
-// Returns the float nearest to a decimal literal, without its sign, by its digits.
-#[cold]
-fn long_size<F: Float>(literal: &Literal) -> F
-    requires { IsTrue (is_decimal (raw literal.now.format)) }
-    ensures { F.value result ≡ round (format_of F.DOUBLE) false (numerator (raw literal.now.format) literal.now.literal)
-        (denominator (raw literal.now.format) literal.now.literal) }
-{
     let parts = literal.cut();
     let negative = is_minus(parts.exponent_sign);
-    let exponent = saturating(parts.exponent, literal.format().exponent_radix());
-    decimal_to_float(parts.integer, parts.fraction, negative, exponent)
+    if let (Some(mantissa), Some(exponent)) = (literal.mantissa(), literal.scale()) {
+        return digits_to_float(mantissa, literal.places() as u64, negative, exponent);
+    }
+    decimal_to_float(
+        parts.integer,
+        parts.fraction,
+        negative,
+        exponent_of(literal),
+    )
 }
 
 // Returns the bits of the float nearest to a literal, without its sign, or `None` if a radix is not a power of two.
@@ -133,10 +118,10 @@ pub(crate) fn binary_size(double: bool, literal: &Literal) -> Option<u64>
     let Some(base_bits) = bits_of(format.exponent_base()) else {
         return None;
     };
-    let leading = leading(literal, radix);
+    let leading = leading_of(literal, radix);
     let places = literal.places() as u64;
     let negative = is_minus(literal.cut().exponent_sign);
-    let exponent = scale(literal);
+    let exponent = exponent_of(literal);
     Some(raised_bits(
         double, leading, radix_bits, places, negative, exponent, base_bits,
     ))
@@ -154,7 +139,7 @@ const fn whole(size: u64) -> Leading
 }
 
 // Returns the leading digits of the mantissa, all of them if it is known.
-fn leading(literal: &Literal, radix: u32) -> Leading
+fn leading_of(literal: &Literal, radix: u32) -> Leading
     requires some { 1 ≤ radix }
     requires radix { radix ≡ (raw literal.now.format).byte layout.mantissa_radix }
     ensures leads { Leads radix (mantissa (raw literal.now.format) literal.now.literal) result.digits result.more result.dropped }
@@ -167,15 +152,5 @@ fn leading(literal: &Literal, radix: u32) -> Leading
             let integer = push_all(Leading::ZERO, radix, parts.integer);
             push_all(integer, radix, parts.fraction)
         }
-    }
-}
-
-// Returns the exponent, or `2 ^ 90` if that is less.
-fn scale(literal: &Literal) -> u128
-    ensures { result ≡ min (exponent (raw literal.now.format) literal.now.literal) (2 ^ 90) }
-{
-    match literal.scale() {
-        Some(exponent) => exponent as u128,
-        None => saturating(literal.cut().exponent, literal.format().exponent_radix()),
     }
 }

@@ -48,12 +48,11 @@ impl ValueErrorKind {
 /// # Errors
 ///
 /// If the literal has a decimal point or an exponent, or if its value is not in the range of the type, returns which.
-#[inline(always)]
 pub fn to_integer<T: Integer>(literal: &Literal) -> Result<T, ValueErrorKind>
     ensures { MatchResult result (λ value. IsInteger (raw literal.now.format) literal.now.literal (T.range.value value))
         (IsNoInteger T.range.least T.range.largest (raw literal.now.format) literal.now.literal) }
 {
-    let Some(numeral) = integer_digits(literal) else {
+    let Some(numeral) = integer_numeral(literal) else {
         return Err(ValueErrorKind::Float);
     };
     match T::from_numeral(&numeral) {
@@ -64,7 +63,7 @@ pub fn to_integer<T: Integer>(literal: &Literal) -> Result<T, ValueErrorKind>
 
 // Returns the sign and the number of a literal, or `None` if it has a decimal point or an exponent.
 #[inline(always)]
-pub(crate) fn integer_digits<'a>(literal: &Literal<'a>) -> Option<Numeral<'a>>
+pub(crate) fn integer_numeral<'a>(literal: &Literal<'a>) -> Option<Numeral<'a>>
     ensures float { IsTrue (is_float literal.now.literal) ↔ IsNone result }
     ensures negative { IfSome result (λ numeral. numeral.negative ≡ is_minus literal.now.literal.sign) }
     ensures size { IfSome result (λ numeral. size_of numeral ≡ integer_size (raw literal.now.format) literal.now.literal) }
@@ -87,7 +86,7 @@ const fn is_float(parts: &Parts) -> bool
     !matches!(parts.point, []) || !matches!(parts.exponent_character, [])
 }
 
-// Returns the number that the digits of the integer represent, by itself if it is known.
+// Returns the number that the digits of the integer represent or, if they are many, these digits.
 #[inline(always)]
 fn magnitude<'a>(literal: &Literal<'a>, integer: &'a [u8]) -> Magnitude<'a>
     requires integer { integer.now ≡ literal.now.literal.integer }

@@ -16,7 +16,6 @@ use crate::word::FormatView;
 /// # Errors
 ///
 /// If the mantissa radix and the exponent base are neither both 10 nor both powers of two, of any literal.
-#[inline(always)]
 pub fn to_float<F: Float>(literal: &Literal) -> Result<F, ValueErrorKind> {
     let size = if has_decimal_floats(literal.format()) {
         decimal_size(literal)
@@ -64,34 +63,12 @@ const fn exponent_of(literal: &Literal) -> u128 {
 // Returns the float nearest to a decimal literal, without its sign.
 #[inline(always)]
 fn decimal_size<F: Float>(literal: &Literal) -> F {
-    match short_size(literal) {
-        Some(size) => size,
-        None => long_size(literal),
-    }
-}
-
-// Returns the float nearest to a decimal literal, without its sign, if its numbers are known and decide it.
-#[inline(always)]
-fn short_size<F: Float>(literal: &Literal) -> Option<F> {
-    let parts = literal.cut();
-    let (Some(digits), Some(exponent)) = (literal.mantissa(), literal.scale()) else {
-        return None;
-    };
-    let places = literal.places();
-    if exponent > 9999 || places > parts.fraction.len() {
-        return None;
-    }
-    let negative = is_minus(parts.exponent_sign);
-    digits_to_float(digits, places as u64, negative, exponent)
-}
-
-// Returns the float nearest to a decimal literal, without its sign, by its digits.
-#[cold]
-fn long_size<F: Float>(literal: &Literal) -> F {
     let parts = literal.cut();
     let negative = is_minus(parts.exponent_sign);
-    let exponent = saturating(parts.exponent, literal.format().exponent_radix());
-    decimal_to_float(parts.integer, parts.fraction, negative, exponent)
+    if let (Some(mantissa), Some(exponent)) = (literal.mantissa(), literal.scale()) {
+        return digits_to_float(mantissa, literal.places() as u64, negative, exponent);
+    }
+    decimal_to_float(parts.integer, parts.fraction, negative, exponent_of(literal))
 }
 
 // Returns the bits of the float nearest to a literal, without its sign, or `None` if a radix is not a power of two.
@@ -104,10 +81,10 @@ pub(crate) const fn binary_size(double: bool, literal: &Literal) -> Option<u64> 
     let Some(base_bits) = bits_of(format.exponent_base()) else {
         return None;
     };
-    let leading = leading(literal, radix);
+    let leading = leading_of(literal, radix);
     let places = literal.places() as u64;
     let negative = is_minus(literal.cut().exponent_sign);
-    let exponent = scale(literal);
+    let exponent = exponent_of(literal);
     Some(raised_bits(double, leading, radix_bits, places, negative, exponent, base_bits))
 }
 
@@ -117,7 +94,7 @@ const fn whole(size: u64) -> Leading {
 }
 
 // Returns the leading digits of the mantissa, all of them if it is known.
-const fn leading(literal: &Literal, radix: u32) -> Leading {
+const fn leading_of(literal: &Literal, radix: u32) -> Leading {
     match literal.mantissa() {
         Some(size) => whole(size),
         None => {
@@ -125,13 +102,5 @@ const fn leading(literal: &Literal, radix: u32) -> Leading {
             let integer = push_all(Leading::ZERO, radix, parts.integer);
             push_all(integer, radix, parts.fraction)
         }
-    }
-}
-
-// Returns the exponent, or `2 ^ 90` if that is less.
-const fn scale(literal: &Literal) -> u128 {
-    match literal.scale() {
-        Some(exponent) => exponent as u128,
-        None => saturating(literal.cut().exponent, literal.format().exponent_radix()),
     }
 }

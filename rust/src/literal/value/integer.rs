@@ -40,9 +40,8 @@ impl ValueErrorKind {
 /// # Errors
 ///
 /// If the literal has a decimal point or an exponent, or if its value is not in the range of the type, returns which.
-#[inline(always)]
 pub fn to_integer<T: Integer>(literal: &Literal) -> Result<T, ValueErrorKind> {
-    let Some(numeral) = integer_digits(literal) else {
+    let Some(numeral) = integer_numeral(literal) else {
         return Err(ValueErrorKind::Float);
     };
     match T::from_numeral(&numeral) {
@@ -53,7 +52,7 @@ pub fn to_integer<T: Integer>(literal: &Literal) -> Result<T, ValueErrorKind> {
 
 // Returns the sign and the number of a literal, or `None` if it has a decimal point or an exponent.
 #[inline(always)]
-pub(crate) const fn integer_digits<'a>(literal: &Literal<'a>) -> Option<Numeral<'a>> {
+pub(crate) const fn integer_numeral<'a>(literal: &Literal<'a>) -> Option<Numeral<'a>> {
     let parts = literal.cut();
     if is_float(&parts) {
         return None;
@@ -67,7 +66,7 @@ const fn is_float(parts: &Parts) -> bool {
     !matches!(parts.point, []) || !matches!(parts.exponent_character, [])
 }
 
-// Returns the number that the digits of the integer represent, by itself if it is known.
+// Returns the number that the digits of the integer represent or, if they are many, these digits.
 #[inline(always)]
 const fn magnitude<'a>(literal: &Literal<'a>, integer: &'a [u8]) -> Magnitude<'a> {
     match literal.mantissa() {

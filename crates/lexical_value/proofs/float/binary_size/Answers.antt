@@ -11,7 +11,7 @@ use Rattle.lexical_value.proofs.FloatLemmas.{by_bits, of_value}
 use Rattle.lexical_value.proofs.float.binary_size.Goals as goal
 
 pub raised_bits-requires-clause-leading : goal.raised_bits-requires-clause-leading
-raised_bits-requires-clause-leading c = (_, by_bits _ _ _ _ _ _ c.in-Some.ensures.some.0 c.leading-leading.ensures.leads)
+raised_bits-requires-clause-leading c = (_, by_bits _ _ _ _ _ _ c.in-Some.ensures.some.0 c.leading_of-leading.ensures.leads)
 
 pub returns-clause-value : goal.returns-clause-value
 returns-clause-value c =
@@ -22,5 +22,5 @@ returns-clause-value c =
     (sym c.in-Some-bits_of.ensures.some.0 ∙ c.exponent_base.ensures.value ∙ ap (λ w. effective_exponent_base (raw w)) c.format-format.ensures)
     refl c.places-places.ensures
     (c.is_minus-negative.ensures ∙ ap (λ (l : Literal). is_minus l.exponent_sign) c.cut.ensures.parts)
-    (c.raised_bits.ensures (mantissa r l) (exponent r l) (by_bits _ _ _ _ _ _ c.in-Some.ensures.some.0 c.leading-leading.ensures.leads)
-    c.scale-exponent.ensures)
+    (c.raised_bits.ensures (mantissa r l) (exponent r l) (by_bits _ _ _ _ _ _ c.in-Some.ensures.some.0 c.leading_of-leading.ensures.leads)
+    c.exponent_of-exponent.ensures)

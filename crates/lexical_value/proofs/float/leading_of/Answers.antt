@@ -7,7 +7,7 @@ use Rattle.lexical_number.specs.Leading.{Leads, number_after}
 use Rattle.lexical_number.specs.Number.{number}
 use Rattle.lexical_number.proofs.LeadingLemmas.{starts}
 use Rattle.lexical_number.proofs.NumberLemmas.{number_after-append}
-use Rattle.lexical_value.proofs.float.leading.Goals as goal
+use Rattle.lexical_value.proofs.float.leading_of.Goals as goal
 
 pub returns-in-Some-clause-leads : goal.returns-in-Some-clause-leads
 returns-in-Some-clause-leads c =

@@ -1,9 +1,0 @@
--- The parts are those of the literal.
-use Rattle.std.proofs.Common.{◌≡◌, true, refl, sym, ap, ◌∙◌}
-use Rattle.lexical_literal.specs.Literal.{is_float}
-use Rattle.lexical_value.proofs.integer.integer_digits.Goals as goal
-
-pub returns-then-is_float-clause-float : goal.returns-then-is_float-clause-float
-returns-then-is_float-clause-float c =
-    let is : is_float c.args.literal.now.literal ≡ true = ap is_float (sym c.cut-parts.ensures.parts) ∙ sym c.is_float.ensures ∙ c.if-is_float.true in
-    (λ _. refl, λ _. is)
