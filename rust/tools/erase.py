@@ -140,12 +140,13 @@ REPLACED += [
     # Its other calls are written by hand. Their results depend on what is compared.
     ("lexical_literal/src/literal.rt", "#[derive(Drop)]", "#[derive(Clone, Copy, PartialEq, Eq, Hash)]"),
     ("lexical_literal/src/literal.rt", "    text: &'a [u8],\n    counts", "    pub(crate) text: &'a [u8],\n    pub(crate) counts"),
-    ("lexical_literal/src/literal.rt", "    view: NumberFormat,", "    pub(crate) view: NumberFormat,"),
     ("lexical_literal/src/literal.rt", "pub const fn format(&self)", "pub(crate) const fn format(&self)"),
     ("lexical_literal/src/literal.rt", "pub const fn cut(&self)", "pub(crate) const fn cut(&self)"),
     ("lexical_literal/src/literal.rt", "pub const fn mantissa(&self)", "pub(crate) const fn mantissa(&self)"),
     ("lexical_literal/src/literal.rt", "pub const fn places(&self)", "pub(crate) const fn places(&self)"),
     ("lexical_literal/src/literal.rt", "pub const fn scale(&self)", "pub(crate) const fn scale(&self)"),
+    # A syntax that is not lawful can have any radix.
+    ("lexical_number/src/word.rt", "MOST[radix as usize] as usize", "if radix <= 36 { MOST[radix as usize] as usize } else { 0 }"),
     # Calls for constants.
     ("lexical_value/src/integer.rt", "pub(crate) fn integer_numeral", "pub(crate) const fn integer_numeral"),
     ("lexical_value/src/integer.rt", "\nfn magnitude", "\nconst fn magnitude"),
@@ -153,7 +154,6 @@ REPLACED += [
     ("lexical_value/src/float.rt", "\nfn leading_of", "\nconst fn leading_of"),
     ("lexical_value/src/float.rt", "\nfn exponent_of", "\nconst fn exponent_of"),
     ("sink.rt", "#[derive(Drop)]", "#[derive(Debug)]"),
-    (LITERAL, "#[derive(Drop)]", "#[derive(Clone, Copy, PartialEq, Eq, Hash)]"),
     # `Debug` prints the answers.
     ("cause.rt", "#[derive(Debug, Clone, Copy, PartialEq, Eq, Hash)]\npub struct ReadError {", "#[derive(Clone, Copy, PartialEq, Eq, Hash)]\npub struct ReadError {"),
     ("lawful.rt", "Eq)]\npub struct FormatError", "Eq, Hash)]\npub struct FormatError"),

@@ -3,6 +3,7 @@
 //! Lists of syntaxes: the numbers of a language that has several forms, such as `10`, `0x1F` and `0b1`.
 
 use crate::literal::cause::ReadError;
+use crate::literal::groups::FIRST;
 use crate::literal::literal::Literal;
 use crate::literal::plain::{At, BEGIN};
 use crate::literal::read::Found;
@@ -42,7 +43,7 @@ impl<'a> SyntaxList<'a> {
         self.syntaxes
     }
 
-    // Returns the index of the first form that takes `text`, and the literal, or why no form takes it.
+    // Returns the index of the first form of which `text` is a literal, and the literal, or why it is one of no form.
     pub(crate) const fn find<'t>(&self, text: &'t [u8]) -> Result<(usize, Literal<'t>), FormError> {
         let mut furthest = None;
         let mut form = 0;
