@@ -63,8 +63,7 @@
 //! `to_f64` around the conversions that are proved, `is_incomplete`, `span`, `settings` and `text` of
 //! [`ReadError`][literal::ReadError], `sentence`, `grammar` and `regex` of a [`Syntax`][literal::Syntax], the methods that
 //! panic, and the tests of slices in [`ascii`]. A build of this crate proves nothing. You trust the program that generated
-//! the files, the handwritten parts, `rustc`, and for decimal floats the standard library's `parse`, whose counterpart in
-//! Rattle is proved.
+//! the files, the handwritten parts and `rustc`.
 #![no_std]
 #![forbid(unsafe_code)]
 

@@ -57,9 +57,9 @@ mod groups;
 mod language;
 #[allow(clippy::len_zero, reason = "as it is proved")]
 mod list;
-mod notation;
 #[allow(clippy::module_inception, reason = "as it is proved")]
 mod literal;
+mod notation;
 mod number;
 mod plain;
 #[allow(clippy::needless_lifetimes, dead_code, reason = "as it is proved")]
@@ -85,6 +85,26 @@ mod writer;
 pub use cause::{Place, ReadError, ReadErrorKind};
 pub use language::{Form, Language};
 pub use list::FormError;
+/// A part that is absent has no bytes. All bytes are ASCII. Two literals are equal if they have the same format, up to
+/// its [normal form][crate::Format::normal_form], and the same parts.
+///
+/// An integer type of Rust, `f64` or `f32` can be made from a literal. Some of these can be made in a constant. A [`Syntax`]
+/// can [parse][Syntax::parse] a text in one call.
+///
+/// ```
+/// use peltzivar::literal::{Language, ParseError, ValueErrorKind};
+///
+/// let literal = Language::TOML.read("-9_223_372_036_854_775_808")?.literal().unwrap();
+/// assert_eq!(i64::try_from(literal), Ok(i64::MIN));
+/// assert_eq!(i32::try_from(literal).unwrap_err().to_string(), "below -2147483648, the least i32");
+/// assert_eq!(Language::RUST.parse::<u16>("0xFFFF")?, u16::MAX);
+///
+/// // A float is no integer, even if its value is whole.
+/// let literal = Language::CSV_EN.read("1,234.50")?.literal().unwrap();
+/// assert_eq!(literal.to_i64().unwrap_err().kind(), ValueErrorKind::Float);
+/// assert_eq!(f64::try_from(literal)?, 1234.5);
+/// # Ok::<(), ParseError>(())
+/// ```
 pub use literal::Literal;
 pub use number::Digits;
 pub use readers::{Number, Readers};

@@ -140,12 +140,13 @@ REPLACED += [
     # Its other calls are written by hand. Their results depend on what is compared.
     ("lexical_literal/src/literal.rt", "#[derive(Drop)]", "#[derive(Clone, Copy, PartialEq, Eq, Hash)]"),
     ("lexical_literal/src/literal.rt", "    text: &'a [u8],\n    counts", "    pub(crate) text: &'a [u8],\n    pub(crate) counts"),
-    ("lexical_literal/src/literal.rt", "    view: NumberFormat,", "    pub(crate) view: NumberFormat,"),
     ("lexical_literal/src/literal.rt", "pub const fn format(&self)", "pub(crate) const fn format(&self)"),
     ("lexical_literal/src/literal.rt", "pub const fn cut(&self)", "pub(crate) const fn cut(&self)"),
     ("lexical_literal/src/literal.rt", "pub const fn mantissa(&self)", "pub(crate) const fn mantissa(&self)"),
     ("lexical_literal/src/literal.rt", "pub const fn places(&self)", "pub(crate) const fn places(&self)"),
     ("lexical_literal/src/literal.rt", "pub const fn scale(&self)", "pub(crate) const fn scale(&self)"),
+    # A syntax that is not lawful can have any radix.
+    ("lexical_number/src/word.rt", "MOST[radix as usize] as usize", "if radix <= 36 { MOST[radix as usize] as usize } else { 0 }"),
     # Calls for constants.
     ("lexical_value/src/integer.rt", "pub(crate) fn integer_numeral", "pub(crate) const fn integer_numeral"),
     ("lexical_value/src/integer.rt", "\nfn magnitude", "\nconst fn magnitude"),

@@ -40,8 +40,8 @@ fn main() {
     assert!(unsafe {
         peltzivar_form_syntax(peltzivar_language(b"JSON".as_ptr(), 4, null_mut()), 0, syntax.as_mut_ptr())
     });
-    // A `peltzivar_literal` has 288 bytes.
-    let read = |text: &str, literal: &mut MaybeUninit<[u128; 18]>| {
+    // A `peltzivar_literal` has 320 bytes.
+    let read = |text: &str, literal: &mut MaybeUninit<[u128; 20]>| {
         // SAFETY: the literal is large enough and aligned, the text has this length, and the error may be null.
         unsafe {
             peltzivar_read(syntax.as_ptr(), text.as_ptr(), text.len() - 1, literal.as_mut_ptr().cast(), null_mut())

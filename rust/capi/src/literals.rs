@@ -158,14 +158,16 @@ pub struct Parts {
 impl<'a> Literal<'a> {
     #[inline(always)]
     fn of(literal: literal::Literal<'a>, form: usize) -> Literal<'a> {
-        let (lengths, mut size) = (literal.lengths(), 0);
-        let parts = lengths.map(|length| {
+        let mut size = 0;
+        let mut next = |length| {
             let start = size;
             size += length;
             Span { start, end: size }
-        });
-        // That of the point, and that of the exponent character.
-        let is_float = lengths[3] | lengths[5] != 0;
+        };
+        // Each in a variable of its own, so that it is not written twice.
+        let [a, b, c, point, d, character, e, f, g] = literal.lengths();
+        let parts = [next(a), next(b), next(c), next(point), next(d), next(character), next(e), next(f), next(g)];
+        let is_float = point | character != 0;
         Made::new(Parts { text: literal.as_bytes().as_ptr(), parts, size, is_float, form: form as u8 }, literal)
     }
 }
@@ -210,18 +212,27 @@ impl From<literal::ReadError> for Explanation {
 
 const TOO_LONG: &str = "the text has more than PTRDIFF_MAX bytes";
 
+/// Where a call writes a literal or an error.
+type Outs<'a> = (Out<Literal<'a>>, Out<ReadError>);
+
 /// Writes what `read` returns for a text by a syntax, and returns whether it is a literal.
 #[inline(always)]
 unsafe fn read_by<'a>(
     (syntax, text, len): (Option<&Syntax>, *const u8, usize),
-    (literal, error): (Out<Literal<'a>>, Out<ReadError>),
-    read: impl FnOnce(literal::Syntax, &'a [u8]) -> Result<literal::Literal<'a>, literal::ReadError>,
+    outs: Outs<'a>,
+    read: impl FnOnce(literal::Syntax, &'a [u8], Outs<'a>) -> bool,
 ) -> bool {
     let Some(syntax) = Syntax::given(syntax) else {
-        return refuse("peltzivar_check_syntax refuses this syntax", error);
+        return refuse("peltzivar_check_syntax refuses this syntax", outs.1);
     };
-    let Some(text) = input(text, len) else { return refuse(TOO_LONG, error) };
-    match read(syntax, text) {
+    let Some(text) = input(text, len) else { return refuse(TOO_LONG, outs.1) };
+    read(syntax, text, outs)
+}
+
+/// Writes what reading has returned, and returns whether it is a literal.
+#[inline(always)]
+fn settle<'a>(read: Result<literal::Literal<'a>, literal::ReadError>, (literal, error): Outs<'a>) -> bool {
+    match read {
         Ok(found) => literal.write_some(Some(Literal::of(found, 0))),
         Err(why) => stop(why, 0, error),
     }
@@ -285,13 +296,15 @@ calls! {
     fn peltzivar_read(
         syntax: Option<&Syntax>, text: *const u8, len: usize, literal: Out<Literal>, error: Out<ReadError>
     ) -> bool {
-        read_by((syntax, text, len), (literal, error), |syntax, text| syntax.read_bytes(text))
+        read_by((syntax, text, len), (literal, error), |syntax, text, outs| syntax.read_then(text, |read| settle(read, outs)))
     }
 
     fn peltzivar_read_prefix(
         syntax: Option<&Syntax>, text: *const u8, len: usize, literal: Out<Literal>, error: Out<ReadError>
     ) -> bool {
-        read_by((syntax, text, len), (literal, error), |syntax, text| Ok(syntax.read_prefix_bytes(text)?.0))
+        read_by((syntax, text, len), (literal, error), |syntax, text, outs| {
+            settle(syntax.read_prefix_bytes(text).map(|(literal, _)| literal), outs)
+        })
     }
 
     fn peltzivar_forms_read(

@@ -14,7 +14,7 @@ use crate::word::FormatView;
 pub struct Literal<'a> {
     pub(crate) text: &'a [u8],
     pub(crate) counts: [usize; 9],
-    pub(crate) view: FormatView,
+    view: FormatView,
     mantissa: Option<u64>,
     places: usize,
     exponent: Option<u64>,

@@ -39,12 +39,6 @@ impl Syntax {
 
     /// Returns what [`read`][Self::read] returns, also in a constant.
     pub const fn read_bytes<'t>(&self, text: &'t [u8]) -> Result<Literal<'t>, ReadError> {
-        self.read_here(text)
-    }
-
-    /// Returns what [`read`][Self::read] returns, to a caller that needs a part of it.
-    #[inline(always)]
-    pub(super) const fn read_here<'t>(&self, text: &'t [u8]) -> Result<Literal<'t>, ReadError> {
         let counted = self.begin(text, false);
         if self.is_whole(text, counted) {
             Ok(self.literal(text, counted.counts, counted.sums))
@@ -52,6 +46,20 @@ impl Syntax {
             self.refuse(text, counted.at)
         } else {
             self.read_slowly(text, counted.at)
+        }
+    }
+
+    /// Returns what `then` makes of what [`read`][Self::read] returns, for callers that need not have it in memory.
+    #[doc(hidden)]
+    #[inline(always)]
+    pub fn read_then<'t, R>(&self, text: &'t [u8], then: impl FnOnce(Result<Literal<'t>, ReadError>) -> R) -> R {
+        let counted = self.begin(text, false);
+        if self.is_whole(text, counted) {
+            then(Ok(self.literal(text, counted.counts, counted.sums)))
+        } else if counted.exact {
+            then(self.refuse(text, counted.at))
+        } else {
+            then(self.read_slowly(text, counted.at))
         }
     }
 
@@ -97,38 +105,14 @@ impl Syntax {
     pub const fn read_prefix_bytes<'t>(&self, text: &'t [u8]) -> Result<(Literal<'t>, &'t [u8]), ReadError> {
         match self.front(text) {
             (stop, None) => self.refuse(text, stop),
-            (_, Some(found)) => match self.grouped(text, found) {
-                Ok(()) => {
-                    let Found { size, counts } = found;
-                    let (text, rest) = text.split_at(size);
-                    Ok((self.summed(text, counts), rest))
-                }
-                Err(error) => Err(error),
-            },
+            (_, Some(Found { size, counts })) => {
+                let (text, rest) = text.split_at(size);
+                Ok((self.summed(text, counts), rest))
+            }
         }
     }
 }
 
-/// A part that is absent has no bytes. All bytes are ASCII. Two literals are equal if they have the same format, up to
-/// its [normal form][crate::Format::normal_form], and the same parts.
-///
-/// An integer type of Rust, `f64` or `f32` can be made from a literal. Some of these can be made in a constant. A [`Syntax`]
-/// can [parse][Syntax::parse] a text in one call.
-///
-/// ```
-/// use peltzivar::literal::{Language, ParseError, ValueErrorKind};
-///
-/// let literal = Language::TOML.read("-9_223_372_036_854_775_808")?.literal().unwrap();
-/// assert_eq!(i64::try_from(literal), Ok(i64::MIN));
-/// assert_eq!(i32::try_from(literal).unwrap_err().to_string(), "below -2147483648, the least i32");
-/// assert_eq!(Language::RUST.parse::<u16>("0xFFFF")?, u16::MAX);
-///
-/// // A float is no integer, even if its value is whole.
-/// let literal = Language::CSV_EN.read("1,234.50")?.literal().unwrap();
-/// assert_eq!(literal.to_i64().unwrap_err().kind(), ValueErrorKind::Float);
-/// assert_eq!(f64::try_from(literal)?, 1234.5);
-/// # Ok::<(), ParseError>(())
-/// ```
 impl<'a> Literal<'a> {
     /// Returns the lengths of the nine parts, in the order of the text.
     #[doc(hidden)]
@@ -169,8 +153,8 @@ impl<'a> Literal<'a> {
     #[must_use]
     pub const fn radix(&self, part: Part) -> u32 {
         match part {
-            Part::Integer | Part::Fraction => self.view.mantissa_radix(),
-            Part::Exponent => self.view.exponent_radix(),
+            Part::Integer | Part::Fraction => self.format().mantissa_radix(),
+            Part::Exponent => self.format().exponent_radix(),
         }
     }
 
@@ -181,7 +165,7 @@ impl<'a> Literal<'a> {
             Part::Fraction => self.fraction(),
             Part::Exponent => self.exponent(),
         };
-        let (bytes, separator) = (bytes.iter(), self.view.digit_separator());
+        let (bytes, separator) = (bytes.iter(), self.format().digit_separator());
         let separator = separator.map_or(0, |byte| byte.get());
         Digits { bytes, separator }
     }

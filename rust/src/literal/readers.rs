@@ -148,8 +148,7 @@ impl<'a> Readers<'a> {
         match self.list.find_front(text) {
             Ok((form, Found { size, counts })) => {
                 let (text, rest) = text.split_at(size);
-                let literal = self.as_slice()[form].summed(text, counts);
-                Ok((Number::Literal { literal, form }, rest))
+                Ok((Number::Literal { literal: self.as_slice()[form].summed(text, counts), form }, rest))
             }
             Err(error) => Err(error),
         }

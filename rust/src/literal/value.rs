@@ -12,7 +12,7 @@ pub use integer::ValueErrorKind;
 
 use crate::number::float::Float;
 use float::{binary_size, to_float};
-use integer::{integer_digits, to_integer};
+use integer::{integer_numeral, to_integer};
 
 /// A type that can be [parsed][Syntax::parse]: each integer type of Rust, `f64` and `f32`.
 ///
@@ -48,7 +48,7 @@ impl<'a> Literal<'a> {
     /// ```
     #[must_use]
     pub fn plain(&self) -> Option<impl fmt::Display + Clone + 'a> {
-        let radixes = [self.view.mantissa_radix(), self.view.exponent_base(), self.view.exponent_radix()];
+        let radixes = [self.format().mantissa_radix(), self.format().exponent_base(), self.format().exponent_radix()];
         (radixes == [10; 3] || !self.is_float()).then_some(Plain(*self))
     }
 }
@@ -216,7 +216,7 @@ macro_rules! constant_calls {
                 ///
                 /// If the literal is a float, or if its value is not one of the type, returns which.
                 pub const fn $name(self) -> Result<$type, ValueError> {
-                    let kind = match integer_digits(&self) {
+                    let kind = match integer_numeral(&self) {
                         None => ValueErrorKind::Float,
                         Some(numeral) => match numeral.$call() {
                             Some(value) => return Ok(value),
@@ -301,7 +301,7 @@ impl Syntax {
     ///
     /// If `text` is not a literal, or if its value is not one of the type, returns why.
     pub fn parse<T: FromLiteral>(&self, text: impl AsRef<[u8]>) -> Result<T, ParseError> {
-        Ok(T::try_from(self.read_here(text.as_ref())?)?)
+        self.read_then(text.as_ref(), |result| Ok(T::try_from(result?)?))
     }
 
     /// Returns whether literals have values of float types: whether the mantissa radix and the exponent base of the format

@@ -14,7 +14,7 @@ const MOST: [u8; 37] = [
 #[must_use]
 #[inline(always)]
 pub const fn fits(radix: u32, digits: usize) -> bool {
-    digits <= MOST[radix as usize] as usize
+    digits <= if radix <= 36 { MOST[radix as usize] as usize } else { 0 }
 }
 
 /// Returns the number that the digits of `bytes` represent after those of `before`, modulo `2 ^ 64`. Other bytes are skipped.
