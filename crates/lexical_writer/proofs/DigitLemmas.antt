@@ -12,7 +12,7 @@ use Rattle.lexical_util.specs.Digits.{byte_value, digit_characters, digit_of}
 use Rattle.lexical_base.proofs.ValueLemmas.{digit_of-digit_character}
 use Rattle.lexical_literal.specs.Literal.{is_present}
 use Rattle.lexical_number.specs.Number.{digits_in, number}
-use Rattle.lexical_writer.specs.Digits.{character, ends_group, grouped, no_groups, only_if, or_zero, values_of}
+use Rattle.lexical_writer.specs.Digits.{character, ends_group, grouped, no_groups, only_if, or_zero, separated, values_of}
 use Rattle.lexical_writer.specs.declared.run.Groups.{Groups}
 use Rattle.lexical_writer.specs.declared.run.Source.{Source}
 use Rattle.lexical_writer.specs.declared.run.Source.TheVariants as sources
@@ -63,7 +63,8 @@ grouped_digits radix separator group small apart (d ∷ digits) all =
     let first = digit_of-digit_character d (omega (arith, all.0)) radix all.0 in
     let between = skipped (ends_group group (length digits)) (λ is. apart (grind (arith, nat_tests))) in
     let rest = grouped_digits radix separator group small apart digits all.1 in
-    cc
+    ap (λ digit. cons_option digit (digits_in radix (separated separator group (length digits) ++ grouped separator group digits))) first
+    ∙ ap (λ digits. d ∷ digits) (between ∙ rest)
   where
     skipped : (test : Bool) → (test ≡ true → digit_of separator radix ≡ None)
         → digits_in radix (option_to_list (only_if test separator) ++ grouped separator group digits) ≡ digits_in radix (grouped separator group digits)
