@@ -204,7 +204,7 @@ const fn ends(grammar: Grammar, at: At, group: Group) -> bool {
 }
 
 // Returns what has been found without sizes of groups, or that nothing has been read if a group has not the right size.
-#[cold]
+#[inline(always)]
 const fn sized(grammar: Grammar, text: &[u8], counted: Counted) -> Counted {
     match group_after(grammar, text, counted.at.size) {
         Some(group) if !counted.complete || fits(grammar, group, None) => counted,

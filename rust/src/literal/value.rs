@@ -20,8 +20,7 @@ use integer::{integer_numeral, to_integer};
 ///
 /// A float is the value of the literal, rounded once to the nearest float, or to the even one if two are as near. Values
 /// from halfway above the largest float on are infinite, and `-0` is `-0.0`. A decimal number of up to 19 digits takes one
-/// or two multiplications, or a division. One with more than 20 bytes before or after the point can take 1.5 kB of the
-/// stack.
+/// or two multiplications, or a division. One that its first 19 digits do not decide can take 3.5 kB of the stack.
 pub trait FromLiteral: Sealed {}
 
 /// The conversions of a type, which only this crate calls.
