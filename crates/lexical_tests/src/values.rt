@@ -1,6 +1,8 @@
 //! Each generic call at concrete types, with values from outside, and clones, which only Rattle returns in a `Result`.
 //! The tests of plain Rust compare more values, with std.
 
+ghost use Rattle.std.specs.Prelude.{◌-◌, ◌<◌, ◌^◌, ◌≤◌};
+
 use callers::formats::read_decimal;
 use lexical_literal::list::{FormError, SyntaxList};
 use lexical_literal::syntax::Syntax;
