@@ -90,12 +90,14 @@ fn value_of<T: Integer>(negative: bool, size: u128, radix: u32) -> Option<Result
     let mut bytes = [b'-'; 129];
     let mut start = 129;
     let mut left = size;
-    while left > 0 && start > 1 {
-        start -= 1;
-        bytes[start] = CHARACTERS[(left % radix as u128) as usize];
-        left /= radix as u128;
+    for place in (1..129).rev() {
+        if left > 0 {
+            bytes[place] = CHARACTERS[(left % radix as u128) as usize];
+            left /= radix as u128;
+            start = place;
+        }
     }
-    integer_in(radix, &bytes[start - negative as usize..])
+    integer_in(radix, bytes.get(start.saturating_sub(negative as usize)..)?)
 }
 
 // Returns the value of an integer in a radix.
