@@ -125,14 +125,14 @@ module _ (m : Notation) (A : Flag → Bool) (D : Condition → Bool) (weaker : I
     internal parts.Fraction is = kept _ (weaker.no_less (separators_in parts.Fraction).internal (sizes.internal parts.Fraction (weaker.conditions conditions.FractionGroupSize is)))
     internal parts.Exponent is = absurd (false≢true is)
 
-  pub sized_too : (part : Part) → has_size n part ≡ true → has_size m part ≡ true
-  sized_too parts.Integer is = weaker.conditions conditions.IntegerGroupSize is
-  sized_too parts.Fraction is = weaker.conditions conditions.FractionGroupSize is
-  sized_too parts.Exponent is = is
-
   -- Groups that fit still do.
   still : (g : Group) (r : Option Role) → fits m g r ≡ true → fits n g r ≡ true
-  still g r fit = go (has_size n g.part) (has_size m g.part) (follows m g r) (sized_too g.part) fit where
+  still g r fit = go (has_size n g.part) (has_size m g.part) (follows m g r) (sized g.part) fit where
+    sized : (part : Part) → has_size n part ≡ true → has_size m part ≡ true
+    sized parts.Integer is = weaker.conditions conditions.IntegerGroupSize is
+    sized parts.Fraction is = weaker.conditions conditions.FractionGroupSize is
+    sized parts.Exponent is = is
+
     go : (a b t : Bool) → (a ≡ true → b ≡ true) → (not b || t) ≡ true → (not a || t) ≡ true
     go a b t is fit = grind arith
 

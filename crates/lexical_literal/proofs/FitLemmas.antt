@@ -36,7 +36,7 @@ module _ (m : Notation) where
 
   -- TEXTS THAT FIT
 
-  -- `is_calm g` is true if a separator is before `g`, and its part has a size.
+  -- `is_sized g` is true if a separator is before `g`, and its part has a size.
   abbrev pub is_sized : Group → Bool
   is_sized g = g.separated && has_size m g.part
 
@@ -180,11 +180,6 @@ module _ (m : Notation) where
       → group_after m (Some first_group) text ≡ Some g → g.part ≡ part_of s.stage
   linked_there sized text s g read grouped = (linked_all sized start first_group text s g first_linked read grouped).part
 
-  pub some_size : (part : Part) → has_size m part ≡ true → has_sizes m ≡ true
-  some_size parts.Integer is = or_left _ _ is
-  some_size parts.Fraction is = or_right _ _ is
-  some_size parts.Exponent is = absurd (false≢true is)
-
   -- FRONTS
 
   module _ (ready : IsReady u) (sizes : HasSizes m) where
@@ -197,6 +192,11 @@ module _ (m : Notation) where
       grouped : group_after m (Some first_group) text ≡ Some g
       separated : g.separated ≡ true
       sized : has_size m g.part ≡ true
+
+    some_size : (part : Part) → has_size m part ≡ true → has_sizes m ≡ true
+    some_size parts.Integer is = or_left _ _ is
+    some_size parts.Fraction is = or_right _ _ is
+    some_size parts.Exponent is = absurd (false≢true is)
 
     module _ (text : List ℕ) (s : Summary) (g : Group) (is : Filling text s g) where
       linked : Linked s g
@@ -293,9 +293,12 @@ module _ (m : Notation) where
         let more = end.0.more in
         let found = literal_there u ready text s is.read more end.0.accepts in
         let full = full_ends g more (or_right _ _ (or_right _ _ fit))
-        (ap (λ part. begins u (m.digit part) more) (linked text s g is).part ∙ end.1) end.0.joined in
-        (more, found.0, as_sized m h sizes found.0 (text ++ more) found.1
-        (ap (ends m) (group_append m (Some first_group) text more ∙ ap (λ o. group_after m o more) is.grouped) ∙ full)) where
+        (ap (λ part. begins u (m.digit part) more) (linked text s g is).part ∙ end.1) end.0.joined in (
+          more,
+          found.0,
+          as_sized m h sizes found.0 (text ++ more) found.1
+              (ap (ends m) (group_append m (Some first_group) text more ∙ ap (λ o. group_after m o more) is.grouped) ∙ full),
+        ) where
           some : (digits : ℕ) → last_fits m g.part 0 ≡ false → last_fits m g.part digits ≡ true → (digits == 0) ≡ false
           some zero none fit = absurd (false≢true (sym none ∙ fit))
           some (suc digits) none fit = grind (arith, nat_tests)
@@ -344,10 +347,13 @@ module _ (m : Notation) where
             close_group text s g g.part refl (record { read = read; grouped = grouped; separated = both.0; sized = both.1 })
         | inr calm ↦
             let more = completed_there u ready text s read in
-            let found = literal_there u ready text s read more.more more.accepts in
-            (more.more, found.0, as_sized m h sizes found.0 (text ++ more.more) found.1
-            (ap (ends m) (group_append m (Some first_group) text more.more ∙ ap (λ o. group_after m o more.more) grouped)
-            ∙ calm_ends g more.more calm more.joined))
+            let found = literal_there u ready text s read more.more more.accepts in (
+              more.more,
+              found.0,
+              as_sized m h sizes found.0 (text ++ more.more) found.1
+                  (ap (ends m) (group_append m (Some first_group) text more.more ∙ ap (λ o. group_after m o more.more) grouped)
+                  ∙ calm_ends g more.more calm more.joined),
+            )
       ]
 
     -- A front has been read, and its groups fit.

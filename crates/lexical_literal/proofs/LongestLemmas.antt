@@ -155,15 +155,6 @@ found_whole m text counted has complete all =
       counted = λ k reads. has.lengths complete k (subst (Reads m k) (sym same) reads);
     }
 
--- A text that is measured is read if it is cut into parts of these lengths.
-pub read_whole : (g : Grammar) (text counts : List ℕ) (parts : Parts) → IsMeasured (notation_of g) text counts
-    → ((l : Literal) → text ≡ text_of l → HasLengths l (cuts_of counts) → literal_of parts ≡ l) → IsRead g text (Ok parts)
-read_whole g text counts parts is cut = let l = is.literal in record {
-  found = subst (λ l. Reads (notation_of g) l text) (sym (cut l.0 l.1.whole (is.counted l.0 l.1))) l.1;
-  only = λ k reads. cut k reads.whole (is.counted k reads);
-  error = tt;
-}
-
 -- What a pass finds that seeks the longest front.
 pub fronted : (m : Notation) (text : List ℕ) (stop : At) (found : Found) → IsStopped m text stop → IsCountedFront m text found
     → IsFronted m text stop (Some found)
@@ -408,13 +399,3 @@ module _ (m : Notation) (ready : IsReady (unsized m)) (sizes : HasSizes m) (text
   pub begun_free : (counted : Counted) → HasFound u text counted → has_sizes m ≡ false → HasBegun m text counted
   begun_free counted found none = begun_with counted found first_group (all_end m none first_group (take counted.at.size text))
       (λ _. ap (λ t. not t || true) (or_parts (m.condition conditions.IntegerGroupSize) _ none).0)
-
-  -- Nothing has been found.
-  pub begun_none : (counts : List ℕ) → HasBegun m text (record { at = record { size = 0; read = start }; counts = counts; complete = false; exact = false })
-  begun_none counts = record {
-    group = first_group;
-    begun = record { begun = record { within = omega arith; read = refl }; grouped = refl };
-    literal = λ yes. absurd (false≢true yes);
-    lengths = λ yes. absurd (false≢true yes);
-    exact = λ yes. absurd (false≢true yes);
-  }

@@ -34,16 +34,16 @@ pub number_next : (X : Condition → Bool) (N : Condition → ℕ) (i n : ℕ) (
     ≡ (if nat_lt (order d) (i + 1) && X d then N d else 0)
 number_next X N i n d inside before = elim (cases_Bool (order d == i)) [
   | inl here ↦
-    let place : order d ≡ i = eqb-true (order d) i here in
-    let same : get_or all_conditions i conditions.BasePrefix ≡ d = ap (λ i. get_or all_conditions i conditions.BasePrefix) (sym place) ∙ placed d in
-    let old : nat_lt (order d) i ≡ false = grind (arith, nat_tests) in
-    let new : nat_lt (order d) (i + 1) ≡ true = grind (arith, nat_tests) in
-    let none : n ≡ 0 = before ∙ ap (λ t. if t && X d then N d else 0) old in
-    rw (same, new, none) (grind (arith, nat_tests))
+      let place : order d ≡ i = eqb-true (order d) i here in
+      let same : get_or all_conditions i conditions.BasePrefix ≡ d = ap (λ i. get_or all_conditions i conditions.BasePrefix) (sym place) ∙ placed d in
+      let old : nat_lt (order d) i ≡ false = grind (arith, nat_tests) in
+      let new : nat_lt (order d) (i + 1) ≡ true = grind (arith, nat_tests) in
+      let none : n ≡ 0 = before ∙ ap (λ t. if t && X d then N d else 0) old in
+      rw (same, new, none) (grind (arith, nat_tests))
   | inr other ↦
-    let not_next : is_same (get_or all_conditions i conditions.BasePrefix) d ≡ false = let place = at_place i inside in grind (arith, nat_tests) in
-    let as_before : nat_lt (order d) (i + 1) ≡ nat_lt (order d) i = grind (arith, nat_tests) in
-    rw (not_next, as_before) (grind (arith, before))
+      let not_next : is_same (get_or all_conditions i conditions.BasePrefix) d ≡ false = let place = at_place i inside in grind (arith, nat_tests) in
+      let as_before : nat_lt (order d) (i + 1) ≡ nat_lt (order d) i = grind (arith, nat_tests) in
+      rw (not_next, as_before) (grind (arith, before))
 ]
 
 -- What is true of no condition of the list is true of none.

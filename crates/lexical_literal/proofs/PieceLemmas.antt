@@ -64,30 +64,28 @@ module _ (g : Grammar) (text counts : List ℕ) (is : IsMeasured (notation_of g)
   pub measured_cut : IsCut (notation_of g) text (cuts_of counts)
   measured_cut = let l = is.literal in is_cut (notation_of g) text (cuts_of counts) l.0 l.1 (is.counted l.0 l.1)
 
-  same_literal : (read : Read) → read ≡ read_as g text counts → (l : Literal) → Reads (notation_of g) l text → read.literal ≡ l
-  same_literal read same l reads = ap (λ (r : Read). r.literal) same ∙ cut_is text (cuts_of counts) l reads.whole (is.counted l reads)
-
   pub whole_read : (read : Read) → read ≡ read_as g text counts → (read.format ≡ g.word) × Reads (notation_of g) read.literal text
   whole_read read same =
       let l = is.literal in
-      (ap (λ (r : Read). r.format) same, subst (λ (k : Literal). Reads (notation_of g) k text) (sym (same_literal read same l.0 l.1)) l.1)
+      let literal : read.literal ≡ l.0 = ap (λ (r : Read). r.literal) same ∙ cut_is text (cuts_of counts) l.0 l.1.whole (is.counted l.0 l.1) in
+      (ap (λ (r : Read). r.format) same, subst (λ (k : Literal). Reads (notation_of g) k text) (sym literal) l.1)
 
   pub is_read : (read : Read) → read ≡ read_as g text counts → IsRead g text (Ok read)
-  is_read read same = record { found = whole_read read same; only = same_literal read same; error = tt }
+  is_read read same = record {
+    found = whole_read read same;
+    only = λ l reads. ap (λ (r : Read). r.literal) same ∙ cut_is text (cuts_of counts) l reads.whole (is.counted l reads);
+    error = tt;
+  }
 
 module _ (g : Grammar) (text front : List ℕ) (size : ℕ) (counts : List ℕ) (at : front ≡ take size text)
     (is : IsCountedFront (notation_of g) text (record { size = size; counts = counts })) where
-  front_reads : Reads (notation_of g) is.literal front
-  front_reads = subst (Reads (notation_of g) is.literal) (sym at) is.reads.reads
-
-  lengths : HasLengths is.literal (cuts_of counts)
-  lengths = is.counted is.literal is.reads.reads
-
   pub front_cut : IsCut (notation_of g) front (cuts_of counts)
-  front_cut = is_cut (notation_of g) front (cuts_of counts) is.literal front_reads lengths
+  front_cut = is_cut (notation_of g) front (cuts_of counts) is.literal (subst (Reads (notation_of g) is.literal) (sym at) is.reads.reads)
+      (is.counted is.literal is.reads.reads)
 
-  pub front_read : (read : Read) → read ≡ read_as g front counts → (read.format ≡ g.word) × ReadsFront (notation_of g) read.literal text size
+  pub front_read : (read : Read) → read ≡ read_as g front counts
+      → (read.format ≡ g.word) × ReadsFront (notation_of g) read.literal text size
   front_read read same =
-      let literal : read.literal ≡ is.literal
-      = ap (λ (r : Read). r.literal) same ∙ cut_is front (cuts_of counts) is.literal front_reads.whole lengths in
+      let literal : read.literal ≡ is.literal = ap (λ (r : Read). r.literal) same
+      ∙ cut_is front (cuts_of counts) is.literal (at ∙ is.reads.reads.whole) (is.counted is.literal is.reads.reads) in
       (ap (λ (r : Read). r.format) same, subst (λ (k : Literal). ReadsFront (notation_of g) k text size) (sym literal) is.reads)

@@ -1,7 +1,7 @@
 -- The last group before the bytes that cannot follow, and what it allows.
 use Rattle.std.proofs.Common.{ℕ, ◌≡◌, ◌+◌, ◌-◌, ◌↔◌, inl, inr, Bool, true, false, not, ◌&&◌, ◌||◌, if◌then◌else◌, List, [], ◌∷◌, ◌++◌, length, length-append, append-nil}
 use Rattle.std.proofs.Common.{Option, Some, None, append_assoc, refl, sym, ap, subst, ◌∙◌, arith}
-use Rattle.std.proofs.lemmas.Bool.{false≢true, cases_Bool, false_from_ne_true, or_left}
+use Rattle.std.proofs.lemmas.Bool.{false≢true, cases_Bool, false_from_ne_true, or_left, or_right}
 use Rattle.lexical_util.specs.Ascii.{ByteSet}
 use Rattle.lexical_util.specs.Layout.{Flag}
 use Rattle.lexical_util.specs.declared.feature_format.roles.Role.{Role}
@@ -18,10 +18,11 @@ use Rattle.lexical_literal.specs.Additions.Summary.{part_of, role_at, scan, star
 use Rattle.lexical_literal.specs.declared.groups.Group.{Group}
 use Rattle.lexical_literal.specs.declared.steps.Summary.{Summary}
 use Rattle.lexical_literal.specs.declared.syntax.Condition.{Condition}
+use Rattle.lexical_literal.specs.declared.syntax.Condition.TheVariants as conditions
 use Rattle.lexical_literal.proofs.BlameLemmas.{own_weaker}
 use Rattle.lexical_literal.proofs.CauseLemmas.{behind_more}
-use Rattle.lexical_literal.proofs.DecideLemmas.{decided_of, sized_too}
-use Rattle.lexical_literal.proofs.FitLemmas.{linked_there, some_size}
+use Rattle.lexical_literal.proofs.DecideLemmas.{decided_of}
+use Rattle.lexical_literal.proofs.FitLemmas.{linked_there}
 use Rattle.lexical_literal.proofs.PartOfLemmas.{ends_in}
 use Rattle.lexical_literal.proofs.RefusalLemmas.{other_roles}
 use Rattle.lexical_literal.proofs.ScanLemmas.{as_digit, as_role, digit_role}
@@ -79,23 +80,30 @@ module _ (m : Notation) (ready : IsReady (unsized m)) (sizes : HasSizes m) (fron
   abbrev last : Group
   last = record { part = part_of s.stage; separated = g.separated; digits = (marks_of m front).size - (marks_of m front).group }
 
+  some_size : (part : Part) → has_size m part ≡ true → has_sizes m ≡ true
+  some_size parts.Integer is = or_left _ _ is
+  some_size parts.Fraction is = or_right _ _ is
+  some_size parts.Exponent is = absurd (false≢true is)
+
   same_group : has_size m g.part ≡ true → g ≡ last
   same_group is =
-      let sized = some_size m g.part is in
+      let sized = some_size g.part is in
       let counts = counts_all m h sized [] front first_group g (λ _. refl) grouped is in
       let digits : g.digits ≡ length front - (marks_of m front).group = rw (sized) (omega (arith, counts)) in
       λ j. record { part = linked_there m sized front s g read grouped j; separated = g.separated; digits = digits j }
 
   no_group : has_size m g.part ≡ false → has_size m (part_of s.stage) ≡ false
   no_group none = false_from_ne_true _ (λ is. false≢true (sym none
-      ∙ ap (has_size m) (linked_there m (some_size m (part_of s.stage) is) front s g read grouped) ∙ is))
+      ∙ ap (has_size m) (linked_there m (some_size (part_of s.stage) is) front s g read grouped) ∙ is))
 
   module _ (A : Flag → Bool) (D : Condition → Bool) (weaker : IsWeaker m A D) where
     abbrev n : Notation
     n = with_rules m A D
 
     free : (part : Part) (t : Bool) → has_size m part ≡ false → (not (has_size n part) || t) ≡ true
-    free part t none = or_left _ _ (ap not (false_from_ne_true _ (λ is. false≢true (sym none ∙ sized_too m A D weaker ready sizes part is))))
+    free parts.Integer t none = or_left _ _ (ap not (false_from_ne_true _ (λ is. false≢true (sym none ∙ weaker.conditions conditions.IntegerGroupSize is))))
+    free parts.Fraction t none = or_left _ _ (ap not (false_from_ne_true _ (λ is. false≢true (sym none ∙ weaker.conditions conditions.FractionGroupSize is))))
+    free parts.Exponent t none = refl
 
     same_fit : (next : Option ℕ) → fits n g (role_next n g.part next) ≡ fits n last (role_next n last.part next)
     same_fit next = elim (cases_Bool (has_size m g.part)) [

@@ -14,8 +14,7 @@ use Rattle.lexical_literal.specs.declared.number.FormFront.{FormFront}
 use Rattle.lexical_literal.specs.declared.number.FormLiteral.{FormLiteral}
 use Rattle.lexical_literal.specs.declared.syntax.Grammar.{Grammar}
 
--- `IsFirst forms text form read` holds if `text` is the literal `read` of the form with the index `form`, and a literal of no form
--- before it.
+-- `IsFirst forms text form read` holds if `text` is the literal `read` of the form with the index `form`, and of no form before it.
 pub record IsFirst (forms : List Grammar) (text : List ℕ) (form : ℕ) (read : Read) : Type 0 where
   pub reads : IsSomeAnd (slice_get forms form) (λ g. (read.format ≡ g.word) × Reads (notation_of g) read.literal text)
   pub before : All (λ g. NoLiteral (notation_of g) text) (take form forms)

@@ -104,7 +104,12 @@ impl<'a> Literal<'a> {
 impl Syntax {
     // Returns the literal `text`, of which the parts have the lengths `counts`, and the digits these sums.
     #[inline(always)]
-    pub(crate) fn literal<'a>(&self, text: &'a [u8], counts: [usize; 9], sums: Sums) -> Literal<'a>
+    pub(crate) fn literal<'a>(
+        &self,
+        text: &'a [u8],
+        counts: [usize; 9],
+        sums: Sums,
+    ) -> Literal<'a>
         requires cut { IsCut (notation_of self.now) text.now (cuts_of counts) }
         requires sums { AreSums (raw self.now.word) (cut text.now (cuts_of counts)) sums }
         ensures { result ≡ record { format = self.now.word; literal = cut text.now (cuts_of counts) } }

@@ -7,13 +7,13 @@ ghost use Rattle.lexical_literal.specs.Additions.Longest.{HasBegun, HasFound, Is
 ghost use Rattle.lexical_literal.specs.Additions.Plain.{HasSizes, IsReady};
 ghost use Rattle.lexical_literal.specs.Additions.Read.{IsSummed};
 ghost use Rattle.lexical_literal.specs.Additions.Sizes.{goes, steps_of};
+ghost use Rattle.lexical_util.specs.Record.{raw};
 ghost use Rattle.lexical_literal.specs.Additions.Summary.{HasLengths, count, cuts_of, part_of, role_at};
 ghost use Rattle.lexical_literal.specs.Cause.{IsRefusal, tail_of, tail_size};
 ghost use Rattle.lexical_literal.specs.Front.{NoLiteral};
 ghost use Rattle.lexical_literal.specs.Literal.{Literal, Reads, text_of};
 ghost use Rattle.lexical_literal.specs.Notation.{notation_of};
 ghost use Rattle.lexical_literal.specs.declared.groups.Group.{Group};
-ghost use Rattle.lexical_util.specs.Record.{raw};
 ghost use Rattle.lexical_literal.specs.Parts.{literal_of};
 
 use crate::cause::{ReadError, Spot};
@@ -78,7 +78,7 @@ impl Syntax {
     // `text`, may not be said to be one, which takes less time.
     #[inline(always)]
     pub(crate) const fn begin(&self, text: &[u8], fronts: bool) -> Counted
-        ensures begun { HasBegun (notation_of self.now) text.now result }
+        ensures found { HasBegun (notation_of self.now) text.now result }
         ensures summed { IsSummed (raw self.now.word) text.now result }
     {
         let grammar = self.grammar();
@@ -268,8 +268,9 @@ const fn sized(grammar: Grammar, text: &[u8], counted: Counted) -> Counted
     requires ready { IsReady (steps_of grammar) }
     requires sizes { HasSizes (notation_of grammar) }
     requires found { HasFound (steps_of grammar) text.now counted }
+    requires summed { IsSummed (raw grammar.word) text.now counted }
     ensures begun { HasBegun (notation_of grammar) text.now result }
-    ensures summed { IsSummed (raw grammar.word) text.now counted → IsSummed (raw grammar.word) text.now result }
+    ensures summed { IsSummed (raw grammar.word) text.now result }
 {
     match group_after(grammar, text, counted.at.size) {
         Some(group) if !counted.complete || fits(grammar, group, None) => counted,

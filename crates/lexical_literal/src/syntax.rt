@@ -67,7 +67,9 @@ impl Condition {
         ensures { result ≡ limits self }
     {
         match self {
-            Condition::IntegerGroupSize | Condition::HigherGroupSize | Condition::FractionGroupSize => (2, 8),
+            Condition::IntegerGroupSize
+            | Condition::HigherGroupSize
+            | Condition::FractionGroupSize => (2, 8),
             _ => (1, 1),
         }
     }
@@ -348,7 +350,11 @@ const fn contradiction(grammar: Grammar, conditions: Conditions) -> Option<Condi
 
 // Returns what is wrong with `condition` as one of `conditions`, in the format of `grammar`.
 #[tactic(auto, unfolding(crate::specs::Syntax::fault))]
-pub(crate) const fn fault(grammar: Grammar, conditions: Conditions, condition: Condition) -> Option<ConditionsError>
+pub(crate) const fn fault(
+    grammar: Grammar,
+    conditions: Conditions,
+    condition: Condition,
+) -> Option<ConditionsError>
     ensures { result ≡ fault (raw grammar.word) conditions condition }
 {
     let number = conditions.number(condition);
@@ -367,7 +373,11 @@ pub(crate) const fn fault(grammar: Grammar, conditions: Conditions, condition: C
 }
 
 // Returns what a condition needs and neither the format of `grammar` nor `conditions` have.
-const fn missing(grammar: Grammar, conditions: Conditions, condition: Condition) -> Option<ConditionsErrorKind>
+const fn missing(
+    grammar: Grammar,
+    conditions: Conditions,
+    condition: Condition,
+) -> Option<ConditionsErrorKind>
     ensures { result ≡ missing (raw grammar.word) conditions condition }
 {
     match condition {
@@ -383,9 +393,8 @@ const fn missing(grammar: Grammar, conditions: Conditions, condition: Condition)
         Condition::FractionGroupSize if !grammar.view().fraction_internal_digit_separator() => {
             Some(ConditionsErrorKind::NoFractionSeparator)
         }
-        Condition::IntegerGroupSize | Condition::FractionGroupSize if digit_separator(grammar.word) == 0 => Some(
-            ConditionsErrorKind::NoSeparator,
-        ),
+        Condition::IntegerGroupSize | Condition::FractionGroupSize
+            if digit_separator(grammar.word) == 0 => Some(ConditionsErrorKind::NoSeparator),
         Condition::HigherGroupSize if !conditions.has(Condition::IntegerGroupSize) => Some(
             ConditionsErrorKind::NoIntegerGroupSize,
         ),

@@ -24,7 +24,7 @@ abbrev pub longer : Option (ℕ × Found) → ℕ → Option Found → Option (�
 longer longest form None = longest
 longer longest form (Some found) = greater (λ (found : Found). found.size) longest form found
 
--- `IsFoundForm forms text result` holds if `result` has the first form of which `text` is a literal, and the literal, or the error of
+-- `IsFoundForm forms text result` holds if `result` has the first form of which `text` is a literal and the literal, or the error of
 -- a text that is a literal of no form.
 pub record IsFoundForm (forms : List Grammar) (text : List ℕ) (result : Result (ℕ × Read) FormError) : Type 0 where
   pub found : IfOk result (λ found. IsFirst forms text found.0 found.1)

@@ -1,5 +1,5 @@
 -- The front has the parts that were counted.
-use Rattle.std.proofs.Common.{◌≡◌, IsSomeAnd, sym, subst}
+use Rattle.std.proofs.Common.{◌≡◌, IsSomeAnd, refl, sym, subst}
 use Rattle.std.proofs.lemmas.Bool.{false≢true}
 use Rattle.lexical_literal.specs.Front.{ReadsFront}
 use Rattle.lexical_literal.specs.Notation.{notation_of}
@@ -23,7 +23,8 @@ returns-in-Ok c =
     form.1 read c.summed-literal.ensures in
     record {
       longest = c.in-Ok.ensures.longest;
-      found = subst (λ o. IsSomeAnd o (λ g. (read.format ≡ g.word) × ReadsFront (notation_of g) read.literal c.args.text.now c.in-Ok.found.size)) (sym form.0) is;
+      found = subst (λ o. IsSomeAnd o (λ g. (read.format ≡ g.word) × ReadsFront (notation_of g) read.literal c.args.text.now c.in-Ok.found.size)) (sym form.0)
+          (is.0, is.1);
       none = λ err. absurd (false≢true err);
       error = tt;
     }

@@ -17,12 +17,13 @@ refused g text (Err _) none is = record { found = tt; only = λ l reads. absurd 
 
 pub refuse-requires-clause-refused : goal.refuse-requires-clause-refused
 refuse-requires-clause-refused c =
-    let stop = c.begin-counted.ensures.begun.exact c.if-counted.true in none_whole _ _ _ stop.1 (λ all. absurd (omega (arith, all, stop.0)))
+    let stop = c.begin-counted.ensures.found.exact c.if-counted.true in none_whole _ _ _ stop.1 (λ all. absurd (omega (arith, all, stop.0)))
 
 pub returns-then-counted : goal.returns-then-counted
 returns-then-counted c =
-    let stop = c.begin-counted.ensures.begun.exact c.if-counted.true in
-    refused c.args.self.now c.args.text.now c.refuse.result (none_whole _ _ _ stop.1 (λ all. absurd (omega (arith, all, stop.0)))) c.refuse.ensures
+    let stop = c.begin-counted.ensures.found.exact c.if-counted.true in
+    refused c.args.self.now c.args.text.now c.refuse.result (none_whole _ _ _ stop.1 (λ all. absurd (omega (arith, all, stop.0))))
+    c.refuse.ensures
 
 pub literal-requires-clause-cut : goal.literal-requires-clause-cut
 literal-requires-clause-cut c = measured_cut c.args.self.now c.args.text.now c.begin-counted.result.counts (c.is_whole.ensures.measured c.if-is_whole.true)

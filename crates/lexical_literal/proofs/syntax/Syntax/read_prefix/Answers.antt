@@ -23,12 +23,12 @@ pub returns-in-None : goal.returns-in-None
 returns-in-None c =
     refused c.args.self.now c.args.text.now c.refuse.result (c.front-found.ensures.none (ap is_some c.in-None.is)) c.refuse.ensures
 
-pub front_of-requires : goal.front_of-requires
-front_of-requires c = (c.front-found.ensures.longest c.in-Some.found c.in-Some.is).reads.within
-
 pub summed-literal-requires : goal.summed-literal-requires
 summed-literal-requires c = front_cut c.args.self.now c.args.text.now c.front_of.result.now c.in-Some.found.size c.in-Some.found.counts c.front_of.ensures
     (c.front-found.ensures.longest c.in-Some.found c.in-Some.is)
+
+pub front_of-requires : goal.front_of-requires
+front_of-requires c = (c.front-found.ensures.longest c.in-Some.found c.in-Some.is).reads.within
 
 pub returns-in-Some : goal.returns-in-Some
 returns-in-Some c = record {

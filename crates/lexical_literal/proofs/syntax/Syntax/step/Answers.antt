@@ -25,10 +25,10 @@ returns-in_default-clause-stop c _ = stops_at _ c.grammar-grammar.ensures.ready 
 pub returns-in_default-grow-clause-stop : goal.returns-in_default-grow-clause-stop
 returns-in_default-grow-clause-stop c _ = let b = get_or c.args.text.now c.args.at.size 0 in
     stops_at _ c.grammar-grammar.ensures.ready c.grammar-grammar.ensures.sizes _ _ c.args.group c.requires (λ _. inr (
-      same_grow _ c.grammar-grammar.ensures.ready c.grammar-grammar.ensures.sizes _ _ c.args.group c.requires c.in-Some.role
-          (ap (λ (g : Grammar). role_at (steps_of g) (part_of c.args.at.read.stage) b) (sym c.grammar-grammar.ensures.value) ∙ c.in-Some.ensures.some.0)
-          ∙ ap (λ (g : Grammar). grow (notation_of g) c.args.group (Some c.in-Some.role)) (sym c.grammar-grammar.ensures.value)
-          ∙ sym c.grow.ensures ∙ c.in_default-grow.is
+    same_grow _ c.grammar-grammar.ensures.ready c.grammar-grammar.ensures.sizes _ _ c.args.group c.requires c.in-Some.role
+    (ap (λ (g : Grammar). role_at (steps_of g) (part_of c.args.at.read.stage) b) (sym c.grammar-grammar.ensures.value) ∙ c.in-Some.ensures.some.0)
+    ∙ ap (λ (g : Grammar). grow (notation_of g) c.args.group (Some c.in-Some.role)) (sym c.grammar-grammar.ensures.value)
+    ∙ sym c.grow.ensures ∙ c.in_default-grow.is
     ))
 
 pub returns-clause-next : goal.returns-clause-next
