@@ -1,7 +1,7 @@
 pub mod NumberLemmas
-pub mod WordLemmas
 mod BigLemmas
 mod NearLemmas
+pub mod WordLemmas
 mod BinaryLemmas
 mod TenLemmas
 pub mod LeadingLemmas

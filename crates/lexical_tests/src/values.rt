@@ -219,6 +219,18 @@ fn floats_are_rounded_once(rt: HostRuntime) {
     assert!(rt; integer::<u8>(TERNARY, "12").is_some() && bits(TERNARY, "12").is_none());
 }
 
+#[test]
+fn the_last_of_1000_digits_breaks_a_tie(rt: HostRuntime) -> Result<(), Fail> {
+    let mut text = [b'0'; 1000];
+    text[..17].copy_from_slice(b"9007199254740993.");
+    let tie = std::str::from_utf8(&text).ok().ok_or("a text")?;
+    assert!(rt; bits(DECIMAL, tie) == Some((0x4340_0000_0000_0000, 0x5A00_0000)));
+    text[999] = b'1';
+    let above = std::str::from_utf8(&text).ok().ok_or("a text")?;
+    assert!(rt; bits(DECIMAL, above) == Some((0x4340_0000_0000_0001, 0x5A00_0000)));
+    Ok(())
+}
+
 // A number between two floats, of which the lower one is even, and a digit behind it.
 const ABOVE_A_TIE: &str = "\
     0.00000000000000000000000000000000000000000000000000000000000000000000000000000000000000000000000000000000000000000000000000000000\
