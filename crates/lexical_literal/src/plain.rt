@@ -446,9 +446,6 @@ const fn integer(grammar: Grammar, text: &[u8], fronts: bool, opening: Opening) 
         sum: 0,
     };
     let run = digits(grammar, text, Part::Integer, begun);
-    if run.size == size {
-        return stopped(grammar, text, at_stage(size, stage), false);
-    }
     let sizes = Sizes {
         sign,
         prefix,
@@ -494,9 +491,6 @@ const fn fraction(
         ..integer
     };
     let run = digits(grammar, text, Part::Fraction, begun);
-    if run.size == from {
-        return stopped(grammar, text, at_stage(from, stage), false);
-    }
     let sizes = Sizes {
         point: 1,
         fraction: run.size - from,
@@ -627,6 +621,44 @@ const fn is_passed(grammar: Grammar, stage: Stage, byte: u8) -> bool
     }
 }
 
+// Returns that parts with these lengths have been read.
+#[inline(always)]
+const fn finished(
+    grammar: Grammar,
+    _text: &[u8],
+    at: At,
+    sizes: Sizes,
+    scale: [usize; 3],
+    suffix: usize,
+    sums: Sums,
+) -> Counted
+    requires ready { IsReady (steps_of grammar) }
+    requires at { IsAt (steps_of grammar) _text.now at
+        (cuts_of (counts_of sizes (get_or scale 0 0) (get_or scale 1 0) (get_or scale 2 0) suffix)) }
+    requires sums { AreSums (raw grammar.word)
+        (cut _text.now (cuts_of (counts_of sizes (get_or scale 0 0) (get_or scale 1 0) (get_or scale 2 0) suffix))) sums }
+    ensures found { HasFound (steps_of grammar) _text.now result }
+    ensures summed { IsSummed (raw grammar.word) _text.now result }
+{
+    let Sizes {
+        sign,
+        prefix,
+        integer,
+        point,
+        fraction,
+        ..
+    } = sizes;
+    Counted {
+        at,
+        counts: [
+            sign, prefix, integer, point, fraction, scale[0], scale[1], scale[2], suffix,
+        ],
+        sums,
+        complete: is_complete(grammar, at.read),
+        exact: false,
+    }
+}
+
 // Reads the suffix, if it follows.
 #[inline(always)]
 const fn end(
@@ -651,47 +683,21 @@ const fn end(
     ensures found { HasFound (steps_of grammar) text.now result }
     ensures summed { IsSummed (raw grammar.word) text.now result }
 {
-    let Sizes {
-        sign,
-        prefix,
-        integer,
-        point,
-        fraction,
-        ..
-    } = sizes;
     let At { size, read } = at;
     if size < text.len()
         && grammar.view().is_base_suffix(text[size])
         && takes(grammar, read, false, Role::Suffix)
     {
+        let size = size + 1;
         let read = Summary {
             ended: true,
             ..read
         };
-        return Counted {
-            at: At {
-                size: size + 1,
-                read,
-            },
-            counts: [
-                sign, prefix, integer, point, fraction, scale[0], scale[1], scale[2], 1,
-            ],
-            sums,
-            complete: is_complete(grammar, read),
-            exact: false,
-        };
-    }
-    if !fronts && size < text.len() {
+        finished(grammar, text, At { size, read }, sizes, scale, 1, sums)
+    } else if !fronts && size < text.len() {
         let exact = is_passed(grammar, read.stage, text[size]);
-        return stopped(grammar, text, at, exact);
-    }
-    Counted {
-        at,
-        counts: [
-            sign, prefix, integer, point, fraction, scale[0], scale[1], scale[2], 0,
-        ],
-        sums,
-        complete: is_complete(grammar, read),
-        exact: false,
+        stopped(grammar, text, at, exact)
+    } else {
+        finished(grammar, text, at, sizes, scale, 0, sums)
     }
 }

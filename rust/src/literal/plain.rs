@@ -270,9 +270,6 @@ const fn integer(grammar: Grammar, text: &[u8], fronts: bool, opening: Opening) 
     let Opening { sign, prefix, size, stage } = opening;
     let begun = Run { size, stage, digits: 0, sum: 0 };
     let run = digits(grammar, text, Part::Integer, begun);
-    if run.size == size {
-        return stopped(grammar, text, at_stage(size, stage), false);
-    }
     let sizes = Sizes { sign, prefix, integer: run.size - size, point: 0, fraction: 0, places: 0 };
     let at = at_stage(run.size, run.stage);
     if run.size < text.len() && is_point(grammar, text[run.size]) && takes(grammar, at.read, false, Role::Point) {
@@ -288,9 +285,6 @@ const fn fraction(grammar: Grammar, text: &[u8], fronts: bool, sizes: Sizes, int
     let stage = after_point(integer.stage);
     let begun = Run { size: from, stage, ..integer };
     let run = digits(grammar, text, Part::Fraction, begun);
-    if run.size == from {
-        return stopped(grammar, text, at_stage(from, stage), false);
-    }
     let sizes = Sizes { point: 1, fraction: run.size - from, places: run.digits - integer.digits, ..sizes };
     behind_mantissa(grammar, text, fronts, sizes, run)
 }
@@ -343,6 +337,27 @@ const fn is_passed(grammar: Grammar, stage: Stage, byte: u8) -> bool {
     }
 }
 
+// Returns that parts with these lengths have been read.
+#[inline(always)]
+const fn finished(
+    grammar: Grammar,
+    _text: &[u8],
+    at: At,
+    sizes: Sizes,
+    scale: [usize; 3],
+    suffix: usize,
+    sums: Sums,
+) -> Counted {
+    let Sizes { sign, prefix, integer, point, fraction, .. } = sizes;
+    Counted {
+        at,
+        counts: [sign, prefix, integer, point, fraction, scale[0], scale[1], scale[2], suffix],
+        sums,
+        complete: is_complete(grammar, at.read),
+        exact: false,
+    }
+}
+
 // Reads the suffix, if it follows.
 #[inline(always)]
 const fn end(
@@ -354,27 +369,15 @@ const fn end(
     scale: [usize; 3],
     sums: Sums,
 ) -> Counted {
-    let Sizes { sign, prefix, integer, point, fraction, .. } = sizes;
     let At { size, read } = at;
     if size < text.len() && grammar.view().is_base_suffix(text[size]) && takes(grammar, read, false, Role::Suffix) {
+        let size = size + 1;
         let read = Summary { ended: true, ..read };
-        return Counted {
-            at: At { size: size + 1, read },
-            counts: [sign, prefix, integer, point, fraction, scale[0], scale[1], scale[2], 1],
-            sums,
-            complete: is_complete(grammar, read),
-            exact: false,
-        };
-    }
-    if !fronts && size < text.len() {
+        finished(grammar, text, At { size, read }, sizes, scale, 1, sums)
+    } else if !fronts && size < text.len() {
         let exact = is_passed(grammar, read.stage, text[size]);
-        return stopped(grammar, text, at, exact);
-    }
-    Counted {
-        at,
-        counts: [sign, prefix, integer, point, fraction, scale[0], scale[1], scale[2], 0],
-        sums,
-        complete: is_complete(grammar, read),
-        exact: false,
+        stopped(grammar, text, at, exact)
+    } else {
+        finished(grammar, text, at, sizes, scale, 0, sums)
     }
 }

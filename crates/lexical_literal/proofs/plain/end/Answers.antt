@@ -1,5 +1,5 @@
--- The suffix is read.
-use Rattle.std.proofs.Common.{◌≡◌, true, false, get_or, refl, sym, subst, ◌∙◌, arith}
+-- The suffix is read, or the byte that follows is refused.
+use Rattle.std.proofs.Common.{◌≡◌, true, false, get_or, sym, subst, ◌∙◌, arith}
 use Rattle.std.proofs.lemmas.Bool.{false≢true}
 use Rattle.lexical_util.specs.Record.{raw}
 use Rattle.lexical_util.specs.Roles.{suffix}
@@ -7,30 +7,18 @@ use Rattle.lexical_util.specs.declared.feature_format.roles.Role.TheVariants as 
 use Rattle.lexical_literal.specs.Additions.Sizes.{steps_of}
 use Rattle.lexical_literal.specs.Additions.Summary.{takes}
 use Rattle.lexical_literal.proofs.JoinLemmas.{suffix_at}
-use Rattle.lexical_literal.proofs.LongestLemmas.{complete_at}
 use Rattle.lexical_literal.proofs.PassedLemmas.{passed}
 use Rattle.lexical_literal.proofs.plain.end.Goals as goal
 use Rattle.lexical_literal.proofs.plain.end.Goals.{else-size-text-via-then-size-text+then-is_base_suffix+else-takes}
 use Rattle.lexical_literal.proofs.plain.end.Goals.{else-size-text-via-then-size-text+else-is_base_suffix}
 use Rattle.lexical_literal.proofs.plain.end.Goals.{else-size-text-via-else-size-text}
 
-pub returns-then-takes-clause-found : goal.returns-then-takes-clause-found
-returns-then-takes-clause-found c =
-    let m = steps_of c.args.grammar in
-    let text = c.args.text.now in
+pub finished-requires-clause-at : goal.finished-requires-clause-at
+finished-requires-clause-at c =
     let at = c.args.at in
-    complete_at m c.requires.ready text _ (suffix_at m text c.requires.ready.roles c.args.sizes _ _ _ at c.if-size-text.true
-    (subst (λ w. suffix (raw w) (get_or text at.size 0) ≡ true) c.view.ensures (sym c.is_base_suffix.ensures ∙ c.if-is_base_suffix.true))
-    c.requires.going (sym c.takes.ensures ∙ c.if-takes.true) c.requires.free c.requires.at) c.is_complete.ensures refl
-
-pub returns-clause-found : goal.returns-clause-found
-returns-clause-found c = complete_at _ c.requires.ready _ _ c.requires.at c.is_complete-2.ensures refl
-
-pub returns-then-takes-clause-summed : goal.returns-then-takes-clause-summed
-returns-then-takes-clause-summed c _ = c.requires.sums
-
-pub returns-clause-summed : goal.returns-clause-summed
-returns-clause-summed c _ = c.requires.sums
+    suffix_at (steps_of c.args.grammar) c.args.text.now c.requires.ready.roles c.args.sizes _ _ _ at c.if-size-text.true
+    (subst (λ w. suffix (raw w) (get_or c.args.text.now at.size 0) ≡ true) c.view.ensures (sym c.is_base_suffix.ensures ∙ c.if-is_base_suffix.true))
+    c.requires.going (sym c.takes.ensures ∙ c.if-takes.true) c.requires.free c.requires.at
 
 pub stopped-requires-clause-exact : goal.stopped-requires-clause-exact
 stopped-requires-clause-exact c holds =
