@@ -1,5 +1,6 @@
 -- The lengths of parts.
 use Rattle.std.proofs.Common.{ℕ, zero, suc, ◌≡◌, ◌≤◌, ◌+◌, List, [], ◌∷◌, length, get_or, set, refl, arith, replicate}
+use Rattle.lexical_literal.specs.Additions.Plain.{counts_of, integer_sizes}
 use Rattle.lexical_literal.specs.Additions.Summary.{add_more, cuts_of, no_cuts, piece_number, with_prefix}
 use Rattle.lexical_literal.specs.declared.steps.Piece.{Piece}
 use Rattle.lexical_literal.specs.declared.steps.Piece.TheVariants as pieces
@@ -31,7 +32,7 @@ count_more (a ∷ b ∷ c ∷ d ∷ e ∷ f ∷ g ∷ h ∷ i ∷ []) nine piece
 count_more counts nine piece n = absurd (omega (arith, nine))
 
 -- A base prefix behind a sign.
-pub count_prefix : (sign : ℕ) (other : Piece) → with_prefix (cuts_of (sign ∷ 0 ∷ 0 ∷ 0 ∷ 0 ∷ 0 ∷ 0 ∷ 0 ∷ 0 ∷ [])) other
-    ≡ cuts_of (sign ∷ 2 ∷ 0 ∷ 0 ∷ 0 ∷ 0 ∷ 0 ∷ 0 ∷ 0 ∷ []) other
+pub count_prefix : (sign : ℕ) (other : Piece)
+    → with_prefix (cuts_of (counts_of (integer_sizes sign 0 0) 0 0 0 0)) other ≡ cuts_of (counts_of (integer_sizes sign 2 0) 0 0 0 0) other
 count_prefix sign pieces.Sign = refl
 count_prefix sign _ = refl

@@ -1,14 +1,14 @@
 -- What has been read where one part ends and the next one begins.
 use Rattle.lexical_literal.proofs.StepLemmas.{awaited_part}
 use Rattle.std.proofs.Common.{ℕ, ◌≡◌, ◌<◌, ◌+◌, ◌-◌, ◌==◌, Bool, true, false, List, [], ◌∷◌, if◌then◌else◌, get_or, length, refl, ap, subst, ◌∙◌, arith}
-use Rattle.std.proofs.Common.{replicate}
+use Rattle.std.proofs.Common.{replicate, set}
 use Rattle.lexical_util.specs.declared.feature_format.roles.Role.TheVariants as roles
 use Rattle.lexical_util.specs.declared.format_flags.Part.{Part}
 use Rattle.lexical_util.specs.declared.format_flags.Part.TheVariants as parts
 use Rattle.lexical_literal.specs.Notation.{Notation}
-use Rattle.lexical_literal.specs.Additions.Plain.{HasRoles, IsAt, IsBegun, IsOpened, IsReadOn, IsSign, behind_sign, counts_of, fresh, is_free, at_stage}
+use Rattle.lexical_literal.specs.Additions.Plain.{HasRoles, IsAt, IsBegun, IsOpened, IsReadOn, IsSign, behind_sign, counts_of, fresh, integer_sizes, is_free, at_stage}
 use Rattle.lexical_literal.specs.Additions.Summary.{Cuts, add_more, after_mark, after_point, cuts_of, has_digit, awaits_integer, is_signed, no_cuts, takes}
-use Rattle.lexical_literal.specs.Additions.Summary.{part_of, with_prefix}
+use Rattle.lexical_literal.specs.Additions.Summary.{part_of, piece_number, with_prefix}
 use Rattle.lexical_literal.specs.declared.plain.At.{At}
 use Rattle.lexical_literal.specs.declared.plain.Opening.{Opening}
 use Rattle.lexical_literal.specs.declared.plain.Sizes.{Sizes}
@@ -42,25 +42,22 @@ signed_behind m parts.Integer = refl
 signed_behind m parts.Fraction = refl
 
 module _ (m : Notation) (text : List ℕ) where
-  -- Bytes of one part are read.
-  pub at_more : (at next : At) (p : Piece) (c : Cuts) (counts : List ℕ) → IsReadOn m text at p next → IsAt m text at c
-      → add_more c p (next.size - at.size) ≡ cuts_of counts → IsAt m text next (cuts_of counts)
-  at_more at next p c counts on is same = subst (IsAt m text next) same (on.reads c is)
-
-  pub begun : IsAt m text (at_stage 0 stages.Start) no_cuts
-  begun = record { begun = record { within = omega arith; read = refl }; counted = refl }
+  -- Bytes of one part, which has none yet, are read.
+  at_more : (at next : At) (p : Piece) (counts : List ℕ) (n : ℕ) → next.size - at.size ≡ n → length counts ≡ 9 → get_or counts (piece_number p) 0 ≡ 0
+      → IsReadOn m text at p next → IsAt m text at (cuts_of counts) → IsAt m text next (cuts_of (set counts (piece_number p) n))
+  at_more at next p counts n more nine none on is =
+      let sum : get_or counts (piece_number p) 0 + (next.size - at.size) ≡ n = omega (arith, none, more) in
+      subst (IsAt m text next) (count_more counts nine p (next.size - at.size) ∙ ap (λ n. cuts_of (set counts (piece_number p) n)) sum)
+      (on.reads (cuts_of counts) is)
 
   -- The sign of the mantissa.
-  pub sign_at : (sign : ℕ) → IsSign m text parts.Integer 0 sign → IsAt m text (at_stage sign (behind_sign parts.Integer sign))
-      (cuts_of (sign ∷ 0 ∷ 0 ∷ 0 ∷ 0 ∷ 0 ∷ 0 ∷ 0 ∷ 0 ∷ []))
+  sign_at : (sign : ℕ) → IsSign m text parts.Integer 0 sign → IsAt m text (at_stage sign (behind_sign parts.Integer sign))
+      (cuts_of (counts_of (integer_sizes sign 0 0) 0 0 0 0))
   sign_at sign is =
       let same : 0 + sign ≡ sign = omega arith in
-      let none : 0 + sign - 0 ≡ sign = omega arith in
-      subst (λ n. IsAt m text (at_stage n (behind_sign parts.Integer sign)) (cuts_of (sign ∷ 0 ∷ 0 ∷ 0 ∷ 0 ∷ 0 ∷ 0 ∷ 0 ∷ 0 ∷ []))) same
-      (at_more (at_stage 0 stages.Start) (at_stage (0 + sign) (behind_sign parts.Integer sign)) pieces.Sign no_cuts (sign ∷ 0 ∷ 0 ∷ 0
-      ∷ 0 ∷ 0 ∷ 0 ∷ 0 ∷ 0 ∷ []) is.on begun
-      (ap (λ n. add_more no_cuts pieces.Sign n) none ∙ ap (λ c. add_more c pieces.Sign sign) no_counts
-      ∙ count_more (replicate 9 0) refl pieces.Sign sign ∙ ap (λ n. cuts_of (n ∷ 0 ∷ 0 ∷ 0 ∷ 0 ∷ 0 ∷ 0 ∷ 0 ∷ 0 ∷ [])) same))
+      subst (λ n. IsAt m text (at_stage n (behind_sign parts.Integer sign)) (cuts_of (counts_of (integer_sizes sign 0 0) 0 0 0 0))) same
+      (at_more (at_stage 0 stages.Start) (at_stage (0 + sign) (behind_sign parts.Integer sign)) pieces.Sign (replicate 9 0) sign (omega arith) refl refl is.on
+      (record { begun = record { within = omega arith; read = refl }; counted = no_counts }))
 
   -- Without a base prefix.
   pub opened : (sign : ℕ) → IsSign m text parts.Integer 0 sign → m.condition conditions.BasePrefix ≡ false
@@ -83,7 +80,7 @@ module _ (m : Notation) (text : List ℕ) where
     size = refl;
     at = subst (IsAt m text (at_stage (sign + 2) stages.Prefixed))
         (λ j other. count_prefix sign other j)
-        (prefix (behind_sign parts.Integer sign) (cuts_of (sign ∷ 0 ∷ 0 ∷ 0 ∷ 0 ∷ 0 ∷ 0 ∷ 0 ∷ 0 ∷ [])) (begun_behind sign) is.signed (sign_at sign is));
+        (prefix (behind_sign parts.Integer sign) _ (begun_behind sign) is.signed (sign_at sign is));
     signed = refl;
     free = grind arith;
     none = refl;
@@ -98,25 +95,14 @@ module _ (m : Notation) (text : List ℕ) where
 
   -- The digits of the integer.
   pub integer_at : (o : Opening) → IsOpened m text o → (size : ℕ) (stage : Stage) → IsReadOn m text (at_stage o.size o.stage) pieces.Integer
-      (at_stage size stage)
-      → IsAt m text (at_stage size stage) (cuts_of (o.sign ∷ o.prefix ∷ (size - o.size) ∷ 0 ∷ 0 ∷ 0 ∷ 0 ∷ 0 ∷ 0 ∷ []))
-  integer_at o is size stage on =
-      let sum : 0 + (size - o.size) ≡ size - o.size = omega arith in
-      at_more (at_stage o.size o.stage) (at_stage size stage) pieces.Integer _ (o.sign ∷ o.prefix ∷ (size - o.size) ∷ 0 ∷ 0 ∷ 0 ∷ 0 ∷ 0 ∷ 0 ∷ []) on is.at
-      (count_more (o.sign ∷ o.prefix ∷ 0 ∷ 0 ∷ 0 ∷ 0 ∷ 0 ∷ 0 ∷ 0 ∷ []) refl pieces.Integer (size - o.size)
-      ∙ ap (λ n. cuts_of (o.sign ∷ o.prefix ∷ n ∷ 0 ∷ 0 ∷ 0 ∷ 0 ∷ 0 ∷ 0 ∷ [])) sum)
+      (at_stage size stage) → IsAt m text (at_stage size stage) (cuts_of (counts_of (integer_sizes o.sign o.prefix (size - o.size)) 0 0 0 0))
+  integer_at o is size stage on = at_more _ _ pieces.Integer (counts_of (integer_sizes o.sign o.prefix 0) 0 0 0 0) (size - o.size) refl refl refl on is.at
 
   -- The digits of the fraction.
-  pub fraction_at : (s : Sizes) (from size : ℕ) (first stage : Stage) → s.fraction ≡ 0 → IsAt m text (at_stage from first) (cuts_of (counts_of s
-      0 0 0 0))
+  pub fraction_at : (s : Sizes) (from size : ℕ) (first stage : Stage) → s.fraction ≡ 0 → IsAt m text (at_stage from first) (cuts_of (counts_of s 0 0 0 0))
       → IsReadOn m text (at_stage from first) pieces.Fraction (at_stage size stage)
       → IsAt m text (at_stage size stage) (cuts_of (counts_of (record s { fraction = size - from }) 0 0 0 0))
-  fraction_at s from size first stage none is on =
-      let sum : s.fraction + (size - from) ≡ size - from = omega (arith, none) in
-      at_more (at_stage from first) (at_stage size stage) pieces.Fraction
-      (cuts_of (counts_of s 0 0 0 0)) (counts_of (record s { fraction = size - from }) 0 0 0 0) on is
-      (count_more (counts_of s 0 0 0 0) refl pieces.Fraction (size - from)
-      ∙ ap (λ n. cuts_of (s.sign ∷ s.prefix ∷ s.integer ∷ s.point ∷ n ∷ 0 ∷ 0 ∷ 0 ∷ 0 ∷ [])) sum)
+  fraction_at s from size first stage none is on = at_more _ _ pieces.Fraction (counts_of s 0 0 0 0) (size - from) refl refl none on is
 
   -- The sign and the digits of the exponent.
   pub exponent_at : (s : Sizes) (size sign end : ℕ) (stage : Stage) → IsAt m text (at_stage size stages.Mark) (cuts_of (counts_of s 1 0 0 0))
@@ -124,16 +110,8 @@ module _ (m : Notation) (text : List ℕ) where
       → IsReadOn m text (at_stage (size + sign) (behind_sign parts.Exponent sign)) pieces.Exponent (at_stage end stage)
       → IsAt m text (at_stage end stage) (cuts_of (counts_of s 1 sign (end - (size + sign)) 0))
   exponent_at s size sign end stage is signed on =
-      let one : size + sign - size ≡ sign = omega arith in
-      let same : 0 + sign ≡ sign = omega arith in
-      let sum : 0 + (end - (size + sign)) ≡ end - (size + sign) = omega arith in
-      at_more (at_stage (size + sign) (behind_sign parts.Exponent sign)) (at_stage end stage) pieces.Exponent
-      (cuts_of (counts_of s 1 sign 0 0)) (counts_of s 1 sign (end - (size + sign)) 0) on
-      (at_more (at_stage size stages.Mark) (at_stage (size + sign) (behind_sign parts.Exponent sign)) pieces.ExponentSign
-      (cuts_of (counts_of s 1 0 0 0)) (counts_of s 1 sign 0 0) signed.on is
-      (ap (λ n. add_more (cuts_of (counts_of s 1 0 0 0)) pieces.ExponentSign n) one ∙ count_more (counts_of s 1 0 0 0) refl pieces.ExponentSign sign
-      ∙ ap (λ n. cuts_of (counts_of s 1 n 0 0)) same))
-      (count_more (counts_of s 1 sign 0 0) refl pieces.Exponent (end - (size + sign)) ∙ ap (λ n. cuts_of (counts_of s 1 sign n 0)) sum)
+      at_more _ _ pieces.Exponent (counts_of s 1 sign 0 0) (end - (size + sign)) refl refl refl on
+      (at_more (at_stage size stages.Mark) _ pieces.ExponentSign (counts_of s 1 0 0 0) sign (omega arith) refl refl signed.on is)
 
   module _ (h : HasRoles m) where
     -- The decimal point.

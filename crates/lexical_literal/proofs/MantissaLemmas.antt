@@ -9,7 +9,7 @@ use Rattle.lexical_util.specs.Record.{Record, effective_exponent_radix}
 use Rattle.lexical_util.specs.declared.format_flags.Part.TheVariants as parts
 use Rattle.lexical_literal.specs.Literal.{Literal, Reads, text_of}
 use Rattle.lexical_literal.specs.Notation.{Notation, radix_of}
-use Rattle.lexical_literal.specs.Additions.Plain.{IsOpened, IsRunOn, between, counts_of}
+use Rattle.lexical_literal.specs.Additions.Plain.{IsOpened, IsRunOn, between, counts_of, integer_sizes}
 use Rattle.lexical_literal.specs.Additions.Read.{AreSums, IsCut, IsMantissa, IsSum, before_exponent, cut}
 use Rattle.lexical_literal.specs.Additions.Summary.{Cuts, HasLengths, cuts_of}
 use Rattle.lexical_literal.specs.declared.plain.Opening.{Opening}
@@ -38,7 +38,7 @@ module _ (m : Notation) (r : Record) (text : List ℕ) where
   -- The integer, behind a sign and a prefix.
   pub integer_sum : (o : Opening) (run : Run) → IsOpened m text o
       → IsRunOn m (radix_of r parts.Integer) text parts.Integer (record { size = o.size; stage = o.stage; digits = 0; sum = 0 }) run
-      → IsMantissa r text (record { sign = o.sign; prefix = o.prefix; integer = run.size - o.size; point = 0; fraction = 0; places = 0 }) run
+      → IsMantissa r text (integer_sizes o.sign o.prefix (run.size - o.size)) run
   integer_sum o run opened is =
       let radix = r.byte layout.mantissa_radix in
       let here : between text o.size run.size ≡ take (run.size - o.size) (drop (o.sign + o.prefix) text) ++ [] =

@@ -131,11 +131,14 @@ IsPassed m text at role = at.size < length text → set_of_role m role (get_or t
 abbrev pub counts_of : Sizes → ℕ → ℕ → ℕ → ℕ → List ℕ
 counts_of s mark sign exponent suffix = s.sign ∷ s.prefix ∷ s.integer ∷ s.point ∷ s.fraction ∷ mark ∷ sign ∷ exponent ∷ suffix ∷ []
 
+-- `integer_sizes sign prefix integer` has these lengths, and nothing behind the integer.
+abbrev pub integer_sizes : ℕ → ℕ → ℕ → Sizes
+integer_sizes sign prefix integer = record { sign = sign; prefix = prefix; integer = integer; point = 0; fraction = 0; places = 0 }
+
 -- `IsOpened m text opening` holds if `opening` has the sign and the base prefix that `text` begins with, and if a digit may follow.
 pub record IsOpened (m : Notation) (text : List ℕ) (opening : Opening) : Type 0 where
   pub size : opening.size ≡ opening.sign + opening.prefix
-  pub at : IsAt m text (at_stage opening.size opening.stage)
-      (cuts_of (opening.sign ∷ opening.prefix ∷ 0 ∷ 0 ∷ 0 ∷ 0 ∷ 0 ∷ 0 ∷ 0 ∷ []))
+  pub at : IsAt m text (at_stage opening.size opening.stage) (cuts_of (counts_of (integer_sizes opening.sign opening.prefix 0) 0 0 0 0))
   pub signed : is_signed m parts.Integer opening.stage ≡ true
   pub free : is_free m opening.stage ≡ true
   pub none : has_digit opening.stage ≡ false

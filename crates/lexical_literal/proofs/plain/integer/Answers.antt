@@ -1,10 +1,10 @@
 -- The integer, and what follows it.
 use Rattle.std.proofs.Common.{◌≡◌, ◌-◌, sym, subst, ◌∙◌, refl, true, false}
 use Rattle.lexical_util.specs.Record.{raw}
+use Rattle.lexical_literal.specs.Additions.Plain.{integer_sizes}
 use Rattle.lexical_literal.specs.Additions.Sizes.{steps_of}
 use Rattle.lexical_literal.specs.Additions.Summary.{takes}
 use Rattle.lexical_literal.specs.declared.plain.At.{At}
-use Rattle.lexical_literal.specs.declared.plain.Sizes.{Sizes}
 use Rattle.lexical_util.specs.declared.feature_format.roles.Role.TheVariants as roles
 use Rattle.lexical_literal.proofs.JoinLemmas.{integer_at, point_at}
 use Rattle.lexical_literal.proofs.MantissaLemmas.{integer_sum}
@@ -16,8 +16,7 @@ fraction-requires-clause-at c =
     let text = c.args.text.now in
     let run = c.digits-run.result in
     let o = c.args.opening in
-    let s : Sizes = record { sign = o.sign; prefix = o.prefix; integer = run.size - o.size; point = 0; fraction = 0; places = 0 } in
-    point_at m text c.requires.ready.roles s run.size run.stage refl c.if-run-text.true (sym c.is_point.ensures ∙ c.if-is_point.true)
+    point_at m text c.requires.ready.roles (integer_sizes o.sign o.prefix (run.size - o.size)) run.size run.stage refl c.if-run-text.true (sym c.is_point.ensures ∙ c.if-is_point.true)
     (subst (λ (at : At). takes m at.read false roles.Point ≡ true) c.at_stage-at.ensures (sym c.takes.ensures ∙ c.if-takes.true)) c.digits-run.ensures.free
     (integer_at m text o c.requires.opened run.size run.stage c.digits-run.ensures.run.on)
 
