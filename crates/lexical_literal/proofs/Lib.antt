@@ -11,6 +11,7 @@ mod RoleLemmas
 mod SameLemmas
 mod PartLemmas
 mod PassedLemmas
+mod MadeLemmas
 mod WriterLemmas
 mod ExampleLemmas
 mod CountLemmas

@@ -44,6 +44,11 @@ abbrev pub is_plus : List ℕ → Bool
 is_plus [] = false
 is_plus (byte ∷ bytes) = byte == 43
 
+-- `is_minus bytes` is true if `bytes` begins with a minus sign.
+abbrev pub is_minus : List ℕ → Bool
+is_minus [] = false
+is_minus (byte ∷ bytes) = byte == 45
+
 -- `is_none_or_one A bytes` is true if `bytes` is empty, or one byte of `A`.
 abbrev pub is_none_or_one : ByteSet → List ℕ → Bool
 is_none_or_one A [] = true

@@ -1,9 +1,9 @@
 //! Literals that were read, and the numbers that their digits represent.
 
-ghost use Rattle.std.specs.Prelude.{◌≡◌, ◌++◌, ◌%◌, ◌^◌, ℕ, IfSome, IsSome, List};
+ghost use Rattle.std.specs.Prelude.{◌≡◌, ◌++◌, ◌%◌, ◌^◌, [], ℕ, IfSome, IsFalse, IsSome, List};
 ghost use Rattle.lexical_literal.specs.Additions.Read.{AreSums, IsCut, IsSum, cut};
 ghost use Rattle.lexical_literal.specs.Additions.Summary.{cuts_of};
-ghost use Rattle.lexical_literal.specs.Literal.{Reads};
+ghost use Rattle.lexical_literal.specs.Literal.{Reads, is_float, is_minus};
 ghost use Rattle.lexical_literal.specs.Notation.{Notation, notation_of};
 ghost use Rattle.lexical_literal.specs.Parts.{literal_of};
 ghost use Rattle.lexical_literal.specs.Read.{exponent, mantissa};
@@ -66,6 +66,34 @@ impl<'a> Literal<'a> {
         ensures literal { (g : Grammar) × IsSyntax g × (g.word ≡ self.now.format) × (text : List ℕ) × Reads (notation_of g) self.now.literal text }
     {
         cut(self.text, self.counts)
+    }
+
+    /// Returns whether the sign is `-`.
+    #[must_use]
+    #[inline(always)]
+    pub const fn is_negative(&self) -> bool
+        ensures { result ≡ is_minus self.now.literal.sign }
+    {
+        self.counts[0] != 0 && is_minus(self.text)
+    }
+
+    /// Returns whether the literal is a float: whether it has a decimal point or an exponent character.
+    #[must_use]
+    #[inline(always)]
+    pub const fn is_float(&self) -> bool
+        ensures value { result ≡ is_float self.now.literal }
+        ensures fraction { IsFalse result → self.now.literal.fraction ≡ [] }
+    {
+        self.counts[3] != 0 || self.counts[5] != 0
+    }
+
+    /// Returns whether the sign of the exponent is `-`.
+    #[must_use]
+    #[inline(always)]
+    pub fn has_negative_exponent(&self) -> bool
+        ensures { result ≡ is_minus self.now.literal.exponent_sign }
+    {
+        self.counts[6] != 0 && is_minus(self.cut().exponent_sign)
     }
 
     /// Returns the number that the digits of the integer and the fraction represent together, if they are so few behind their
@@ -148,6 +176,14 @@ impl Syntax {
         );
         self.literal(text, counts, sums)
     }
+}
+
+// Returns whether a sign is a minus sign.
+#[inline(always)]
+const fn is_minus(sign: &[u8]) -> bool
+    ensures { result ≡ is_minus sign.now }
+{
+    matches!(sign, [b'-', ..])
 }
 
 // Returns the sums of the digits of `parts`.

@@ -32,6 +32,12 @@ is_most radix low high =
     let all = agree_below_at (λ r. nat_lt r 2 || (nat_le (r ^ most r) (2 ^ 64) && nat_lt (2 ^ 64) (r ^ (most r + 1)))) (λ _. true) 37 radix refl (omega arith) in
     grind (arith, nat_tests)
 
+pub twelve_fit : (radix digits : ℕ) → 2 ≤ radix → radix ≤ 36 → digits ≤ 12 → radix ^ digits ≤ 2 ^ 64
+twelve_fit radix digits low high few =
+    let all = agree_below_at (λ r. nat_le (r ^ 12) (2 ^ 64)) (λ _. true) 37 radix refl (omega arith) in
+    let grows : radix ^ digits ≤ radix ^ 12 = pow-le-pow_right {n = radix} (omega arith) {i = digits} {j = 12} few in
+    grind (arith, nat_tests)
+
 pub fits_is : (radix digits : ℕ) → 2 ≤ radix → radix ≤ 36 → IsTrue (nat_le digits (slice_index_or MOST radix 0)) ↔ (radix ^ digits ≤ 2 ^ 64)
 fits_is radix digits low high =
     let row = is_most radix low high in (

@@ -20,6 +20,10 @@ pub const fn fits(radix: u32, digits: usize) -> bool
     requires { (2 ≤ radix) × (radix ≤ 36) }
     ensures { IsTrue result ↔ (radix ^ digits ≤ 2 ^ 64) }
 {
+    // In each radix, 12 digits fit.
+    if digits <= 12 {
+        return true;
+    }
     digits <= MOST[radix as usize] as usize
 }
 

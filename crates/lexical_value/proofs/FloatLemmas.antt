@@ -10,12 +10,12 @@ use Rattle.core.specs.Prelude.{T, ltb}
 use Rattle.std.specs.Float.{NotNan}
 use Rattle.lexical_util.specs.Layout as layout
 use Rattle.lexical_util.specs.Record.{Record, effective_exponent_base, effective_exponent_radix}
-use Rattle.lexical_literal.specs.Literal.{Literal}
+use Rattle.lexical_literal.specs.Literal.{Literal, is_minus}
 use Rattle.lexical_number.specs.Binary.{raised_down, raised_up}
 use Rattle.lexical_number.specs.Leading.{IsCutTo, Leads}
 use Rattle.lexical_number.specs.Number.{number, places}
 use Rattle.lexical_literal.specs.Read.{exponent, mantissa}
-use Rattle.lexical_value.specs.Value.{denominator, is_minus, numerator}
+use Rattle.lexical_value.specs.Value.{denominator, numerator}
 
 -- What holds of the fraction by its parts holds of the value of the literal.
 pub of_value : (P : ℕ → ℕ → Type 0) (r : Record) (l : Literal) (n m b e k : ℕ) (s : Bool) → n ≡ mantissa r l → m ≡ r.byte layout.mantissa_radix

@@ -3,15 +3,10 @@ use Rattle.std.specs.Prelude.{ℕ, ◌≡◌, ◌*◌, ◌^◌, ◌==◌, not, B
 use Rattle.lexical_util.specs.Digits.{uppercase}
 use Rattle.lexical_util.specs.Layout as layout
 use Rattle.lexical_util.specs.Record.{Record, effective_exponent_base}
-use Rattle.lexical_literal.specs.Literal.{Literal}
+use Rattle.lexical_literal.specs.Literal.{Literal, is_minus}
 use Rattle.lexical_literal.specs.Notation.{Notation}
 use Rattle.lexical_literal.specs.Read.{exponent, mantissa}
 use Rattle.lexical_number.specs.Number.{places}
-
--- `is_minus sign` is true if `sign` begins with a minus sign.
-abbrev pub is_minus : List ℕ → Bool
-is_minus [] = false
-is_minus (byte ∷ bytes) = byte == 45
 
 -- `scale r l` is the mantissa radix to the power of the number of fraction digits of `l`.
 abbrev pub scale : Record → Literal → ℕ

@@ -13,7 +13,7 @@ ghost use Rattle.lexical_value.specs.Float.{is_binary, is_decimal, nearest};
 ghost use Rattle.lexical_value.specs.Value.{denominator, numerator};
 ghost use Rattle.lexical_value.specs.declared.integer.ValueErrorKind.TheVariants as kinds;
 
-use crate::integer::{ValueErrorKind, is_minus};
+use crate::integer::ValueErrorKind;
 use lexical_literal::literal::Literal;
 use lexical_number::decimal::{decimal_to_float, digits_to_float};
 use lexical_number::float::Float;
@@ -40,7 +40,7 @@ pub fn to_float<F: Float>(literal: &Literal) -> Result<F, ValueErrorKind>
     } else {
         return Err(ValueErrorKind::UnsupportedRadix);
     };
-    Ok(signed(size, is_minus(literal.cut().sign)))
+    Ok(signed(size, literal.is_negative()))
 }
 
 // Returns a float with a sign.
@@ -91,11 +91,11 @@ fn decimal_size<F: Float>(literal: &Literal) -> F
     ensures { F.value result ≡ round (format_of F.DOUBLE) false (numerator (raw literal.now.format) literal.now.literal)
         (denominator (raw literal.now.format) literal.now.literal) }
 {
-    let parts = literal.cut();
-    let negative = is_minus(parts.exponent_sign);
+    let negative = literal.has_negative_exponent();
     if let (Some(mantissa), Some(exponent)) = (literal.mantissa(), literal.scale()) {
         return digits_to_float(mantissa, literal.places() as u64, negative, exponent);
     }
+    let parts = literal.cut();
     decimal_to_float(
         parts.integer,
         parts.fraction,
@@ -120,7 +120,7 @@ pub(crate) fn binary_size(double: bool, literal: &Literal) -> Option<u64>
     };
     let leading = leading_of(literal, radix);
     let places = literal.places() as u64;
-    let negative = is_minus(literal.cut().exponent_sign);
+    let negative = literal.has_negative_exponent();
     let exponent = exponent_of(literal);
     Some(raised_bits(
         double, leading, radix_bits, places, negative, exponent, base_bits,

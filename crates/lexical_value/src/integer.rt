@@ -2,15 +2,12 @@
 
 ghost use Rattle.std.specs.Prelude.{◌≡◌, ◌↔◌, if◌then◌else◌, [], IfSome, IsNone, IsTrue, MatchResult};
 ghost use Rattle.lexical_util.specs.Record.{raw};
-ghost use Rattle.lexical_literal.specs.Literal.{is_float};
-ghost use Rattle.lexical_literal.specs.Parts.{literal_of};
+ghost use Rattle.lexical_literal.specs.Literal.{is_float, is_minus};
 ghost use Rattle.lexical_number.specs.Numeral.{magnitude_size, size_of};
 ghost use Rattle.lexical_value.specs.Integer.{IsInteger, IsNoInteger, integer_size};
-ghost use Rattle.lexical_value.specs.Value.{is_minus};
 ghost use Rattle.lexical_value.specs.declared.integer.ValueErrorKind.TheVariants as kinds;
 
 use lexical_literal::literal::Literal;
-use lexical_literal::read::Parts;
 use lexical_number::integer::Integer;
 use lexical_number::numeral::{Magnitude, Numeral};
 
@@ -68,41 +65,23 @@ pub(crate) fn integer_numeral<'a>(literal: &Literal<'a>) -> Option<Numeral<'a>>
     ensures negative { IfSome result (λ numeral. numeral.negative ≡ is_minus literal.now.literal.sign) }
     ensures size { IfSome result (λ numeral. size_of numeral ≡ integer_size (raw literal.now.format) literal.now.literal) }
 {
-    let parts = literal.cut();
-    if is_float(&parts) {
+    if literal.is_float() {
         return None;
     }
     Some(Numeral {
-        negative: is_minus(parts.sign),
-        magnitude: magnitude(literal, parts.integer),
+        negative: literal.is_negative(),
+        magnitude: magnitude(literal),
     })
-}
-
-// Returns whether there is a decimal point or an exponent.
-#[inline(always)]
-const fn is_float(parts: &Parts) -> bool
-    ensures { result ≡ is_float (literal_of parts.now) }
-{
-    !matches!(parts.point, []) || !matches!(parts.exponent_character, [])
 }
 
 // Returns the number that the digits of the integer represent or, if they are many, these digits.
 #[inline(always)]
-fn magnitude<'a>(literal: &Literal<'a>, integer: &'a [u8]) -> Magnitude<'a>
-    requires integer { integer.now ≡ literal.now.literal.integer }
+fn magnitude<'a>(literal: &Literal<'a>) -> Magnitude<'a>
     requires fraction { literal.now.literal.fraction ≡ [] }
     ensures { magnitude_size result ≡ integer_size (raw literal.now.format) literal.now.literal }
 {
     match literal.mantissa() {
         Some(size) => Magnitude::Word(size),
-        None => Magnitude::Digits(integer, literal.format().mantissa_radix()),
+        None => Magnitude::Digits(literal.cut().integer, literal.format().mantissa_radix()),
     }
-}
-
-// Returns whether a sign is a minus sign.
-#[inline(always)]
-pub(crate) const fn is_minus(sign: &[u8]) -> bool
-    ensures { result ≡ is_minus sign.now }
-{
-    matches!(sign, [b'-', ..])
 }

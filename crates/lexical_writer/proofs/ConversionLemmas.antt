@@ -7,14 +7,14 @@ use Rattle.std.specs.Borrow.{Bor}
 use Rattle.std.specs.Int.Digits.{number_from_digits_after}
 use Rattle.lexical_util.specs.Layout as layout
 use Rattle.lexical_util.specs.Record.{Record, raw, effective_exponent_base, effective_exponent_radix}
-use Rattle.lexical_literal.specs.Literal.{Literal, is_absent, is_present}
+use Rattle.lexical_literal.specs.Literal.{Literal, is_absent, is_present, is_minus}
 use Rattle.lexical_literal.specs.Parts.{literal_of}
 use Rattle.lexical_literal.specs.declared.read.Parts.{Parts}
 use Rattle.lexical_literal.specs.declared.syntax.Grammar.{Grammar}
 use Rattle.lexical_number.proofs.NumberLemmas.{number_after-append}
 use Rattle.lexical_number.specs.Number.{digits_in, number}
 use Rattle.lexical_literal.specs.Read.{mantissa}
-use Rattle.lexical_value.specs.Value.{is_minus, power, scale}
+use Rattle.lexical_value.specs.Value.{power, scale}
 use Rattle.lexical_writer.specs.Conversion.{SameFraction, amount_of, fraction_of, source_of}
 use Rattle.lexical_writer.specs.Digits.{or_zero, size_of, values_of}
 use Rattle.lexical_writer.specs.Layout.{HasNumber, given_fraction, given_power}

@@ -15,7 +15,7 @@ use Rattle.lexical_util.specs.Unfoldable.{cased, IsPunctuation, Lawful, Holds}
 use Rattle.lexical_util.specs.declared.format_flags.Part.{Part}
 use Rattle.lexical_util.specs.declared.format_flags.Part.TheVariants as parts
 use Rattle.lexical_base.proofs.ValueLemmas.{byte_value-digit_character}
-use Rattle.lexical_literal.specs.Literal.{IsSpelled, Literal, Reads, condition, has_leading_zero, is_absent, is_none_or_one, is_plus}
+use Rattle.lexical_literal.specs.Literal.{IsSpelled, Literal, Reads, condition, has_leading_zero, is_absent, is_none_or_one, is_plus, is_minus}
 use Rattle.lexical_literal.specs.Literal.{is_none_or_prefix, is_present, requirement, text_of}
 use Rattle.lexical_literal.specs.Notation.{Notation, all_conditions, has, lacks_options, notation_of, number_of, point_of, exponent_character_of, radix_of}
 use Rattle.lexical_literal.specs.Groups.{higher, is_grouped}
@@ -30,7 +30,6 @@ use Rattle.lexical_literal.specs.declared.syntax.Grammar.{Grammar}
 use Rattle.lexical_literal.specs.declared.syntax.Options.{Options}
 use Rattle.lexical_literal.proofs.RunLemmas.{rest_of_none}
 use Rattle.lexical_number.specs.Number.{digits_in, number}
-use Rattle.lexical_value.specs.Value.{is_minus}
 use Rattle.lexical_writer.specs.Digits.{character, grouped, no_groups, only_if, or_zero, size_of, values_of}
 use Rattle.lexical_writer.specs.Layout.{HasNumber, given_fraction, given_power, groups_of, has_exponent, has_point, has_zero, laid_out, options_of}
 use Rattle.lexical_writer.specs.Layout.{IsLaidOut, after_zero, base_byte, literal_of, refusal, sign_of}

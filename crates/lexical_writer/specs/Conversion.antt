@@ -4,13 +4,13 @@ use Rattle.std.specs.Borrow.{Bor}
 use Rattle.std.specs.Result.{MatchResult, result_map_both}
 use Rattle.lexical_util.specs.Layout as layout
 use Rattle.lexical_util.specs.Record.{Record, raw, effective_exponent_base, effective_exponent_radix}
-use Rattle.lexical_literal.specs.Literal.{Literal, is_absent, is_present}
+use Rattle.lexical_literal.specs.Literal.{Literal, is_absent, is_present, is_minus}
 use Rattle.lexical_literal.specs.Parts.{literal_of}
 use Rattle.lexical_literal.specs.Read.{Read}
 use Rattle.lexical_literal.specs.declared.read.Parts.{Parts}
 use Rattle.lexical_literal.specs.declared.syntax.Grammar.{Grammar}
 use Rattle.lexical_number.specs.Number.{number}
-use Rattle.lexical_value.specs.Value.{denominator, is_minus, numerator}
+use Rattle.lexical_value.specs.Value.{denominator, numerator}
 use Rattle.lexical_writer.specs.Layout.{IsLaidOut}
 use Rattle.lexical_writer.specs.declared.layout.Amount.{Amount}
 use Rattle.lexical_writer.specs.declared.layout.Layout.{Layout}

@@ -4,14 +4,13 @@ use Rattle.std.specs.Prelude.{Result, Ok, Err, is_some, option_map, option_to_li
 use Rattle.std.specs.Int.Digits.{digits_of}
 use Rattle.lexical_util.specs.Layout as layout
 use Rattle.lexical_util.specs.Record.{Record, raw, effective_exponent_radix}
-use Rattle.lexical_literal.specs.Literal.{Literal, is_absent, is_present}
+use Rattle.lexical_literal.specs.Literal.{Literal, is_absent, is_present, is_minus}
 use Rattle.lexical_literal.specs.Notation.{has, lacks_options, number_of}
 use Rattle.lexical_literal.specs.declared.syntax.Condition.TheVariants as conditions
 use Rattle.lexical_literal.specs.declared.syntax.Conditions.{Conditions}
 use Rattle.lexical_literal.specs.declared.syntax.Grammar.{Grammar}
 use Rattle.lexical_literal.specs.declared.syntax.Options.{Options}
 use Rattle.lexical_number.specs.Number.{digits_in, number}
-use Rattle.lexical_value.specs.Value.{is_minus}
 use Rattle.lexical_writer.specs.Digits.{grouped, no_groups, only_if, or_zero, run_text, size_of, values_of}
 use Rattle.lexical_writer.specs.declared.layout.Amount.{Amount}
 use Rattle.lexical_writer.specs.declared.layout.Layout.{Layout}

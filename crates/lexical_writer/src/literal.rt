@@ -2,10 +2,9 @@
 
 ghost use Rattle.std.specs.Prelude.{◌≡◌, false, IfOk};
 ghost use Rattle.lexical_util.specs.Record.{raw};
-ghost use Rattle.lexical_literal.specs.Literal.{Reads, text_of};
+ghost use Rattle.lexical_literal.specs.Literal.{Reads, text_of, is_minus};
 ghost use Rattle.lexical_literal.specs.Notation.{notation_of};
 ghost use Rattle.lexical_literal.specs.Parts.{literal_of};
-ghost use Rattle.lexical_value.specs.Value.{is_minus};
 ghost use Rattle.lexical_writer.specs.Conversion.{IsConverted, IsWritten, SameFraction, amount_of, fraction_of, has_power, power_of, source_of};
 ghost use Rattle.lexical_writer.specs.Layout.{literal_of as written};
 

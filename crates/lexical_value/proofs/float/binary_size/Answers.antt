@@ -3,10 +3,9 @@ use Rattle.std.proofs.Common.{◌^◌, ap, ◌∙◌, sym, refl}
 use Rattle.core.specs.Dec2flt.Rounding.{IsNearestBits}
 use Rattle.lexical_util.specs.Layout as layout
 use Rattle.lexical_util.specs.Record.{effective_exponent_base, raw}
-use Rattle.lexical_literal.specs.Literal.{Literal}
+use Rattle.lexical_literal.specs.Literal.{Literal, is_minus}
 use Rattle.lexical_literal.specs.Read.{exponent, mantissa}
 use Rattle.lexical_number.specs.Binary.{format_of}
-use Rattle.lexical_value.specs.Value.{is_minus}
 use Rattle.lexical_value.proofs.FloatLemmas.{by_bits, of_value}
 use Rattle.lexical_value.proofs.float.binary_size.Goals as goal
 
@@ -21,6 +20,6 @@ returns-clause-value c =
     (sym c.in-Some.ensures.some.0 ∙ c.mantissa_radix-radix.ensures.value ∙ ap (λ w. (raw w).byte layout.mantissa_radix) c.format-format.ensures)
     (sym c.in-Some-bits_of.ensures.some.0 ∙ c.exponent_base.ensures.value ∙ ap (λ w. effective_exponent_base (raw w)) c.format-format.ensures)
     refl c.places-places.ensures
-    (c.is_minus-negative.ensures ∙ ap (λ (l : Literal). is_minus l.exponent_sign) c.cut.ensures.parts)
+    c.has_negative_exponent-negative.ensures
     (c.raised_bits.ensures (mantissa r l) (exponent r l) (by_bits _ _ _ _ _ _ c.in-Some.ensures.some.0 c.leading_of-leading.ensures.leads)
     c.exponent_of-exponent.ensures)

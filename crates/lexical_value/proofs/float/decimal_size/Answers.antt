@@ -2,11 +2,10 @@
 use Rattle.std.proofs.Common.{◌≡◌, ◌++◌, ◌^◌, false, refl, ap, ◌∙◌}
 use lib.Ieee.{round}
 use Rattle.lexical_util.specs.Record.{raw}
-use Rattle.lexical_literal.specs.Literal.{Literal}
+use Rattle.lexical_literal.specs.Literal.{Literal, is_minus}
 use Rattle.lexical_literal.specs.Read.{exponent}
 use Rattle.lexical_number.specs.Binary.{format_of}
 use Rattle.lexical_number.specs.Number.{number, places}
-use Rattle.lexical_value.specs.Value.{is_minus}
 use Rattle.lexical_value.proofs.FloatLemmas.{decimals, of_value}
 use Rattle.lexical_value.proofs.float.decimal_size.Goals as goal
 
@@ -16,7 +15,7 @@ returns-in-Some-Some g c =
     let ten = decimals r c.requires in
     of_value (λ num den. g.F.Float.value c.digits_to_float.result ≡ round (format_of g.F.Float.DOUBLE) false num den) r c.args.literal.now.literal
     _ 10 10 _ _ _ c.in-Some-Some.ensures.value ten.0 ten.1 c.in-Some-Some.ensures'.value c.places.ensures
-    (c.is_minus-negative.ensures ∙ ap (λ (l : Literal). is_minus l.exponent_sign) c.cut-parts.ensures.parts) c.digits_to_float.ensures
+    c.has_negative_exponent-negative.ensures c.digits_to_float.ensures
 
 pub returns : goal.returns
 returns g c =
@@ -26,5 +25,5 @@ returns g c =
     let ten = decimals r c.requires in
     of_value (λ num den. g.F.Float.value c.decimal_to_float.result ≡ round (format_of g.F.Float.DOUBLE) false num den) r l _ _ _ (exponent r l) _ _
     (λ j. number (ten.0 j) ((same j).integer ++ (same j).fraction)) ten.0 ten.1 refl
-    (λ j. places (ten.0 j) (same j).fraction) (c.is_minus-negative.ensures ∙ ap (λ (l : Literal). is_minus l.exponent_sign) same)
+    (λ j. places (ten.0 j) (same j).fraction) c.has_negative_exponent-negative.ensures
     (c.decimal_to_float.ensures (exponent r l) c.exponent_of.ensures)

@@ -3,9 +3,9 @@ use Rattle.std.proofs.Common.{◌≡◌, ap, ◌∙◌, subst, false}
 use Rattle.std.specs.Prelude.{from_bits}
 use lib.Ieee.{round}
 use Rattle.lexical_util.specs.Record.{raw}
-use Rattle.lexical_literal.specs.Literal.{Literal}
+use Rattle.lexical_literal.specs.Literal.{Literal, is_minus}
 use Rattle.lexical_number.specs.Binary.{format_of}
-use Rattle.lexical_value.specs.Value.{denominator, is_minus, numerator}
+use Rattle.lexical_value.specs.Value.{denominator, numerator}
 use Rattle.lexical_value.proofs.FloatLemmas.{not_nan}
 use Rattle.lexical_value.proofs.float.to_float.Goals as goal
 use Rattle.lexical_value.proofs.float.to_float.Goals.{then-has_decimal_floats, else-has_decimal_floats+in-Some}
@@ -21,7 +21,7 @@ returns-clause-value g c =
       | else-has_decimal_floats+in-Some w ↦ ap g.F.Float.value w.size-is ∙ w.from_magnitude.ensures
           ∙ subst (λ double. from_bits (format_of double) w.in-Some.bits ≡ round (format_of double) false num den) w.DOUBLE.ensures w.in-Some.ensures.value.0
     ] in
-    c.signed.ensures num den size ∙ ap (λ sign. round f sign num den) (c.is_minus.ensures ∙ ap (λ (l : Literal). is_minus l.sign) c.cut.ensures.parts)
+    c.signed.ensures num den size ∙ ap (λ sign. round f sign num den) c.is_negative.ensures
 
 pub returns-clause-no_nan : goal.returns-clause-no_nan
 returns-clause-no_nan g c = not_nan _ _ _ _ _ (returns-clause-value g c)

@@ -12,4 +12,4 @@ returns-in-Some c = c.in-Some.ensures.value ∙ integer_mantissa (raw c.args.lit
 pub returns-in-None : goal.returns-in-None
 returns-in-None c =
     let radix = c.mantissa_radix.ensures.value ∙ ap (λ w. (raw w).byte layout.mantissa_radix) c.format.ensures in
-    λ j. number (radix j) (c.requires.integer j)
+    λ j. number (radix j) (c.cut.ensures.parts j).integer

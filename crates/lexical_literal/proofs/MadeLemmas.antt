@@ -1,0 +1,17 @@
+-- What the lengths of its parts tell of a literal.
+use Rattle.std.proofs.Common.{ℕ, ◌≡◌, ◌≢◌, ◌==◌, ◌||◌, not, List, length, take, arith}
+use Rattle.lexical_literal.specs.Literal.{is_minus, is_present}
+
+-- The sign is what the text begins with, if it is there.
+pub minus : (n : ℕ) (text : List ℕ) → n ≢ 0 → is_minus text ≡ is_minus (take n text)
+minus n text some = grind arith
+
+-- A part is there if its length is not 0.
+pub present : (n : ℕ) (bytes : List ℕ) → length bytes ≡ n → not (n == 0) ≡ is_present bytes
+present n bytes same = grind arith
+
+pub first : (n k : ℕ) → n ≢ 0 → not (n == 0) ≡ (not (n == 0) || not (k == 0))
+first n k some = grind arith
+
+pub second : (n k : ℕ) → n ≡ 0 → not (k == 0) ≡ (not (n == 0) || not (k == 0))
+second n k none = grind arith
