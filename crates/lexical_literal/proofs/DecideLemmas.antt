@@ -47,7 +47,7 @@ module _ (m : Notation) (ready : IsReady (unsized m)) (sizes : HasSizes m) (fron
   one_group : (b : ℕ) → group_after m (Some first_group) (front ++ b ∷ []) ≡ grow m g (role_at m g.part b)
   one_group b = group_append m (Some first_group) front (b ∷ []) ∙ ap (λ o. group_after m o (b ∷ [])) grouped
 
-  grows : (r : Option Role) → fits m g r ≡ true → grow m g r ≡ None → ⊥
+  pub grows : (r : Option Role) → fits m g r ≡ true → grow m g r ≡ None → ⊥
   grows r fit none = go (has_sizes m) (rw (fit) at none) where
     go : (sized : Bool) → (if not sized then Some g else Some (grown g r)) ≡ None → ⊥
     go true none = let apart : Some (grown g r) ≡ None = none in cc

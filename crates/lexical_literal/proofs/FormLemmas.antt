@@ -7,7 +7,7 @@ use Rattle.std.proofs.lemmas.Bool.{cases_lt, false≢true}
 use Rattle.std.proofs.lemmas.List.{take_all}
 use Rattle.std.proofs.lemmas.List.Elements.{All-more}
 use Rattle.std.proofs.lemmas.Option.{slice_get-get_or, slice_get_within}
-use Rattle.lexical_literal.specs.Additions.Forms.{GoesTo, IsFoundFrontForm, IsFurthestForm, greater, longer}
+use Rattle.lexical_literal.specs.Additions.Forms.{GoesTo, IsFoundForm, IsFoundFrontForm, IsFurthestForm, greater, longer}
 use Rattle.lexical_literal.specs.Additions.Longest.{IsCountedFront, IsStopped}
 use Rattle.lexical_literal.specs.Cause.{Explained, IsRefusal}
 use Rattle.lexical_literal.specs.declared.cause.Refusal.{Refusal}
@@ -15,6 +15,7 @@ use Rattle.lexical_literal.specs.Forms.{HasFront, IsFormError, IsGreatest, Reach
 use Rattle.lexical_literal.specs.Front.{IsValidUpTo, NoFront, NoLiteral, ReadsFront}
 use Rattle.lexical_literal.specs.Literal.{Literal, Reads}
 use Rattle.lexical_literal.specs.Notation.{Notation, no_conditions, notation_of}
+use Rattle.lexical_literal.specs.Read.{Read}
 use Rattle.lexical_literal.specs.declared.read.Found.{Found}
 use Rattle.lexical_literal.specs.declared.plain.At.{At}
 use Rattle.lexical_literal.specs.declared.syntax.Grammar.{Grammar}
@@ -176,6 +177,19 @@ pub fronts_more : (text : List ℕ) (forms : List Grammar) (i : ℕ) (d : Gramma
     → IsBest (fronts text) forms (i + 1) (longer longest i found)
 fronts_more text forms i d inside longest old None has none = best_stays (fronts text) forms i d inside (none refl) longest old
 fronts_more text forms i d inside longest old (Some found) has none = best_more (fronts text) forms i d inside found (has found refl) longest old
+
+-- The first form that reads the text.
+pub found_is : (forms : List Grammar) (text : List ℕ) (i : ℕ) (d : Grammar) (read : Read) → i < length forms
+    → (read.format ≡ (get_or forms i d).word) × Reads (notation_of (get_or forms i d)) read.literal text
+    → All (λ g. NoLiteral (notation_of g) text) (take i forms) → IsFoundForm forms text (Ok (i, read))
+found_is forms text i d read inside is before = record {
+  found = record {
+    reads = subst (λ o. IsSomeAnd o (λ g. (read.format ≡ g.word) × Reads (notation_of g) read.literal text)) (sym (slice_get-get_or forms i d inside)) is;
+    before = before;
+  };
+  none = λ err. absurd (false≢true err);
+  error = tt;
+}
 
 -- All forms have been tried.
 module _ (forms : List Grammar) (text : List ℕ) (i : ℕ) (end : length forms ≤ i) where

@@ -1,13 +1,12 @@
 -- What has been read where one part ends and the next one begins.
 use Rattle.lexical_literal.proofs.StepLemmas.{awaited_part}
-use Rattle.std.proofs.Common.{ℕ, ◌≡◌, ◌<◌, ◌+◌, ◌-◌, ◌==◌, Bool, true, false, List, [], ◌∷◌, if◌then◌else◌, get_or, length, refl, ap, subst, ◌∙◌, arith}
+use Rattle.std.proofs.Common.{ℕ, ◌≡◌, ◌<◌, ◌+◌, ◌-◌, ◌==◌, Bool, true, false, List, if◌then◌else◌, get_or, length, refl, ap, subst, ◌∙◌, arith}
 use Rattle.std.proofs.Common.{replicate, set}
 use Rattle.lexical_util.specs.declared.feature_format.roles.Role.TheVariants as roles
-use Rattle.lexical_util.specs.declared.format_flags.Part.{Part}
 use Rattle.lexical_util.specs.declared.format_flags.Part.TheVariants as parts
 use Rattle.lexical_literal.specs.Notation.{Notation}
-use Rattle.lexical_literal.specs.Additions.Plain.{HasRoles, IsAt, IsBegun, IsOpened, IsReadOn, IsSign, behind_sign, counts_of, fresh, integer_sizes, is_free, at_stage}
-use Rattle.lexical_literal.specs.Additions.Summary.{Cuts, add_more, after_mark, after_point, cuts_of, has_digit, awaits_integer, is_signed, no_cuts, takes}
+use Rattle.lexical_literal.specs.Additions.Plain.{HasRoles, IsAt, IsBegun, IsOpened, IsReadOn, IsSign, behind_sign, counts_of, integer_sizes, is_free, at_stage}
+use Rattle.lexical_literal.specs.Additions.Summary.{Cuts, after_point, cuts_of, has_digit, awaits_integer, is_signed, takes}
 use Rattle.lexical_literal.specs.Additions.Summary.{part_of, piece_number, with_prefix}
 use Rattle.lexical_literal.specs.declared.plain.At.{At}
 use Rattle.lexical_literal.specs.declared.plain.Opening.{Opening}
@@ -27,19 +26,6 @@ begun_behind sign = go (sign == 0) where
   go : (b : Bool) → awaits_integer (if b then stages.Start else stages.Empty) ≡ true
   go true = refl
   go false = refl
-
-pub exponent_behind : (m : Notation) (sign : ℕ) → let stage = behind_sign parts.Exponent sign in
-    (has_digit stage ≡ false) × (part_of stage ≡ parts.Exponent) × (is_free m stage ≡ true)
-exponent_behind m sign = go (sign == 0) where
-  go : (b : Bool) → let stage = if b then stages.Mark else stages.Signed in
-      (has_digit stage ≡ false) × (part_of stage ≡ parts.Exponent) × (is_free m stage ≡ true)
-  go true = (refl, refl, grind arith)
-  go false = (refl, refl, grind arith)
-
-pub signed_behind : (m : Notation) (part : Part) → is_signed m part (after_mark (fresh part)) ≡ true
-signed_behind m parts.Exponent = refl
-signed_behind m parts.Integer = refl
-signed_behind m parts.Fraction = refl
 
 module _ (m : Notation) (text : List ℕ) where
   -- Bytes of one part, which has none yet, are read.
@@ -144,9 +130,3 @@ module _ (m : Notation) (text : List ℕ) where
         subst (IsAt m text (record { size = at.size + 1; read = record at.read { ended = true } })) (count_more (counts_of s a b c 0) refl pieces.Suffix 1)
         (read_free m text h (part_of at.read.stage) at roles.Suffix refl (λ same. cc) inside
         (is_role m (part_of at.read.stage) byte h roles.Suffix (λ same. cc) suffix) going taken free _ is)
-
--- Stages behind a decimal point.
-pub behind_point : (m : Notation) (digit : Bool) → let stage = after_point digit in
-    (has_digit stage ≡ false) × (is_signed m parts.Fraction stage ≡ true) × (part_of stage ≡ parts.Fraction) × (is_free m stage ≡ true)
-behind_point m true = (refl, refl, refl, grind arith)
-behind_point m false = (refl, refl, refl, grind arith)

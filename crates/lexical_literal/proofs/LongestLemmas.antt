@@ -1,16 +1,14 @@
 -- Fronts of a text, and where the loop is left.
-use Rattle.std.proofs.Common.{ℕ, Bool, IsNone, Option, if◌then◌else◌, ◌≡◌, ◌<◌, ◌≤◌, ◌+◌, ◌&&◌, ◌||◌, ◌⊎◌, not, inl, inr, true, false, List, [], ◌∷◌, ◌++◌, length}
-use Rattle.std.proofs.Common.{Ok, get_or, replicate, take, drop, Some, None, refl, sym, ap, subst, append_assoc, append-nil, take-append-drop, ◌∙◌, arith}
+use Rattle.std.proofs.Common.{ℕ, Bool, IsNone, Option, if◌then◌else◌, ◌≡◌, ◌<◌, ◌≤◌, ◌+◌, ◌&&◌, ◌||◌, ◌↔◌, ◌⊎◌, not, inl, inr, true, false, List, [], ◌∷◌, ◌++◌}
+use Rattle.std.proofs.Common.{length, get_or, replicate, take, drop, Some, None, refl, sym, ap, subst, append_assoc, append-nil, take-append-drop, ◌∙◌, arith}
 use Rattle.std.specs.Prelude.{is_some, slice_get}
-use Rattle.std.proofs.lemmas.Bool.{false≢true, and_from, and_parts, cases_Bool, cases_lt, false_from_ne_true, or_parts}
+use Rattle.std.proofs.lemmas.Bool.{false≢true, and_parts, cases_Bool, cases_lt, false_from_ne_true, or_parts}
 use Rattle.std.proofs.lemmas.Option.{slice_get-get_or, slice_get_past}
 use Rattle.std.proofs.lemmas.List.{length-take-le, take-take, take_more, take_all}
-use Rattle.lexical_literal.specs.Notation.{Notation, notation_of}
-use Rattle.lexical_literal.specs.Literal.{Literal, IsLiteral, Reads, text_of}
-use Rattle.lexical_literal.specs.Parts.{IsRead, literal_of}
-use Rattle.lexical_literal.specs.declared.read.Parts.{Parts}
-use Rattle.lexical_literal.specs.declared.syntax.Grammar.{Grammar}
+use Rattle.lexical_literal.specs.Notation.{Notation}
+use Rattle.lexical_literal.specs.Literal.{Literal, IsLiteral, Reads}
 use Rattle.lexical_literal.specs.Additions.Summary.{count, cuts_of, role_at, scan, step, is_accepted, is_complete, part_of, tally, start, no_cuts, HasLengths}
+use Rattle.lexical_literal.specs.Cause.{Allows}
 use Rattle.lexical_literal.specs.Front.{IsFront, IsValidUpTo, NoFront, NoLiteral, ReadsFront}
 use Rattle.lexical_literal.specs.Additions.Longest.{HasBegun, HasFound, IsCountedFront, IsFronted, IsLongest, IsMeasured, IsStopped, IsUnderway}
 use Rattle.lexical_literal.specs.Additions.Sizes.{first_group, fits, goes, group_after, grow, grown, unsized}
@@ -27,7 +25,8 @@ use Rattle.lexical_literal.proofs.ConditionLemmas.{has_lengths, literal_from, li
 use Rattle.lexical_literal.proofs.LiteralLemmas.{all_cuts}
 use Rattle.lexical_literal.proofs.CountLemmas.{no_counts, small_at_first}
 use Rattle.lexical_util.specs.declared.feature_format.roles.Role.{Role}
-use Rattle.lexical_literal.proofs.FitLemmas.{front_fits, front_is_read_of, front_of, linked_there}
+use Rattle.lexical_literal.proofs.DecideLemmas.{decides_there, grows}
+use Rattle.lexical_literal.proofs.FitLemmas.{front_of, linked_there}
 use Rattle.lexical_literal.proofs.RefusalLemmas.{other_roles}
 use Rattle.lexical_literal.proofs.SizeLemmas.{all_end, as_sized, as_unsized, ends, group_append, small_after}
 
@@ -145,16 +144,6 @@ found_there m text counted has complete stop is same = let l = has.literal compl
   counted = λ k reads. has.lengths complete k (subst (λ n. Reads m k (take n text)) same reads);
 }
 
--- A literal that has been found, and is all of the text.
-pub found_whole : (m : Notation) (text : List ℕ) (counted : Counted) → HasBegun m text counted → counted.complete ≡ true → counted.at.size ≡ length text
-    → IsMeasured m text counted.counts
-found_whole m text counted has complete all =
-    let l = has.literal complete in
-    let same = take_all counted.at.size text (omega (arith, all)) in record {
-      literal = (l.0, subst (Reads m l.0) same l.1);
-      counted = λ k reads. has.lengths complete k (subst (Reads m k) (sym same) reads);
-    }
-
 -- What a pass finds that seeks the longest front.
 pub fronted : (m : Notation) (text : List ℕ) (stop : At) (found : Found) → IsStopped m text stop → IsCountedFront m text found
     → IsFronted m text stop (Some found)
@@ -231,22 +220,12 @@ module _ (m : Notation) (ready : IsReady (unsized m)) (sizes : HasSizes m) (text
     abbrev b : ℕ
     b = get_or text at.size 0
 
-    ends_is : goes m at.read group None ≡ (is_accepted u (scan u (Some start) (take at.size text)) && ends m (group_after m (Some first_group) (take at.size text)))
-    ends_is = rw (is.begun.read, is.grouped) refl
+    decides : (next : Option ℕ) → (goes m at.read group next ≡ true) ↔ Allows m (take at.size text) next
+    decides = decides_there m ready sizes (take at.size text) at.read group is.begun.read is.grouped
 
     -- What has been read is a literal if it ends.
-    pub literal_at : goes m at.read group None ≡ true → (l : Literal) × Reads m l (take at.size text)
-    literal_at end =
-        let both = and_parts (is_accepted u (scan u (Some start) (take at.size text))) _ (sym ends_is ∙ end) in
-        let l = literal_from u ready.roles ready.no_sizes (take at.size text) both.0 in
-        (l.0, as_sized m h sizes l.0 (take at.size text) l.1 both.1)
-
-    pub no_literal_at : goes m at.read group None ≡ false → NoLiteral m (take at.size text)
-    no_literal_at none l reads =
-        let both = as_unsized m h sizes l (take at.size text) reads in
-        let accepted : is_accepted u (scan u (Some start) (take at.size text)) ≡ true =
-        rw (reads.whole) (literal_arrives u ready.roles l both.0.literal).0 in
-        false≢true (sym none ∙ ends_is ∙ and_from _ _ accepted both.1)
+    no_literal_at : goes m at.read group None ≡ false → NoLiteral m (take at.size text)
+    no_literal_at none l reads = false≢true (sym none ∙ (decides None).1 (l, reads))
 
     abbrev step_of : Option Summary
     step_of = step u at.read b
@@ -289,27 +268,20 @@ module _ (m : Notation) (ready : IsReady (unsized m)) (sizes : HasSizes m) (text
         front = front_of m ready sizes (take at.size text) at.read group is.begun.read is.grouped;
         no_longer = λ more over within front.
             let inside : at.size < length text = omega (arith, over, within) in
-            let short = front_shorter m text (at.size + 1) more (omega (arith, over)) front in
-            elim (none inside) [
-              | inl step ↦ front_is_read_of m ready sizes (take (at.size + 1) text) short (next_scan inside ∙ step)
-              | inr group ↦ front_fits m ready sizes (take (at.size + 1) text) short (next_group inside ∙ group)
-            ];
+            false≢true (sym (refused inside) ∙ (decides (Some b)).1 (subst (IsFront m) (take_more text at.size 0 inside)
+            (front_shorter m text (at.size + 1) more (omega (arith, over)) front)));
       };
       group = group;
       read = is;
-      refused = λ inside. rw (slice_get-get_or text at.size 0 inside) (elim (none inside) [
-        | inl step ↦ rw (step) refl
-        | inr group ↦ stuck (has_sizes m) _ (is_some step_of) group
-      ]);
-      complete = literal_at;
+      refused = λ inside. rw (slice_get-get_or text at.size 0 inside) (refused inside);
+      complete = (decides None).0;
       incomplete = no_literal_at;
     } where
-      stuck : (sized fit more : Bool) → (if not sized then Some group else (if fit then Some (grown group (role_at m group.part b)) else None)) ≡ None
-          → (more && fit) ≡ false
-      stuck true false true is = refl
-      stuck true false false is = refl
-      stuck false fit more is = absurd (let apart : Some group ≡ None = is in cc)
-      stuck true true more is = absurd (let apart : Some (grown group (role_at m group.part b)) ≡ None = is in cc)
+      refused : at.size < length text → goes m at.read group (Some b) ≡ false
+      refused inside = false_from_ne_true _ (λ goes. let both = and_parts (is_some step_of) _ goes in elim (none inside) [
+        | inl step ↦ false≢true (sym (ap is_some step) ∙ both.0)
+        | inr grown ↦ grows m ready sizes _ at.read group is.begun.read is.grouped (role_at m group.part b) both.1 grown
+      ])
 
   -- Nothing is the longest front of nothing.
   pub first_counted : HasCounted m text (record { size = 0; read = start }) first_group (replicate 9 0) None
@@ -343,7 +315,7 @@ module _ (m : Notation) (ready : IsReady (unsized m)) (sizes : HasSizes m) (text
     longer counts counted true complete = record {
       found = λ found is. let same : record { size = next.size; counts = counts } ≡ found = cc in
           subst (λ (f : Found). (f.size ≤ next.size) × (l : Literal) × Reads m l (take f.size text)) same
-          (let l = literal_at next last follows.1 (sym complete) in (omega arith, l.0, l.1));
+          (let l = (decides next last follows.1 None).0 (sym complete) in (omega arith, l.0, l.1));
       counted = λ found is. let same : record { size = next.size; counts = counts } ≡ found = cc in
           subst (λ (f : Found). (l : Literal) → Reads m l (take f.size text) → HasLengths l (cuts_of f.counts)) same (has_sized_counted next.size counts counted);
       no_longer = λ more over past. absurd (let low : next.size < more = past _ refl in omega (arith, over, low));

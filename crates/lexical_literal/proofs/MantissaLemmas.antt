@@ -1,5 +1,5 @@
 -- The sums of the digits of the integer and the fraction.
-use Rattle.std.proofs.Common.{ℕ, ◌≡◌, ◌≤◌, ◌+◌, ◌-◌, ◌*◌, ◌%◌, ◌^◌, ◌∙◌, List, [], ◌∷◌, ◌++◌, append-nil, length, take, drop, refl, sym, ap, subst, arith}
+use Rattle.std.proofs.Common.{ℕ, ◌≡◌, ◌+◌, ◌-◌, ◌%◌, ◌^◌, ◌∙◌, List, ◌++◌, append-nil, length, take, drop, sym, ap, subst, arith}
 use Rattle.std.proofs.lemmas.Int.Digits.{number_after_append}
 use Rattle.std.proofs.lemmas.List.Elements.{filter_map-append}
 use Rattle.std.specs.Int.Digits.{number_from_digits_after}
@@ -7,18 +7,14 @@ use lib.ListN.{length-append}
 use Rattle.lexical_util.specs.Layout as layout
 use Rattle.lexical_util.specs.Record.{Record, effective_exponent_radix}
 use Rattle.lexical_util.specs.declared.format_flags.Part.TheVariants as parts
-use Rattle.lexical_literal.specs.Literal.{Literal, Reads, text_of}
+use Rattle.lexical_literal.specs.Literal.{Literal}
 use Rattle.lexical_literal.specs.Notation.{Notation, radix_of}
-use Rattle.lexical_literal.specs.Additions.Plain.{IsOpened, IsRunOn, between, counts_of, integer_sizes}
-use Rattle.lexical_literal.specs.Additions.Read.{AreSums, IsCut, IsMantissa, IsSum, before_exponent, cut}
-use Rattle.lexical_literal.specs.Additions.Summary.{Cuts, HasLengths, cuts_of}
-use Rattle.lexical_literal.specs.declared.plain.Opening.{Opening}
+use Rattle.lexical_literal.specs.Additions.Plain.{IsRunOn, between}
+use Rattle.lexical_literal.specs.Additions.Read.{AreSums, IsMantissa, IsSum}
 use Rattle.lexical_literal.specs.declared.plain.Run.{Run}
 use Rattle.lexical_literal.specs.declared.plain.Sizes.{Sizes}
-use Rattle.lexical_literal.specs.declared.plain.Sum.{Sum}
 use Rattle.lexical_literal.specs.declared.plain.Sums.{Sums}
 use Rattle.lexical_literal.specs.declared.steps.Stage.{Stage}
-use Rattle.lexical_literal.specs.declared.steps.Piece.TheVariants as pieces
 use Rattle.lexical_literal.proofs.SumLemmas.{after_same}
 use Rattle.lexical_number.specs.Number.{digits_in, number, places}
 
@@ -35,21 +31,6 @@ both_sums radix xs ys first second F S =
     ∙ ap (λ ds. number_from_digits_after radix 0 ds % 2 ^ 64) (sym (filter_map-append _ xs ys))
 
 module _ (m : Notation) (r : Record) (text : List ℕ) where
-  -- The integer, behind a sign and a prefix.
-  pub integer_sum : (o : Opening) (run : Run) → IsOpened m text o
-      → IsRunOn m (radix_of r parts.Integer) text parts.Integer (record { size = o.size; stage = o.stage; digits = 0; sum = 0 }) run
-      → IsMantissa r text (integer_sizes o.sign o.prefix (run.size - o.size)) run
-  integer_sum o run opened is =
-      let radix = r.byte layout.mantissa_radix in
-      let here : between text o.size run.size ≡ take (run.size - o.size) (drop (o.sign + o.prefix) text) ++ [] =
-      ap (λ n. take (run.size - o.size) (drop n text)) opened.size ∙ sym (append-nil _) in
-      record {
-        size = omega (arith, opened.size, is.on.more);
-        digits = is.digits ∙ omega arith ∙ ap (places radix) here;
-        sum = is.sum ∙ ap (λ bytes. number radix bytes % 2 ^ 64) here;
-        fraction = refl;
-      }
-
   -- The fraction behind the integer and its point.
   pub fraction_sum : (s : Sizes) (stage : Stage) (integer run : Run) → s.point ≡ 0 → s.fraction ≡ 0 → IsMantissa r text s integer
       → IsRunOn m (radix_of r parts.Fraction) text parts.Fraction (record integer { size = integer.size + 1; stage = stage }) run
@@ -69,42 +50,6 @@ module _ (m : Notation) (r : Record) (text : List ℕ) where
         sum = both_sums radix x y integer.sum run.sum (before.sum ∙ ap (λ bytes. number radix bytes % 2 ^ 64) alone)
             (is.sum ∙ ap (λ bytes. number_from_digits_after radix integer.sum (digits_in radix bytes) % 2 ^ 64) here);
         fraction = omega (arith, more);
-      }
-
-  -- No exponent.
-  pub mantissa_sums : (s : Sizes) (run : Run) (sums : Sums) → IsMantissa r text s run
-      → sums ≡ record {
-        mantissa = record { digits = run.digits; value = run.sum };
-        places = s.places;
-        exponent = record { digits = 0; value = 0 };
-      } → AreSums r (cut text (cuts_of (counts_of s 0 0 0 0))) sums
-  mantissa_sums s run sums is same = subst (AreSums r (cut text (cuts_of (counts_of s 0 0 0 0)))) (sym same) record {
-    sum = record { digits = is.digits; value = is.sum };
-    fraction = is.fraction;
-    scale = record { digits = refl; value = refl };
-  }
-
-  -- The exponent.
-  pub exponent_sums : (s : Sizes) (sign : ℕ) (stage : Stage) (mantissa run : Run) (sums : Sums) → IsMantissa r text s mantissa
-      → IsRunOn m (radix_of r parts.Exponent) text parts.Exponent (record { size = mantissa.size + 1 + sign; stage = stage; digits = 0; sum = 0 }) run
-      → sums ≡ record {
-        mantissa = record { digits = mantissa.digits; value = mantissa.sum };
-        places = s.places;
-        exponent = record { digits = run.digits; value = run.sum };
-      } → AreSums r (cut text (cuts_of (counts_of s 1 sign (run.size - (mantissa.size + 1 + sign)) 0))) sums
-  exponent_sums s sign stage mantissa run sums before is same =
-      let radix = effective_exponent_radix r in
-      let c = cuts_of (counts_of s 1 sign (run.size - (mantissa.size + 1 + sign)) 0) in
-      let at : mantissa.size + 1 + sign ≡ s.sign + s.prefix + s.integer + s.point + s.fraction + 1 + sign = omega (arith, before.size) in
-      let here : between text (mantissa.size + 1 + sign) run.size ≡ (cut text c).exponent =
-      ap (λ n. take (run.size - (mantissa.size + 1 + sign)) (drop n text)) at in
-      subst (AreSums r (cut text c)) (sym same) record {
-        sum = record { digits = before.digits; value = before.sum };
-        fraction = before.fraction;
-        scale = record {
-          digits = is.digits ∙ omega arith ∙ ap (places radix) here;
-          value = is.sum ∙ ap (λ bytes. number radix bytes % 2 ^ 64) here;
-        };
       }
 
 -- The sums of parts are those of the literal with these parts.

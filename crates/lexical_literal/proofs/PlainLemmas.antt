@@ -94,10 +94,6 @@ module _ (m : Notation) (stage : Stage) (run : is_run stage ≡ true) where
     go _ _ _ one two three = grind arith
 
 module _ (m : Notation) (text : List ℕ) where
-  -- Nothing is read.
-  pub stay : (at : At) (p : Piece) → IsReadOn m text at p at
-  stay at p = record { more = omega arith; reads = λ c is. subst (IsAt m text at) (sym (λ j other. none_more c p other at.size j)) is }
-
   -- More is read.
   pub go_on : (at mid next : At) (p : Piece) → IsReadOn m text at p mid → IsReadOn m text mid p next → IsReadOn m text at p next
   go_on at mid next p first second = record {

@@ -21,7 +21,7 @@ use Rattle.lexical_literal.specs.Additions.Summary.{digits_piece, is_run, part_o
 use Rattle.lexical_literal.specs.declared.plain.Run.{Run}
 use Rattle.lexical_literal.specs.declared.steps.Stage.{Stage}
 use Rattle.lexical_literal.specs.declared.syntax.Grammar.{Grammar}
-use Rattle.lexical_literal.proofs.PlainLemmas.{go_on, read_digit, read_separated, stay}
+use Rattle.lexical_literal.proofs.PlainLemmas.{go_on, read_digit, read_separated}
 use Rattle.lexical_literal.proofs.ScanLemmas.{is_role, no_digit}
 use Rattle.lexical_util.specs.declared.feature_format.roles.Role.TheVariants as roles
 
@@ -31,13 +31,6 @@ is_digit radix b v is = go (nat_lt (byte_value b) radix) is where
   go : (test : Bool) → cond test (Some (byte_value b)) None ≡ Some v → test ≡ true
   go true is = refl
   go false is = absurd (let apart : None ≡ Some v = is in cc)
-
--- A byte without a value is no digit.
-pub is_no_digit : (radix b : ℕ) → digit_of b radix ≡ None → nat_lt (byte_value b) radix ≡ false
-is_no_digit radix b is = go (nat_lt (byte_value b) radix) is where
-  go : (test : Bool) → cond test (Some (byte_value b)) None ≡ None → test ≡ false
-  go false is = refl
-  go true is = absurd (let apart : Some (byte_value b) ≡ None = is in cc)
 
 no_value : (radix b : ℕ) → nat_lt (byte_value b) radix ≡ false → digit_of b radix ≡ None
 no_value radix b other = ap (λ test. cond test (Some (byte_value b)) None) other
@@ -49,9 +42,6 @@ after_same radix s t [] same = same
 after_same radix s t (v ∷ ds) same = after_same radix (s * radix + v) (t * radix + v) ds (push_same radix s t v same)
 
 module _ (radix : ℕ) (text : List ℕ) where
-  none_between : (n : ℕ) → digits_in radix (between text n n) ≡ []
-  none_between n = let none : n - n ≡ 0 = omega arith in ap (λ k. digits_in radix (take k (drop n text))) none
-
   -- The digits of two pieces that follow one another.
   both_between : (a b c : ℕ) → a ≤ b → b ≤ c → digits_in radix (between text a c) ≡ digits_in radix (between text a b) ++ digits_in radix (between text b c)
   both_between a b c low high =
@@ -72,14 +62,6 @@ module _ (radix : ℕ) (text : List ℕ) where
       ∙ ap (λ o. cons_option o []) is
 
 module _ (m : Notation) (radix : ℕ) (text : List ℕ) (part : Part) where
-  pub same_run : (run : Run) → IsRunOn m radix text part run run
-  same_run run = record {
-    on = stay m text (at_stage run.size run.stage) (digits_piece part);
-    within = λ is. is;
-    digits = sym (ap (λ ds. run.digits + length ds) (none_between radix text run.size) ∙ omega arith);
-    sum = sym (ap (λ ds. number_from_digits_after radix run.sum ds % 2 ^ 64) (none_between radix text run.size));
-  }
-
   -- Two runs that follow one another.
   pub both_runs : (a b c : Run) → IsRunOn m radix text part a b → IsRunOn m radix text part b c → IsRunOn m radix text part a c
   both_runs a b c first second =

@@ -441,6 +441,7 @@ impl Stop {
     }
 
     // Returns the flags each of which would allow a separator that is not allowed.
+    #[tactic(auto, using(crate::proofs::CauseLemmas::no_mask))]
     const fn separators(self) -> u128
         ensures { result ≡ mask_of (separators (notation_of self.grammar) self.read self.group self.byte) }
     {

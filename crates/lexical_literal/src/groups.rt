@@ -167,6 +167,7 @@ pub(crate) const fn grow(grammar: Grammar, group: Group, role: Option<Role>) -> 
 }
 
 // Returns the group after the first `size` bytes of `text`, or `None` if one of them may not follow.
+#[tactic(auto, using(crate::proofs::SizeLemmas::group_none, crate::proofs::SizeLemmas::group_step))]
 #[cold]
 pub(crate) const fn group_after(grammar: Grammar, text: &[u8], size: usize) -> Option<Group>
     requires { size ≤ length text.now }

@@ -25,6 +25,7 @@ use lexical_util::laws::flags::role_facts;
 use lexical_util::laws::normal_form_facts;
 
 /// States what is true of every literal of a syntax, and which texts that writers make are literals.
+#[tactic(auto, using(crate::proofs::OneCauseLemmas::one_cause, crate::proofs::OneCauseLemmas::one_refusal, crate::proofs::SpanLemmas::span_within))]
 pub fn literal_facts()
     // No text has two readings.
     ensures one_reading { (g : Grammar) → IsSyntax g → (l k : Literal) → (text : List ℕ)

@@ -363,6 +363,7 @@ pub(crate) const fn plain(grammar: Grammar, text: &[u8], fronts: bool) -> Counte
 }
 
 // Returns what comes before the digits of the integer, or `None` if a base prefix is required that does not follow.
+#[tactic(auto, using(crate::proofs::JoinLemmas::opened))]
 #[inline(always)]
 const fn open(grammar: Grammar, text: &[u8], sign: usize) -> Option<Opening>
     requires ready { IsReady (steps_of grammar) }

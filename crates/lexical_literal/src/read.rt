@@ -142,6 +142,7 @@ impl Syntax {
     }
 
     // Returns the last group of the bytes that have been read.
+    #[tactic(auto, using(crate::proofs::SizeLemmas::all_end))]
     #[inline(always)]
     const fn group_at(&self, text: &[u8], at: At) -> Group
         requires { (group : Group) × IsUnderway (notation_of self.now) text.now at group }

@@ -134,6 +134,7 @@ const fn matches(grammar: Grammar, word: Option<&[u8]>, text: &[u8]) -> bool
 //
 // A separator that can be the next letter of `word` is taken for it at first. If a later byte does not fit then, but is
 // this letter in its other case, it takes the place of the separator, which is left out.
+#[tactic(auto, using(crate::proofs::SpecialLemmas::none_taken, crate::proofs::SpecialLemmas::fails))]
 const fn is_spelled(grammar: Grammar, word: &[u8], text: &[u8]) -> bool
     ensures { result ≡ is_spelled (notation_of grammar) word.now text.now }
 {

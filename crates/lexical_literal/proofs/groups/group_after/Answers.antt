@@ -2,15 +2,8 @@
 use Rattle.std.proofs.Common.{◌+◌, drop, take, sym, ap, ◌∙◌, arith}
 use Rattle.lexical_literal.specs.Additions.Sizes.{group_after, grow}
 use Rattle.lexical_literal.specs.Notation.{notation_of}
-use Rattle.lexical_literal.proofs.SizeLemmas.{group_none, group_step, grown_small}
+use Rattle.lexical_literal.proofs.SizeLemmas.{group_step, grown_small}
 use Rattle.lexical_literal.proofs.groups.group_after.Goals as goal
-
-pub returns-in_default : goal.returns-in_default
-returns-in_default c =
-    let m = notation_of c.args.grammar in
-    let rest = drop (c.loop-index.index + 1) (take c.args.size c.args.text.now) in
-    sym (c.loop-index.invariant.same ∙ group_step m c.args.text.now c.args.size c.loop-index.index c.loop-index.group c.loop-index-test.true c.requires
-    ∙ ap (λ o. group_after m o rest) (ap (grow m c.loop-index.group) (sym c.role_at-role.ensures) ∙ sym c.grow.ensures ∙ c.in_default.is) ∙ group_none m rest)
 
 pub loop-index-preserved : goal.loop-index-preserved
 loop-index-preserved c =

@@ -1,11 +1,9 @@
 -- What is true of every literal of a syntax.
 use Rattle.lexical_literal.specs.Notation.{notation_of}
 use Rattle.lexical_literal.proofs.LongestLemmas.{one_sized_reading}
-use Rattle.lexical_literal.proofs.OneCauseLemmas.{one_cause, one_refusal}
 use Rattle.lexical_literal.proofs.PartLemmas.{parts_have_roles}
 use Rattle.lexical_literal.proofs.RoleLemmas.{has_sizes_of, ready}
 use Rattle.lexical_literal.proofs.SameLemmas.{same_notation}
-use Rattle.lexical_literal.proofs.SpanLemmas.{span_within}
 use Rattle.lexical_literal.proofs.WriterLemmas.{digits_read, negative_read}
 use Rattle.lexical_literal.proofs.laws.literal_facts.Goals as goal
 
@@ -20,21 +18,6 @@ returns-clause-same_literals c a b same options conditions l text reads =
 
 pub returns-clause-roles : goal.returns-clause-roles
 returns-clause-roles c g l text reads = parts_have_roles (notation_of g) l reads.literal.spelled
-
-pub returns-clause-one_cause : goal.returns-clause-one_cause
-returns-clause-one_cause c m front next cause other a b = one_cause m front a b next cause other
-
-pub returns-clause-one_refusal : goal.returns-clause-one_refusal
-returns-clause-one_refusal c = one_refusal
-
-pub returns-clause-span : goal.returns-clause-span
-returns-clause-span c = span_within
-
-pub returns-clause-requirements : goal.returns-clause-requirements
-returns-clause-requirements c g l text reads = reads.literal.spelled.requirements
-
-pub returns-clause-conditions : goal.returns-clause-conditions
-returns-clause-conditions c g l text reads = reads.literal.conditions
 
 pub returns-clause-digits : goal.returns-clause-digits
 returns-clause-digits c g is first digits not_zero all =

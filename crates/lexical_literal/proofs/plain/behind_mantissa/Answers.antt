@@ -1,12 +1,10 @@
 -- An exponent is read, where its character follows.
 use Rattle.std.proofs.Common.{◌≡◌, true, false, sym, subst, ◌∙◌}
-use Rattle.lexical_util.specs.Record.{raw}
 use Rattle.lexical_literal.specs.Additions.Sizes.{steps_of}
 use Rattle.lexical_literal.specs.Additions.Summary.{takes}
 use Rattle.lexical_literal.specs.declared.plain.At.{At}
 use Rattle.lexical_util.specs.declared.feature_format.roles.Role.TheVariants as roles
 use Rattle.lexical_literal.proofs.JoinLemmas.{mark_at}
-use Rattle.lexical_literal.proofs.MantissaLemmas.{mantissa_sums}
 use Rattle.lexical_literal.proofs.plain.behind_mantissa.Goals as goal
 
 pub exponent-requires-clause-at : goal.exponent-requires-clause-at
@@ -16,7 +14,3 @@ exponent-requires-clause-at c =
     (sym c.is_exponent_character.ensures ∙ c.if-is_exponent_character.true)
     (subst (λ (at : At). takes m at.read false roles.Exponent ≡ true) c.at_stage-at.ensures (sym c.takes.ensures
     ∙ c.if-takes.true)) c.requires.free c.requires.at
-
-pub end-requires-clause-sums : goal.end-requires-clause-sums
-end-requires-clause-sums c = mantissa_sums (steps_of c.args.grammar) (raw c.args.grammar.word) c.args.text.now c.args.sizes c.args.run c.all_sums.result
-    c.requires.mantissa c.all_sums.ensures

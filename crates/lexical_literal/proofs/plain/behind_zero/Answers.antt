@@ -8,7 +8,7 @@ use Rattle.lexical_literal.specs.Additions.Plain.{IsReadOn, at_stage}
 use Rattle.lexical_literal.specs.declared.steps.Piece.TheVariants as pieces
 use Rattle.lexical_literal.specs.declared.steps.Stage.TheVariants as stages
 use Rattle.lexical_literal.proofs.PlainLemmas.{read_led}
-use Rattle.lexical_literal.proofs.SumLemmas.{behind_digit, is_digit, same_run}
+use Rattle.lexical_literal.proofs.SumLemmas.{behind_digit, is_digit}
 use Rattle.lexical_literal.proofs.plain.behind_zero.Goals as goal
 
 pub returns-in-Some-clause-run : goal.returns-in-Some-clause-run
@@ -23,7 +23,3 @@ returns-in-Some-clause-run c =
     (subst (λ stage. IsReadOn m text (at_stage run.size stage) pieces.Integer (at_stage (run.size + 1) stages.Led)) (sym c.requires.bare)
     (read_led m text c.requires.ready.roles run.size digit.0 (is_digit radix (get_or text run.size 0) v digit.1)
     (sym c.may_follow.ensures ∙ c.if-may_follow.true) c.requires.free)) c.groups.ensures.run
-
-pub returns-in_default-clause-run : goal.returns-in_default-clause-run
-returns-in_default-clause-run c = same_run (steps_of c.args.grammar) (radix_of (raw c.args.grammar.word) parts.Integer) c.args.text.now parts.Integer
-    c.args.zero

@@ -12,7 +12,7 @@ use Rattle.lexical_literal.specs.declared.steps.Stage.TheVariants as stages
 use Rattle.lexical_literal.specs.declared.syntax.Grammar.{Grammar}
 use Rattle.lexical_literal.proofs.PlainLemmas.{read_first}
 use Rattle.lexical_literal.proofs.StepLemmas.{awaited_part}
-use Rattle.lexical_literal.proofs.SumLemmas.{behind_digit, is_digit, pushed, same_run}
+use Rattle.lexical_literal.proofs.SumLemmas.{behind_digit, is_digit, pushed}
 use Rattle.lexical_literal.proofs.plain.digits.Goals as goal
 use Rattle.lexical_literal.proofs.plain.digits.Goals.{else-text-begun-eq48-via-then-text-begun-eq48+else-awaits_integer}
 use Rattle.lexical_literal.proofs.plain.digits.Goals.{else-text-begun-eq48-via-else-text-begun-eq48}
@@ -59,6 +59,3 @@ returns-else-text-begun-eq48-clause-run c =
     first_digit c.args.grammar text c.args.part _ c.push-one.result c.groups.result c.in-Some.value c.digits_of-stage.result false c.requires.ready.roles
     c.requires.part c.requires.none c.requires.signed c.requires.free c.in-Some.ensures.some c.push-one.ensures other (sym c.digits_of-stage.ensures)
     c.groups.ensures.run
-
-pub returns-in_default-clause-run : goal.returns-in_default-clause-run
-returns-in_default-clause-run c = same_run (steps_of c.args.grammar) (radix_of (raw c.args.grammar.word) c.args.part) c.args.text.now c.args.part c.args.begun

@@ -1,13 +1,11 @@
 -- The integer, and what follows it.
 use Rattle.std.proofs.Common.{◌≡◌, ◌-◌, sym, subst, ◌∙◌, refl, true, false}
-use Rattle.lexical_util.specs.Record.{raw}
 use Rattle.lexical_literal.specs.Additions.Plain.{integer_sizes}
 use Rattle.lexical_literal.specs.Additions.Sizes.{steps_of}
 use Rattle.lexical_literal.specs.Additions.Summary.{takes}
 use Rattle.lexical_literal.specs.declared.plain.At.{At}
 use Rattle.lexical_util.specs.declared.feature_format.roles.Role.TheVariants as roles
 use Rattle.lexical_literal.proofs.JoinLemmas.{integer_at, point_at}
-use Rattle.lexical_literal.proofs.MantissaLemmas.{integer_sum}
 use Rattle.lexical_literal.proofs.plain.integer.Goals as goal
 
 pub fraction-requires-clause-at : goal.fraction-requires-clause-at
@@ -23,11 +21,3 @@ fraction-requires-clause-at c =
 pub behind_mantissa-requires-clause-at : goal.behind_mantissa-requires-clause-at
 behind_mantissa-requires-clause-at c = integer_at (steps_of c.args.grammar) c.args.text.now c.args.opening c.requires.opened c.digits-run.result.size
     c.digits-run.result.stage c.digits-run.ensures.run.on
-
-pub fraction-requires-clause-mantissa : goal.fraction-requires-clause-mantissa
-fraction-requires-clause-mantissa c = integer_sum (steps_of c.args.grammar) (raw c.args.grammar.word) c.args.text.now c.args.opening c.digits-run.result
-    c.requires.opened c.digits-run.ensures.run
-
-pub behind_mantissa-requires-clause-mantissa : goal.behind_mantissa-requires-clause-mantissa
-behind_mantissa-requires-clause-mantissa c = integer_sum (steps_of c.args.grammar) (raw c.args.grammar.word) c.args.text.now c.args.opening
-    c.digits-run.result c.requires.opened c.digits-run.ensures.run

@@ -1,5 +1,5 @@
 -- Each digit is read behind the others.
-use Rattle.std.proofs.Common.{◌≡◌, ◌≤◌, is_some, length, sym, ap, subst, ◌∙◌, arith}
+use Rattle.std.proofs.Common.{◌≡◌, ◌≤◌, length, sym, ap, subst, ◌∙◌, arith}
 use Rattle.lexical_util.specs.Record.{raw}
 use Rattle.lexical_literal.specs.Notation.{radix_of}
 use Rattle.lexical_literal.specs.Additions.Sizes.{steps_of}
@@ -29,6 +29,3 @@ loop-value-preserved c =
           (both_runs (steps_of g) radix text c.args.part c.args.begun run next now.on
           (more_digit g text c.args.part run v c.requires.ready.roles is_run_now (ap part_of now.stage ∙ c.requires.part) c.in-Some.ensures.some));
     }
-
-pub returns-clause-over : goal.returns-clause-over
-returns-clause-over c _ = c.value_at.ensures.none (ap is_some c.in_default.is)

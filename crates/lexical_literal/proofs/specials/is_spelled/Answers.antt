@@ -4,15 +4,8 @@ use Rattle.std.proofs.lemmas.Bool.Decides.{nat_tests}
 use Rattle.std.proofs.lemmas.List.{drop_more, drop_all}
 use Rattle.lexical_literal.specs.Notation.{notation_of}
 use Rattle.lexical_literal.specs.Specials.{letter_of}
-use Rattle.lexical_literal.proofs.SpecialLemmas.{HasRead, one_separator, none_taken, read_more, fails, at_end}
+use Rattle.lexical_literal.proofs.SpecialLemmas.{HasRead, one_separator, read_more, at_end}
 use Rattle.lexical_literal.proofs.specials.is_spelled.Goals as goal
-
-pub loop-index-init : goal.loop-index-init
-loop-index-init c = record {
-  few = omega arith;
-  within = omega arith;
-  same = none_taken (notation_of c.args.grammar) c.digit_separator-separator.result c.args.text.now c.args.word.now;
-}
 
 pub loop-index-preserved : goal.loop-index-preserved
 loop-index-preserved c =
@@ -23,14 +16,6 @@ loop-index-preserved c =
     read_more _ _ c.args.word.now text _ _ _ _ now (λ is. ap (letter_of (notation_of c.args.grammar))
     (only is ∙ sym c.digit_separator-separator.ensures)) _ _
     (let branch = c.if-letters-word.branch in grind (arith, nat_tests))
-
-pub returns-then-taken-eq0 : goal.returns-then-taken-eq0
-returns-then-taken-eq0 c =
-    let text = c.args.text.now in
-    let index = c.loop-index.index in
-    let now = subst (HasRead _ _ c.args.word.now text _ _) (drop_more text index 0 c.loop-index-test.true) c.loop-index.invariant in
-    fails _ _ c.args.word.now text _ _ _ _ now (let branch = c.else-letters-word.branch in grind (arith, nat_tests))
-    (sym c.if-not-is_separator.ensures) (let branch = c.then-taken-eq0.branch in grind (arith, nat_tests))
 
 pub returns : goal.returns
 returns c = at_end _ _ c.args.word.now c.args.text.now _ _

@@ -8,7 +8,7 @@ use Rattle.lexical_literal.specs.Additions.Explained.{mask_of}
 use Rattle.lexical_literal.specs.Cause.{adding, bare, is_one_of, number_separator_flags}
 use Rattle.lexical_literal.specs.Notation.{notation_of}
 use Rattle.lexical_literal.specs.declared.cause.TheConstants.{SEPARATORS}
-use Rattle.lexical_literal.proofs.CauseLemmas.{flag_and, flag_not, mask_flags, masked_by, no_mask, separators_mask}
+use Rattle.lexical_literal.proofs.CauseLemmas.{flag_and, flag_not, mask_flags, masked_by, separators_mask}
 use Rattle.lexical_literal.proofs.cause.Stop.separators.Goals as goal
 
 rest : (s a : Bool) → (not (s && not a) && s) ≡ (s && a)
@@ -26,9 +26,3 @@ returns-then-is_at_gap c =
     ∙ masked_by (bit_not w128 r) SEPARATORS (λ f. is_one_of number_separator_flags f && allowed f) refl
     (λ f. flag_and f (bit_not w128 r) SEPARATORS ∙ (λ j. others f j && separators_mask f j) ∙ rest (is_one_of number_separator_flags f) (allowed f))
     ∙ (λ j. mask_of (λ f. gap j && (is_one_of number_separator_flags f && allowed f)))
-
-pub returns-else-is_at_gap : goal.returns-else-is_at_gap
-returns-else-is_at_gap c =
-    let gap = sym c.if-is_at_gap.false ∙ c.is_at_gap.ensures in
-    sym no_mask ∙ (λ j. mask_of (λ f. gap j && (is_one_of number_separator_flags f
-    && goes (adding f (bare (notation_of c.args.self.grammar))) c.args.self.read c.args.self.group c.args.self.byte)))

@@ -1,12 +1,9 @@
 -- The first form that reads the text, or the error of the one that goes furthest.
-use Rattle.std.proofs.Common.{◌≡◌, ◌+◌, IsSomeAnd, refl, sym, subst}
-use Rattle.std.proofs.lemmas.Bool.{false≢true}
+use Rattle.std.proofs.Common.{◌+◌, refl, sym, subst}
 use Rattle.std.proofs.lemmas.List.Elements.{All-more}
-use Rattle.std.proofs.lemmas.Option.{slice_get-get_or}
 use Rattle.lexical_literal.specs.Front.{NoLiteral}
-use Rattle.lexical_literal.specs.Literal.{Reads}
 use Rattle.lexical_literal.specs.Notation.{notation_of}
-use Rattle.lexical_literal.proofs.FormLemmas.{IsBest, all_tried, best_more, furthest_is, goes}
+use Rattle.lexical_literal.proofs.FormLemmas.{IsBest, all_tried, best_more, found_is, furthest_is, goes}
 use Rattle.lexical_literal.proofs.PieceLemmas.{measured_cut, whole_read}
 use Rattle.lexical_literal.proofs.list.SyntaxList.find.Goals as goal
 
@@ -14,42 +11,18 @@ pub literal-requires-clause-cut : goal.literal-requires-clause-cut
 literal-requires-clause-cut c = measured_cut _ c.args.text.now c.begin-counted.result.counts
     (c.is_whole.ensures.measured c.if-is_whole.true)
 
-pub literal-requires-clause-sums : goal.literal-requires-clause-sums
-literal-requires-clause-sums c = c.begin-counted.ensures.summed (c.is_whole.ensures.complete c.if-is_whole.true)
-
 pub summed-requires : goal.summed-requires
 summed-requires c = measured_cut _ c.args.text.now c.in-Some.counts c.in-Some.ensures.some
 
 pub returns-then-is_whole : goal.returns-then-is_whole
-returns-then-is_whole c =
-    let forms = c.self.inside.syntaxes.now in
-    let read = c.literal.result in
-    let is = whole_read _ c.args.text.now c.begin-counted.result.counts (c.is_whole.ensures.measured c.if-is_whole.true)
-    read c.literal.ensures in
-    let here = slice_get-get_or forms c.loop-form.form c.index-self-form.result c.loop-form-test.true in
-    rw (← c.self.view_is) (record {
-      found = record {
-        reads = subst (λ o. IsSomeAnd o (λ g. (read.format ≡ g.word) × Reads (notation_of g) read.literal c.args.text.now)) (sym here) is;
-        before = c.loop-form.invariant.none;
-      };
-      none = λ err. absurd (false≢true err);
-      error = tt;
-    })
+returns-then-is_whole c = rw (← c.self.view_is) (found_is c.self.inside.syntaxes.now c.args.text.now c.loop-form.form c.index-self-form.result c.literal.result
+    c.loop-form-test.true (whole_read _ c.args.text.now c.begin-counted.result.counts (c.is_whole.ensures.measured c.if-is_whole.true) c.literal.result
+    c.literal.ensures) c.loop-form.invariant.none)
 
 pub returns-in-Some : goal.returns-in-Some
-returns-in-Some c =
-    let forms = c.self.inside.syntaxes.now in
-    let read = c.summed.result in
-    let is = whole_read _ c.args.text.now c.in-Some.counts c.in-Some.ensures.some read c.summed.ensures in
-    let here = slice_get-get_or forms c.loop-form.form c.index-self-form.result c.loop-form-test.true in
-    rw (← c.self.view_is) (record {
-      found = record {
-        reads = subst (λ o. IsSomeAnd o (λ g. (read.format ≡ g.word) × Reads (notation_of g) read.literal c.args.text.now)) (sym here) is;
-        before = c.loop-form.invariant.none;
-      };
-      none = λ err. absurd (false≢true err);
-      error = tt;
-    })
+returns-in-Some c = rw (← c.self.view_is) (found_is c.self.inside.syntaxes.now c.args.text.now c.loop-form.form c.index-self-form.result c.summed.result
+    c.loop-form-test.true (whole_read _ c.args.text.now c.in-Some.counts c.in-Some.ensures.some c.summed.result c.summed.ensures)
+    c.loop-form.invariant.none)
 
 pub loop-form-preserved : goal.loop-form-preserved
 loop-form-preserved c =

@@ -1,5 +1,5 @@
 -- The front has the parts that were counted.
-use Rattle.std.proofs.Common.{◌≡◌, IsSomeAnd, refl, sym, subst}
+use Rattle.std.proofs.Common.{◌≡◌, IsSomeAnd, sym, subst}
 use Rattle.std.proofs.lemmas.Bool.{false≢true}
 use Rattle.lexical_literal.specs.Front.{ReadsFront}
 use Rattle.lexical_literal.specs.Notation.{notation_of}

@@ -3,9 +3,7 @@ use Rattle.std.proofs.Common.{sym, ap, subst, ◌∙◌}
 use Rattle.lexical_literal.specs.Groups.{has_sizes}
 use Rattle.lexical_literal.specs.Additions.Longest.{HasBegun, HasFound}
 use Rattle.lexical_literal.specs.Additions.Plain.{HasSizes, IsReady}
-use Rattle.lexical_literal.specs.Additions.Read.{IsSummed}
 use Rattle.lexical_literal.specs.Additions.Sizes.{steps_of}
-use Rattle.lexical_util.specs.Record.{raw}
 use Rattle.lexical_literal.specs.Notation.{notation_of}
 use Rattle.lexical_literal.specs.declared.syntax.Grammar.{Grammar}
 use Rattle.lexical_literal.proofs.LongestLemmas.{begun_free}
@@ -21,23 +19,12 @@ sized-requires-clause-ready c = subst (λ (g : Grammar). IsReady (steps_of g)) (
 pub sized-requires-clause-sizes : goal.sized-requires-clause-sizes
 sized-requires-clause-sizes c = subst (λ (g : Grammar). HasSizes (notation_of g)) (sym c.grammar-grammar.ensures.value) c.grammar-grammar.ensures.sizes
 
-pub sized-requires-clause-summed : goal.sized-requires-clause-summed
-sized-requires-clause-summed c = c.plain-counted.ensures.summed
-
 pub returns-then-has_sizes-clause-found : goal.returns-then-has_sizes-clause-found
 returns-then-has_sizes-clause-found c =
     subst (λ (g : Grammar). HasBegun (notation_of g) c.args.text.now c.sized.result) c.grammar-grammar.ensures.value c.sized.ensures.begun
-
-pub returns-then-has_sizes-clause-summed : goal.returns-then-has_sizes-clause-summed
-returns-then-has_sizes-clause-summed c =
-    subst (λ (g : Grammar). IsSummed (raw g.word) c.args.text.now c.sized.result) c.grammar-grammar.ensures.value c.sized.ensures.summed
 
 pub returns-else-has_sizes-clause-found : goal.returns-else-has_sizes-clause-found
 returns-else-has_sizes-clause-found c =
     begun_free (notation_of c.args.self.now) c.grammar-grammar.ensures.ready c.grammar-grammar.ensures.sizes c.args.text.now c.plain-counted.result
     (subst (λ (g : Grammar). HasFound (steps_of g) c.args.text.now c.plain-counted.result) c.grammar-grammar.ensures.value c.plain-counted.ensures.found)
     (ap (λ (g : Grammar). has_sizes (notation_of g)) (sym c.grammar-grammar.ensures.value) ∙ sym c.has_sizes.ensures ∙ c.if-has_sizes.false)
-
-pub returns-else-has_sizes-clause-summed : goal.returns-else-has_sizes-clause-summed
-returns-else-has_sizes-clause-summed c =
-    subst (λ (g : Grammar). IsSummed (raw g.word) c.args.text.now c.plain-counted.result) c.grammar-grammar.ensures.value c.plain-counted.ensures.summed

@@ -1,10 +1,8 @@
 -- The groups of what has been read fit.
 use Rattle.std.proofs.Common.{◌≡◌, Some, None, take, sym, ap, ◌∙◌}
 use Rattle.lexical_literal.specs.Additions.Sizes.{first_group, group_after}
-use Rattle.lexical_literal.specs.Groups.{has_sizes}
 use Rattle.lexical_literal.specs.Notation.{notation_of}
 use Rattle.lexical_literal.specs.declared.syntax.Grammar.{Grammar}
-use Rattle.lexical_literal.proofs.SizeLemmas.{all_end}
 use Rattle.lexical_literal.proofs.syntax.Syntax.group_at.Goals as goal
 
 pub unreachable-requires : goal.unreachable-requires
@@ -17,11 +15,4 @@ returns-in-Some c = record {
   begun = c.requires.1.begun;
   grouped = ap (λ (g : Grammar). group_after (notation_of g) (Some first_group) (take c.args.at.size c.args.text.now)) (sym c.grammar-grammar.ensures.value)
       ∙ sym c.group_after.ensures ∙ c.in-Some.is;
-}
-
-pub returns-else-has_sizes : goal.returns-else-has_sizes
-returns-else-has_sizes c = record {
-  begun = c.requires.1.begun;
-  grouped = all_end (notation_of c.args.self.now) (ap (λ (g : Grammar). has_sizes (notation_of g)) (sym c.grammar-grammar.ensures.value)
-      ∙ sym c.has_sizes.ensures ∙ c.if-has_sizes.false) first_group (take c.args.at.size c.args.text.now);
 }

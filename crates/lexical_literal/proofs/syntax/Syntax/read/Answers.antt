@@ -28,9 +28,6 @@ returns-then-counted c =
 pub literal-requires-clause-cut : goal.literal-requires-clause-cut
 literal-requires-clause-cut c = measured_cut c.args.self.now c.args.text.now c.begin-counted.result.counts (c.is_whole.ensures.measured c.if-is_whole.true)
 
-pub literal-requires-clause-sums : goal.literal-requires-clause-sums
-literal-requires-clause-sums c = c.begin-counted.ensures.summed (c.is_whole.ensures.complete c.if-is_whole.true)
-
 pub returns-then-is_whole : goal.returns-then-is_whole
 returns-then-is_whole c = is_read c.args.self.now c.args.text.now c.begin-counted.result.counts (c.is_whole.ensures.measured c.if-is_whole.true)
     c.literal.result c.literal.ensures

@@ -19,10 +19,6 @@ refused g text (Err error) none is = record { found = tt; none = λ _. none; err
 pub refuse-requires-clause-refused : goal.refuse-requires-clause-refused
 refuse-requires-clause-refused c = none_whole _ _ (c.front-found.ensures.none (ap is_some c.in-None.is))
 
-pub returns-in-None : goal.returns-in-None
-returns-in-None c =
-    refused c.args.self.now c.args.text.now c.refuse.result (c.front-found.ensures.none (ap is_some c.in-None.is)) c.refuse.ensures
-
 pub summed-literal-requires : goal.summed-literal-requires
 summed-literal-requires c = front_cut c.args.self.now c.args.text.now c.front_of.result.now c.in-Some.found.size c.in-Some.found.counts c.front_of.ensures
     (c.front-found.ensures.longest c.in-Some.found c.in-Some.is)
