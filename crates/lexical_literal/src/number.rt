@@ -31,7 +31,7 @@ impl Syntax {
     pub fn read<'a>(&self, text: &'a [u8]) -> Result<Literal<'a>, ReadError>
         ensures { IsRead self.now text.now result }
     {
-        let counted = self.begin(text, false);
+        let counted = self.begin(self.is_decimal(), text, false);
         if self.is_whole(text, counted) {
             Ok(self.literal(text, counted.counts, counted.sums))
         } else if counted.exact {

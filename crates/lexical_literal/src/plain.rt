@@ -1,12 +1,13 @@
 //! How the parts of a literal are read, one after another.
 //!
-//! Reading may stop anywhere here: where it stops, one step decides whether it goes on.
+//! Reading may stop anywhere here: where it stops, one step decides whether it goes on. If `decimal` is true, all digits are
+//! decimal, which takes less time where the compiler knows it.
 
 ghost use Rattle.std.specs.Prelude.{◌≡◌, ◌<◌, ◌≤◌, ◌+◌, ◌-◌, ◌*◌, ◌%◌, ◌^◌, ◌∷◌, [], false, true, IfSome, IsNone, IsTrue, get_or, length};
 ghost use Rattle.lexical_util.specs.Record.{raw};
 ghost use Rattle.lexical_literal.specs.Notation.{Notation, radix_of};
 ghost use Rattle.lexical_literal.specs.Additions.Longest.{HasFound};
-ghost use Rattle.lexical_literal.specs.Additions.Plain.{IsAt, IsBegun, IsDigitAt, IsOpened, IsOver, IsPassed, IsReadOn, IsReady, IsRefused, IsRunOn, IsSeparated, IsSign};
+ghost use Rattle.lexical_literal.specs.Additions.Plain.{IsAt, IsBegun, IsDecimal, IsDigitAt, IsOpened, IsOver, IsPassed, IsReadOn, IsReady, IsRefused, IsRunOn, IsSeparated, IsSign};
 ghost use Rattle.lexical_literal.specs.Additions.Plain.{behind_sign, counts_of, fresh, is_free, at_stage};
 ghost use Rattle.lexical_literal.specs.Additions.Sizes.{steps_of};
 ghost use Rattle.lexical_literal.specs.Additions.Read.{AreSums, IsMantissa, IsSummed, cut};
@@ -21,6 +22,7 @@ use crate::steps::{
     is_signed, may_follow, radix_of, takes,
 };
 use crate::syntax::{Condition, Grammar};
+use lexical_base::digit::char_to_digit_const;
 use lexical_util::format::{Part, Role};
 
 // What has been read of a text: the number of bytes, and their summary.
@@ -136,6 +138,17 @@ const fn stopped(_grammar: Grammar, _text: &[u8], at: At, exact: bool) -> Counte
     }
 }
 
+// Returns whether all digits are decimal, and no base prefix is read.
+#[inline(always)]
+pub(crate) const fn is_decimal(grammar: Grammar) -> bool
+    ensures { IsTrue result → IsDecimal (raw grammar.word) }
+{
+    let view = grammar.view();
+    view.mantissa_radix() == 10
+        && view.exponent_radix() == 10
+        && view.base_prefix() == 0
+}
+
 // Returns whether a sign of the mantissa, or of the exponent, follows and is read.
 #[inline(always)]
 const fn reads_sign(grammar: Grammar, text: &[u8], part: Part, size: usize) -> bool
@@ -181,9 +194,9 @@ const fn behind_sign(part: Part, sign: usize) -> Stage
     }
 }
 
-// Returns whether a base prefix follows, with its zero, and is read.
+// Returns whether a base prefix follows, with its zero, and is read. None is if `decimal` is true.
 #[inline(always)]
-const fn reads_prefix(grammar: Grammar, text: &[u8], size: usize) -> bool
+const fn reads_prefix(grammar: Grammar, decimal: bool, text: &[u8], size: usize) -> bool
     requires ready { IsReady (steps_of grammar) }
     requires within { size ≤ length text.now }
     ensures inside { IsTrue result → size + 1 < length text.now }
@@ -192,7 +205,7 @@ const fn reads_prefix(grammar: Grammar, text: &[u8], size: usize) -> bool
         → IsAt (steps_of grammar) text.now (at_stage size stage) c
         → IsAt (steps_of grammar) text.now (at_stage (size + 2) Stage.Prefixed) (with_prefix c) }
 {
-    if size + 1 >= text.len() {
+    if decimal || size + 1 >= text.len() {
         return false;
     }
     text[size] == b'0' && grammar.view().is_base_prefix(text[size + 1])
@@ -200,20 +213,24 @@ const fn reads_prefix(grammar: Grammar, text: &[u8], size: usize) -> bool
 
 // Returns the value of the digit of `part` at `index`, if there is one.
 #[inline(always)]
-const fn value_at(grammar: Grammar, text: &[u8], part: Part, index: usize) -> Option<u32>
+const fn value_at(grammar: Grammar, decimal: bool, text: &[u8], part: Part, index: usize) -> Option<u32>
+    requires decimal { IsTrue decimal → IsDecimal (raw grammar.word) }
     ensures some { IfSome result (λ value. IsDigitAt (radix_of (raw grammar.word) part) text.now index value) }
     ensures none { IsNone result → index < length text.now → (steps_of grammar).digit part (get_or text.now index 0) ≡ false }
 {
-    if index < text.len() {
-        digit_value(grammar, part, text[index])
-    } else {
+    if index >= text.len() {
         None
+    } else if decimal {
+        char_to_digit_const(text[index], 10)
+    } else {
+        digit_value(grammar, part, text[index])
     }
 }
 
 // Returns the run with one more digit, whose byte is the last of `bytes` more.
 #[inline(always)]
-const fn push(grammar: Grammar, part: Part, run: Run, value: u32, bytes: usize) -> Run
+const fn push(grammar: Grammar, decimal: bool, part: Part, run: Run, value: u32, bytes: usize) -> Run
+    requires decimal { IsTrue decimal → IsDecimal (raw grammar.word) }
     requires size { run.size + bytes < 2 ^ 64 }
     requires digits { run.digits + 1 < 2 ^ 64 }
     ensures { result ≡ record {
@@ -223,7 +240,12 @@ const fn push(grammar: Grammar, part: Part, run: Run, value: u32, bytes: usize) 
       sum = (run.sum * radix_of (raw grammar.word) part % 2 ^ 64 + value) % 2 ^ 64;
     } }
 {
-    let sum = run.sum.wrapping_mul(radix_of(grammar, part));
+    let radix = if decimal {
+        10
+    } else {
+        radix_of(grammar, part)
+    };
+    let sum = run.sum.wrapping_mul(radix);
     Run {
         size: run.size + bytes,
         digits: run.digits + 1,
@@ -234,15 +256,16 @@ const fn push(grammar: Grammar, part: Part, run: Run, value: u32, bytes: usize) 
 
 // Returns the value of the digit behind a separator at `index`, if a separator may be there.
 #[inline(always)]
-const fn separated(grammar: Grammar, text: &[u8], part: Part, index: usize) -> Option<u32>
-    requires { index ≤ length text.now }
+const fn separated(grammar: Grammar, decimal: bool, text: &[u8], part: Part, index: usize) -> Option<u32>
+    requires decimal { IsTrue decimal → IsDecimal (raw grammar.word) }
+    requires within { index ≤ length text.now }
     ensures { IfSome result (λ value. IsSeparated (steps_of grammar) (radix_of (raw grammar.word) part) text.now part index value) }
 {
     if index < text.len()
         && is_separator(grammar, text[index])
         && grammar.view().separators(part).internal
     {
-        value_at(grammar, text, part, index + 1)
+        value_at(grammar, decimal, text, part, index + 1)
     } else {
         None
     }
@@ -250,7 +273,8 @@ const fn separated(grammar: Grammar, text: &[u8], part: Part, index: usize) -> O
 
 // Reads the digits that follow others. They do not change the stage.
 #[inline(always)]
-const fn more_digits(grammar: Grammar, text: &[u8], part: Part, begun: Run) -> Run
+const fn more_digits(grammar: Grammar, decimal: bool, text: &[u8], part: Part, begun: Run) -> Run
+    requires decimal { IsTrue decimal → IsDecimal (raw grammar.word) }
     requires ready { IsReady (steps_of grammar) }
     requires within { begun.size ≤ length text.now }
     requires digits { begun.digits ≤ begun.size }
@@ -263,15 +287,16 @@ const fn more_digits(grammar: Grammar, text: &[u8], part: Part, begun: Run) -> R
     ensures over { IsOver (steps_of grammar) text.now part result }
 {
     let mut run = begun;
-    while let Some(value) = value_at(grammar, text, part, run.size) {
-        run = push(grammar, part, run, value, 1);
+    while let Some(value) = value_at(grammar, decimal, text, part, run.size) {
+        run = push(grammar, decimal, part, run, value, 1);
     }
     run
 }
 
 // Reads the digits that follow others, and separators between them. They do not change the stage.
 #[inline(always)]
-const fn groups(grammar: Grammar, text: &[u8], part: Part, begun: Run) -> Run
+const fn groups(grammar: Grammar, decimal: bool, text: &[u8], part: Part, begun: Run) -> Run
+    requires decimal { IsTrue decimal → IsDecimal (raw grammar.word) }
     requires ready { IsReady (steps_of grammar) }
     requires within { begun.size ≤ length text.now }
     requires digits { begun.digits ≤ begun.size }
@@ -284,17 +309,18 @@ const fn groups(grammar: Grammar, text: &[u8], part: Part, begun: Run) -> Run
 {
     let mut run = begun;
     loop {
-        run = more_digits(grammar, text, part, run);
-        let Some(value) = separated(grammar, text, part, run.size) else {
+        run = more_digits(grammar, decimal, text, part, run);
+        let Some(value) = separated(grammar, decimal, text, part, run.size) else {
             return run;
         };
-        run = push(grammar, part, run, value, 2);
+        run = push(grammar, decimal, part, run, value, 2);
     }
 }
 
 // Reads the digits of `part` that follow, and separators between them.
 #[inline(always)]
-const fn digits(grammar: Grammar, text: &[u8], part: Part, begun: Run) -> Run
+const fn digits(grammar: Grammar, decimal: bool, text: &[u8], part: Part, begun: Run) -> Run
+    requires decimal { IsTrue decimal → IsDecimal (raw grammar.word) }
     requires ready { IsReady (steps_of grammar) }
     requires within { begun.size ≤ length text.now }
     requires digits { begun.digits ≤ begun.size }
@@ -308,22 +334,23 @@ const fn digits(grammar: Grammar, text: &[u8], part: Part, begun: Run) -> Run
     ensures over { IsOver (steps_of grammar) text.now part result }
     ensures part { part_of result.stage ≡ part }
 {
-    let Some(value) = value_at(grammar, text, part, begun.size) else {
+    let Some(value) = value_at(grammar, decimal, text, part, begun.size) else {
         return begun;
     };
-    let one = push(grammar, part, begun, value, 1);
+    let one = push(grammar, decimal, part, begun, value, 1);
     if text[begun.size] == b'0' && awaits_integer(begun.stage) {
         let stage = Stage::Bare;
-        behind_zero(grammar, text, Run { stage, ..one })
+        behind_zero(grammar, decimal, text, Run { stage, ..one })
     } else {
         let stage = digits_of(part);
-        groups(grammar, text, part, Run { stage, ..one })
+        groups(grammar, decimal, text, part, Run { stage, ..one })
     }
 }
 
 // Reads the digits behind the zero that begins the integer.
 #[inline(always)]
-const fn behind_zero(grammar: Grammar, text: &[u8], zero: Run) -> Run
+const fn behind_zero(grammar: Grammar, decimal: bool, text: &[u8], zero: Run) -> Run
+    requires decimal { IsTrue decimal → IsDecimal (raw grammar.word) }
     requires ready { IsReady (steps_of grammar) }
     requires within { zero.size ≤ length text.now }
     requires digits { zero.digits ≤ zero.size }
@@ -335,11 +362,11 @@ const fn behind_zero(grammar: Grammar, text: &[u8], zero: Run) -> Run
     ensures over { IsOver (steps_of grammar) text.now Part.Integer result }
     ensures part { part_of result.stage ≡ Part.Integer }
 {
-    match value_at(grammar, text, Part::Integer, zero.size) {
+    match value_at(grammar, decimal, text, Part::Integer, zero.size) {
         Some(value) if may_follow(grammar, Stage::Bare) => {
-            let one = push(grammar, Part::Integer, zero, value, 1);
+            let one = push(grammar, decimal, Part::Integer, zero, value, 1);
             let stage = Stage::Led;
-            groups(grammar, text, Part::Integer, Run { stage, ..one })
+            groups(grammar, decimal, text, Part::Integer, Run { stage, ..one })
         }
         _ => zero,
     }
@@ -348,7 +375,8 @@ const fn behind_zero(grammar: Grammar, text: &[u8], zero: Run) -> Run
 // Reads a front of `text` with which some literal begins. Unless `fronts` is true, a front that is a literal, but not all of
 // `text`, may not be said to be one, which takes less time.
 #[inline(always)]
-pub(crate) const fn plain(grammar: Grammar, text: &[u8], fronts: bool) -> Counted
+pub(crate) const fn plain(grammar: Grammar, decimal: bool, text: &[u8], fronts: bool) -> Counted
+    requires decimal { IsTrue decimal → IsDecimal (raw grammar.word) }
     requires ready { IsReady (steps_of grammar) }
     ensures found { HasFound (steps_of grammar) text.now result }
     ensures summed { IsSummed (raw grammar.word) text.now result }
@@ -356,21 +384,21 @@ pub(crate) const fn plain(grammar: Grammar, text: &[u8], fronts: bool) -> Counte
     let Some(sign) = sign(grammar, text, Part::Integer, 0) else {
         return stopped(grammar, text, BEGIN, false);
     };
-    let Some(opening) = open(grammar, text, sign) else {
+    let Some(opening) = open(grammar, decimal, text, sign) else {
         return without_prefix(grammar, text, sign);
     };
-    integer(grammar, text, fronts, opening)
+    integer(grammar, decimal, text, fronts, opening)
 }
 
 // Returns what comes before the digits of the integer, or `None` if a base prefix is required that does not follow.
 #[tactic(auto, using(crate::proofs::JoinLemmas::opened))]
 #[inline(always)]
-const fn open(grammar: Grammar, text: &[u8], sign: usize) -> Option<Opening>
+const fn open(grammar: Grammar, decimal: bool, text: &[u8], sign: usize) -> Option<Opening>
     requires ready { IsReady (steps_of grammar) }
     requires sign { IsSign (steps_of grammar) text.now Part.Integer 0 sign }
     ensures { IfSome result (IsOpened (steps_of grammar) text.now) }
 {
-    if reads_prefix(grammar, text, sign) {
+    if reads_prefix(grammar, decimal, text, sign) {
         Some(Opening {
             sign,
             prefix: 2,
@@ -428,7 +456,8 @@ const fn without_prefix(grammar: Grammar, text: &[u8], sign: usize) -> Counted
 
 // Reads the integer, and what follows it.
 #[inline(always)]
-const fn integer(grammar: Grammar, text: &[u8], fronts: bool, opening: Opening) -> Counted
+const fn integer(grammar: Grammar, decimal: bool, text: &[u8], fronts: bool, opening: Opening) -> Counted
+    requires decimal { IsTrue decimal → IsDecimal (raw grammar.word) }
     requires ready { IsReady (steps_of grammar) }
     requires opened { IsOpened (steps_of grammar) text.now opening }
     ensures found { HasFound (steps_of grammar) text.now result }
@@ -446,7 +475,7 @@ const fn integer(grammar: Grammar, text: &[u8], fronts: bool, opening: Opening) 
         digits: 0,
         sum: 0,
     };
-    let run = digits(grammar, text, Part::Integer, begun);
+    let run = digits(grammar, decimal, text, Part::Integer, begun);
     let sizes = Sizes {
         sign,
         prefix,
@@ -460,20 +489,22 @@ const fn integer(grammar: Grammar, text: &[u8], fronts: bool, opening: Opening) 
         && is_point(grammar, text[run.size])
         && takes(grammar, at.read, false, Role::Point)
     {
-        return fraction(grammar, text, fronts, sizes, run);
+        return fraction(grammar, decimal, text, fronts, sizes, run);
     }
-    behind_mantissa(grammar, text, fronts, sizes, run)
+    behind_mantissa(grammar, decimal, text, fronts, sizes, run)
 }
 
 // Reads the fraction behind its decimal point, and what follows it.
 #[inline(always)]
 const fn fraction(
     grammar: Grammar,
+    decimal: bool,
     text: &[u8],
     fronts: bool,
     sizes: Sizes,
     integer: Run,
 ) -> Counted
+    requires decimal { IsTrue decimal → IsDecimal (raw grammar.word) }
     requires ready { IsReady (steps_of grammar) }
     requires inside { integer.size < length text.now }
     requires at { IsAt (steps_of grammar) text.now (at_stage (integer.size + 1) (after_point (has_digit integer.stage)))
@@ -491,25 +522,27 @@ const fn fraction(
         stage,
         ..integer
     };
-    let run = digits(grammar, text, Part::Fraction, begun);
+    let run = digits(grammar, decimal, text, Part::Fraction, begun);
     let sizes = Sizes {
         point: 1,
         fraction: run.size - from,
         places: run.digits - integer.digits,
         ..sizes
     };
-    behind_mantissa(grammar, text, fronts, sizes, run)
+    behind_mantissa(grammar, decimal, text, fronts, sizes, run)
 }
 
 // Reads what follows the digits of the mantissa, an exponent or the suffix.
 #[inline(always)]
 const fn behind_mantissa(
     grammar: Grammar,
+    decimal: bool,
     text: &[u8],
     fronts: bool,
     sizes: Sizes,
     run: Run,
 ) -> Counted
+    requires decimal { IsTrue decimal → IsDecimal (raw grammar.word) }
     requires ready { IsReady (steps_of grammar) }
     requires at { IsAt (steps_of grammar) text.now (at_stage run.size run.stage) (cuts_of (counts_of sizes 0 0 0 0)) }
     requires free { is_free (steps_of grammar) run.stage ≡ true }
@@ -524,7 +557,7 @@ const fn behind_mantissa(
         && is_exponent_character(grammar, text[run.size])
         && takes(grammar, at.read, false, Role::Exponent)
     {
-        exponent(grammar, text, fronts, sizes, run)
+        exponent(grammar, decimal, text, fronts, sizes, run)
     } else {
         end(
             grammar,
@@ -561,11 +594,13 @@ const fn all_sums(sizes: Sizes, mantissa: Run, exponent: Sum) -> Sums
 #[inline(always)]
 const fn exponent(
     grammar: Grammar,
+    decimal: bool,
     text: &[u8],
     fronts: bool,
     sizes: Sizes,
     mantissa: Run,
 ) -> Counted
+    requires decimal { IsTrue decimal → IsDecimal (raw grammar.word) }
     requires ready { IsReady (steps_of grammar) }
     requires within { mantissa.size < length text.now }
     requires at { IsAt (steps_of grammar) text.now (at_stage (mantissa.size + 1) Stage.Mark) (cuts_of (counts_of sizes 1 0 0 0)) }
@@ -584,7 +619,7 @@ const fn exponent(
         digits: 0,
         sum: 0,
     };
-    let run = digits(grammar, text, Part::Exponent, begun);
+    let run = digits(grammar, decimal, text, Part::Exponent, begun);
     let at = at_stage(run.size, run.stage);
     let exponent = Sum {
         digits: run.digits,

@@ -4,7 +4,7 @@ ghost use Rattle.std.specs.Prelude.{◌≡◌, ◌+◌, ◌++◌, ◌∷◌, ◌
 ghost use Rattle.std.specs.Prelude.{[], false, get_or, true, length, slice_get, take};
 ghost use Rattle.lexical_literal.specs.Additions.Explained.{tail_byte};
 ghost use Rattle.lexical_literal.specs.Additions.Longest.{HasBegun, HasFound, IsFronted, IsLongest, IsMeasured, IsStopped, IsUnderway};
-ghost use Rattle.lexical_literal.specs.Additions.Plain.{HasSizes, IsReady};
+ghost use Rattle.lexical_literal.specs.Additions.Plain.{HasSizes, IsDecimal, IsReady};
 ghost use Rattle.lexical_literal.specs.Additions.Read.{IsSummed};
 ghost use Rattle.lexical_literal.specs.Additions.Sizes.{goes, steps_of};
 ghost use Rattle.lexical_util.specs.Record.{raw};
@@ -18,7 +18,7 @@ ghost use Rattle.lexical_literal.specs.Parts.{literal_of};
 
 use crate::cause::{ReadError, Spot};
 use crate::groups::{FIRST, Group, fits, group_after, grow, has_sizes};
-use crate::plain::{At, BEGIN, Counted, plain};
+use crate::plain::{At, BEGIN, Counted, is_decimal, plain};
 use crate::span::marks;
 use crate::steps::{Piece, is_complete, part_of, piece_number, piece_of, step};
 use crate::syntax::{Grammar, Syntax};
@@ -65,7 +65,7 @@ impl Syntax {
             counts,
             complete,
             ..
-        } = self.begin(text, true);
+        } = self.begin(false, text, true);
         let stop = self.stop(text, at);
         if complete && stop.size == at.size {
             let size = stop.size;
@@ -74,15 +74,24 @@ impl Syntax {
         (stop, self.longest(text))
     }
 
+    // Returns whether all digits are decimal, and no base prefix is read.
+    #[inline(always)]
+    pub(crate) const fn is_decimal(&self) -> bool
+        ensures { IsTrue result → IsDecimal (raw self.now.word) }
+    {
+        is_decimal(self.grammar())
+    }
+
     // Reads a front of `text` with which some literal begins. Unless `fronts` is true, a front that is a literal, but not all of
     // `text`, may not be said to be one, which takes less time.
     #[inline(always)]
-    pub(crate) const fn begin(&self, text: &[u8], fronts: bool) -> Counted
+    pub(crate) const fn begin(&self, decimal: bool, text: &[u8], fronts: bool) -> Counted
+        requires decimal { IsTrue decimal → IsDecimal (raw self.now.word) }
         ensures found { HasBegun (notation_of self.now) text.now result }
         ensures summed { IsSummed (raw self.now.word) text.now result }
     {
         let grammar = self.grammar();
-        let counted = plain(grammar, text, fronts);
+        let counted = plain(grammar, decimal, text, fronts);
         if has_sizes(grammar) {
             sized(grammar, text, counted)
         } else {

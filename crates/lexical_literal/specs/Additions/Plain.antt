@@ -11,7 +11,8 @@ use Rattle.lexical_util.specs.declared.feature_format.roles.Role.TheVariants as 
 use Rattle.lexical_util.specs.declared.format_flags.Part.{Part}
 use Rattle.lexical_util.specs.declared.format_flags.Part.TheVariants as parts
 use Rattle.lexical_literal.specs.Groups.{has_size, has_sizes}
-use Rattle.lexical_literal.specs.Notation.{Notation, set_of_role}
+use Rattle.lexical_util.specs.Record.{Record}
+use Rattle.lexical_literal.specs.Notation.{Notation, radix_of, set_of_role}
 use Rattle.lexical_literal.specs.Additions.Summary.{Cuts, add_more, after_mark, cuts_of, digits_piece, has_digit, is_run, is_signed}
 use Rattle.lexical_literal.specs.Additions.Summary.{lacks_prefix, no_cuts, part_of, piece_of, scan, start, step, takes, tally}
 use Rattle.lexical_literal.specs.declared.plain.At.{At}
@@ -100,6 +101,10 @@ is_free m stage = not (m.condition conditions.BasePrefix && lacks_prefix stage)
 -- `between text from end` has the bytes of `text` from the index `from` to `end`.
 abbrev pub between : List ℕ → ℕ → ℕ → List ℕ
 between text from end = take (end - from) (drop from text)
+
+-- `IsDecimal r` holds if all digits of the format `r` are decimal.
+abbrev pub IsDecimal : Record → Type 0
+IsDecimal r = (part : Part) → radix_of r part ≡ 10
 
 -- `IsDigitAt radix text index value` holds if the byte at `index` is the digit of `radix` with this value.
 abbrev pub IsDigitAt : ℕ → List ℕ → ℕ → ℕ → Type 0

@@ -1,8 +1,10 @@
 -- A syntax has what reading needs.
 use Rattle.std.proofs.Common.{sym, ap, subst, ◌∙◌}
+use Rattle.std.specs.Prelude.{IsTrue}
+use Rattle.lexical_util.specs.Record.{raw}
 use Rattle.lexical_literal.specs.Groups.{has_sizes}
 use Rattle.lexical_literal.specs.Additions.Longest.{HasBegun, HasFound}
-use Rattle.lexical_literal.specs.Additions.Plain.{HasSizes, IsReady}
+use Rattle.lexical_literal.specs.Additions.Plain.{HasSizes, IsDecimal, IsReady}
 use Rattle.lexical_literal.specs.Additions.Sizes.{steps_of}
 use Rattle.lexical_literal.specs.Notation.{notation_of}
 use Rattle.lexical_literal.specs.declared.syntax.Grammar.{Grammar}
@@ -11,7 +13,10 @@ use Rattle.lexical_literal.proofs.syntax.Syntax.begin.Goals as goal
 
 pub plain-counted-requires : goal.plain-counted-requires
 plain-counted-requires c =
-    record { ready = subst (λ (g : Grammar). IsReady (steps_of g)) (sym c.grammar-grammar.ensures.value) c.grammar-grammar.ensures.ready }
+    record {
+      decimal = subst (λ (g : Grammar). IsTrue c.args.decimal → IsDecimal (raw g.word)) (sym c.grammar-grammar.ensures.value) c.requires.decimal;
+      ready = subst (λ (g : Grammar). IsReady (steps_of g)) (sym c.grammar-grammar.ensures.value) c.grammar-grammar.ensures.ready;
+    }
 
 pub sized-requires-clause-ready : goal.sized-requires-clause-ready
 sized-requires-clause-ready c = subst (λ (g : Grammar). IsReady (steps_of g)) (sym c.grammar-grammar.ensures.value) c.grammar-grammar.ensures.ready
