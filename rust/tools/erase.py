@@ -142,11 +142,14 @@ REPLACED += [
     ("lexical_literal/src/literal.rt", "    text: &'a [u8],\n    counts", "    pub(crate) text: &'a [u8],\n    pub(crate) counts"),
     ("lexical_literal/src/literal.rt", "pub const fn format(&self)", "pub(crate) const fn format(&self)"),
     ("lexical_literal/src/literal.rt", "pub const fn cut(&self)", "pub(crate) const fn cut(&self)"),
+    ("lexical_literal/src/literal.rt", "pub const fn has_negative_exponent(&self)", "pub(crate) const fn has_negative_exponent(&self)"),
     ("lexical_literal/src/literal.rt", "pub const fn mantissa(&self)", "pub(crate) const fn mantissa(&self)"),
     ("lexical_literal/src/literal.rt", "pub const fn places(&self)", "pub(crate) const fn places(&self)"),
     ("lexical_literal/src/literal.rt", "pub const fn scale(&self)", "pub(crate) const fn scale(&self)"),
     # A syntax that is not lawful can have any radix.
     ("lexical_number/src/word.rt", "MOST[radix as usize] as usize", "if radix <= 36 { MOST[radix as usize] as usize } else { 0 }"),
+    # A decimal literal need not be in memory where another one would be.
+    ("lexical_value/src/float.rt", "binary_size(F::DOUBLE, literal)", "binary_size(F::DOUBLE, &{ *literal })"),
     # Calls for constants.
     ("lexical_value/src/integer.rt", "pub(crate) fn integer_numeral", "pub(crate) const fn integer_numeral"),
     ("lexical_value/src/integer.rt", "\nfn magnitude", "\nconst fn magnitude"),

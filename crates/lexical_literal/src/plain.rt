@@ -24,6 +24,7 @@ use crate::steps::{
 use crate::syntax::{Condition, Grammar};
 use lexical_base::digit::char_to_digit_const;
 use lexical_util::format::{Part, Role};
+use lexical_util::format_flags::base_prefix;
 
 // What has been read of a text: the number of bytes, and their summary.
 #[derive(Clone, Copy)]
@@ -146,7 +147,7 @@ pub(crate) const fn is_decimal(grammar: Grammar) -> bool
     let view = grammar.view();
     view.mantissa_radix() == 10
         && view.exponent_radix() == 10
-        && view.base_prefix() == 0
+        && base_prefix(grammar.word) == 0
 }
 
 // Returns whether a sign of the mantissa, or of the exponent, follows and is read.

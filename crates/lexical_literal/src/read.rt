@@ -9,6 +9,7 @@ ghost use Rattle.lexical_literal.specs.Additions.Read.{IsSummed};
 ghost use Rattle.lexical_literal.specs.Additions.Sizes.{goes, steps_of};
 ghost use Rattle.lexical_util.specs.Record.{raw};
 ghost use Rattle.lexical_literal.specs.Additions.Summary.{HasLengths, count, cuts_of, part_of, role_at};
+ghost use Rattle.lexical_literal.specs.Groups.{has_sizes};
 ghost use Rattle.lexical_literal.specs.Cause.{IsRefusal, tail_of, tail_size};
 ghost use Rattle.lexical_literal.specs.Front.{NoLiteral};
 ghost use Rattle.lexical_literal.specs.Literal.{Literal, Reads, text_of};
@@ -74,26 +75,32 @@ impl Syntax {
         (stop, self.longest(text))
     }
 
-    // Returns whether all digits are decimal, and no base prefix is read.
+    // Returns whether all digits are decimal, no base prefix is read, and there are no conditions.
     #[inline(always)]
     pub(crate) const fn is_decimal(&self) -> bool
-        ensures { IsTrue result → IsDecimal (raw self.now.word) }
+        ensures radix { IsTrue result → IsDecimal (raw self.now.word) }
+        ensures sizes { IsTrue result → has_sizes (notation_of self.now) ≡ false }
     {
-        is_decimal(self.grammar())
+        let grammar = self.grammar();
+        is_decimal(grammar) && grammar.conditions.is_none() && !has_sizes(grammar)
     }
 
     // Reads a front of `text` with which some literal begins. Unless `fronts` is true, a front that is a literal, but not all of
     // `text`, may not be said to be one, which takes less time.
     #[inline(always)]
     pub(crate) const fn begin(&self, decimal: bool, text: &[u8], fronts: bool) -> Counted
-        requires decimal { IsTrue decimal → IsDecimal (raw self.now.word) }
+        requires radix { IsTrue decimal → IsDecimal (raw self.now.word) }
+        requires sizes { IsTrue decimal → has_sizes (notation_of self.now) ≡ false }
         ensures found { HasBegun (notation_of self.now) text.now result }
         ensures summed { IsSummed (raw self.now.word) text.now result }
     {
         let grammar = self.grammar();
         let counted = plain(grammar, decimal, text, fronts);
+        if decimal {
+            return counted;
+        }
         if has_sizes(grammar) {
-            sized(grammar, text, counted)
+            sized(self.grammar(), text, counted)
         } else {
             counted
         }

@@ -45,6 +45,7 @@ impl ValueErrorKind {
 /// # Errors
 ///
 /// If the literal has a decimal point or an exponent, or if its value is not in the range of the type, returns which.
+#[inline(always)]
 pub fn to_integer<T: Integer>(literal: &Literal) -> Result<T, ValueErrorKind>
     ensures { MatchResult result (λ value. IsInteger (raw literal.now.format) literal.now.literal (T.range.value value))
         (IsNoInteger T.range.least T.range.largest (raw literal.now.format) literal.now.literal) }

@@ -35,6 +35,27 @@ impl<'a> Literal<'a> {
         cut(self.text, self.counts)
     }
 
+    /// Returns whether the sign is `-`.
+    #[must_use]
+    #[inline(always)]
+    pub const fn is_negative(&self) -> bool {
+        self.counts[0] != 0 && is_minus(self.text)
+    }
+
+    /// Returns whether the literal is a float: whether it has a decimal point or an exponent character.
+    #[must_use]
+    #[inline(always)]
+    pub const fn is_float(&self) -> bool {
+        self.counts[3] != 0 || self.counts[5] != 0
+    }
+
+    /// Returns whether the sign of the exponent is `-`.
+    #[must_use]
+    #[inline(always)]
+    pub(crate) const fn has_negative_exponent(&self) -> bool {
+        self.counts[6] != 0 && is_minus(self.cut().exponent_sign)
+    }
+
     /// Returns the number that the digits of the integer and the fraction represent together, if they are so few behind their
     /// leading zeros that each number of so many digits is below `2 ^ 64`: 19 in radix 10, and 16 in radix 16.
     #[must_use]
@@ -85,6 +106,12 @@ impl Syntax {
         let sums = sums_of(view.mantissa_radix(), view.exponent_radix(), &cut(text, counts));
         self.literal(text, counts, sums)
     }
+}
+
+// Returns whether a sign is a minus sign.
+#[inline(always)]
+const fn is_minus(sign: &[u8]) -> bool {
+    matches!(sign, [b'-', ..])
 }
 
 // Returns the sums of the digits of `parts`.

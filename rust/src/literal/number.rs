@@ -39,27 +39,29 @@ impl Syntax {
 
     /// Returns what [`read`][Self::read] returns, also in a constant.
     pub const fn read_bytes<'t>(&self, text: &'t [u8]) -> Result<Literal<'t>, ReadError> {
-        let counted = self.begin(text, false);
+        if self.is_decimal() {
+            self.read_parts(true, text)
+        } else {
+            self.read_generally(text)
+        }
+    }
+
+    // Returns the same for any syntax.
+    #[inline(never)]
+    pub(crate) const fn read_generally<'t>(&self, text: &'t [u8]) -> Result<Literal<'t>, ReadError> {
+        self.read_parts(false, text)
+    }
+
+    // Returns the same. All digits are decimal if `decimal` is true.
+    #[inline(always)]
+    const fn read_parts<'t>(&self, decimal: bool, text: &'t [u8]) -> Result<Literal<'t>, ReadError> {
+        let counted = self.begin(decimal, text, false);
         if self.is_whole(text, counted) {
             Ok(self.literal(text, counted.counts, counted.sums))
         } else if counted.exact {
             self.refuse(text, counted.at)
         } else {
             self.read_slowly(text, counted.at)
-        }
-    }
-
-    /// Returns what `then` makes of what [`read`][Self::read] returns, for callers that need not have it in memory.
-    #[doc(hidden)]
-    #[inline(always)]
-    pub fn read_then<'t, R>(&self, text: &'t [u8], then: impl FnOnce(Result<Literal<'t>, ReadError>) -> R) -> R {
-        let counted = self.begin(text, false);
-        if self.is_whole(text, counted) {
-            then(Ok(self.literal(text, counted.counts, counted.sums)))
-        } else if counted.exact {
-            then(self.refuse(text, counted.at))
-        } else {
-            then(self.read_slowly(text, counted.at))
         }
     }
 
@@ -135,18 +137,6 @@ impl<'a> Literal<'a> {
             Ok(text) => text,
             Err(_) => unreachable!(),
         }
-    }
-
-    /// Returns whether the literal is a float: whether it has a decimal point or an exponent character.
-    #[must_use]
-    pub const fn is_float(&self) -> bool {
-        !self.point().is_empty() || !self.exponent_character().is_empty()
-    }
-
-    /// Returns whether the sign is `-`.
-    #[must_use]
-    pub const fn is_negative(&self) -> bool {
-        matches!(self.sign(), b"-")
     }
 
     /// Returns the radix of the digits of a part, a number from 2 to 36.

@@ -2,8 +2,11 @@
 
 //! How the parts of a literal are read, one after another.
 //!
-//! Reading may stop anywhere here: where it stops, one step decides whether it goes on.
+//! Reading may stop anywhere here: where it stops, one step decides whether it goes on. If `decimal` is true, all digits are
+//! decimal, which takes less time where the compiler knows it.
 
+use crate::digit::char_to_digit_const;
+use crate::format_flags::base_prefix;
 use crate::literal::steps::{
     after_point, allows_minus, allows_plus, awaits_integer, digit_value, digits_of, is_complete, is_digit,
     is_exponent_character, is_point, is_run, is_separator, is_signed, may_follow, radix_of, takes, Stage, Summary,
@@ -101,6 +104,13 @@ const fn stopped(_grammar: Grammar, _text: &[u8], at: At, exact: bool) -> Counte
     }
 }
 
+// Returns whether all digits are decimal, and no base prefix is read.
+#[inline(always)]
+pub(crate) const fn is_decimal(grammar: Grammar) -> bool {
+    let view = grammar.view();
+    view.mantissa_radix() == 10 && view.exponent_radix() == 10 && base_prefix(grammar.word) == 0
+}
+
 // Returns whether a sign of the mantissa, or of the exponent, follows and is read.
 #[inline(always)]
 const fn reads_sign(grammar: Grammar, text: &[u8], part: Part, size: usize) -> bool {
@@ -135,10 +145,10 @@ const fn behind_sign(part: Part, sign: usize) -> Stage {
     }
 }
 
-// Returns whether a base prefix follows, with its zero, and is read.
+// Returns whether a base prefix follows, with its zero, and is read. None is if `decimal` is true.
 #[inline(always)]
-const fn reads_prefix(grammar: Grammar, text: &[u8], size: usize) -> bool {
-    if size + 1 >= text.len() {
+const fn reads_prefix(grammar: Grammar, decimal: bool, text: &[u8], size: usize) -> bool {
+    if decimal || size + 1 >= text.len() {
         return false;
     }
     text[size] == b'0' && grammar.view().is_base_prefix(text[size + 1])
@@ -146,26 +156,29 @@ const fn reads_prefix(grammar: Grammar, text: &[u8], size: usize) -> bool {
 
 // Returns the value of the digit of `part` at `index`, if there is one.
 #[inline(always)]
-const fn value_at(grammar: Grammar, text: &[u8], part: Part, index: usize) -> Option<u32> {
-    if index < text.len() {
-        digit_value(grammar, part, text[index])
-    } else {
+const fn value_at(grammar: Grammar, decimal: bool, text: &[u8], part: Part, index: usize) -> Option<u32> {
+    if index >= text.len() {
         None
+    } else if decimal {
+        char_to_digit_const(text[index], 10)
+    } else {
+        digit_value(grammar, part, text[index])
     }
 }
 
 // Returns the run with one more digit, whose byte is the last of `bytes` more.
 #[inline(always)]
-const fn push(grammar: Grammar, part: Part, run: Run, value: u32, bytes: usize) -> Run {
-    let sum = run.sum.wrapping_mul(radix_of(grammar, part));
+const fn push(grammar: Grammar, decimal: bool, part: Part, run: Run, value: u32, bytes: usize) -> Run {
+    let radix = if decimal { 10 } else { radix_of(grammar, part) };
+    let sum = run.sum.wrapping_mul(radix);
     Run { size: run.size + bytes, digits: run.digits + 1, sum: sum.wrapping_add(value as u64), ..run }
 }
 
 // Returns the value of the digit behind a separator at `index`, if a separator may be there.
 #[inline(always)]
-const fn separated(grammar: Grammar, text: &[u8], part: Part, index: usize) -> Option<u32> {
+const fn separated(grammar: Grammar, decimal: bool, text: &[u8], part: Part, index: usize) -> Option<u32> {
     if index < text.len() && is_separator(grammar, text[index]) && grammar.view().separators(part).internal {
-        value_at(grammar, text, part, index + 1)
+        value_at(grammar, decimal, text, part, index + 1)
     } else {
         None
     }
@@ -173,51 +186,51 @@ const fn separated(grammar: Grammar, text: &[u8], part: Part, index: usize) -> O
 
 // Reads the digits that follow others. They do not change the stage.
 #[inline(always)]
-const fn more_digits(grammar: Grammar, text: &[u8], part: Part, begun: Run) -> Run {
+const fn more_digits(grammar: Grammar, decimal: bool, text: &[u8], part: Part, begun: Run) -> Run {
     let mut run = begun;
-    while let Some(value) = value_at(grammar, text, part, run.size) {
-        run = push(grammar, part, run, value, 1);
+    while let Some(value) = value_at(grammar, decimal, text, part, run.size) {
+        run = push(grammar, decimal, part, run, value, 1);
     }
     run
 }
 
 // Reads the digits that follow others, and separators between them. They do not change the stage.
 #[inline(always)]
-const fn groups(grammar: Grammar, text: &[u8], part: Part, begun: Run) -> Run {
+const fn groups(grammar: Grammar, decimal: bool, text: &[u8], part: Part, begun: Run) -> Run {
     let mut run = begun;
     loop {
-        run = more_digits(grammar, text, part, run);
-        let Some(value) = separated(grammar, text, part, run.size) else {
+        run = more_digits(grammar, decimal, text, part, run);
+        let Some(value) = separated(grammar, decimal, text, part, run.size) else {
             return run;
         };
-        run = push(grammar, part, run, value, 2);
+        run = push(grammar, decimal, part, run, value, 2);
     }
 }
 
 // Reads the digits of `part` that follow, and separators between them.
 #[inline(always)]
-const fn digits(grammar: Grammar, text: &[u8], part: Part, begun: Run) -> Run {
-    let Some(value) = value_at(grammar, text, part, begun.size) else {
+const fn digits(grammar: Grammar, decimal: bool, text: &[u8], part: Part, begun: Run) -> Run {
+    let Some(value) = value_at(grammar, decimal, text, part, begun.size) else {
         return begun;
     };
-    let one = push(grammar, part, begun, value, 1);
+    let one = push(grammar, decimal, part, begun, value, 1);
     if text[begun.size] == b'0' && awaits_integer(begun.stage) {
         let stage = Stage::Bare;
-        behind_zero(grammar, text, Run { stage, ..one })
+        behind_zero(grammar, decimal, text, Run { stage, ..one })
     } else {
         let stage = digits_of(part);
-        groups(grammar, text, part, Run { stage, ..one })
+        groups(grammar, decimal, text, part, Run { stage, ..one })
     }
 }
 
 // Reads the digits behind the zero that begins the integer.
 #[inline(always)]
-const fn behind_zero(grammar: Grammar, text: &[u8], zero: Run) -> Run {
-    match value_at(grammar, text, Part::Integer, zero.size) {
+const fn behind_zero(grammar: Grammar, decimal: bool, text: &[u8], zero: Run) -> Run {
+    match value_at(grammar, decimal, text, Part::Integer, zero.size) {
         Some(value) if may_follow(grammar, Stage::Bare) => {
-            let one = push(grammar, Part::Integer, zero, value, 1);
+            let one = push(grammar, decimal, Part::Integer, zero, value, 1);
             let stage = Stage::Led;
-            groups(grammar, text, Part::Integer, Run { stage, ..one })
+            groups(grammar, decimal, text, Part::Integer, Run { stage, ..one })
         }
         _ => zero,
     }
@@ -226,20 +239,20 @@ const fn behind_zero(grammar: Grammar, text: &[u8], zero: Run) -> Run {
 // Reads a front of `text` with which some literal begins. Unless `fronts` is true, a front that is a literal, but not all of
 // `text`, may not be said to be one, which takes less time.
 #[inline(always)]
-pub(crate) const fn plain(grammar: Grammar, text: &[u8], fronts: bool) -> Counted {
+pub(crate) const fn plain(grammar: Grammar, decimal: bool, text: &[u8], fronts: bool) -> Counted {
     let Some(sign) = sign(grammar, text, Part::Integer, 0) else {
         return stopped(grammar, text, BEGIN, false);
     };
-    let Some(opening) = open(grammar, text, sign) else {
+    let Some(opening) = open(grammar, decimal, text, sign) else {
         return without_prefix(grammar, text, sign);
     };
-    integer(grammar, text, fronts, opening)
+    integer(grammar, decimal, text, fronts, opening)
 }
 
 // Returns what comes before the digits of the integer, or `None` if a base prefix is required that does not follow.
 #[inline(always)]
-const fn open(grammar: Grammar, text: &[u8], sign: usize) -> Option<Opening> {
-    if reads_prefix(grammar, text, sign) {
+const fn open(grammar: Grammar, decimal: bool, text: &[u8], sign: usize) -> Option<Opening> {
+    if reads_prefix(grammar, decimal, text, sign) {
         Some(Opening { sign, prefix: 2, size: sign + 2, stage: Stage::Prefixed })
     } else if grammar.conditions.has(Condition::BasePrefix) {
         None
@@ -266,38 +279,45 @@ const fn without_prefix(grammar: Grammar, text: &[u8], sign: usize) -> Counted {
 
 // Reads the integer, and what follows it.
 #[inline(always)]
-const fn integer(grammar: Grammar, text: &[u8], fronts: bool, opening: Opening) -> Counted {
+const fn integer(grammar: Grammar, decimal: bool, text: &[u8], fronts: bool, opening: Opening) -> Counted {
     let Opening { sign, prefix, size, stage } = opening;
     let begun = Run { size, stage, digits: 0, sum: 0 };
-    let run = digits(grammar, text, Part::Integer, begun);
+    let run = digits(grammar, decimal, text, Part::Integer, begun);
     let sizes = Sizes { sign, prefix, integer: run.size - size, point: 0, fraction: 0, places: 0 };
     let at = at_stage(run.size, run.stage);
     if run.size < text.len() && is_point(grammar, text[run.size]) && takes(grammar, at.read, false, Role::Point) {
-        return fraction(grammar, text, fronts, sizes, run);
+        return fraction(grammar, decimal, text, fronts, sizes, run);
     }
-    behind_mantissa(grammar, text, fronts, sizes, run)
+    behind_mantissa(grammar, decimal, text, fronts, sizes, run)
 }
 
 // Reads the fraction behind its decimal point, and what follows it.
 #[inline(always)]
-const fn fraction(grammar: Grammar, text: &[u8], fronts: bool, sizes: Sizes, integer: Run) -> Counted {
+const fn fraction(grammar: Grammar, decimal: bool, text: &[u8], fronts: bool, sizes: Sizes, integer: Run) -> Counted {
     let from = integer.size + 1;
     let stage = after_point(integer.stage);
     let begun = Run { size: from, stage, ..integer };
-    let run = digits(grammar, text, Part::Fraction, begun);
+    let run = digits(grammar, decimal, text, Part::Fraction, begun);
     let sizes = Sizes { point: 1, fraction: run.size - from, places: run.digits - integer.digits, ..sizes };
-    behind_mantissa(grammar, text, fronts, sizes, run)
+    behind_mantissa(grammar, decimal, text, fronts, sizes, run)
 }
 
 // Reads what follows the digits of the mantissa, an exponent or the suffix.
 #[inline(always)]
-const fn behind_mantissa(grammar: Grammar, text: &[u8], fronts: bool, sizes: Sizes, run: Run) -> Counted {
+const fn behind_mantissa(
+    grammar: Grammar,
+    decimal: bool,
+    text: &[u8],
+    fronts: bool,
+    sizes: Sizes,
+    run: Run,
+) -> Counted {
     let at = at_stage(run.size, run.stage);
     if run.size < text.len()
         && is_exponent_character(grammar, text[run.size])
         && takes(grammar, at.read, false, Role::Exponent)
     {
-        exponent(grammar, text, fronts, sizes, run)
+        exponent(grammar, decimal, text, fronts, sizes, run)
     } else {
         end(grammar, text, fronts, at, sizes, [0; 3], all_sums(sizes, run, NOTHING))
     }
@@ -311,14 +331,14 @@ const fn all_sums(sizes: Sizes, mantissa: Run, exponent: Sum) -> Sums {
 
 // Reads the exponent behind its character, and what follows it.
 #[inline(always)]
-const fn exponent(grammar: Grammar, text: &[u8], fronts: bool, sizes: Sizes, mantissa: Run) -> Counted {
+const fn exponent(grammar: Grammar, decimal: bool, text: &[u8], fronts: bool, sizes: Sizes, mantissa: Run) -> Counted {
     let size = mantissa.size + 1;
     let Some(sign) = sign(grammar, text, Part::Exponent, size) else {
         return stopped(grammar, text, at_stage(size, Stage::Mark), false);
     };
     let from = size + sign;
     let begun = Run { size: from, stage: behind_sign(Part::Exponent, sign), digits: 0, sum: 0 };
-    let run = digits(grammar, text, Part::Exponent, begun);
+    let run = digits(grammar, decimal, text, Part::Exponent, begun);
     let at = at_stage(run.size, run.stage);
     let exponent = Sum { digits: run.digits, value: run.sum };
     let scale = [1, sign, run.size - from];

@@ -4,7 +4,7 @@
 
 use crate::literal::cause::{ReadError, Spot};
 use crate::literal::groups::{fits, group_after, grow, has_sizes, Group, FIRST};
-use crate::literal::plain::{plain, At, Counted, BEGIN};
+use crate::literal::plain::{is_decimal, plain, At, Counted, BEGIN};
 use crate::literal::span::marks;
 use crate::literal::steps::{is_complete, part_of, piece_number, piece_of, step, Piece};
 use crate::literal::syntax::{Grammar, Syntax};
@@ -44,7 +44,7 @@ impl Syntax {
     // Returns where reading `text` stops, and the longest front that is a literal, if there is one.
     #[inline(always)]
     pub(crate) const fn front(&self, text: &[u8]) -> (At, Option<Found>) {
-        let Counted { at, counts, complete, .. } = self.begin(text, true);
+        let Counted { at, counts, complete, .. } = self.begin(false, text, true);
         let stop = self.stop(text, at);
         if complete && stop.size == at.size {
             let size = stop.size;
@@ -53,14 +53,24 @@ impl Syntax {
         (stop, self.longest(text))
     }
 
+    // Returns whether all digits are decimal, no base prefix is read, and there are no conditions.
+    #[inline(always)]
+    pub(crate) const fn is_decimal(&self) -> bool {
+        let grammar = self.as_grammar();
+        is_decimal(grammar) && grammar.conditions.is_none() && !has_sizes(grammar)
+    }
+
     // Reads a front of `text` with which some literal begins. Unless `fronts` is true, a front that is a literal, but not all of
     // `text`, may not be said to be one, which takes less time.
     #[inline(always)]
-    pub(crate) const fn begin(&self, text: &[u8], fronts: bool) -> Counted {
+    pub(crate) const fn begin(&self, decimal: bool, text: &[u8], fronts: bool) -> Counted {
         let grammar = self.as_grammar();
-        let counted = plain(grammar, text, fronts);
+        let counted = plain(grammar, decimal, text, fronts);
+        if decimal {
+            return counted;
+        }
         if has_sizes(grammar) {
-            sized(grammar, text, counted)
+            sized(self.as_grammar(), text, counted)
         } else {
             counted
         }

@@ -3,6 +3,7 @@
 use core::fmt::{self, Write};
 
 use crate::format_flags::Part;
+use crate::literal::plain::At;
 use crate::literal::{Literal, Number, ReadError, Sign, Special, Spelling, Syntax};
 
 mod float;
@@ -177,7 +178,7 @@ macro_rules! conversions {
             impl TryFrom<Literal<'_>> for $type {
                 type Error = ValueError;
 
-                #[inline]
+                #[inline(always)]
                 fn try_from(literal: Literal<'_>) -> Result<$type, ValueError> {
                     $convert(&literal).map_err(ValueError::of::<$type>)
                 }
@@ -300,7 +301,31 @@ impl Syntax {
     ///
     /// If `text` is not a literal, or if its value is not one of the type, returns why.
     pub fn parse<T: FromLiteral>(&self, text: impl AsRef<[u8]>) -> Result<T, ParseError> {
-        self.read_then(text.as_ref(), |result| Ok(T::try_from(result?)?))
+        let text = text.as_ref();
+        // A decimal literal need not be in memory to have a value.
+        if self.is_decimal() {
+            let counted = self.begin(true, text, false);
+            if self.is_whole(text, counted) {
+                if let Ok(value) = T::try_from(self.literal(text, counted.counts, counted.sums)) {
+                    return Ok(value);
+                }
+            } else if counted.exact {
+                return self.refuse_value(text, counted.at);
+            }
+        }
+        self.parse_generally(text)
+    }
+
+    // Returns what `parse` returns for any text.
+    #[inline(never)]
+    fn parse_generally<T: FromLiteral>(&self, text: &[u8]) -> Result<T, ParseError> {
+        Ok(T::try_from(self.read_generally(text)?)?)
+    }
+
+    // Returns why `text`, of which reading stopped at `at`, is not a literal.
+    #[cold]
+    fn refuse_value<T>(&self, text: &[u8], at: At) -> Result<T, ParseError> {
+        Ok(self.refuse(text, at)?)
     }
 
     /// Returns whether literals have values of float types: whether the mantissa radix and the exponent base of the format

@@ -14,6 +14,10 @@ const MOST: [u8; 37] = [
 #[must_use]
 #[inline(always)]
 pub const fn fits(radix: u32, digits: usize) -> bool {
+    // In each radix, 12 digits fit.
+    if digits <= 12 {
+        return true;
+    }
     digits <= if radix <= 36 { MOST[radix as usize] as usize } else { 0 }
 }
 

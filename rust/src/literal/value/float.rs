@@ -3,7 +3,7 @@
 //! The value of a literal as a value of a float type.
 
 use crate::literal::literal::Literal;
-use crate::literal::value::integer::{is_minus, ValueErrorKind};
+use crate::literal::value::integer::ValueErrorKind;
 use crate::number::decimal::{decimal_to_float, digits_to_float};
 use crate::number::float::Float;
 use crate::number::leading::{push_all, saturating, Leading};
@@ -16,15 +16,16 @@ use crate::word::FormatView;
 /// # Errors
 ///
 /// If the mantissa radix and the exponent base are neither both 10 nor both powers of two, of any literal.
+#[inline(always)]
 pub fn to_float<F: Float>(literal: &Literal) -> Result<F, ValueErrorKind> {
     let size = if has_decimal_floats(literal.format()) {
         decimal_size(literal)
-    } else if let Some(bits) = binary_size(F::DOUBLE, literal) {
+    } else if let Some(bits) = binary_size(F::DOUBLE, &{ *literal }) {
         F::from_magnitude(bits)
     } else {
         return Err(ValueErrorKind::UnsupportedRadix);
     };
-    Ok(signed(size, is_minus(literal.cut().sign)))
+    Ok(signed(size, literal.is_negative()))
 }
 
 // Returns a float with a sign.
@@ -63,11 +64,11 @@ const fn exponent_of(literal: &Literal) -> u128 {
 // Returns the float nearest to a decimal literal, without its sign.
 #[inline(always)]
 fn decimal_size<F: Float>(literal: &Literal) -> F {
-    let parts = literal.cut();
-    let negative = is_minus(parts.exponent_sign);
+    let negative = literal.has_negative_exponent();
     if let (Some(mantissa), Some(exponent)) = (literal.mantissa(), literal.scale()) {
         return digits_to_float(mantissa, literal.places() as u64, negative, exponent);
     }
+    let parts = literal.cut();
     decimal_to_float(parts.integer, parts.fraction, negative, exponent_of(literal))
 }
 
@@ -83,7 +84,7 @@ pub(crate) const fn binary_size(double: bool, literal: &Literal) -> Option<u64> 
     };
     let leading = leading_of(literal, radix);
     let places = literal.places() as u64;
-    let negative = is_minus(literal.cut().exponent_sign);
+    let negative = literal.has_negative_exponent();
     let exponent = exponent_of(literal);
     Some(raised_bits(double, leading, radix_bits, places, negative, exponent, base_bits))
 }

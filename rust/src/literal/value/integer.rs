@@ -3,7 +3,6 @@
 //! The value of a literal as a value of an integer type.
 
 use crate::literal::literal::Literal;
-use crate::literal::read::Parts;
 use crate::number::integer::Integer;
 use crate::number::numeral::{Magnitude, Numeral};
 
@@ -40,6 +39,7 @@ impl ValueErrorKind {
 /// # Errors
 ///
 /// If the literal has a decimal point or an exponent, or if its value is not in the range of the type, returns which.
+#[inline(always)]
 pub fn to_integer<T: Integer>(literal: &Literal) -> Result<T, ValueErrorKind> {
     let Some(numeral) = integer_numeral(literal) else {
         return Err(ValueErrorKind::Float);
@@ -53,30 +53,17 @@ pub fn to_integer<T: Integer>(literal: &Literal) -> Result<T, ValueErrorKind> {
 // Returns the sign and the number of a literal, or `None` if it has a decimal point or an exponent.
 #[inline(always)]
 pub(crate) const fn integer_numeral<'a>(literal: &Literal<'a>) -> Option<Numeral<'a>> {
-    let parts = literal.cut();
-    if is_float(&parts) {
+    if literal.is_float() {
         return None;
     }
-    Some(Numeral { negative: is_minus(parts.sign), magnitude: magnitude(literal, parts.integer) })
-}
-
-// Returns whether there is a decimal point or an exponent.
-#[inline(always)]
-const fn is_float(parts: &Parts) -> bool {
-    !matches!(parts.point, []) || !matches!(parts.exponent_character, [])
+    Some(Numeral { negative: literal.is_negative(), magnitude: magnitude(literal) })
 }
 
 // Returns the number that the digits of the integer represent or, if they are many, these digits.
 #[inline(always)]
-const fn magnitude<'a>(literal: &Literal<'a>, integer: &'a [u8]) -> Magnitude<'a> {
+const fn magnitude<'a>(literal: &Literal<'a>) -> Magnitude<'a> {
     match literal.mantissa() {
         Some(size) => Magnitude::Word(size),
-        None => Magnitude::Digits(integer, literal.format().mantissa_radix()),
+        None => Magnitude::Digits(literal.cut().integer, literal.format().mantissa_radix()),
     }
-}
-
-// Returns whether a sign is a minus sign.
-#[inline(always)]
-pub(crate) const fn is_minus(sign: &[u8]) -> bool {
-    matches!(sign, [b'-', ..])
 }

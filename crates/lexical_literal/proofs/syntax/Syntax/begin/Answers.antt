@@ -14,19 +14,30 @@ use Rattle.lexical_literal.proofs.syntax.Syntax.begin.Goals as goal
 pub plain-counted-requires : goal.plain-counted-requires
 plain-counted-requires c =
     record {
-      decimal = subst (λ (g : Grammar). IsTrue c.args.decimal → IsDecimal (raw g.word)) (sym c.grammar-grammar.ensures.value) c.requires.decimal;
+      decimal = subst (λ (g : Grammar). IsTrue c.args.decimal → IsDecimal (raw g.word)) (sym c.grammar-grammar.ensures.value) c.requires.radix;
       ready = subst (λ (g : Grammar). IsReady (steps_of g)) (sym c.grammar-grammar.ensures.value) c.grammar-grammar.ensures.ready;
     }
 
+pub returns-then-decimal-clause-found : goal.returns-then-decimal-clause-found
+returns-then-decimal-clause-found c =
+    begun_free (notation_of c.args.self.now) c.grammar-grammar.ensures.ready c.grammar-grammar.ensures.sizes c.args.text.now c.plain-counted.result
+    (subst (λ (g : Grammar). HasFound (steps_of g) c.args.text.now c.plain-counted.result) c.grammar-grammar.ensures.value c.plain-counted.ensures.found)
+    (c.requires.sizes c.if-decimal.true)
+
 pub sized-requires-clause-ready : goal.sized-requires-clause-ready
-sized-requires-clause-ready c = subst (λ (g : Grammar). IsReady (steps_of g)) (sym c.grammar-grammar.ensures.value) c.grammar-grammar.ensures.ready
+sized-requires-clause-ready c = subst (λ (g : Grammar). IsReady (steps_of g)) (sym c.grammar.ensures.value) c.grammar.ensures.ready
 
 pub sized-requires-clause-sizes : goal.sized-requires-clause-sizes
-sized-requires-clause-sizes c = subst (λ (g : Grammar). HasSizes (notation_of g)) (sym c.grammar-grammar.ensures.value) c.grammar-grammar.ensures.sizes
+sized-requires-clause-sizes c = subst (λ (g : Grammar). HasSizes (notation_of g)) (sym c.grammar.ensures.value) c.grammar.ensures.sizes
+
+pub sized-requires-clause-found : goal.sized-requires-clause-found
+sized-requires-clause-found c =
+    subst (λ (g : Grammar). HasFound (steps_of g) c.args.text.now c.plain-counted.result) (c.grammar-grammar.ensures.value ∙ sym c.grammar.ensures.value)
+    c.plain-counted.ensures.found
 
 pub returns-then-has_sizes-clause-found : goal.returns-then-has_sizes-clause-found
 returns-then-has_sizes-clause-found c =
-    subst (λ (g : Grammar). HasBegun (notation_of g) c.args.text.now c.sized.result) c.grammar-grammar.ensures.value c.sized.ensures.begun
+    subst (λ (g : Grammar). HasBegun (notation_of g) c.args.text.now c.sized.result) c.grammar.ensures.value c.sized.ensures.begun
 
 pub returns-else-has_sizes-clause-found : goal.returns-else-has_sizes-clause-found
 returns-else-has_sizes-clause-found c =
