@@ -82,7 +82,7 @@ impl Syntax {
         ensures sizes { IsTrue result → has_sizes (notation_of self.now) ≡ false }
     {
         let grammar = self.grammar();
-        is_decimal(grammar) && grammar.conditions.is_none() && !has_sizes(grammar)
+        is_decimal(grammar) && grammar.conditions.is_none()
     }
 
     // Reads a front of `text` with which some literal begins. Unless `fronts` is true, a front that is a literal, but not all of

@@ -52,6 +52,7 @@ macro_rules! signed {
 impl Integer for u8 {
     ghost range = { unsigned 8 };
 
+    #[inline(always)]
     fn from_numeral(numeral: &Numeral) -> Option<u8> {
         unsigned!(numeral as u8)
     }
@@ -64,6 +65,7 @@ impl Integer for u8 {
 impl Integer for u16 {
     ghost range = { unsigned 16 };
 
+    #[inline(always)]
     fn from_numeral(numeral: &Numeral) -> Option<u16> {
         unsigned!(numeral as u16)
     }
@@ -76,6 +78,7 @@ impl Integer for u16 {
 impl Integer for u32 {
     ghost range = { unsigned 32 };
 
+    #[inline(always)]
     fn from_numeral(numeral: &Numeral) -> Option<u32> {
         unsigned!(numeral as u32)
     }
@@ -88,6 +91,7 @@ impl Integer for u32 {
 impl Integer for u64 {
     ghost range = { unsigned 64 };
 
+    #[inline(always)]
     fn from_numeral(numeral: &Numeral) -> Option<u64> {
         numeral.as_u64()
     }
@@ -100,6 +104,7 @@ impl Integer for u64 {
 impl Integer for usize {
     ghost range = { unsigned 64 };
 
+    #[inline(always)]
     fn from_numeral(numeral: &Numeral) -> Option<usize> {
         unsigned!(numeral as usize)
     }
@@ -112,6 +117,7 @@ impl Integer for usize {
 impl Integer for u128 {
     ghost range = { unsigned 128 };
 
+    #[inline(always)]
     fn from_numeral(numeral: &Numeral) -> Option<u128> {
         numeral.as_u128()
     }
@@ -124,6 +130,7 @@ impl Integer for u128 {
 impl Integer for i8 {
     ghost range = { signed 8 };
 
+    #[inline(always)]
     fn from_numeral(numeral: &Numeral) -> Option<i8> {
         signed!(numeral as i8)
     }
@@ -136,6 +143,7 @@ impl Integer for i8 {
 impl Integer for i16 {
     ghost range = { signed 16 };
 
+    #[inline(always)]
     fn from_numeral(numeral: &Numeral) -> Option<i16> {
         signed!(numeral as i16)
     }
@@ -148,6 +156,7 @@ impl Integer for i16 {
 impl Integer for i32 {
     ghost range = { signed 32 };
 
+    #[inline(always)]
     fn from_numeral(numeral: &Numeral) -> Option<i32> {
         signed!(numeral as i32)
     }
@@ -160,6 +169,7 @@ impl Integer for i32 {
 impl Integer for i64 {
     ghost range = { signed 64 };
 
+    #[inline(always)]
     fn from_numeral(numeral: &Numeral) -> Option<i64> {
         numeral.as_i64()
     }
@@ -172,6 +182,7 @@ impl Integer for i64 {
 impl Integer for isize {
     ghost range = { signed 64 };
 
+    #[inline(always)]
     fn from_numeral(numeral: &Numeral) -> Option<isize> {
         signed!(numeral as isize)
     }
@@ -184,6 +195,7 @@ impl Integer for isize {
 impl Integer for i128 {
     ghost range = { signed 128 };
 
+    #[inline(always)]
     fn from_numeral(numeral: &Numeral) -> Option<i128> {
         numeral.as_i128()
     }

@@ -57,7 +57,7 @@ impl Syntax {
     #[inline(always)]
     pub(crate) const fn is_decimal(&self) -> bool {
         let grammar = self.as_grammar();
-        is_decimal(grammar) && grammar.conditions.is_none() && !has_sizes(grammar)
+        is_decimal(grammar) && grammar.conditions.is_none()
     }
 
     // Reads a front of `text` with which some literal begins. Unless `fronts` is true, a front that is a literal, but not all of

@@ -39,6 +39,7 @@ macro_rules! signed {
 }
 
 impl Integer for u8 {
+    #[inline(always)]
     fn from_numeral(numeral: &Numeral) -> Option<u8> {
         unsigned!(numeral as u8)
     }
@@ -49,6 +50,7 @@ impl Integer for u8 {
 }
 
 impl Integer for u16 {
+    #[inline(always)]
     fn from_numeral(numeral: &Numeral) -> Option<u16> {
         unsigned!(numeral as u16)
     }
@@ -59,6 +61,7 @@ impl Integer for u16 {
 }
 
 impl Integer for u32 {
+    #[inline(always)]
     fn from_numeral(numeral: &Numeral) -> Option<u32> {
         unsigned!(numeral as u32)
     }
@@ -69,6 +72,7 @@ impl Integer for u32 {
 }
 
 impl Integer for u64 {
+    #[inline(always)]
     fn from_numeral(numeral: &Numeral) -> Option<u64> {
         numeral.as_u64()
     }
@@ -79,6 +83,7 @@ impl Integer for u64 {
 }
 
 impl Integer for usize {
+    #[inline(always)]
     fn from_numeral(numeral: &Numeral) -> Option<usize> {
         unsigned!(numeral as usize)
     }
@@ -89,6 +94,7 @@ impl Integer for usize {
 }
 
 impl Integer for u128 {
+    #[inline(always)]
     fn from_numeral(numeral: &Numeral) -> Option<u128> {
         numeral.as_u128()
     }
@@ -99,6 +105,7 @@ impl Integer for u128 {
 }
 
 impl Integer for i8 {
+    #[inline(always)]
     fn from_numeral(numeral: &Numeral) -> Option<i8> {
         signed!(numeral as i8)
     }
@@ -109,6 +116,7 @@ impl Integer for i8 {
 }
 
 impl Integer for i16 {
+    #[inline(always)]
     fn from_numeral(numeral: &Numeral) -> Option<i16> {
         signed!(numeral as i16)
     }
@@ -119,6 +127,7 @@ impl Integer for i16 {
 }
 
 impl Integer for i32 {
+    #[inline(always)]
     fn from_numeral(numeral: &Numeral) -> Option<i32> {
         signed!(numeral as i32)
     }
@@ -129,6 +138,7 @@ impl Integer for i32 {
 }
 
 impl Integer for i64 {
+    #[inline(always)]
     fn from_numeral(numeral: &Numeral) -> Option<i64> {
         numeral.as_i64()
     }
@@ -139,6 +149,7 @@ impl Integer for i64 {
 }
 
 impl Integer for isize {
+    #[inline(always)]
     fn from_numeral(numeral: &Numeral) -> Option<isize> {
         signed!(numeral as isize)
     }
@@ -149,6 +160,7 @@ impl Integer for isize {
 }
 
 impl Integer for i128 {
+    #[inline(always)]
     fn from_numeral(numeral: &Numeral) -> Option<i128> {
         numeral.as_i128()
     }
