@@ -63,6 +63,7 @@ def constants():
     yield f"_NEW_FIELDS = ({flags}, {others})"
     yield from (f"_{name} = {defined(name)}" for name in ("FIELD_COUNT", "SOURCE_SIZE", "TEXT_SIZE", "NO_PART"))
     yield f"_NO_DIGIT = {2**32 - 1}"
+    yield "_REFUSED = " + re.search(r"PELTZIVAR_VALUE_REFUSED = (\d+)", HEADER)[1]
     for row in (
         ("Setter", r"SET_(\w+)", "The setters. A member has the name of the setter in uppercase."),
         ("Rule", r"RULE_(\w+)", f"The rules, in the order in which they are checked. {RULE}", *CONDITION),

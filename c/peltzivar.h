@@ -235,7 +235,9 @@ enum {
     /* The type is a float type, and the mantissa radix and the exponent base are neither both 10 nor both powers of
      * two. This is so for all literals of a syntax, or for none. */
     PELTZIVAR_VALUE_RADIX = 4,
-    PELTZIVAR_VALUE_NO_LITERAL = 5 /* No call has made the literal. */
+    PELTZIVAR_VALUE_NO_LITERAL = 5, /* No call has made the literal. */
+    PELTZIVAR_VALUE_REFUSED = 6, /* The text is neither a literal nor a special value. */
+    PELTZIVAR_VALUE_SPECIAL = 7 /* The text is NaN or infinity, and the type an integer type. */
 };
 
 /* Write an integer, which has neither a point nor an exponent character. The value of `-0` is 0. */
@@ -340,6 +342,35 @@ typedef struct peltzivar_forms peltzivar_forms;
 PELTZIVAR_MUST_USE const peltzivar_forms *peltzivar_language(
     const char *name, size_t len, peltzivar_specials *specials);
 
+/* Return the forms of a language. A program that calls these alone has only the forms of these languages in it. */
+const peltzivar_forms *peltzivar_language_ada(void);
+const peltzivar_forms *peltzivar_language_c(void);
+const peltzivar_forms *peltzivar_language_csv_de(void);
+const peltzivar_forms *peltzivar_language_csv_en(void);
+const peltzivar_forms *peltzivar_language_c_plus_plus(void);
+const peltzivar_forms *peltzivar_language_c_sharp(void);
+const peltzivar_forms *peltzivar_language_fortran(void);
+const peltzivar_forms *peltzivar_language_go(void);
+const peltzivar_forms *peltzivar_language_haskell(void);
+const peltzivar_forms *peltzivar_language_java(void);
+const peltzivar_forms *peltzivar_language_javascript(void);
+const peltzivar_forms *peltzivar_language_json(void);
+const peltzivar_forms *peltzivar_language_julia(void);
+const peltzivar_forms *peltzivar_language_kotlin(void);
+const peltzivar_forms *peltzivar_language_nasm(void);
+const peltzivar_forms *peltzivar_language_ocaml(void);
+const peltzivar_forms *peltzivar_language_python(void);
+const peltzivar_forms *peltzivar_language_ruby(void);
+const peltzivar_forms *peltzivar_language_rust(void);
+const peltzivar_forms *peltzivar_language_sql(void);
+const peltzivar_forms *peltzivar_language_swift(void);
+const peltzivar_forms *peltzivar_language_toml(void);
+const peltzivar_forms *peltzivar_language_yaml(void);
+
+/* Returns a syntax as forms, which have it alone, without a name and without spellings, and which last as long as it and
+ * do not change. If peltzivar_check_syntax refuses it, returns a null pointer. */
+PELTZIVAR_MUST_USE const peltzivar_forms *peltzivar_forms_of(const peltzivar_syntax *syntax);
+
 /* Returns the name of a language. The languages have the indices from 0 on, in alphabetical order. */
 const char *peltzivar_language_name(size_t index);
 
@@ -360,6 +391,35 @@ const char *peltzivar_form_name(const peltzivar_forms *forms, size_t form);
  * unchanged and returns false. An earlier form of the language may read a text otherwise: C's octal form reads `17` as
  * 15. */
 PELTZIVAR_MUST_USE bool peltzivar_form_syntax(const peltzivar_forms *forms, size_t form, peltzivar_syntax *out);
+
+/* TEXTS AND COLUMNS
+ *
+ * These calls return the value of a text at once, also of NaN and infinity. */
+
+/* Write the value of a text of len bytes to *out and return PELTZIVAR_VALUE_OK. Otherwise, leave *out unchanged and return
+ * why. With PELTZIVAR_VALUE_REFUSED, write where reading stopped to *error. */
+PELTZIVAR_MUST_USE peltzivar_value_status peltzivar_parse_i64(
+    const peltzivar_forms *forms, const char *text, size_t len, int64_t *out, peltzivar_read_error *error);
+PELTZIVAR_MUST_USE peltzivar_value_status peltzivar_parse_u64(
+    const peltzivar_forms *forms, const char *text, size_t len, uint64_t *out, peltzivar_read_error *error);
+PELTZIVAR_MUST_USE peltzivar_value_status peltzivar_parse_f64(
+    const peltzivar_forms *forms, const char *text, size_t len, double *out, peltzivar_read_error *error);
+PELTZIVAR_MUST_USE peltzivar_value_status peltzivar_parse_f32(
+    const peltzivar_forms *forms, const char *text, size_t len, float *out, peltzivar_read_error *error);
+
+/* Do the same for the texts of a column. The text with the index i has the bytes from offsets[i] to below offsets[i + 1],
+ * as those of Apache Arrow, so there are count + 1 offsets, in ascending order, and `values` and `status` have count
+ * elements. Write the value of each text or leave it unchanged, write the status of each, and return how many are not
+ * PELTZIVAR_VALUE_OK. A text whose bytes are not between the first and the last offset is refused and not read. If count
+ * is above PTRDIFF_MAX / 8 - 1, they return it, and write nothing. */
+PELTZIVAR_MUST_USE size_t peltzivar_parse_i64_column(const peltzivar_forms *forms, const char *bytes,
+    const int64_t *offsets, size_t count, int64_t *values, peltzivar_value_status *status);
+PELTZIVAR_MUST_USE size_t peltzivar_parse_u64_column(const peltzivar_forms *forms, const char *bytes,
+    const int64_t *offsets, size_t count, uint64_t *values, peltzivar_value_status *status);
+PELTZIVAR_MUST_USE size_t peltzivar_parse_f64_column(const peltzivar_forms *forms, const char *bytes,
+    const int64_t *offsets, size_t count, double *values, peltzivar_value_status *status);
+PELTZIVAR_MUST_USE size_t peltzivar_parse_f32_column(const peltzivar_forms *forms, const char *bytes,
+    const int64_t *offsets, size_t count, float *values, peltzivar_value_status *status);
 
 /* WRITING
  *

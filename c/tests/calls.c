@@ -55,8 +55,10 @@ static void test_constants(void) {
     CHECK(is_word(peltzivar_pack(&starts[0]), 0x00000A0000000000, 0xC) && is_word(words[0], 0x00000A0000000000, 0xC));
     CHECK(is_word(peltzivar_pack(&PELTZIVAR_NEW_FIELDS), PELTZIVAR_STANDARD.high, PELTZIVAR_STANDARD.low));
     CHECK(sizeof(peltzivar_word) == 16 && sizeof(peltzivar_fields) == 16 && sizeof(peltzivar_edit) == 2);
-    CHECK(sizeof(peltzivar_read_error) == 128 && sizeof(peltzivar_literal) == 320);
-    CHECK(sizeof(peltzivar_syntax) == 32 && sizeof(peltzivar_explanation) == 48);
+    CHECK(sizeof(peltzivar_read_error) == 128 && sizeof(peltzivar_literal) == 320 && sizeof(peltzivar_span) == 16);
+    CHECK(sizeof(peltzivar_syntax) == 32 && sizeof(peltzivar_explanation) == 48 && sizeof(peltzivar_i128) == 16);
+    CHECK(sizeof(peltzivar_specials) == 24 && sizeof(peltzivar_special) == 2 && sizeof(peltzivar_style) == 2);
+    CHECK(sizeof(peltzivar_separators) == 4);
 }
 
 /* An edit with an unknown setter changes nothing. The number of another setter is the lowest bit that it writes, or at
@@ -240,6 +242,43 @@ static void test_values(void) {
     CHECK(peltzivar_to_f32(&it, &real) == PELTZIVAR_VALUE_NO_LITERAL && real == 0.75F && peltzivar_to_i64(&it, NULL));
 }
 
+/* A column has the values of its texts, and the status of each. Offsets that do not ascend refuse a text. */
+static void test_columns(void) {
+    static const char bytes[] = "1-11.5x99999999999999999999nan0x1F";
+    static const int64_t offsets[] = {0, 1, 3, 6, 7, 7, 27, 30, 34, 33, 99, INT64_MIN, 34};
+    static const uint8_t natural[] = {0, 3, 1, 6, 6, 2, 7, 0, 6, 6, 6, 6}, integer[] = {0, 0, 1, 6, 6, 2, 7, 0, 6, 6, 6, 6},
+        real[] = {0, 0, 0, 6, 6, 0, 0, 0, 6, 6, 6, 6};
+    const peltzivar_syntax json = first_form("JSON");
+    const peltzivar_forms *const forms[] = {peltzivar_language_toml(), peltzivar_forms_of(&json), NULL};
+    peltzivar_read_error error;
+    CHECK(forms[0] == language("TOML") && forms[1] && !peltzivar_forms_of(NULL) && !*peltzivar_form_name(forms[1], 0));
+/* Checks the statuses of a type, and that values which are not there are left, by all forms. */
+#define IS_COLUMN(T, type, wanted, wrong) \
+    for (int i = 0; i < 3; i++) { \
+        T values[12], value = 7; \
+        uint8_t status[12], memory[sizeof offsets + 1]; \
+        for (int j = 0; j < 12; j++) values[j] = 7; \
+        memcpy(memory + 1, offsets, sizeof offsets); \
+        const size_t count = peltzivar_parse_##type##_column(forms[i], bytes, (const int64_t *)(memory + 1), 12, values, status); \
+        CHECK(count == (i == 0 ? wrong : i == 1 ? wrong + (wanted[6] == 0) + 1 : 12)); \
+        for (int j = 0; j < 8; j++) { \
+            const size_t len = (size_t)(offsets[j + 1] - offsets[j]); \
+            CHECK(peltzivar_parse_##type(forms[i], bytes + offsets[j], len, &value, &error) == status[j]); \
+            CHECK((i || status[j] == wanted[j]) && !memcmp(&values[j], &value, sizeof value) && (value == 7) == (status[j] != 0)); \
+            CHECK(status[j] != PELTZIVAR_VALUE_REFUSED || peltzivar_read_error_text(&error, text, sizeof text)); \
+            value = 7; \
+        } \
+        CHECK(!memcmp(status + 8, wanted + 8, 4) && values[8] == 7 && values[11] == 7); \
+        CHECK(peltzivar_parse_##type##_column(forms[i], bytes, offsets, 12, NULL, NULL) == count); \
+        CHECK(!peltzivar_parse_##type##_column(forms[i], NULL, NULL, 0, NULL, NULL)); \
+        CHECK(peltzivar_parse_##type##_column(forms[i], bytes, offsets, SIZE_MAX, values, status) == SIZE_MAX); \
+    }
+    IS_COLUMN(int64_t, i64, integer, 9)
+    IS_COLUMN(uint64_t, u64, natural, 10)
+    IS_COLUMN(double, f64, real, 6)
+    IS_COLUMN(float, f32, real, 6)
+}
+
 /* The settings, behind another one, with which the most bytes are written. */
 #define LONGEST "\nbase_prefix='x'\nbase_suffix='h'\ndigit_separator='_'\ninternal_digit_separator=true"
 
@@ -344,7 +383,7 @@ static void test_null(void) {
 
 static void *test_all(void *unused) {
     for (int i = 0; i < 5; i++) {
-        test_constants(), test_setters(), test_words(), test_syntaxes(), test_errors(), test_groups(), test_values();
+        test_constants(), test_setters(), test_words(), test_syntaxes(), test_errors(), test_groups(), test_values(), test_columns();
         test_writing(), test_languages(), test_null();
     }
     return unused;

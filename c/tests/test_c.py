@@ -138,6 +138,10 @@ class Header(unittest.TestCase):
     def test_declarations_are_those_of_the_library(self):
         sources = " ".join("".join(path.read_text() for path in sorted((TOP / "rust/capi/src").glob("*.rs"))).split())
         exported = re.findall(r"\bfn (peltzivar_\w+)\( ?(.*?) ?\) -> ([\w *]+) \{", sources)
+        exported += [(it, "", "*const Forms") for it in re.findall(r"[A-Z] (peltzivar_language_\w+)", sources)]
+        types = re.findall(r"\b(\w+): (peltzivar_parse_\w+) (\w+),", sources)
+        (one, column) = re.findall(r"extern \"C\" fn \$\w+\( (.*?) \) -> (\w+) \{", sources)
+        exported += [(name, of.replace("$T", kind), result) for kind, *names in types for name, (of, result) in zip(names, (one, column))]
         wanted = {
             (name, tuple(it.split(": ")[1] for it in re.split(r", (?=\w+: )", of) if it), result)
             for name, of, result in exported
@@ -159,7 +163,9 @@ class Header(unittest.TestCase):
             return in_rust(kind)
         if re.search(rf"\*{name}, size_t (to_)?len\b", others):
             return f"*{'const' if const else 'mut'} {in_rust(kind)}"
-        if const and name in ("syntax", "forms", "style"):
+        if name in ("forms", "bytes", "offsets"):
+            return f"*const {in_rust(kind)}"
+        if const and name in ("syntax", "style"):
             return f"Option<&{in_rust(kind)}>"
         if const or name == "fields":
             return f"&{'' if const else 'mut '}{in_rust(kind)}"

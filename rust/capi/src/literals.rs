@@ -1,7 +1,7 @@
 //! Calls that check syntaxes, that read literals, and that print why a text is not one.
 
 use crate::arguments::{input, write_text, Out};
-use crate::languages::Forms;
+use crate::languages::{by, Forms};
 use crate::numbers::{error_number, ErrorNumber, Setter, Word, NO_PART, NO_SETTER};
 use core::array;
 use core::fmt::{self, Display, Formatter};
@@ -45,7 +45,7 @@ impl Syntax {
     }
 
     /// Returns the checked syntax.
-    fn checked(syntax: Option<&Syntax>) -> Result<literal::Syntax, Refusal<FormatError>> {
+    pub fn checked(syntax: Option<&Syntax>) -> Result<literal::Syntax, Refusal<FormatError>> {
         let syntax = syntax.ok_or(Refusal::Argument("the syntax is a null pointer"))?;
         let conditions = syntax.conditions();
         let conditions = conditions.ok_or(Refusal::Argument("the reserved bytes of the syntax are not 0"))?;
@@ -241,18 +241,32 @@ fn settle<'a>(read: Result<literal::Literal<'a>, literal::ReadError>, (literal, 
 /// Writes what `read` returns for a text by the forms of a language, and returns whether it is a literal.
 #[inline(always)]
 unsafe fn read_by_forms<'a>(
-    (forms, text, len): (Option<&Forms>, *const u8, usize),
+    (forms, text, len): (*const Forms, *const u8, usize),
     (literal, error): (Out<Literal<'a>>, Out<ReadError>),
     read: impl FnOnce(&Readers<'_>, &'a [u8]) -> Result<Number<'a>, FormError>,
 ) -> bool {
-    let readers = forms.and_then(|forms| Readers::new(forms.readers().as_slice()));
-    let Some(readers) = readers else { return refuse("the forms are a null pointer", error) };
     let Some(text) = input(text, len) else { return refuse(TOO_LONG, error) };
-    match read(&readers, text) {
-        Ok(Number::Literal { literal: found, form }) => literal.write_some(Some(Literal::of(found, form))),
-        Ok(Number::Special(_)) => refuse("a special value", error),
-        Err(FormError { form, error: why, .. }) => stop(why, form, error),
+    match by(forms, |readers| read(&readers.with_specials(Default::default()), text)) {
+        Some(Ok(Number::Literal { literal: found, form })) => literal.write_some(Some(Literal::of(found, form))),
+        Some(Ok(Number::Special(_))) => refuse("a special value", error),
+        Some(Err(FormError { form, error: why, .. })) => stop(why, form, error),
+        None => refuse("the forms are a null pointer", error),
     }
+}
+
+/// Returns the number that a text is, or writes why it is not one.
+#[inline(never)]
+pub unsafe fn number<'a>(forms: *const Forms, text: *const u8, len: usize, error: Out<ReadError>) -> Option<Number<'a>> {
+    let Some(text) = input(text, len) else {
+        refuse(TOO_LONG, error);
+        return None;
+    };
+    match by(forms, |readers| readers.read_bytes(text)) {
+        Some(Ok(number)) => return Some(number),
+        Some(Err(FormError { form, error: why, .. })) => stop(why, form, error),
+        None => refuse("the forms are a null pointer", error),
+    };
+    None
 }
 
 /// Writes why an argument is refused.
@@ -308,13 +322,13 @@ calls! {
     }
 
     fn peltzivar_forms_read(
-        forms: Option<&Forms>, text: *const u8, len: usize, literal: Out<Literal>, error: Out<ReadError>
+        forms: *const Forms, text: *const u8, len: usize, literal: Out<Literal>, error: Out<ReadError>
     ) -> bool {
         read_by_forms((forms, text, len), (literal, error), |forms, text| forms.read_bytes(text))
     }
 
     fn peltzivar_forms_read_prefix(
-        forms: Option<&Forms>, text: *const u8, len: usize, literal: Out<Literal>, error: Out<ReadError>
+        forms: *const Forms, text: *const u8, len: usize, literal: Out<Literal>, error: Out<ReadError>
     ) -> bool {
         read_by_forms((forms, text, len), (literal, error), |forms, text| Ok(forms.read_prefix_bytes(text)?.0))
     }
