@@ -343,6 +343,7 @@ PELTZIVAR_MUST_USE const peltzivar_forms *peltzivar_language(
     const char *name, size_t len, peltzivar_specials *specials);
 
 /* Return the forms of a language. A program that calls these alone has only the forms of these languages in it. */
+/* Made by make_python.py: language_calls */
 const peltzivar_forms *peltzivar_language_ada(void);
 const peltzivar_forms *peltzivar_language_c(void);
 const peltzivar_forms *peltzivar_language_csv_de(void);
@@ -366,6 +367,7 @@ const peltzivar_forms *peltzivar_language_sql(void);
 const peltzivar_forms *peltzivar_language_swift(void);
 const peltzivar_forms *peltzivar_language_toml(void);
 const peltzivar_forms *peltzivar_language_yaml(void);
+/* End */
 
 /* Returns a syntax as forms, which have it alone, without a name and without spellings, and which last as long as it and
  * do not change. If peltzivar_check_syntax refuses it, returns a null pointer. */

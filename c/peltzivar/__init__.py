@@ -50,7 +50,7 @@ from itertools import accumulate, count, repeat, takewhile
 from pathlib import Path
 from struct import Struct
 from types import SimpleNamespace
-from typing import Any, AnyStr, Callable, Dict, Generic, Iterable, List, NamedTuple, Optional, Sequence, SupportsFloat
+from typing import Any, AnyStr, Callable, Dict, Generic, Iterable, Iterator, List, Optional, Sequence, SupportsFloat
 from typing import SupportsIndex, Tuple, Type, TypeVar, Union, cast
 
 __all__ = ["STANDARD", "Byte", "Column", "ColumnError", "Edit", "Error", "Format", "FormatError", "FormatView", "Language"]
@@ -404,29 +404,6 @@ _CALLS: Dict[str, Tuple[Any, List[Any]]] = {
     "explain": (c_bool, [POINTER(_ReadError), POINTER(_Explanation)]),
     "read_special": (c_bool, [POINTER(_Syntax), POINTER(_Specials), c_char_p, c_size_t, POINTER(_Special)]),
     "language": (c_void_p, [c_char_p, c_size_t, POINTER(_Specials)]),
-    "language_ada": (c_void_p, []),
-    "language_c": (c_void_p, []),
-    "language_csv_de": (c_void_p, []),
-    "language_csv_en": (c_void_p, []),
-    "language_c_plus_plus": (c_void_p, []),
-    "language_c_sharp": (c_void_p, []),
-    "language_fortran": (c_void_p, []),
-    "language_go": (c_void_p, []),
-    "language_haskell": (c_void_p, []),
-    "language_java": (c_void_p, []),
-    "language_javascript": (c_void_p, []),
-    "language_json": (c_void_p, []),
-    "language_julia": (c_void_p, []),
-    "language_kotlin": (c_void_p, []),
-    "language_nasm": (c_void_p, []),
-    "language_ocaml": (c_void_p, []),
-    "language_python": (c_void_p, []),
-    "language_ruby": (c_void_p, []),
-    "language_rust": (c_void_p, []),
-    "language_sql": (c_void_p, []),
-    "language_swift": (c_void_p, []),
-    "language_toml": (c_void_p, []),
-    "language_yaml": (c_void_p, []),
     "forms_of": (c_void_p, [POINTER(_Syntax)]),
     "language_name": (c_char_p, [c_size_t]),
     "forms_read": (c_bool, [c_void_p, c_char_p, c_size_t, POINTER(_Literal), POINTER(_ReadError)]),
@@ -1396,13 +1373,17 @@ class WrongCell:
         return str(self.error)
 
 
-class Column(NamedTuple):
+@dataclass(frozen=True)
+class Column:
     """The values of cells. `values` is the `array.array` or the buffer that has them. `wrong` is a sequence of the cells
     that have no value, each of which is made when it is asked for. `missing` has the indexes of missing cells."""
 
     values: Any
     wrong: Sequence[WrongCell]
     missing: Tuple[int, ...]
+
+    def __iter__(self) -> Iterator[Any]:
+        return iter((self.values, self.wrong, self.missing))
 
 
 class ColumnError(ValueError):

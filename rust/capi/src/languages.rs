@@ -124,6 +124,7 @@ macro_rules! languages {
 }
 
 languages! {
+    // Made by make_python.py: language_list
     ADA peltzivar_language_ada
     C peltzivar_language_c
     CSV_DE peltzivar_language_csv_de
@@ -147,6 +148,7 @@ languages! {
     SWIFT peltzivar_language_swift
     TOML peltzivar_language_toml
     YAML peltzivar_language_yaml
+    // End
 }
 
 texts! {

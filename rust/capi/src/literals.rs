@@ -256,7 +256,12 @@ unsafe fn read_by_forms<'a>(
 
 /// Returns the number that a text is, or writes why it is not one.
 #[inline(never)]
-pub unsafe fn number<'a>(forms: *const Forms, text: *const u8, len: usize, error: Out<ReadError>) -> Option<Number<'a>> {
+pub unsafe fn number<'a>(
+    forms: *const Forms,
+    text: *const u8,
+    len: usize,
+    error: Out<ReadError>,
+) -> Option<Number<'a>> {
     let Some(text) = input(text, len) else {
         refuse(TOO_LONG, error);
         return None;

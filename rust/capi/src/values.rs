@@ -69,7 +69,9 @@ fn write_value<T, C: From<T>>(value: Result<T, ValueError>, out: Out<C>) -> Valu
 
 /// Writes the value of a text, if it has one of this type, or why it is not a number, and returns whether it has.
 unsafe fn parse<T: FromLiteral>(
-    (forms, text, len): (*const Forms, *const u8, usize), out: Out<T>, error: Out<ReadError>,
+    (forms, text, len): (*const Forms, *const u8, usize),
+    out: Out<T>,
+    error: Out<ReadError>,
 ) -> ValueStatus {
     number(forms, text, len, error).map_or(6, |number| write_value(T::try_from(number), out))
 }
