@@ -34,6 +34,7 @@ class BuildLibrary(build_ext):
             sys.exit("cargo is not found: install Rust 1.85 or later")
         remap = f"target.'cfg(all())'.rustflags = ['--remap-path-prefix={WORKSPACE}=peltzivar']"
         command = ["cargo", "build", "--release", "--locked", "--package=peltzivar-capi", "--message-format=json"]
+        command += ["--config", WORKSPACE / "rust/capi/small.toml"]
         ran = subprocess.run([*command, "--config", remap], cwd=WORKSPACE, check=True, stdout=subprocess.PIPE)
         built = [it for line in ran.stdout.splitlines() for it in json.loads(line).get("filenames", ())]
         path = Path(self.get_ext_fullpath(ext.name))

@@ -76,6 +76,17 @@ class Programs(unittest.TestCase):
         library = self.made("cc", "-shared", *options, "-Wl,--exclude-libs,ALL", "-Wl,--no-undefined")
         self.assertEqual(run("nm", "-gD", "--defined-only", library), ("", 0))
 
+    def test_the_library_is_small_and_a_program_has_the_language_that_it_names(self):
+        self.assertLessEqual(SHARED.stat().st_size, 300_000)
+        sizes = []
+        for forms in ("language_c()", 'language("C", 1, NULL)'):
+            code = f'double it; return peltzivar_parse_f64(peltzivar_{forms}, "0x1.8p3", 7, &it, NULL) || it != 12;'
+            self.folder.joinpath("one.c").write_text(f'#include "peltzivar.h"\nint main(void) {{ {code} }}\n')
+            program = self.made("cc", *STRICT, self.folder / "one.c", ARCHIVE, "-Wl,--gc-sections", "-s")
+            self.assertEqual(run(program), ("", 0))
+            sizes.append(program.stat().st_size)
+        self.assertLessEqual(sizes[0], min(200_000, sizes[1] - 10_000))
+
     def test_the_first_program_of_the_header(self):
         lines = re.findall(r"^ \*     (.*)$", HEADER, re.M)
         self.folder.joinpath("first.c").write_text("\n".join(lines) + "\n")

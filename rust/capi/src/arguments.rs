@@ -73,6 +73,16 @@ impl<T> Out<T> {
     }
 }
 
+/// Returns the item with an index. The code of `nth` is several times as large.
+pub fn item<T>(mut items: impl Iterator<Item = T>, mut index: usize) -> Option<T> {
+    loop {
+        match (items.next(), index) {
+            (Some(_), 1..) => index -= 1,
+            (found, _) => return found,
+        }
+    }
+}
+
 /// Writes the first `len` of the values to the array that begins at `start`.
 ///
 /// # Safety

@@ -59,8 +59,8 @@ const MAGIC: u64 = u64::from_le_bytes(*b"\0\0forms\xB6");
 struct LanguageForms {
     magic: u64,
     language: Language,
-    names: &'static [[u8; 32]],
-    specials: &'static [[u8; 16]; 3],
+    names: &'static [u8],
+    specials: &'static [u8],
 }
 
 /// Returns the forms of a language, the syntax that stands for forms, or neither if the pointer is null.
@@ -69,11 +69,13 @@ struct LanguageForms {
 ///
 /// `forms` must be null or a result of a call that a C caller passes.
 unsafe fn given<'a>(forms: *const Forms) -> (Option<&'a LanguageForms>, Option<&'a Syntax>) {
-    // SAFETY: the caller guarantees that the pointer is null, or that such an object begins with this word.
-    match unsafe { forms.as_ref() } {
-        None => (None, None),
-        Some(Forms { magic: MAGIC }) => (unsafe { forms.cast::<LanguageForms>().as_ref() }, None),
-        Some(_) => (None, unsafe { forms.cast::<Syntax>().as_ref() }),
+    // SAFETY: the caller guarantees that the pointer is null, or that this word begins forms of a language or a syntax.
+    unsafe {
+        match forms.as_ref() {
+            None => (None, None),
+            Some(it) if it.magic == MAGIC => (forms.cast::<LanguageForms>().as_ref(), None),
+            Some(_) => (None, forms.cast::<Syntax>().as_ref()),
+        }
     }
 }
 
@@ -87,10 +89,8 @@ pub unsafe fn by<R>(forms: *const Forms, then: impl FnOnce(&Readers<'_>) -> R) -
     // SAFETY: the caller guarantees the forms.
     let (language, syntax) = unsafe { given(forms) };
     let own = Syntax::given(syntax);
-    match language {
-        Some(it) => Some(it.language.readers()).map(then),
-        None => Readers::new(own.as_slice()).as_ref().map(then),
-    }
+    let readers = language.map(|it| *it.language.readers()).or_else(|| Readers::new(own.as_slice()));
+    readers.as_ref().map(then)
 }
 
 /// Returns the spelling with an index, or an empty text if a language lacks it.
@@ -110,10 +110,10 @@ macro_rules! languages {
             extern "C" fn $call() -> *const Forms {
                 const IT: Language = Language::$NAME;
                 texts! {
-                    NAMES: [32; IT.forms().len()] = |index| IT.forms()[index].name.as_bytes();
-                    SPECIALS: [16; 3] = |index| spelling_of(IT, index);
+                    NAMES: [IT.forms().len()] = |index| IT.forms()[index].name.as_bytes();
+                    SPECIALS: [3] = |index| spelling_of(IT, index);
                 }
-                static FORMS: LanguageForms = LanguageForms { magic: MAGIC, language: IT, names: &NAMES, specials: &SPECIALS };
+                static FORMS: LanguageForms = LanguageForms { magic: MAGIC, language: IT, names: NAMES, specials: SPECIALS };
                 (&raw const FORMS).cast()
             }
         )*
@@ -152,7 +152,7 @@ languages! {
 }
 
 texts! {
-    NAMES: [32; Language::ALL.len()] = |index| Language::ALL[index].name().as_bytes();
+    NAMES: [Language::ALL.len()] = |index| Language::ALL[index].name().as_bytes();
 }
 
 calls! {
@@ -178,7 +178,7 @@ calls! {
         forms
     }
 
-    fn peltzivar_language_name(index: usize) -> *const u8 { at(&NAMES, index) }
+    fn peltzivar_language_name(index: usize) -> *const u8 { at(NAMES, index) }
 
     fn peltzivar_form_name(forms: *const Forms, form: usize) -> *const u8 {
         at(given(forms).0.map_or(&[], |it| it.names), form)

@@ -238,20 +238,34 @@ fn settle<'a>(read: Result<literal::Literal<'a>, literal::ReadError>, (literal, 
     }
 }
 
-/// Writes what `read` returns for a text by the forms of a language, and returns whether it is a literal.
+/// Writes what `read` returns for a text by forms, and returns whether it is a literal.
 #[inline(always)]
 unsafe fn read_by_forms<'a>(
     (forms, text, len): (*const Forms, *const u8, usize),
-    (literal, error): (Out<Literal<'a>>, Out<ReadError>),
+    outs: Outs<'a>,
     read: impl FnOnce(&Readers<'_>, &'a [u8]) -> Result<Number<'a>, FormError>,
 ) -> bool {
-    let Some(text) = input(text, len) else { return refuse(TOO_LONG, error) };
+    let Some(text) = input(text, len) else { return refuse(TOO_LONG, outs.1) };
     match by(forms, |readers| read(&readers.with_specials(Default::default()), text)) {
-        Some(Ok(Number::Literal { literal: found, form })) => literal.write_some(Some(Literal::of(found, form))),
-        Some(Ok(Number::Special(_))) => refuse("a special value", error),
-        Some(Err(FormError { form, error: why, .. })) => stop(why, form, error),
-        None => refuse("the forms are a null pointer", error),
+        Some(number) => settle_number(number, outs),
+        None => refuse("the forms are a null pointer", outs.1),
     }
+}
+
+/// Writes what reading by forms has returned, and returns whether it is a literal.
+#[inline(always)]
+fn settle_number<'a>(read: Result<Number<'a>, FormError>, (literal, error): Outs<'a>) -> bool {
+    match read {
+        Ok(Number::Literal { literal: found, form }) => literal.write_some(Some(Literal::of(found, form))),
+        Ok(Number::Special(_)) => refuse("a special value", error),
+        Err(FormError { form, error: why, .. }) => stop(why, form, error),
+    }
+}
+
+/// Returns the longest literal that a text begins with. It is called in several places, and is large.
+#[inline(never)]
+fn front<'a>(readers: &Readers<'_>, text: &'a [u8]) -> Result<Number<'a>, FormError> {
+    Ok(readers.read_prefix_bytes(text)?.0)
 }
 
 /// Returns the number that a text is, or writes why it is not one.
@@ -322,7 +336,7 @@ calls! {
         syntax: Option<&Syntax>, text: *const u8, len: usize, literal: Out<Literal>, error: Out<ReadError>
     ) -> bool {
         read_by((syntax, text, len), (literal, error), |syntax, text, outs| {
-            settle(syntax.read_prefix_bytes(text).map(|(literal, _)| literal), outs)
+            Readers::new(&[syntax]).is_some_and(|it| settle_number(front(&it, text), outs))
         })
     }
 
@@ -335,7 +349,7 @@ calls! {
     fn peltzivar_forms_read_prefix(
         forms: *const Forms, text: *const u8, len: usize, literal: Out<Literal>, error: Out<ReadError>
     ) -> bool {
-        read_by_forms((forms, text, len), (literal, error), |forms, text| Ok(forms.read_prefix_bytes(text)?.0))
+        read_by_forms((forms, text, len), (literal, error), front)
     }
 
     fn peltzivar_explain(error: &ReadError, out: Out<Explanation>) -> bool {

@@ -4,13 +4,13 @@ use crate::arguments::Out;
 use crate::languages::Forms;
 use crate::literals::{number, Literal, ReadError};
 use crate::names::{at, texts};
-use peltzivar::literal::{self, FromLiteral, ValueError, ValueErrorKind};
+use peltzivar::literal::{self, FromLiteral, Number, ValueError, ValueErrorKind};
 
 /// Whether there is a value: the index of one of [`DESCRIPTIONS`].
 type ValueStatus = u8;
 
 texts! {
-    DESCRIPTIONS: [96; 8] = |status| match status {
+    DESCRIPTIONS: [8] = |status| match status {
         1 => b"a float, where an integer is required",
         2 => b"above the largest value of the type",
         3 => b"below the least value of the type",
@@ -131,6 +131,10 @@ calls! {
     fn peltzivar_to_u64(literal: &Literal, out: Out<u64>) -> ValueStatus { write::<u64, _>(literal, out) }
     fn peltzivar_to_i128(literal: &Literal, out: Out<I128>) -> ValueStatus { write::<i128, _>(literal, out) }
     fn peltzivar_to_f64(literal: &Literal, out: Out<f64>) -> ValueStatus { write::<f64, _>(literal, out) }
-    fn peltzivar_to_f32(literal: &Literal, out: Out<f32>) -> ValueStatus { write::<f32, _>(literal, out) }
-    fn peltzivar_value_description(status: ValueStatus) -> *const u8 { at(&DESCRIPTIONS, status) }
+    fn peltzivar_to_f32(literal: &Literal, out: Out<f32>) -> ValueStatus {
+        // The same conversion as that of `peltzivar_parse_f32`, so that the library has it once.
+        let number = literal.value().map(|it| Number::Literal { literal: *it, form: 0 });
+        number.map_or(5, |number| write_value(f32::try_from(number), out))
+    }
+    fn peltzivar_value_description(status: ValueStatus) -> *const u8 { at(DESCRIPTIONS, status) }
 }
