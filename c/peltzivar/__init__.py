@@ -1,8 +1,10 @@
 """Reads numbers in the notation of a language, a file or your own, with their values, and says why a text is not one.
 
     >>> from peltzivar import Syntax, languages
-    >>> languages.TOML.read("1_000.5").value, languages.RUST.read("0x1F").value
+    >>> languages.TOML.read("1_000.5").value, languages.RUST.parse("0x1F", int)
     (1000.5, 31)
+    >>> languages.CSV_DE.column(["1.234,50", "-7", None]).values
+    array('d', [1234.5, -7.0, nan])
     >>> prices = Syntax.of(
     ...     digit_separator=".", integer_internal_digit_separator=True, integer_group_size=3, point=","
     ... )
@@ -10,10 +12,11 @@
     >>> price.value, price.decimal()
     (1234.5, Decimal('1234.50'))
 
-`read` returns a `Literal`, or raises a LiteralError, whose `span` has the position. A `Language`, such as
-`languages.CSV_DE`, reads the numbers of a language or a file, and `Syntax.of` takes settings: a keyword argument for
-each field of a format, the exponent character, the decimal point and the conditions of `Syntax`. Each field is an
-attribute of `FormatView`. Settings can also be texts, such as the lines of a file. Wrong ones raise a SettingsError:
+`read` returns a `Literal`, or raises a LiteralError, whose `span` has the position. `parse` returns the value alone, and
+`column` those of many texts, several times as fast. A `Language`, such as `languages.CSV_DE`, reads the numbers of a
+language or a file, and `Syntax.of` takes settings: a keyword argument for each field of a format, the exponent
+character, the decimal point and the conditions of `Syntax`. Each field is an attribute of `FormatView`. Settings can
+also be texts, such as the lines of a file. Wrong ones raise a SettingsError:
 
     >>> Syntax.of("radix = 16", "base_prefix = 'b'")
     Traceback (most recent call last):
@@ -761,12 +764,12 @@ class SettingsError(ReasonsError):
 class LiteralError(ValueError):
     """Raised if a text is not a literal. `str` returns the cause as a sentence. If it is mended, another may follow.
 
-    `valid_up_to` is the length of the longest beginning of the text that some literal begins with. If it is the length
-    of the text, characters are missing. `span` is the first index and the end of the characters to show, maybe none, as
-    in `text[slice(*span)]`. `kind` is the kind of the cause, and `part` the part of a separator or of missing digits.
-    `mask` has the flags to blame as bits of a word, and `conditions` the names of conditions. A wrong byte and missing
-    digits blame none. `error` is the error of `lexical-util`. `form` is the name of the form of a language for which
-    most of the text is right, or empty.
+    `valid_up_to` is the length of the longest beginning of the text that some literal begins with. If it is the
+    length of the text, characters are missing. `span` is the first index and the end of the characters to show, maybe
+    none, as in `text[slice(*span)]`. `kind` is the kind of the cause, and `part` the part of a separator or of
+    missing digits. `mask` has the flags to blame as bits of a word, and `conditions` the names of conditions. A wrong
+    byte and missing digits blame none. `error` is the cause as one of the errors of the parsers of Rust's crate
+    `lexical`. `form` is the name of the form of a language for which most of the text is right, or empty.
     """
 
     sentence: str
@@ -1879,7 +1882,8 @@ class Syntax(_Forms):
         require them. Raises ValueError for NaN and infinity, for a sign `-`, a decimal point or an exponent if no
         literal has one, for an int if each literal has an exponent, for an int of more than 4300 digits in radix 10, as
         `str` does, for another mantissa radix than that of the syntax, which is 10 for a float and a Decimal, and, of a
-        float or an exponent, for another exponent base. A `Literal` keeps its exponent, and a Decimal has one from 1E+401 on and below 1E-400.
+        float or an exponent, for another exponent base. A `Literal` keeps its exponent, and a Decimal has one from
+        1E+401 on and below 1E-400.
         """
         style, needed = _Style(_number("group", group), _typed("without_base", without_base, bool)), c_size_t(64)
         call, number, _literal = _writing(value, self._fields.mantissa_radix)

@@ -185,7 +185,7 @@ class Header(unittest.TestCase):
     def test_numbers_in_comments(self):
         words = " ".join(re.sub(r"^ \* ", "", HEADER, flags=re.M).split())
         # calls.c tests that `form` is 0.
-        self.assertEqual(re.findall(r"`form` is [^.]* otherwise (\d+)", words), ["0", "0"])
+        self.assertEqual(re.findall(r"`form` is[^.]* otherwise (\d+)", words), ["0", "0"])
         most, more = map(int, re.search(r"`0x` followed by 1 to (\d+) hex.*? and at least (\d+) hexadecimal digits", words).groups())
         for number, error in ((most, "SUCCESS"), (more - 1, "SUCCESS"), (most + 1, "OVERFLOW"), (more, "OVERFLOW")):
             parsed = LIBRARY.peltzivar_parse_word(b"0x" + b"1" * number, number + 2, None, None)

@@ -173,8 +173,8 @@ calls! {
     fn peltzivar_language(name: *const u8, len: usize, specials: Out<Specials>) -> *const Forms {
         let name = input(name, len).unwrap_or_default();
         let forms = CALLS.iter().find(|(it, _)| it.as_bytes() == name).map_or(ptr::null(), |(_, call)| call());
-        let spelling = |it: &LanguageForms, index| at(it.specials, index);
-        specials.write_some(given(forms).0.map(|it| Specials { nan: spelling(it, 0), inf: spelling(it, 1), infinity: spelling(it, 2) }));
+        let spellings = given(forms).0.map(|it| [0, 1, 2].map(|index| at(it.specials, index)));
+        specials.write_some(spellings.map(|[nan, inf, infinity]| Specials { nan, inf, infinity }));
         forms
     }
 

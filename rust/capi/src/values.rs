@@ -111,7 +111,8 @@ macro_rules! parsers {
 
             #[unsafe(no_mangle)]
             unsafe extern "C" fn $column(
-                forms: *const Forms, bytes: *const u8, offsets: *const i64, count: usize, values: Out<$T>, status: Out<ValueStatus>
+                forms: *const Forms, bytes: *const u8, offsets: *const i64, count: usize, values: Out<$T>,
+                status: Out<ValueStatus>
             ) -> usize {
                 parse_column((forms, bytes), (offsets, count), (values, status))
             }
