@@ -783,28 +783,28 @@ class LiteralError(ValueError):
     form: str
     conditions: Tuple[str, ...]
 
-    def __init__(self, owner: Any, text: Union[str, bytes], stopped: Any) -> None:
-        super().__init__(owner, text)
-        self._owner, self.text, self._stopped = owner, text, stopped
-
     def __getattr__(self, name: str) -> Any:
         """Makes all attributes when the first is asked for."""
         if name not in LiteralError.__annotations__:
             raise AttributeError(name)
-        text, stopped, why = self.text, self._stopped, _Explanation()
+        (owner, self.text, stopped), why = self.args, _Explanation()
         _library.explain(stopped, why)
-        self.valid_up_to = index = stopped.valid_up_to
+        text, self.valid_up_to = self.text, stopped.valid_up_to
+        index = self.valid_up_to
         is_byte = isinstance(text, bytes) or text[index : index + 1].isascii()
         self.sentence = _text(_library.read_error_text, stopped) if is_byte else f"unexpected character {text[index]!r}"
         self.part = Part(why.part) if why.part != _NO_PART else None
         self.span, self.kind, self.mask = (why.span.start, why.span.end), ReadErrorKind(why.kind), _joined(why.mask)
         self.conditions = tuple(it for bit, it in enumerate(_CONDITIONS) if why.conditions >> bit & 1)
-        self.error, self.form = Error(why.code), self._owner._names[stopped.form]
+        self.error, self.form = Error(why.code), owner._names[stopped.form]
         return vars(self)[name]
 
     def __reduce__(self) -> Tuple[Any, ...]:
         """Returns what reads the text again."""
-        return _Forms._refusal, (self._owner, self.text)
+        return _Forms._refusal, self.args[:2]
+
+    def __repr__(self) -> str:
+        return f"LiteralError({self.sentence!r})"
 
     @property
     def edits(self) -> Tuple[Edit, ...]:
@@ -1314,7 +1314,7 @@ class Literal(Generic[AnyStr]):
 
     def _short(self) -> Optional[str]:
         """Returns the text as Python writes floats, if all radixes are 10 and it is not long."""
-        plain, size = self._owner._plains[self._found.form], self._found.size
+        plain, size = self._owner._plains[self._found.form], len(self._text)
         return None if plain is None or size > 400 else self._data[:size].translate(*plain).decode()
 
     def _scaled(self) -> Tuple[str, int, int]:
@@ -1481,11 +1481,11 @@ class _Forms:
         """
         try:
             call, one = _ONE[type]
-            data = text.encode() if text.__class__ is str else _readable(text)  # type: ignore[union-attr]
+            data = text.encode()  # type: ignore[union-attr]
             size = _SIZES[len(data)]
         except KeyError:
             raise TypeError(f"type is float or int, not {type!r}") from None
-        except (IndexError, UnicodeEncodeError):
+        except (AttributeError, IndexError, UnicodeEncodeError):
             data = _readable(text)
             size = c_size_t(len(data))
         values = one()

@@ -91,10 +91,10 @@ class Columns(unittest.TestCase):
             "other characters": (3.8, lambda: json.column([it or "1\u00e9" for it in gaps], errors="coerce")),
             "offsets": (1.2, lambda: json.column((data, offsets))),
             "refused": (8, lambda: json.column(wrong, errors="coerce")),
-            "one": (9, lambda: [json.parse(it) for it in texts]),
+            "one": (12, lambda: [json.parse(it) for it in texts]),
             "decimal": (12, lambda: [it.decimal() for it in literals]),
-            "fraction": (20, lambda: [it.fraction() for it in literals]),
-            "refused alone": (46, lambda: [refuse(it) for it in wrong]),
+            "fraction": (25, lambda: [it.fraction() for it in literals]),
+            "refused alone": (60, lambda: [refuse(it) for it in wrong]),
         }
         for name, (limit, call) in rows.items():
             ratios = []
