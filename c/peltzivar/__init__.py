@@ -1435,8 +1435,13 @@ class _Forms:
 
     @functools.cached_property
     def _plains(self) -> List[Optional[Tuple[bytes, bytes]]]:
-        """For each syntax, the table and the bytes to delete that make its texts those of Python, if its radixes are 10."""
-        return [_plain(it._fields, it._by) for it in self._syntaxes]
+        """For each syntax, what `bytes.translate` takes to make its texts those of Python, or None if a radix is not 10."""
+        found: List[Optional[Tuple[bytes, bytes]]] = []
+        for of, by in ((it._fields, it._by) for it in self._syntaxes):
+            is_plain = of.mantissa_radix == of.exponent_base == of.exponent_radix == 10 and not (of.base_prefix or of.base_suffix)
+            marks = bytes([by.exponent]).lower() + bytes([by.exponent]).upper() + bytes([by.decimal_point])
+            found.append((bytes.maketrans(marks, b"ee."), bytes([of.digit_separator or 255])) if is_plain else None)
+        return found
 
     def _read(self, call: Any, text: AnyStr) -> Optional[Literal[AnyStr]]:
         """Returns the literal that a call finds, if there is one."""
@@ -1582,15 +1587,6 @@ def _texts_of(cells: Any) -> Tuple[bytes, Any, Tuple[int, ...], Callable[[int], 
         parts = parts if joined.isascii() else [it.encode("utf-8", "surrogatepass") for it in parts]
         joined = joined.encode("utf-8", "surrogatepass")
     return joined, array("q", [*accumulate(map(len, parts), initial=0)]), missing, texts.__getitem__
-
-
-def _plain(of: _Fields, by: _Syntax) -> Optional[Tuple[bytes, bytes]]:
-    """Returns the arguments of `bytes.translate` that make a text one of Python, or None if a radix is not 10."""
-    if not of.mantissa_radix == of.exponent_base == of.exponent_radix == 10 or of.base_prefix or of.base_suffix:
-        return None
-    exponent = bytes([by.exponent])
-    table = bytes.maketrans(exponent.lower() + exponent.upper() + bytes([by.decimal_point]), b"ee.")
-    return table, bytes([of.digit_separator]) if of.digit_separator else b""
 
 
 def _fast(call: str, result: Any) -> Any:
@@ -2132,10 +2128,6 @@ class Language(_Forms, _Named):
         return dict(zip(self._names, self._syntaxes))
 
     @functools.cached_property
-    def _has_specials(self) -> bool:
-        return self.specials != Specials()
-
-    @functools.cached_property
     def specials(self) -> Specials:
         """The spellings of NaN and infinity. A language in which they are names, or do not exist, has none."""
         specials = _Specials()
@@ -2144,7 +2136,7 @@ class Language(_Forms, _Named):
 
     def read(self, text: AnyStr) -> Union[Literal[AnyStr], Special]:
         """Returns the number that a text is: a literal or a special value. Raises LiteralError if it is neither."""
-        number = self._read(_READ, text) or (self._special(text) if self._has_specials else None)
+        number = self._read(_READ, text) or (self._special(text) if any(vars(self.specials).values()) else None)
         if number is None:
             raise self._refusal(text)
         return number
