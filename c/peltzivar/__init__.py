@@ -1299,7 +1299,7 @@ class Literal(Generic[AnyStr]):
         the fraction is reduced."""
         short, _, power = (self._short() or "").partition("e")
         whole, _, part = short.partition(".")
-        if len(power) < 4 and whole[-1:].isdigit():
+        if len(power) < 4 and whole[-1:].isdigit() and (power + "0")[-2:].isdigit():
             places = len(part) - int(power or 0)
             number = int(whole + part)
             return Fraction(number * 10**-places) if places <= 0 else Fraction(number, 10**places)
