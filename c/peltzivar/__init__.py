@@ -1510,11 +1510,12 @@ class _Forms:
             >>> values.tolist(), [(it.index, str(it)) for it in wrong], missing
             ([1234.5, nan, nan], [(1, "unexpected character 'x'")], (2,))
 
-        `cells` is a sequence of `str`, such as a column of pandas, or of `bytes`, or a tuple `(data, offsets)` of buffers, as
-        Arrow holds texts, with offsets of 32 or 64 bits. None, NaN and `pandas.NA` are missing, and not wrong. `type` is
-        `float`, `int`, or the format of an array: `d` or `f` for floats, `q` or `Q` for integers of 64 bits. `out` is a
-        writable buffer of such a format to which the values are written, such as an array of numpy. Otherwise, `values` is a
-        new `array.array`. A cell that is missing or wrong has the value `fill`, which is NaN for floats if it is None, and
+        `cells` is a sequence of `str`, such as a column of pandas, or of `bytes`, or a tuple `(data, offsets)` of
+        buffers, as Arrow holds texts, with offsets of 32 or 64 bits: `memoryview(offsets).cast("i")` or `"q"` if the
+        buffer has bytes. None, NaN and `pandas.NA` in a sequence are missing, and not wrong. `type` is `float`, `int`,
+        or the format of an array: `d` or `f` for floats, `q` or `Q` for integers of 64 bits. `out` is a writable buffer
+        of such a format to which the values are written, such as an array of numpy. Otherwise, `values` is a new
+        `array.array`. A cell that is missing or wrong has the value `fill`, which is NaN for floats if it is None, and
         which integers need. With the `errors` "raise", a wrong cell raises ColumnError after the whole column is read.
         """
         kind = _format(type, out)
