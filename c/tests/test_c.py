@@ -24,6 +24,7 @@ TYPES |= {"peltzivar_edit": "NumberedEdit", "peltzivar_special": "NumberedSpecia
 TYPES |= {"peltzivar_part": "u8", "peltzivar_role": "u8"}
 ERRORS = r"((?!SET_|RULE_|PART_|ROLE_|KIND_|SPELLING_|VALUE_|CONDITION_|WRITE_)\w+)"
 LIBRARY = ctypes.CDLL(str(SHARED))
+LIBRARY.peltzivar_language_name.restype = ctypes.c_char_p
 
 
 def run(*command, **options):
@@ -181,6 +182,12 @@ class Header(unittest.TestCase):
         if const or name == "fields":
             return f"&{'' if const else 'mut '}{in_rust(kind)}"
         return f"Out<{in_rust(kind)}>"
+
+    def test_each_language_has_the_call_with_its_name(self):
+        names = [text.decode() for number in range(99) if (text := LIBRARY.peltzivar_language_name(number))]
+        calls = [getattr(LIBRARY, f"peltzivar_language_{it.lower()}")() for it in names]
+        self.assertEqual(calls, [LIBRARY.peltzivar_language(it.encode(), len(it), None) for it in names])
+        self.assertEqual(len({*calls}), len(re.findall(r"peltzivar_language_\w+\(void\)", HEADER)))
 
     def test_numbers_in_comments(self):
         words = " ".join(re.sub(r"^ \* ", "", HEADER, flags=re.M).split())
