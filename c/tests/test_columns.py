@@ -38,6 +38,7 @@ class Columns(unittest.TestCase):
                 self.assertEqual(out, array(kind, [5, 6]))
         self.assertEqual([german.column(it).values for it in ([], (b"", array("i")), (b"", array("q", [0])))], 3 * [array("d")])
         self.assertEqual(german.column(["5"], int).values, array("q", [5]))
+        self.assertEqual(Language.JSON.column([str(2**64 - 1)], "Q").values, array("Q", [2**64 - 1]))
 
     def test_wrong_and_missing_cells(self):
         na = type("NA", (), {"__ne__": lambda self, other: self, "__bool__": None})()

@@ -215,6 +215,7 @@ class Literals(unittest.TestCase):
                 self.assertEqual(repr(language.read(text)), f"languages.{language.name}.read({text!r})")
         found = [(str(it.decimal()), it.fraction()) for it in map(Syntax(Format.of(required_digits=False)).read, ("1e+", "-.5", "-.", "2.e-"))]
         self.assertEqual(found, [("1", 1), ("-0.5", Fraction(-1, 2)), ("-0", 0), ("2", 2)])
+        self.assertEqual(Syntax(Format.of(exponent_radix=16), "^").read("1^10").decimal(), 10**16)
         self.assertRaisesRegex(ValueError, "^'1.0' is a float$", int, Language.JSON.read("1.0"))
         self.assertEqual([repr(Language.TOML.read("-inf").value), str(Language.TOML.read("-inf").decimal())], ["-inf", "-Infinity"])
         # Literals are equal if their formats and parts are equal.
