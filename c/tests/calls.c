@@ -245,7 +245,7 @@ static void test_values(void) {
 /* A column has the values of its texts, and the status of each. Offsets that do not ascend refuse a text. */
 static void test_columns(void) {
     static const char bytes[] = "1-11.5x99999999999999999999nan0x1F";
-    static const int64_t offsets[] = {0, 1, 3, 6, 7, 7, 27, 30, 34, 33, 99, INT64_MIN, 34};
+    static const int64_t offsets[] = {0, 1, 3, 6, 7, 7, 27, 30, 34, 33, 99, -1, 34};
     static const uint8_t natural[] = {0, 3, 1, 6, 6, 2, 7, 0, 6, 6, 6, 6}, integer[] = {0, 0, 1, 6, 6, 2, 7, 0, 6, 6, 6, 6},
         real[] = {0, 0, 0, 6, 6, 0, 0, 0, 6, 6, 6, 6};
     const peltzivar_syntax json = first_form("JSON");
