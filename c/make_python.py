@@ -1,8 +1,9 @@
 #!/usr/bin/env python3
 """Writes parts of peltzivar/__init__.py: the constants, enumerations, structures and calls of peltzivar.h, and the
-attributes of a view, the parameters of calls that take fields, and the languages, with their documentation in rust/src.
+attributes of a view, the parameters of calls that take fields, and the languages, with their documentation in rust/src;
+and the calls of languages in peltzivar.h and in rust/capi.
 
-    c/make_python.py            writes each part between the lines `# Made by make_python.py: PART` and `# End`
+    c/make_python.py            writes each part between the lines `Made by make_python.py: PART` and `End`
     c/make_python.py --check    ends with status 1 if a part is not up to date
 """
 import pathlib
@@ -15,6 +16,7 @@ HEADER = HERE.joinpath("peltzivar.h").read_text()
 SETTERS = HERE.parent.joinpath("rust/src/format_builder/setters.rs").read_text()
 LANGUAGES = HERE.parent.joinpath("rust/src/literal/language/tables.rs").read_text()
 CODE = " ".join(re.sub(r"/\*.*?\*/|^#.*?$", "", HEADER, flags=re.S | re.M).split())
+LANGUAGE_NAMES = re.findall(r"^    (\w+) = \{", LANGUAGES, re.M)
 STRUCTS = {name: f"_{name[10:].title().replace('_', '')}" for name in re.findall(r"} (peltzivar_\w+);", CODE)}
 SET = [(name.lower(), int(bit)) for name, bit in re.findall(r"\bPELTZIVAR_SET_(\w+) = (\d+)", HEADER)]
 TYPES = {"bool": "c_bool", "size_t": "c_size_t", "int64_t": "c_int64", "double": "c_double", "float": "c_float", **STRUCTS}
@@ -63,6 +65,7 @@ def constants():
     yield f"_NEW_FIELDS = ({flags}, {others})"
     yield from (f"_{name} = {defined(name)}" for name in ("FIELD_COUNT", "SOURCE_SIZE", "TEXT_SIZE", "NO_PART"))
     yield f"_NO_DIGIT = {2**32 - 1}"
+    yield "_REFUSED = " + re.search(r"PELTZIVAR_VALUE_REFUSED = (\d+)", HEADER)[1]
     for row in (
         ("Setter", r"SET_(\w+)", "The setters. A member has the name of the setter in uppercase."),
         ("Rule", r"RULE_(\w+)", f"The rules, in the order in which they are checked. {RULE}", *CONDITION),
@@ -81,7 +84,8 @@ def constants():
         yield from (f'        ("{name}", {kind}),' for name, kind in named)
         yield "    ]"
     yield from ("", "", "_CALLS: Dict[str, Tuple[Any, List[Any]]] = {")
-    for result, call, arguments in re.findall(r"(\w+ \*?)peltzivar_(\w+)\( ?([^()]*)\);", CODE):
+    # Python finds languages by their names.
+    for result, call, arguments in re.findall(r"(\w+ \*?)peltzivar_(?!language_[a-z_]+\(void)(\w+)\( ?([^()]*)\);", CODE):
         kinds = [argument(it) for it in arguments.split(", ") if it != "void"]
         yield f'    "{call}": ({argument(result + "result")}, [{", ".join(kinds)}]),'
     yield "}"
@@ -121,6 +125,16 @@ def settings():
     yield from (re.sub("= .*", "= _KEPT,", it) for it in conditions())
 
 
+def language_calls():
+    """Returns the lines."""
+    return (f"const peltzivar_forms *peltzivar_language_{name.lower()}(void);" for name in LANGUAGE_NAMES)
+
+
+def language_list():
+    """Returns the lines."""
+    return (f"{name} peltzivar_language_{name.lower()}" for name in LANGUAGE_NAMES)
+
+
 def languages():
     """Returns the lines."""
     # Text behind `languages!`: the documentation, the name and the forms of each, in turn.
@@ -138,7 +152,7 @@ def languages():
 
 
 def made(text):
-    pattern = re.compile(r"^( *)(# Made by make_python.py: (\w+)\n).*?^( *# End\n)", re.M | re.S)
+    pattern = re.compile(r"^( *)((?:#|//|/\*) Made by make_python.py: (\w+)[^\n]*\n).*?^( *(?:#|//|/\*) End[^\n]*\n)", re.M | re.S)
 
     def part(found):
         indent, head, name, end = found.groups()
@@ -149,8 +163,9 @@ def made(text):
 
 
 if __name__ == "__main__":
-    module = HERE / "peltzivar/__init__.py"
-    old = module.read_text()
-    if "--check" in sys.argv[1:]:
-        sys.exit("run c/make_python.py: c/peltzivar/__init__.py is not up to date" if made(old) != old else 0)
-    module.write_text(made(old))
+    for path in (HERE / "peltzivar.h", HERE.parent / "rust/capi/src/languages.rs", HERE / "peltzivar/__init__.py"):
+        old = path.read_text()
+        if "--check" in sys.argv[1:]:
+            made(old) == old or sys.exit(f"run c/make_python.py: {path} is not up to date")
+        else:
+            path.write_text(made(old))

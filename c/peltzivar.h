@@ -50,9 +50,9 @@
  * is only output need not be initialised. Memory that a function writes to must not overlap memory to which another
  * argument points.
  *
- * No function allocates memory or sets errno. None keeps a pointer, except that a literal points to its text. Several
- * threads may call these functions at the same time, provided that no call writes memory that another call reads or
- * writes.
+ * No function allocates memory or sets errno. None keeps a pointer, except that a literal points to its text, and forms
+ * that a syntax makes to this syntax. Several threads may call these functions at the same time, provided that no call
+ * writes memory that another call reads or writes.
  *
  * From 1.0 on, functions, structures, numbers and documented results do not change until 2.0, but others may be added.
  * The section `Until 2.0` of CHANGELOG.md in the repository lists what this promise leaves out, such as the wording of
@@ -133,14 +133,14 @@ typedef struct {
 PELTZIVAR_MUST_USE size_t peltzivar_read_settings(const char *text, size_t len, peltzivar_syntax *out);
 
 /* Writes a problem as a sentence, such as "unknown setting `base_suffx`; did you mean `base_suffix`?". The problems
- * have the indices from 0 on. Behind them are the notes: on the first 32 settings of which later ones set each field
- * anew, in the order of the lines that complete this, and then on fields that have no effect. Each call reads the whole
- * text. The buffer `to` has to_len bytes. */
+ * have the indices from 0 on. Behind them are the notes. The first are on settings that do nothing, since later ones
+ * set the same fields: at most 32, in the order of the last of these later ones. Then come notes on fields that have
+ * no effect. Each call reads the whole text. The buffer `to` has to_len bytes. */
 size_t peltzivar_settings_text(const char *text, size_t len, size_t index, char *to, size_t to_len);
 
 /* Returns the number of lines that cause the problem or note with an index. Writes their indices, in ascending
  * order, to the array `to` of to_len elements, as far as they fit. The first line has the index 0, and a default
- * has no line. An overridden setting has its own line and the one that completes this. */
+ * has no line. A setting that does nothing has its own line and that of the last of these later ones. */
 size_t peltzivar_settings_lines(const char *text, size_t len, size_t index, size_t *to, size_t to_len);
 
 /* Returns PELTZIVAR_SUCCESS if the word of a syntax is lawful, if the options fit its normal form or are both 0, and if
@@ -198,9 +198,9 @@ typedef struct {
 } peltzivar_literal;
 
 /* Where reading stopped. The first `valid_up_to` bytes are the longest beginning of the text that some literal begins
- * with. If these are all of its bytes, bytes are missing, and a longer text may be a literal. `form` is the form of a
- * language for which this beginning is the longest, and otherwise 0. Of several such forms, it is the first whose kind
- * is not PELTZIVAR_KIND_BYTE, or the first if the kind of each is this one. */
+ * with. If these are all of its bytes, bytes are missing, and a longer text may be a literal. `form` is, for the forms
+ * of a language, the one for which this beginning is the longest, and otherwise 0. Of several such forms, it is the
+ * first whose kind is not PELTZIVAR_KIND_BYTE, or the first if the kind of each is this one. */
 typedef struct {
     PELTZIVAR_ALIGNED uint64_t magic;
     size_t valid_up_to;
@@ -235,7 +235,9 @@ enum {
     /* The type is a float type, and the mantissa radix and the exponent base are neither both 10 nor both powers of
      * two. This is so for all literals of a syntax, or for none. */
     PELTZIVAR_VALUE_RADIX = 4,
-    PELTZIVAR_VALUE_NO_LITERAL = 5 /* No call has made the literal. */
+    PELTZIVAR_VALUE_NO_LITERAL = 5, /* No call has made the literal. */
+    PELTZIVAR_VALUE_REFUSED = 6, /* The text is neither a literal nor a special value. */
+    PELTZIVAR_VALUE_SPECIAL = 7 /* The text is NaN or infinity, and the type an integer type. */
 };
 
 /* Write an integer, which has neither a point nor an exponent character. The value of `-0` is 0. */
@@ -285,9 +287,10 @@ enum {
 /* Why a text is not a literal. `span` has the bytes to show. If it is empty, it marks the place before `start`. `mask`
  * has the flags to blame, and `number` is the lowest as a setter. For a wrong byte, for missing digits, and if
  * conditions alone are to blame, they are 0 and PELTZIVAR_NO_SETTER. `conditions` has those to blame, as bits. `part`
- * is the part of a separator or of missing digits, and otherwise PELTZIVAR_NO_PART. To end the cause, set one of the
- * flags to blame if `kind` is PELTZIVAR_KIND_SEPARATOR, and otherwise clear all of them, or the conditions. Then there
- * may be another cause. `code` is a parse error, and `index` its index for peltzivar_error_text. */
+ * is the part of a separator or of missing digits, and otherwise PELTZIVAR_NO_PART. If `kind` is
+ * PELTZIVAR_KIND_SEPARATOR, a format with any one of these flags set allows the separator. Otherwise, a syntax without
+ * all of these flags and conditions does not have this cause. Either may refuse the text for another one. `code` is a
+ * parse error, and `index` its index for peltzivar_error_text. */
 typedef struct {
     peltzivar_span span;
     size_t index;
@@ -340,6 +343,37 @@ typedef struct peltzivar_forms peltzivar_forms;
 PELTZIVAR_MUST_USE const peltzivar_forms *peltzivar_language(
     const char *name, size_t len, peltzivar_specials *specials);
 
+/* Return the forms of a language. A program that calls these alone has only the forms of these languages in it. */
+/* Made by make_python.py: language_calls */
+const peltzivar_forms *peltzivar_language_ada(void);
+const peltzivar_forms *peltzivar_language_c(void);
+const peltzivar_forms *peltzivar_language_csv_de(void);
+const peltzivar_forms *peltzivar_language_csv_en(void);
+const peltzivar_forms *peltzivar_language_c_plus_plus(void);
+const peltzivar_forms *peltzivar_language_c_sharp(void);
+const peltzivar_forms *peltzivar_language_fortran(void);
+const peltzivar_forms *peltzivar_language_go(void);
+const peltzivar_forms *peltzivar_language_haskell(void);
+const peltzivar_forms *peltzivar_language_java(void);
+const peltzivar_forms *peltzivar_language_javascript(void);
+const peltzivar_forms *peltzivar_language_json(void);
+const peltzivar_forms *peltzivar_language_julia(void);
+const peltzivar_forms *peltzivar_language_kotlin(void);
+const peltzivar_forms *peltzivar_language_nasm(void);
+const peltzivar_forms *peltzivar_language_ocaml(void);
+const peltzivar_forms *peltzivar_language_python(void);
+const peltzivar_forms *peltzivar_language_ruby(void);
+const peltzivar_forms *peltzivar_language_rust(void);
+const peltzivar_forms *peltzivar_language_sql(void);
+const peltzivar_forms *peltzivar_language_swift(void);
+const peltzivar_forms *peltzivar_language_toml(void);
+const peltzivar_forms *peltzivar_language_yaml(void);
+/* End */
+
+/* Returns a syntax as forms: one form, without a name, and no spellings. The syntax must last, and not change, as long
+ * as the forms are used. If peltzivar_check_syntax refuses it, returns a null pointer. */
+PELTZIVAR_MUST_USE const peltzivar_forms *peltzivar_forms_of(const peltzivar_syntax *syntax);
+
 /* Returns the name of a language. The languages have the indices from 0 on, in alphabetical order. */
 const char *peltzivar_language_name(size_t index);
 
@@ -361,6 +395,36 @@ const char *peltzivar_form_name(const peltzivar_forms *forms, size_t form);
  * 15. */
 PELTZIVAR_MUST_USE bool peltzivar_form_syntax(const peltzivar_forms *forms, size_t form, peltzivar_syntax *out);
 
+/* TEXTS AND COLUMNS
+ *
+ * These calls return the value of a text at once, also of NaN and infinity. */
+
+/* Write the value of a text of len bytes to *out and return PELTZIVAR_VALUE_OK. Otherwise, leave *out unchanged and
+ * return why. With PELTZIVAR_VALUE_REFUSED, write where reading stopped to *error. */
+PELTZIVAR_MUST_USE peltzivar_value_status peltzivar_parse_i64(
+    const peltzivar_forms *forms, const char *text, size_t len, int64_t *out, peltzivar_read_error *error);
+PELTZIVAR_MUST_USE peltzivar_value_status peltzivar_parse_u64(
+    const peltzivar_forms *forms, const char *text, size_t len, uint64_t *out, peltzivar_read_error *error);
+PELTZIVAR_MUST_USE peltzivar_value_status peltzivar_parse_f64(
+    const peltzivar_forms *forms, const char *text, size_t len, double *out, peltzivar_read_error *error);
+PELTZIVAR_MUST_USE peltzivar_value_status peltzivar_parse_f32(
+    const peltzivar_forms *forms, const char *text, size_t len, float *out, peltzivar_read_error *error);
+
+/* Do the same for a column of texts, as Apache Arrow holds them. There are count + 1 offsets in ascending order, and the
+ * text with the index i has the bytes from offsets[i] on, to below the next offset. `bytes` has all bytes from the first
+ * to below the last offset, and `values` and `status` have count elements. Write the value of each text, or leave it
+ * unchanged, and its status, and return how many statuses are not PELTZIVAR_VALUE_OK. If its offsets do not ascend, or
+ * are not between the first and the last one, a text is refused and not read. If count is PTRDIFF_MAX / 8 or more, write
+ * nothing and return it. */
+PELTZIVAR_MUST_USE size_t peltzivar_parse_i64_column(const peltzivar_forms *forms, const char *bytes,
+    const int64_t *offsets, size_t count, int64_t *values, peltzivar_value_status *status);
+PELTZIVAR_MUST_USE size_t peltzivar_parse_u64_column(const peltzivar_forms *forms, const char *bytes,
+    const int64_t *offsets, size_t count, uint64_t *values, peltzivar_value_status *status);
+PELTZIVAR_MUST_USE size_t peltzivar_parse_f64_column(const peltzivar_forms *forms, const char *bytes,
+    const int64_t *offsets, size_t count, double *values, peltzivar_value_status *status);
+PELTZIVAR_MUST_USE size_t peltzivar_parse_f32_column(const peltzivar_forms *forms, const char *bytes,
+    const int64_t *offsets, size_t count, float *values, peltzivar_value_status *status);
+
 /* WRITING
  *
  * Each call writes a number as a literal of a syntax, such as one of peltzivar_form_syntax, and a null terminator to a
@@ -369,10 +433,10 @@ PELTZIVAR_MUST_USE bool peltzivar_form_syntax(const peltzivar_forms *forms, size
  * PELTZIVAR_WRITE_BUFFER. If the number cannot be written, it leaves the buffer and *needed unchanged and returns why.
  * Reading the text returns the same value. */
 
-/* How numbers are written where a syntax leaves a choice: the number of integer digits in a group, if the format allows
- * separators between them, or 0 for no groups, and whether the base prefix and the base suffix are left out. Conditions
- * come first: the sizes of a syntax replace any group but 0, and a required prefix or suffix is written. A null pointer
- * is the same as zeros. */
+/* How numbers are written where a syntax leaves a choice: the number of integer digits in a group, if the format
+ * allows separators between them, or 0 for no groups, and whether the base prefix and the base suffix are left out. If
+ * the syntax has sizes of groups, any group but 0 means these. A prefix or suffix that it requires is written. A null
+ * pointer is the same as zeros. */
 typedef struct {
     uint8_t group;
     bool without_base;
@@ -447,7 +511,7 @@ PELTZIVAR_MUST_USE bool peltzivar_build(const peltzivar_edit *edits, size_t len,
 /* Applies the edits, in order, to the fields that peltzivar_fields_of returns, packs them, writes the word to *out and
  * returns true. If a setter is unknown, returns false and leaves *out unchanged. Since absent exponent bytes are
  * filled, and packing may drop the digit separator, two calls do not always give the same word as one call with all of
- * the edits. Edit the digit separator and its flags in the same call. */
+ * the edits. A first call that sets the digit separator drops it, since no flag allows it before the second call. */
 PELTZIVAR_MUST_USE bool peltzivar_edit_word(
     peltzivar_word format, const peltzivar_edit *edits, size_t len, peltzivar_word *out);
 

@@ -2,9 +2,11 @@
 import ast
 import json
 import os
+import re
 import shutil
 import subprocess
 import sys
+import tempfile
 from pathlib import Path
 
 from setuptools import Extension, setup
@@ -34,16 +36,23 @@ class BuildLibrary(build_ext):
             sys.exit("cargo is not found: install Rust 1.85 or later")
         remap = f"target.'cfg(all())'.rustflags = ['--remap-path-prefix={WORKSPACE}=peltzivar']"
         command = ["cargo", "build", "--release", "--locked", "--package=peltzivar-capi", "--message-format=json"]
-        ran = subprocess.run([*command, "--config", remap], cwd=WORKSPACE, check=True, stdout=subprocess.PIPE)
-        built = [it for line in ran.stdout.splitlines() for it in json.loads(line).get("filenames", ())]
+        command += ["--config", WORKSPACE / "rust/capi/small.toml"]
         path = Path(self.get_ext_fullpath(ext.name))
         path.parent.mkdir(parents=True, exist_ok=True)
-        shutil.copy(next(it for it in built if it.endswith(LIBRARY)), path)
+        with tempfile.TemporaryDirectory() as target:
+            command += ["--config", remap, "--target-dir", target]
+            ran = subprocess.run(command, cwd=WORKSPACE, check=True, stdout=subprocess.PIPE)
+            built = [it for line in ran.stdout.splitlines() for it in json.loads(line).get("filenames", ())]
+            shutil.copy(next(it for it in built if it.endswith(LIBRARY)), path)
 
 
 class Wheel(bdist_wheel):
     def get_tag(self):
-        return "py3", "none", super().get_tag()[2]
+        """Returns the tag of each Python 3, and of each Linux whose C library has the functions that the library needs."""
+        platform, library = super().get_tag()[2], Path(self.get_finalized_command("build_ext").get_ext_fullpath("peltzivar.library"))
+        needed = re.findall(rb"GLIBC_2\.(\d+)", library.read_bytes() if library.exists() else b"")
+        system = f"manylinux_2_{max(17, *map(int, needed))}_" if needed else "linux_"
+        return "py3", "none", re.sub("^linux_", system, platform)
 
 
 class SourceDistribution(sdist):

@@ -24,6 +24,7 @@ TYPES |= {"peltzivar_edit": "NumberedEdit", "peltzivar_special": "NumberedSpecia
 TYPES |= {"peltzivar_part": "u8", "peltzivar_role": "u8"}
 ERRORS = r"((?!SET_|RULE_|PART_|ROLE_|KIND_|SPELLING_|VALUE_|CONDITION_|WRITE_)\w+)"
 LIBRARY = ctypes.CDLL(str(SHARED))
+LIBRARY.peltzivar_language_name.restype = ctypes.c_char_p
 
 
 def run(*command, **options):
@@ -75,6 +76,17 @@ class Programs(unittest.TestCase):
         self.assertEqual(run(self.made("cc", "-I", C, C / "example.c", *options), "radix=8", input="17\n"), ("15\n", 0))
         library = self.made("cc", "-shared", *options, "-Wl,--exclude-libs,ALL", "-Wl,--no-undefined")
         self.assertEqual(run("nm", "-gD", "--defined-only", library), ("", 0))
+
+    def test_the_library_is_small_and_a_program_has_the_language_that_it_names(self):
+        self.assertLessEqual(SHARED.stat().st_size, 300_000)
+        sizes = []
+        for forms in ("language_c()", 'language("C", 1, NULL)'):
+            code = f'double it; return peltzivar_parse_f64(peltzivar_{forms}, "0x1.8p3", 7, &it, NULL) || it != 12;'
+            self.folder.joinpath("one.c").write_text(f'#include "peltzivar.h"\nint main(void) {{ {code} }}\n')
+            program = self.made("cc", *STRICT, self.folder / "one.c", ARCHIVE, "-Wl,--gc-sections", "-s")
+            self.assertEqual(run(program), ("", 0))
+            sizes.append(program.stat().st_size)
+        self.assertLessEqual(sizes[0], min(200_000, sizes[1] - 10_000))
 
     def test_the_first_program_of_the_header(self):
         lines = re.findall(r"^ \*     (.*)$", HEADER, re.M)
@@ -138,6 +150,10 @@ class Header(unittest.TestCase):
     def test_declarations_are_those_of_the_library(self):
         sources = " ".join("".join(path.read_text() for path in sorted((TOP / "rust/capi/src").glob("*.rs"))).split())
         exported = re.findall(r"\bfn (peltzivar_\w+)\( ?(.*?) ?\) -> ([\w *]+) \{", sources)
+        exported += [(it, "", "*const Forms") for it in re.findall(r"[A-Z] (peltzivar_language_\w+)", sources)]
+        types = re.findall(r"\b(\w+): (peltzivar_parse_\w+) (\w+),", sources)
+        (one, column) = re.findall(r"extern \"C\" fn \$\w+\( (.*?) \) -> (\w+) \{", sources)
+        exported += [(name, of.replace("$T", kind), result) for kind, *names in types for name, (of, result) in zip(names, (one, column))]
         wanted = {
             (name, tuple(it.split(": ")[1] for it in re.split(r", (?=\w+: )", of) if it), result)
             for name, of, result in exported
@@ -159,16 +175,24 @@ class Header(unittest.TestCase):
             return in_rust(kind)
         if re.search(rf"\*{name}, size_t (to_)?len\b", others):
             return f"*{'const' if const else 'mut'} {in_rust(kind)}"
-        if const and name in ("syntax", "forms", "style"):
+        if name in ("forms", "bytes", "offsets"):
+            return f"*const {in_rust(kind)}"
+        if const and name in ("syntax", "style"):
             return f"Option<&{in_rust(kind)}>"
         if const or name == "fields":
             return f"&{'' if const else 'mut '}{in_rust(kind)}"
         return f"Out<{in_rust(kind)}>"
 
+    def test_each_language_has_the_call_with_its_name(self):
+        names = [text.decode() for number in range(99) if (text := LIBRARY.peltzivar_language_name(number))]
+        calls = [getattr(LIBRARY, f"peltzivar_language_{it.lower()}")() for it in names]
+        self.assertEqual(calls, [LIBRARY.peltzivar_language(it.encode(), len(it), None) for it in names])
+        self.assertEqual(len({*calls}), len(re.findall(r"peltzivar_language_\w+\(void\)", HEADER)))
+
     def test_numbers_in_comments(self):
         words = " ".join(re.sub(r"^ \* ", "", HEADER, flags=re.M).split())
         # calls.c tests that `form` is 0.
-        self.assertEqual(re.findall(r"`form` is [^.]* otherwise (\d+)", words), ["0", "0"])
+        self.assertEqual(re.findall(r"`form` is[^.]* otherwise (\d+)", words), ["0", "0"])
         most, more = map(int, re.search(r"`0x` followed by 1 to (\d+) hex.*? and at least (\d+) hexadecimal digits", words).groups())
         for number, error in ((most, "SUCCESS"), (more - 1, "SUCCESS"), (most + 1, "OVERFLOW"), (more, "OVERFLOW")):
             parsed = LIBRARY.peltzivar_parse_word(b"0x" + b"1" * number, number + 2, None, None)

@@ -12,8 +12,8 @@ import zipfile
 C = pathlib.Path(__file__).resolve().parent.parent
 PAGE, README = ((C.parent / path).read_text() for path in ("docs/C-AND-PYTHON.md", "README.md"))
 INSTALL, BUILD, PACKAGES = re.findall(r"^```sh\n(.*?)^```", PAGE, re.M | re.S)
-CMAKE = "cmake_minimum_required(VERSION 3.10)\nproject(it C)\nadd_executable(example example.c)\nfind_package(PkgConfig REQUIRED)\n"
-CMAKE += re.search(r"`find_package\(PkgConfig REQUIRED\)`:\n\n((?:    .*\n)+)", PAGE)[1]
+CMAKE = "cmake_minimum_required(VERSION 3.10)\nproject(it C)\nadd_executable(example example.c)\n"
+CMAKE += re.search(r"((?:^    (?:find_package|target_link).*\n)+)", PAGE, re.M)[1]
 VERSION = re.search('VERSION "(.*)"', (C / "peltzivar.h").read_text())[1]
 WORD = "0x0000100000000000000000000000000C"
 PROGRAM = "import peltzivar; print(peltzivar.Format.of(mantissa_radix=16), peltzivar.__file__)"
@@ -57,9 +57,13 @@ class Install(InFolder):
         self.assertEqual(self.run_in(*moved), "/moved/lib\n")
         if not shutil.which("cmake"):
             self.skipTest("cmake")
-        self.folder.joinpath("CMakeLists.txt").write_text(CMAKE)
-        self.run_in("bash", "-ec", "rm example; cmake . && make")
-        self.assertEqual(self.run_in("./example", "radix=8", input="17\n"), "15\n")
+        for kind, version in (("shared", "1.0"), ("static", VERSION)):
+            self.folder.joinpath("CMakeLists.txt").write_text(CMAKE.replace("shared", kind).replace("1.0", version))
+            self.run_in("bash", "-ec", f"rm -rf example CMakeCache.txt; cmake -DCMAKE_PREFIX_PATH='{self.prefix}' . && make")
+            self.assertEqual(self.run_in("./example", "radix=8", input="17\n"), "15\n")
+        for version in ("2.0", "1.9", "0.9"):
+            self.folder.joinpath("CMakeLists.txt").write_text(CMAKE.replace("1.0", version))
+            self.assertRaisesRegex(AssertionError, "compatible", self.run_in, "cmake", f"-DCMAKE_PREFIX_PATH={self.prefix}", ".")
 
     def test_python_finds_the_library_below_the_prefix(self):
         self.make("install", f"PREFIX={self.prefix}")
@@ -91,7 +95,7 @@ class Install(InFolder):
         self.assertRegex(written, r"\Aprefix=/usr/my own\nlibdir=\${prefix}/lib here\nincludedir=\${prefix}/headers\n")
         links = [it for it in root.rglob("*") if it.is_symlink()]
         self.assertEqual([it.exists() and "/" not in os.readlink(it) for it in links], [True, True])
-        foreign = {root / path / "foreign" for path in {os.path.dirname(it) for it in modes} if "python" not in path}
+        foreign = {root / path / "foreign" for path in {os.path.dirname(it) for it in modes}}
         for it in foreign:
             it.touch()
         self.make("uninstall", *paths)
@@ -135,8 +139,8 @@ class Package(InFolder):
         with zipfile.ZipFile(wheel) as opened:
             files = {name.rpartition("/")[2]: opened.read(name) for name in opened.namelist()}
         self.assertEqual((files["py.typed"], files["LICENSE"]), (b"", (C.parent / "LICENSE").read_bytes()))
-        self.assertRegex(files["METADATA"].decode(), r"(?ms)^License: MIT$.*^Requires-Python: >=3.9$.*^\n.* >>> from peltzivar import Syntax, languages$")
-        self.assertRegex(wheel.name, f"-py3-none-linux_{os.uname().machine}.whl$")
+        self.assertRegex(files["METADATA"].decode(), r"(?ms)^License: MIT$.*^Classifier: Typing :: Typed$.*^Requires-Python: >=3.9$.*^\n.* >>> from peltzivar import Syntax, languages$")
+        self.assertRegex(wheel.name, f"-py3-none-manylinux_2_17_{os.uname().machine}.whl$")
         # Without a network, pip gets from the system what it would fetch.
         paths = f"{checkout.parent}/environment/bin:{os.environ['PATH']}"
         self.environment |= {"PIP_NO_INDEX": "1", "PIP_NO_BUILD_ISOLATION": "0", "PATH": paths}
@@ -146,6 +150,7 @@ class Package(InFolder):
             self.assertRegex(self.run_in("python", *IMPORT[1:]), f"^{WORD} {folder}/peltzivar/__init__.py$")
             modules = "import pkgutil, peltzivar; print([*pkgutil.iter_modules(peltzivar.__path__)])"
             self.assertEqual(self.run_in("python", "-B", "-c", modules), "[]\n")
+        self.assertFalse([*checkout.parent.rglob("target")])
 
 
 if __name__ == "__main__":

@@ -17,6 +17,7 @@ import subprocess
 import sys
 import tempfile
 import unittest
+from array import array
 from decimal import Decimal
 from fractions import Fraction
 from unittest import mock
@@ -212,6 +213,9 @@ class Literals(unittest.TestCase):
                 for same in (eval(repr(it)), pickle.loads(pickle.dumps(it)), copy.deepcopy(it)):
                     self.assertEqual((same, hash(same), same.value), (it, hash(it), it.value))
                 self.assertEqual(repr(language.read(text)), f"languages.{language.name}.read({text!r})")
+        found = [(str(it.decimal()), it.fraction()) for it in map(Syntax(Format.of(required_digits=False)).read, ("1e+", "-.5", "-.", "2.e-"))]
+        self.assertEqual(found, [("1", 1), ("-0.5", Fraction(-1, 2)), ("-0", 0), ("2", 2)])
+        self.assertEqual(Syntax(Format.of(exponent_radix=16), "^").read("1^10").decimal(), 10**16)
         self.assertRaisesRegex(ValueError, "^'1.0' is a float$", int, Language.JSON.read("1.0"))
         self.assertEqual([repr(Language.TOML.read("-inf").value), str(Language.TOML.read("-inf").decimal())], ["-inf", "-Infinity"])
         # Literals are equal if their formats and parts are equal.
@@ -425,6 +429,16 @@ WRONG = [
     ("Syntax(Format(), exponent=None)", ValueError, ONE_OPTION),
     ("Format().check_options('e', b'')", ValueError, f"point is {BYTE}: b''"),
     ("Syntax.of('radix=16\\nradix=2')", ValueError, "a setting is one line: 'radix=16\\nradix=2'"),
+    ("Language.JSON.column('12')", TypeError, "cells is a sequence of texts, not str"),
+    ("Language.JSON.column([1])", TypeError, "sequence item 0: expected str instance, int found"),
+    ("Language.JSON.column([], complex)", TypeError, "type is float, int or one of the formats d, f, q and Q, which is that of out: <class 'complex'>, ''"),
+    ("Language.JSON.column(['1'], out=bytearray(8))", TypeError, "type is float, int or one of the formats d, f, q and Q, which is that of out: <class 'float'>, 'B'"),
+    ("Language.JSON.column(['1'], out=array('d'))", ValueError, "out has the shape (0,), and there are 1 cells"),
+    ("Language.JSON.column(['1'], errors='ignore')", ValueError, "errors is 'raise' or 'coerce', not 'ignore'"),
+    ("Language.JSON.column([None], int)", ValueError, "integers have no NaN: pass `fill`, the value of cells that are missing or wrong"),
+    ("Language.JSON.column((b'12', array('q', [0, 3])))", ValueError, "offsets are not within the data, which has 2 bytes"),
+    ("Language.JSON.column((b'12', array('q', [-1, 1])))", ValueError, "offsets are not within the data, which has 2 bytes"),
+    ("Language.JSON.parse('1', bool)", TypeError, "type is float or int, not <class 'bool'>"),
     ("Specials('a\\0').read(Syntax(Format()), '')", ValueError, "a spelling has a null character: Specials(nan='a\\x00', inf=None, infinity=None)"),
 ]
 

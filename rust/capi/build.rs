@@ -10,5 +10,7 @@ fn main() {
         println!("cargo::rustc-cdylib-link-arg=-Wl,-soname,libpeltzivar_c.so.{major}");
         // The shared library needs `memcpy` of the C library, which rustc does not link without `std`.
         println!("cargo::rustc-cdylib-link-arg=-lc");
+        // Nothing unwinds, so no table finds frames.
+        println!("cargo::rustc-cdylib-link-arg=-Wl,--no-eh-frame-hdr");
     }
 }

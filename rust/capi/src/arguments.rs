@@ -27,18 +27,32 @@ pub unsafe fn input<'a, T>(start: *const T, len: usize) -> Option<&'a [T]> {
 
 /// Memory for one value that a call only writes, or a null pointer.
 ///
-/// No code here creates an `Out`, since each one is an argument that a C caller passes. The header requires a pointer
-/// to an object of type `T` that nothing else reads or writes during the call, or a null pointer.
+/// Each is an argument that a C caller passes, or an element of one. The header requires a pointer to an object of type `T`
+/// that nothing else reads or writes during the call, or a null pointer.
 #[repr(transparent)]
 #[derive(Clone, Copy)]
 pub struct Out<T>(*mut T);
 
 impl<T> Out<T> {
+    /// No memory.
+    pub const NULL: Out<T> = Out(ptr::null_mut());
+
+    /// Returns the value with an index of those that begin here.
+    ///
+    /// # Safety
+    ///
+    /// The pointer is null, or a C caller passes so many values.
+    #[inline(always)]
+    pub unsafe fn at(&self, index: usize) -> Out<T> {
+        // SAFETY: the caller guarantees the value.
+        Out(if self.0.is_null() { self.0 } else { unsafe { self.0.add(index) } })
+    }
+
     /// Writes the value, unless the pointer is null.
     pub fn write(self, value: T) {
         if !self.0.is_null() {
             // SAFETY: C passed the pointer, and it points to an object of this type, as the comment of the type states.
-            unsafe { self.0.write(value) }
+            unsafe { self.0.write_unaligned(value) }
         }
     }
 
@@ -55,6 +69,16 @@ impl<T> Out<T> {
                 self.write(value.into());
                 error_number(Error::Success)
             }
+        }
+    }
+}
+
+/// Returns the item with an index. The code of `nth` is several times as large.
+pub fn item<T>(mut items: impl Iterator<Item = T>, mut index: usize) -> Option<T> {
+    loop {
+        match (items.next(), index) {
+            (Some(_), 1..) => index -= 1,
+            (found, _) => return found,
         }
     }
 }

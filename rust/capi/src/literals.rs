@@ -1,7 +1,7 @@
 //! Calls that check syntaxes, that read literals, and that print why a text is not one.
 
 use crate::arguments::{input, write_text, Out};
-use crate::languages::Forms;
+use crate::languages::{by, Forms};
 use crate::numbers::{error_number, ErrorNumber, Setter, Word, NO_PART, NO_SETTER};
 use core::array;
 use core::fmt::{self, Display, Formatter};
@@ -45,7 +45,7 @@ impl Syntax {
     }
 
     /// Returns the checked syntax.
-    fn checked(syntax: Option<&Syntax>) -> Result<literal::Syntax, Refusal<FormatError>> {
+    pub fn checked(syntax: Option<&Syntax>) -> Result<literal::Syntax, Refusal<FormatError>> {
         let syntax = syntax.ok_or(Refusal::Argument("the syntax is a null pointer"))?;
         let conditions = syntax.conditions();
         let conditions = conditions.ok_or(Refusal::Argument("the reserved bytes of the syntax are not 0"))?;
@@ -238,21 +238,54 @@ fn settle<'a>(read: Result<literal::Literal<'a>, literal::ReadError>, (literal, 
     }
 }
 
-/// Writes what `read` returns for a text by the forms of a language, and returns whether it is a literal.
+/// Writes what `read` returns for a text by forms, and returns whether it is a literal.
 #[inline(always)]
 unsafe fn read_by_forms<'a>(
-    (forms, text, len): (Option<&Forms>, *const u8, usize),
-    (literal, error): (Out<Literal<'a>>, Out<ReadError>),
+    (forms, text, len): (*const Forms, *const u8, usize),
+    outs: Outs<'a>,
     read: impl FnOnce(&Readers<'_>, &'a [u8]) -> Result<Number<'a>, FormError>,
 ) -> bool {
-    let readers = forms.and_then(|forms| Readers::new(forms.readers().as_slice()));
-    let Some(readers) = readers else { return refuse("the forms are a null pointer", error) };
-    let Some(text) = input(text, len) else { return refuse(TOO_LONG, error) };
-    match read(&readers, text) {
+    let Some(text) = input(text, len) else { return refuse(TOO_LONG, outs.1) };
+    match by(forms, |readers| read(&readers.with_specials(Default::default()), text)) {
+        Some(number) => settle_number(number, outs),
+        None => refuse("the forms are a null pointer", outs.1),
+    }
+}
+
+/// Writes what reading by forms has returned, and returns whether it is a literal.
+#[inline(always)]
+fn settle_number<'a>(read: Result<Number<'a>, FormError>, (literal, error): Outs<'a>) -> bool {
+    match read {
         Ok(Number::Literal { literal: found, form }) => literal.write_some(Some(Literal::of(found, form))),
         Ok(Number::Special(_)) => refuse("a special value", error),
         Err(FormError { form, error: why, .. }) => stop(why, form, error),
     }
+}
+
+/// Returns the longest literal that a text begins with. It is called in several places, and is large.
+#[inline(never)]
+fn front<'a>(readers: &Readers<'_>, text: &'a [u8]) -> Result<Number<'a>, FormError> {
+    Ok(readers.read_prefix_bytes(text)?.0)
+}
+
+/// Returns the number that a text is, or writes why it is not one.
+#[inline(never)]
+pub unsafe fn number<'a>(
+    forms: *const Forms,
+    text: *const u8,
+    len: usize,
+    error: Out<ReadError>,
+) -> Option<Number<'a>> {
+    let Some(text) = input(text, len) else {
+        refuse(TOO_LONG, error);
+        return None;
+    };
+    match by(forms, |readers| readers.read_bytes(text)) {
+        Some(Ok(number)) => return Some(number),
+        Some(Err(FormError { form, error: why, .. })) => stop(why, form, error),
+        None => refuse("the forms are a null pointer", error),
+    };
+    None
 }
 
 /// Writes why an argument is refused.
@@ -303,20 +336,20 @@ calls! {
         syntax: Option<&Syntax>, text: *const u8, len: usize, literal: Out<Literal>, error: Out<ReadError>
     ) -> bool {
         read_by((syntax, text, len), (literal, error), |syntax, text, outs| {
-            settle(syntax.read_prefix_bytes(text).map(|(literal, _)| literal), outs)
+            Readers::new(&[syntax]).is_some_and(|it| settle_number(front(&it, text), outs))
         })
     }
 
     fn peltzivar_forms_read(
-        forms: Option<&Forms>, text: *const u8, len: usize, literal: Out<Literal>, error: Out<ReadError>
+        forms: *const Forms, text: *const u8, len: usize, literal: Out<Literal>, error: Out<ReadError>
     ) -> bool {
         read_by_forms((forms, text, len), (literal, error), |forms, text| forms.read_bytes(text))
     }
 
     fn peltzivar_forms_read_prefix(
-        forms: Option<&Forms>, text: *const u8, len: usize, literal: Out<Literal>, error: Out<ReadError>
+        forms: *const Forms, text: *const u8, len: usize, literal: Out<Literal>, error: Out<ReadError>
     ) -> bool {
-        read_by_forms((forms, text, len), (literal, error), |forms, text| Ok(forms.read_prefix_bytes(text)?.0))
+        read_by_forms((forms, text, len), (literal, error), front)
     }
 
     fn peltzivar_explain(error: &ReadError, out: Out<Explanation>) -> bool {

@@ -1,6 +1,6 @@
 //! Calls that find setters, and that parse and print settings, one or all of a text.
 
-use crate::arguments::{input, write_list, write_text, Out};
+use crate::arguments::{input, item, write_list, write_text, Out};
 use crate::literals::Syntax;
 use crate::numbers::{setter_number, setter_of, NumberedEdit, Setter, Word, NO_SETTER};
 use core::fmt::Display;
@@ -23,12 +23,11 @@ unsafe fn lines<'a>(text: *const u8, len: usize) -> impl Iterator<Item = &'a [u8
     text.split(|byte| *byte == b'\n')
 }
 
+/// What takes a sentence and lines, and returns what a call returns.
+type Report<'a> = &'a dyn Fn(Option<&dyn Display>, &[usize]) -> usize;
+
 /// Passes the sentence and the lines of a problem or note to `report`, or nothing if there is none with this index.
-fn report<'a>(
-    lines: impl Iterator<Item = &'a [u8]>,
-    index: usize,
-    report: impl FnOnce(Option<&dyn Display>, &[usize]) -> usize,
-) -> usize {
+fn report<'a>(lines: impl Iterator<Item = &'a [u8]>, index: usize, report: Report<'_>) -> usize {
     let (mut settings, mut before) = (Settings::new(), index);
     for line in lines {
         match (settings.add(line), before.checked_sub(1)) {
@@ -37,8 +36,7 @@ fn report<'a>(
             (Err(error), None) => return report(Some(&error), &[error.index()]),
         }
     }
-    let mut findings = settings.reasons().chain(settings.notes());
-    match findings.nth(before) {
+    match item(settings.reasons().chain(settings.notes()), before) {
         Some(finding) => report(Some(&finding), finding.indexes()),
         None => report(None, &[]),
     }
@@ -76,11 +74,11 @@ calls! {
     }
 
     fn peltzivar_settings_text(text: *const u8, len: usize, index: usize, to: *mut u8, to_len: usize) -> usize {
-        report(lines(text, len), index, |sentence, _| write_text(to, to_len, sentence))
+        report(lines(text, len), index, &|sentence, _| write_text(to, to_len, sentence))
     }
 
     fn peltzivar_settings_lines(text: *const u8, len: usize, index: usize, to: *mut usize, to_len: usize) -> usize {
-        report(lines(text, len), index, |_, blamed| {
+        report(lines(text, len), index, &|_, blamed| {
             write_list(to, to_len, blamed.iter().copied());
             blamed.len()
         })

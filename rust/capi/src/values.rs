@@ -1,20 +1,23 @@
-//! Calls that make the value of a literal.
+//! Calls that make the value of a literal, of a text, or of each text of a column.
 
 use crate::arguments::Out;
-use crate::literals::Literal;
+use crate::languages::Forms;
+use crate::literals::{number, Literal, ReadError};
 use crate::names::{at, texts};
-use peltzivar::literal::{self, ValueError, ValueErrorKind};
+use peltzivar::literal::{self, FromLiteral, Number, ValueError, ValueErrorKind};
 
 /// Whether there is a value: the index of one of [`DESCRIPTIONS`].
 type ValueStatus = u8;
 
 texts! {
-    DESCRIPTIONS: [96; 6] = |status| match status {
+    DESCRIPTIONS: [8] = |status| match status {
         1 => b"a float, where an integer is required",
         2 => b"above the largest value of the type",
         3 => b"below the least value of the type",
         4 => b"the mantissa radix and the exponent base are not both 10 or both powers of two",
         5 => b"no call has made this literal",
+        6 => b"neither a literal nor a special value",
+        7 => b"NaN or infinity, where an integer is required",
         _ => b"",
     };
 }
@@ -43,8 +46,13 @@ fn write<'a, T, C: From<T>>(literal: &Literal<'a>, out: Out<C>) -> ValueStatus
 where
     T: TryFrom<literal::Literal<'a>, Error = ValueError>,
 {
-    let Some(literal) = literal.value() else { return 5 };
-    match T::try_from(*literal) {
+    literal.value().map_or(5, |literal| write_value(T::try_from(*literal), out))
+}
+
+/// Writes a value, if there is one, and returns whether there is.
+#[inline(always)]
+fn write_value<T, C: From<T>>(value: Result<T, ValueError>, out: Out<C>) -> ValueStatus {
+    match value {
         Ok(value) => {
             out.write(value.into());
             0
@@ -53,9 +61,70 @@ where
             ValueErrorKind::Float => 1,
             ValueErrorKind::TooLarge => 2,
             ValueErrorKind::TooSmall => 3,
+            ValueErrorKind::Special => 7,
             _ => 4,
         },
     }
+}
+
+/// Writes the value of a text, if it has one of this type, or why it is not a number, and returns whether it has.
+unsafe fn parse<T: FromLiteral>(
+    (forms, text, len): (*const Forms, *const u8, usize),
+    out: Out<T>,
+    error: Out<ReadError>,
+) -> ValueStatus {
+    number(forms, text, len, error).map_or(6, |number| write_value(T::try_from(number), out))
+}
+
+/// Writes the value of each text, and whether it has one, and returns how many have none.
+unsafe fn parse_column<T: FromLiteral>(
+    (forms, bytes): (*const Forms, *const u8),
+    (offsets, count): (*const i64, usize),
+    (values, status): (Out<T>, Out<ValueStatus>),
+) -> usize {
+    if count == 0 || count >= isize::MAX as usize / size_of::<i64>() {
+        return count;
+    }
+    let offset = |index| offsets.add(index).read_unaligned();
+    let (first, last) = (offset(0), offset(count));
+    let value_of = |index| {
+        let (start, end) = (offset(index), offset(index + 1));
+        // No text has so many bytes.
+        let len = if first <= start && start <= end && end <= last { (end - start) as usize } else { usize::MAX };
+        let found = parse((forms, bytes.wrapping_offset(start as isize), len), values.at(index), Out::NULL);
+        status.at(index).write(found);
+        usize::from(found != 0)
+    };
+    (0..count).map(value_of).sum()
+}
+
+/// Defines the calls for the types of values.
+macro_rules! parsers {
+    ($($T:ty: $call:ident $column:ident,)*) => {
+        $(
+            #[unsafe(no_mangle)]
+            unsafe extern "C" fn $call(
+                forms: *const Forms, text: *const u8, len: usize, out: Out<$T>, error: Out<ReadError>
+            ) -> ValueStatus {
+                parse((forms, text, len), out, error)
+            }
+
+            #[unsafe(no_mangle)]
+            unsafe extern "C" fn $column(
+                forms: *const Forms, bytes: *const u8, offsets: *const i64, count: usize, values: Out<$T>,
+                status: Out<ValueStatus>
+            ) -> usize {
+                parse_column((forms, bytes), (offsets, count), (values, status))
+            }
+        )*
+    };
+}
+
+parsers! {
+    i64: peltzivar_parse_i64 peltzivar_parse_i64_column,
+    u64: peltzivar_parse_u64 peltzivar_parse_u64_column,
+    f64: peltzivar_parse_f64 peltzivar_parse_f64_column,
+    f32: peltzivar_parse_f32 peltzivar_parse_f32_column,
 }
 
 calls! {
@@ -63,6 +132,10 @@ calls! {
     fn peltzivar_to_u64(literal: &Literal, out: Out<u64>) -> ValueStatus { write::<u64, _>(literal, out) }
     fn peltzivar_to_i128(literal: &Literal, out: Out<I128>) -> ValueStatus { write::<i128, _>(literal, out) }
     fn peltzivar_to_f64(literal: &Literal, out: Out<f64>) -> ValueStatus { write::<f64, _>(literal, out) }
-    fn peltzivar_to_f32(literal: &Literal, out: Out<f32>) -> ValueStatus { write::<f32, _>(literal, out) }
-    fn peltzivar_value_description(status: ValueStatus) -> *const u8 { at(&DESCRIPTIONS, status) }
+    fn peltzivar_to_f32(literal: &Literal, out: Out<f32>) -> ValueStatus {
+        // The same conversion as that of `peltzivar_parse_f32`, so that the library has it once.
+        let number = literal.value().map(|it| Number::Literal { literal: *it, form: 0 });
+        number.map_or(5, |number| write_value(f32::try_from(number), out))
+    }
+    fn peltzivar_value_description(status: ValueStatus) -> *const u8 { at(DESCRIPTIONS, status) }
 }

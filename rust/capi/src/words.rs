@@ -1,7 +1,7 @@
 //! Calls on words: they build, read, edit and compare them, print and parse them, print why they break rules, and read the
 //! bytes of a number.
 
-use crate::arguments::{input, write_list, write_text, Out};
+use crate::arguments::{input, item, write_list, write_text, Out};
 use crate::numbers::{blamed_options, broken_rules, error_number, error_of, setter_of};
 use crate::numbers::{ErrorNumber, Fields, NumberedEdit, Setter, Word, PARTS};
 use core::str::from_utf8;
@@ -28,15 +28,15 @@ unsafe fn edited(builder: NumberFormatBuilder, edits: *const NumberedEdit, len: 
 }
 
 fn reason_at(format: Word, index: usize) -> Option<Reason> {
-    format.view().reasons().nth(index)
+    item(format.view().reasons(), index)
 }
 
 fn options_reason_at(format: Word, exponent: u8, point: u8, index: usize) -> Option<Reason> {
-    format.view().options_reasons(exponent, point).nth(index)
+    item(format.view().options_reasons(exponent, point), index)
 }
 
 fn note_at(fields: &Fields, index: usize) -> Option<Note> {
-    fields.builder().notes().nth(index)
+    item(fields.builder().notes(), index)
 }
 
 calls! {

@@ -17,7 +17,7 @@ const BUFFER: WriteStatus = 7;
 const ARGUMENT: WriteStatus = 8;
 
 texts! {
-    DESCRIPTIONS: [96; 9] = |status| match status {
+    DESCRIPTIONS: [9] = |status| match status {
         1 => b"the digits or the exponent have another radix or base",
         2 => b"no literal has the sign '-'",
         3 => b"literals are integers, and the number has a decimal point",
@@ -155,5 +155,5 @@ calls! {
         write((syntax, style), (text, len, needed), |syntax, style| syntax.format_literal(literal, style))
     }
 
-    fn peltzivar_write_description(status: WriteStatus) -> *const u8 { at(&DESCRIPTIONS, status) }
+    fn peltzivar_write_description(status: WriteStatus) -> *const u8 { at(DESCRIPTIONS, status) }
 }

@@ -1,0 +1,109 @@
+"""Tests the calls of the Python module that return values: `make -C c check`."""
+import contextlib
+import importlib.util
+import io
+import itertools
+import math
+import operator
+import pathlib
+import re
+import sys
+import textwrap
+import timeit
+import unittest
+from array import array
+from unittest import mock
+
+TESTS = pathlib.Path(__file__).resolve().parent
+sys.path.insert(0, str(TESTS.parent))
+import peltzivar
+from peltzivar import Format, Language, LiteralError, Syntax
+
+PAGE = (TESTS.parent.parent / "docs/C-AND-PYTHON.md").read_text()
+
+
+class Columns(unittest.TestCase):
+    def test_cells_of_each_kind(self):
+        texts, german = ["1.234,5", "-7", "10"], Language.CSV_DE
+        data, offsets = "".join(texts).encode(), [0, 7, 9, 11]
+        cells = [texts, tuple(texts), iter(texts), [*map(type("Text", (str,), {}), texts)], [*map(str.encode, texts)], {it: 0 for it in texts}]
+        cells += [(bytearray(data), array(it, offsets)) for it in "iIlLqQ"] + [(memoryview(data), memoryview(array("i", [5, *offsets]))[1:])]
+        for it in cells:
+            values, wrong, missing = german.column(it)
+            self.assertEqual((values, len(wrong), [*wrong], missing), (array("d", [1234.5, -7, 10]), 0, [], ()))
+        for syntax in (german, german.forms["decimal"]):
+            for kind, given in (("d", float), ("f", float), ("q", int), ("Q", int), ("l", int), ("L", "Q"), ("f", "f")):
+                out = array(kind, [7, 7])
+                self.assertIs(syntax.column(["5", "6"], given, out=out).values, out)
+                self.assertEqual(out, array(kind, [5, 6]))
+        self.assertEqual([german.column(it).values for it in ([], (b"", array("i")), (b"", array("q", [0])))], 3 * [array("d")])
+        self.assertEqual(german.column(["5"], int).values, array("q", [5]))
+        self.assertEqual(Language.JSON.column([str(2**64 - 1)], "Q").values, array("Q", [2**64 - 1]))
+
+    def test_wrong_and_missing_cells(self):
+        na = type("NA", (), {"__ne__": lambda self, other: self, "__bool__": None})()
+        cells = ["1,5", None, "x", "\u00e9", "2", math.nan, na, "", "5\ud800"]
+        for given, out in itertools.product((cells, [it.encode("utf-8", "surrogatepass") if isinstance(it, str) else it for it in cells]), (None, array("d", 9 * [7]))):
+            with mock.patch.dict(sys.modules, pandas=mock.Mock(NA=na)):
+                values, wrong, missing = Language.CSV_DE.column(given, errors="coerce", out=out)
+                self.assertEqual([str(it) for it in Language.CSV_DE.column(given, fill=0, errors="coerce").values], "1.5 0.0 0.0 0.0 2.0 0.0 0.0 0.0 0.0".split())
+                with self.assertRaises(peltzivar.ColumnError) as caught:
+                    Language.CSV_DE.column(given)
+            self.assertEqual(([*map(str, values)], missing), ("1.5 nan nan nan 2.0 nan nan nan nan".split(), (1, 5, 6)))
+            self.assertEqual([(it.index, it.text) for it in wrong], [(it, given[it]) for it in (2, 3, 7, 8)])
+            self.assertEqual([it.error.span for it in wrong[:2]] + [wrong[-1].index], [(0, 1), (0, 1 if given is cells else 2), 8])
+            self.assertEqual(str(caught.exception), "cell 2: unexpected character 'x', the first of 4 wrong cells")
+            self.assertEqual((caught.exception.column.missing, str(caught.exception.column.wrong[1])), (missing, "unexpected character '\u00e9'"))
+        values, wrong, _ = Language.TOML.column(["1", "1.5", "inf", "99999999999999999999", None], int, errors="coerce", fill=-1)
+        self.assertEqual((values.tolist(), [str(it)[:5] for it in wrong]), ([1, -1, -1, -1, -1], ["a flo", "NaN o", "above"]))
+        offsets = array("q", [0, 3, 1, 2])
+        self.assertEqual([(it.index, it.text) for it in Language.JSON.column((b"12", offsets), errors="coerce").wrong], [(0, b"12"), (1, b"")])
+
+    def test_one_text(self):
+        for text, kind, value in (("1.5", float, 1.5), (b"15", int, 15), ("-inf", float, -math.inf), ("9" * 30, int, int("9" * 30)), ("1" * 99, float, float("1" * 99))):
+            self.assertEqual((type(Language.TOML.parse(text, kind)), Language.TOML.parse(text, kind)), (kind, value))
+        for text in ("x", "\u00e9", "\ud800", "", b"\xff", "9" * 99 + "x"):
+            self.assertRaises(LiteralError, Language.TOML.parse, text)
+        for text, sentence in (("1.5", "is a float"), ("inf", "^NaN or infinity, where an integer")):
+            self.assertRaisesRegex(ValueError, sentence, Language.TOML.parse, text, int)
+        self.assertRaisesRegex(ValueError, "mantissa radix", Syntax(Format.of(radix=3)).parse, "12")
+
+    @unittest.skipUnless(importlib.util.find_spec("pandas"), "pandas")
+    def test_the_german_column_of_the_page(self):
+        (code,) = re.findall(r"^(    import numpy.*\n(?:    .*\n)+)", PAGE, re.M)
+        names = {"file": io.StringIO("name;price\na;1.234,50\nb;\nc;12,3x\n")}
+        with contextlib.redirect_stdout(io.StringIO()) as printed:
+            exec(textwrap.dedent(code), names)
+        self.assertEqual([*map(str, names["frame"]["price"])], ["1234.5", "nan", "nan"])
+        self.assertEqual(printed.getvalue(), "row 2: 12,3x: unexpected character 'x'\n")
+
+    def test_times_of_a_cell_are_these_multiples_of_that_of_float(self):
+        json, texts = Language.JSON, ["1", "-17", "1000", "3.25", "-12345.678e-9", "0.5", "1000.5e-3", "9007199254740993"] * 100
+        data, offsets = "".join(texts).encode(), array("q", [0, *itertools.accumulate(map(len, texts))])
+        literals, wrong, gaps = [json.read(it) for it in texts], [it + "x" for it in texts], [None if at % 10 == 0 else it for at, it in enumerate(texts)]
+
+        def refuse(text):
+            with contextlib.suppress(LiteralError):
+                json.read(text)
+
+        rows = {
+            "text": (2.7, lambda: json.column(texts)),
+            "missing": (3.8, lambda: json.column(gaps)),
+            "other characters": (3.8, lambda: json.column([it or "1\u00e9" for it in gaps], errors="coerce")),
+            "offsets": (1.2, lambda: json.column((data, offsets))),
+            "refused": (8, lambda: json.column(wrong, errors="coerce")),
+            "one": (12, lambda: [json.parse(it) for it in texts]),
+            "decimal": (12, lambda: [it.decimal() for it in literals]),
+            "fraction": (25, lambda: [it.fraction() for it in literals]),
+            "refused alone": (60, lambda: [refuse(it) for it in wrong]),
+        }
+        for name, (limit, call) in rows.items():
+            ratios = []
+            while min(ratios, default=math.inf) > limit:
+                times = (min(timeit.repeat(it, number=1, repeat=9)) for it in (call, lambda: [float(it) for it in texts]))
+                ratios.append(operator.truediv(*times))
+                self.assertLess(len(ratios), 99, (name, min(ratios)))
+
+
+if __name__ == "__main__":
+    unittest.main()
