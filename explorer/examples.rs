@@ -9,16 +9,15 @@ use peltzivar::{FormatView, Role};
 use crate::forms::{value_of, Forms, Value};
 use crate::suggest::State;
 
-/// How many texts are shown of those that one format refuses, and how many of its causes are found.
-pub const MOST: usize = 6;
-const MOST_CAUSES: usize = 16;
+/// How many causes are found for which one format refuses what the other accepts.
+const MOST_CAUSES: usize = 64;
 
 /// The parts of the texts that are tried, the usual one first. `_`, `x`, `e`, `.`, `h` and `F` stand for the separator, the
 /// prefix, the exponent character, the point, the suffix and the largest digit.
 const PARTS: [&[&str]; 6] = [
     &["", "+", "-"],
     &["", "0x", "0X"],
-    &["1", "10", "0", "", "01", "1F", "1_0", "_1", "1_", "1__0", "NaN", "nan", "N_aN"],
+    &["1", "10", "0", "", "01", "1F", "1_0", "_1", "1_", "1__0", "1_000", "1_0000", "NaN", "nan", "N_aN"],
     &["", ".1", ".", ".1_0", "._1", ".1_", ".1__0"],
     &["", "e1", "e+1", "e-1", "e", "E1", "e1_0", "e_1", "e1_", "e1__0"],
     &["", "h", "H"],
@@ -46,7 +45,7 @@ impl Text {
             let byte = byte_for(state, byte);
             *text.bytes.get_mut(text.size)? = byte;
             text.size += 1;
-            byte.is_ascii_graphic().then_some(())?;
+            matches!(byte, b' '..=b'~').then_some(())?;
         }
         Some(text)
     }
@@ -110,7 +109,7 @@ pub fn refused(forms: &Forms, others: &Forms) -> impl Iterator<Item = Refused> {
         }
     }
     found.sort_unstable_by_key(|it| it.map_or((usize::MAX, [0; 24]), |(_, (text, _))| (text.size, text.bytes)));
-    found.into_iter().flatten().map(|it| it.1).take(MOST)
+    found.into_iter().flatten().map(|it| it.1)
 }
 
 /// Returns the first text to which forms and others give different values, with both values.

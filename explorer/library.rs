@@ -7,11 +7,11 @@ use core::fmt::{self, Display, Write};
 use core::ops::Range;
 
 use peltzivar::edits::{apply, is_built, normal_form};
-use peltzivar::literal::{Condition, Conditions, FormError, Number, Readers};
-use peltzivar::{Edit, Error, FormatView, NumberFormatBuilder, Reason, Rule};
+use peltzivar::literal::{Condition, Conditions, FormError, Language, Number, Readers, Specials};
+use peltzivar::{Edit, FormatView, NumberFormatBuilder};
 use examples::{Refused, other_values, refused};
 use forms::{Forms, Value, states_of, value_of};
-use suggest::{Found, Line, SPECIALS, State, blamed_options, lines_of, offers, repairs};
+use suggest::{Found, Line, SPECIALS, State, lines_of, offers};
 
 mod examples;
 mod forms;
@@ -40,14 +40,18 @@ fn text_of(length: usize) -> (&'static str, &'static [u8]) {
     // SAFETY: WebAssembly has one thread, and the page writes the text only between calls.
     let text = unsafe { &(&*(&raw const INPUT))[..length.min(SIZE)] };
     let end = text.iter().position(|&byte| byte == b'\n').unwrap_or(text.len());
-    (core::str::from_utf8(&text[..end]).unwrap_or(""), text.get(end + 1..).unwrap_or_default())
+    (utf8(&text[..end]), text.get(end + 1..).unwrap_or_default())
+}
+
+fn utf8(bytes: &[u8]) -> &str {
+    core::str::from_utf8(bytes).unwrap_or("")
 }
 
 /// Returns the word that settings, one a line behind an empty one, build, with the notes on fields without effect:
 /// `{"word", "notes"}`, or `{"error", "index"}` for the first that is none.
 #[unsafe(no_mangle)]
 pub extern "C" fn build(length: usize) -> usize {
-    let text = core::str::from_utf8(text_of(length).1).unwrap_or("");
+    let text = utf8(text_of(length).1);
     let mut builder = NumberFormatBuilder::new();
     for (index, line) in text.split('\n').filter(|line| !line.is_empty()).enumerate() {
         match line.parse::<Edit>() {
@@ -62,46 +66,72 @@ pub extern "C" fn build(length: usize) -> usize {
     })
 }
 
-/// Returns all that the page shows of a state, which is the first line.
+/// Returns all that the page shows of a state, which is the first line. If it is a syntax, this includes the sentence, the
+/// grammar and the regular expression of it.
 #[unsafe(no_mangle)]
 pub extern "C" fn explain(length: usize) -> usize {
     let Some(state) = states_of(text_of(length).0).next() else { return 0 };
     let (word, view) = (state.word, FormatView::new(state.word));
     answer(|out| {
         write!(out, r#"{{"normal":{},"isBuilt":{}"#, Word(normal_form(word)), is_built(word))?;
-        write!(out, r#","error":{},"reasons":"#, Quoted(Failure(view.error())))?;
-        list(out, view.reasons(), |out, reason| put_reason(out, state, reason))?;
-        write!(out, r#","fits":{},"options":"#, State { conditions: Conditions::NONE, ..state }.exact().is_some())?;
+        if let Some(it) = state.syntax() {
+            let (sentence, grammar, regex) = (Quoted(it.sentence()), Quoted(it.grammar()), Quoted(it.regex()));
+            write!(out, r#","sentence":{sentence},"grammar":{grammar},"regex":{regex}"#)?;
+        }
+        let put = |out: &mut Answer, (text, mask): (&dyn Display, u128)| {
+            write!(out, r#"{{"text":{},"mask":{}}}"#, Quoted(text), Word(mask))
+        };
+        write!(out, r#","fits":{},"reasons":"#, state.fits())?;
+        list(out, view.reasons(), |out, it| put(out, (&it, it.mask())))?;
+        out.write_str(r#","options":"#)?;
         let options = view.options_reasons(state.exponent, state.point).filter(|_| !state.is_integers());
-        list(out, options, |out, reason| put_reason(out, state, reason))?;
+        list(out, options, |out, it| put(out, (&it, it.mask())))?;
         out.write_str(r#","conditions":"#)?;
-        list(out, state.misfits(), |out, error| {
-            let (condition, mask) = (error.condition as usize, Word(error.mask()));
-            write!(out, r#"{{"text":{},"condition":{condition},"mask":{mask}}}"#, Quoted(error))
-        })?;
+        list(out, state.misfits(), |out, it| put(out, (&it, it.mask())))?;
         out.write_str(r#","notes":"#)?;
-        list(out, view.notes(), |out, note| {
-            write!(out, r#"{{"text":{},"mask":{}}}"#, Quoted(note), Word(note.mask()))
-        })?;
+        list(out, view.notes(), |out, it| put(out, (&it, it.mask())))?;
         out.write_str("}")
     })
 }
 
-/// Writes a reason with the rules that it breaks, the options that it blames, and the states in which it has ended.
-fn put_reason(out: &mut Answer, state: State, reason: Reason) -> fmt::Result {
-    let [exponent, point] = blamed_options(reason);
-    write!(out, r#"{{"text":{},"mask":{},"rules":"#, Quoted(reason), Word(reason.mask()))?;
-    let rules = Rule::ALL.iter().enumerate().filter(|(_, rule)| reason.breaks(**rule));
-    list(out, rules, |out, (index, rule)| write!(out, r#"{{"index":{index},"error":{}}}"#, Quoted(rule.error())))?;
-    let options = [("exponent", exponent), ("point", point)].into_iter().filter(|it| it.1);
-    out.write_str(r#","options":"#)?;
-    list(out, options, |out, (name, _)| write!(out, r#""{name}""#))?;
-    out.write_str(r#","repairs":"#)?;
-    list(out, repairs(state, reason), |out, state| {
-        put_state(out, state)?;
-        out.write_str("}")
-    })?;
-    out.write_str("}")
+/// Returns an object for each language: its name, the spellings of its special values, and the name and text of each form.
+#[unsafe(no_mangle)]
+pub extern "C" fn languages(_: usize) -> usize {
+    answer(|out| {
+        list(out, Language::ALL.iter(), |out, language| {
+            let Specials { nan, inf, infinity } = language.specials();
+            write!(out, r#"{{"name":"{language}","specials":"#)?;
+            list(out, [nan, inf, infinity].into_iter(), |out, it| {
+                write!(out, "{}", Quoted(utf8(it.unwrap_or_default())))
+            })?;
+            out.write_str(r#","forms":"#)?;
+            list(out, language.forms().iter(), |out, form| {
+                write!(out, r#"{{"name":"{}","syntax":"{}"}}"#, form.name, form.syntax)
+            })?;
+            out.write_str("}")
+        })
+    })
+}
+
+/// Returns an array for each line but the first: an object for each language that reads its text, with the index of the
+/// language, the form unless it is a special value, the value, and whether it reads each line as it must.
+#[unsafe(no_mangle)]
+pub extern "C" fn readers(length: usize) -> usize {
+    let lines = text_of(length).1;
+    let has_all = |it: &Language| lines_of(lines).all(|line| it.read(line.text).is_err() == line.is_refused);
+    let all = Language::ALL.iter().rev().fold(0_u64, |all, it| all << 1 | u64::from(has_all(it)));
+    answer(|out| {
+        list(out, lines_of(lines), |out, line| {
+            let languages = Language::ALL.iter().enumerate();
+            let numbers = languages.filter_map(|(index, it)| Some((index, it.read(line.text).ok()?)));
+            list(out, numbers, |out, (index, number)| {
+                write!(out, r#"{{"language":{index},"hasAll":{},"#, all >> index & 1 == 1)?;
+                number.form().map_or(Ok(()), |form| write!(out, r#""form":{form},"#))?;
+                put_value(out, value_of(number))?;
+                out.write_str("}")
+            })
+        })
+    })
 }
 
 /// Writes an object with a state, without its last brace.
@@ -112,9 +142,9 @@ fn put_state(out: &mut Answer, State { word, exponent, point, conditions }: Stat
 
 /// Returns an object for each line but the first, which has the forms: the value and the parts of its number, or the parts
 /// of the longest front of a refused text that is a number; the form that accepts the text, or to which it is nearest; why
-/// and where it is refused, with the flags to blame and the bytes to mark; and, if it is not as expected of one form, the
-/// states that are offered, each with the same for the number in it and how many lines are as expected then. If a word is
-/// not lawful, returns an empty array.
+/// and where it is refused, with the flags to blame and the bytes to mark; and, if it is not as expected, the states near
+/// this form that are offered, each with the same for the number in it and how many lines are as expected then. If a word
+/// is not lawful, returns an empty array.
 #[unsafe(no_mangle)]
 pub extern "C" fn numbers(length: usize) -> usize {
     let (states, lines) = text_of(length);
@@ -128,9 +158,10 @@ fn put_line(out: &mut Answer, forms: &Forms, lines: &[u8], line: Line<'_>) -> fm
     out.write_str("{")?;
     put_reading(out, forms.readers(), line.text)?;
     out.write_str(r#","offers":"#)?;
-    let is_expected = forms.readers().read(line.text).is_err() == line.is_refused;
-    let mut states = forms.states().filter(|_| !is_expected && forms.states().len() == 1);
-    let found = states.next().map_or(Found::new(lines), |state| offers(state, lines, line));
+    let read = forms.readers().read(line.text);
+    let form = read.map_or_else(|error| error.form, |number| number.form().unwrap_or(0));
+    let state = forms.states().nth(form).filter(|_| read.is_err() != line.is_refused);
+    let found = state.map_or(Found::new(lines), |state| offers(state, lines, line));
     list(out, found.best(), |out, (state, expected)| {
         put_state(out, state)?;
         write!(out, r#","expected":{expected},"#)?;
@@ -176,7 +207,7 @@ fn put_reading(out: &mut Answer, readers: Readers<'_>, text: &[u8]) -> fmt::Resu
 #[unsafe(no_mangle)]
 pub extern "C" fn differ(length: usize) -> usize {
     let (first, second) = text_of(length);
-    let lines = [first, core::str::from_utf8(second).unwrap_or("")];
+    let lines = [first, utf8(second)];
     let [Some(first), Some(second)] = lines.map(Forms::new) else {
         return answer(|out| out.write_str("[]"));
     };
@@ -252,16 +283,7 @@ impl Display for Word {
     }
 }
 
-/// An error, or an empty text for success.
-struct Failure(Error);
-
-impl Display for Failure {
-    fn fmt(&self, f: &mut fmt::Formatter<'_>) -> fmt::Result {
-        if self.0.is_success() { Ok(()) } else { self.0.fmt(f) }
-    }
-}
-
-/// A text in JSON. The texts of the library are visible ASCII.
+/// A text in JSON. The texts of the library are visible ASCII, in lines.
 struct Quoted<T>(T);
 
 impl<T: Display> Display for Quoted<T> {
@@ -272,16 +294,16 @@ impl<T: Display> Display for Quoted<T> {
     }
 }
 
-/// A place in which `"` and `\` follow a `\`.
+/// A place in which `"`, `\` and the end of a line follow a `\`.
 struct Escaped<'a, 'b>(&'a mut fmt::Formatter<'b>);
 
 impl Write for Escaped<'_, '_> {
     fn write_str(&mut self, text: &str) -> fmt::Result {
         text.chars().try_for_each(|it| {
-            if matches!(it, '"' | '\\') {
+            if matches!(it, '"' | '\\' | '\n') {
                 self.0.write_char('\\')?;
             }
-            self.0.write_char(it)
+            self.0.write_char(if it == '\n' { 'n' } else { it })
         })
     }
 }
