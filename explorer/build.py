@@ -157,6 +157,7 @@ def compiler(folder):
     builtins = sources / "compiler-builtins/compiler-builtins/src/lib.rs"
     features = ['--cfg=feature="compiler-builtins"', '--cfg=feature="mem"']
     output(*library, "--crate-name=compiler_builtins", *features, builtins)
+    output(*library, "--crate-name=alloc", sources / "alloc/src/lib.rs")
     return [*debian, "-Clinker=wasm-ld", "-Clinker-flavor=wasm-ld"]
 
 

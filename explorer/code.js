@@ -25,6 +25,9 @@ function tested(tests, escape) {
 }
 
 class Code {
+    grammar = (_, shown) => shown.grammar ?? this.problem(shown);
+    regex = (_, shown) => shown.regex ?? this.problem(shown);
+
     constructor(library) {
         this.library = library;
     }
@@ -37,14 +40,6 @@ class Code {
     /* Returns a comment for the code of a tab, if a language is chosen. */
     comment(tab, language) {
         return language && (COMMENTS[tab]?.(language) ?? "");
-    }
-
-    grammar(_, shown) {
-        return shown.grammar ?? this.problem(shown);
-    }
-
-    regex(_, shown) {
-        return shown.regex ?? this.problem(shown);
     }
 
     rust(state, shown) {

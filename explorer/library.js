@@ -43,11 +43,12 @@ class Library {
 
     /* Returns the answer of a call that reads this text. */
     call(name, text) {
-        const { memory, input, output } = this.calls;
+        const { memory, input } = this.calls;
         const bytes = new TextEncoder().encode(text.slice(0, 2 * MOST_TEXT)).subarray(0, 2 * MOST_TEXT);
         new Uint8Array(memory.buffer).set(bytes, input());
-        const length = this.calls[name](bytes.length);
-        return JSON.parse(new TextDecoder().decode(new Uint8Array(memory.buffer, output(), length)));
+        const answer = BigInt.asUintN(64, this.calls[name](bytes.length));
+        const [start, length] = [answer & 0xffffffffn, answer >> 32n].map(Number);
+        return JSON.parse(new TextDecoder().decode(new Uint8Array(memory.buffer, start, length)));
     }
 
     /* Returns {word, notes} of a new builder with settings, or {error, index} for the first setting that is none. */

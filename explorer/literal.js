@@ -27,8 +27,9 @@ class Trial {
         find("literal").addEventListener("focus", ({ target }) => target.value === EXAMPLE && target.select());
         find("legend").append(...LEGEND.map(([name, part]) => element("span", { class: part }, name)));
         this.watcher = new IntersectionObserver((all) => {
-            const places = all.filter((it) => it.isIntersecting).map(({ target }) => (this.watcher.unobserve(target), target));
-            if (places.length) this.showReaders(places);
+            const seen = all.filter((it) => it.isIntersecting).map(({ target }) => target);
+            seen.forEach((it) => this.watcher.unobserve(it));
+            if (seen.length) this.showReaders(seen);
         });
     }
 
@@ -62,9 +63,9 @@ class Trial {
         if (focused.startsWith("refuse-")) find(focused)?.focus();
         const expected = this.answers.filter(({ isExpected }) => isExpected).length;
         const count = this.answers.length ? `${expected} of ${this.answers.length} as expected` : "";
-        const counts = [count, left ? unread : ""].filter(Boolean).join("; ");
         const values = this.answers.filter(({ error }) => !error).map((it) => `${it.text} = ${valueText(it)}`).slice(0, MOST_ROWS);
-        return { count: counts, isGood: !first && !left, told: first ? `${first.text} ${this.told(first)}` : values.join(" \u00b7 ") };
+        const told = first ? `${first.text} ${this.told(first)}` : values.join(" \u00b7 ");
+        return { count: [count, left ? unread : ""].filter(Boolean).join("; "), isGood: !first && !left, told };
     }
 
     /* Returns what the library returns for lines, with what each line expects and what is offered in words. */
@@ -105,9 +106,10 @@ class Trial {
         }
         const line = element("div", {}, element("span", { class: "written" }, this.pieces(answer)), told);
         const refuse = element("label", { class: "refuse", title: "must be refused" }, box, "refuse");
-        const readers = text.length > MOST_CHARACTERS ? [] : [element("details", { class: "readers", "data-place": place })];
-        const kind = isExpected ? "" : "unexpected";
-        return element("li", { class: kind, "data-field": fields.join(" ") }, line, refuse, element("ul", {}, offers, advice), readers);
+        const summary = element("summary", {}, "Languages that read it");
+        const readers = text.length > MOST_CHARACTERS ? [] : [element("details", { class: "readers", "data-place": place }, summary)];
+        const row = { class: isExpected ? "" : "unexpected", "data-field": fields.join(" ") };
+        return element("li", row, line, refuse, element("ul", {}, offers, advice), readers);
     }
 
     /* Shows the languages that read each of some numbers, those first that read all, by value and form. */
@@ -118,14 +120,11 @@ class Trial {
         const found = this.library.readers(lines.map(({ text, isRefused }) => (isRefused ? "!" : "") + text).join("\n"));
         chosen.forEach((answer, index) => {
             const readers = (found[lines.indexOf(answer)] ?? []).toSorted((a, b) => Number(b.hasAll) - Number(a.hasAll));
-            const groups = Map.groupBy(readers, (it) => `${valueText(it)}${languages[it.language].forms[it.form]?.name ?? "special"}`);
-            const parts = [...groups.values()].flatMap((group) => {
-                const name = languages[group[0].language].forms[group[0].form]?.name ?? "special value";
-                return [element("span", {}, `${valueText(group[0])}, ${name}:`), ...group.map((it) => this.reader(it))];
-            });
+            const groups = Map.groupBy(readers, (it) => `${valueText(it)}, ${languages[it.language].forms[it.form]?.name ?? "special value"}:`);
+            const parts = [...groups].flatMap(([title, group]) => [element("span", {}, title), ...group.map((it) => this.reader(it))]);
             const all = readers.filter(({ hasAll }) => hasAll).length;
             const marks = all ? `; ${all} with a star read all` : "";
-            const summary = element("summary", {}, `Read by ${readers.length} of ${languages.length} languages${marks}`);
+            const summary = element("summary", {}, `Read by ${readers.length || "none"} of ${languages.length} languages${marks}`);
             nodes[index].open = this.isOpen;
             nodes[index].addEventListener("toggle", () => (this.isOpen = nodes[index].open));
             nodes[index].replaceChildren(summary, ...parts);
@@ -184,8 +183,7 @@ class Trial {
 
     /* Returns what must be replaced in a number, with a button that does. */
     advice(place, { words, text }) {
-        const use = () => this.put(place, text);
-        return element("li", {}, element("span", {}, withCode(words)), button("use", `try ${text}`, use));
+        return element("li", {}, element("span", {}, withCode(words)), button("use", `try ${text}`, () => this.put(place, text)));
     }
 
     /* Returns what a number is: its kind and its value. */
@@ -193,14 +191,12 @@ class Trial {
         const { parts, unknown } = answer;
         if (parts.some(({ kind }) => kind === "special")) return `special value = ${valueText(answer)}`;
         const isFloat = parts.some(({ kind }) => kind === "point" || kind === "exponent_character");
-        const kind = isFloat ? "float" : "integer";
-        return unknown ? `${kind}: ${unknown}` : `${kind} = ${valueText(answer)}`;
+        return `${isFloat ? "float" : "integer"}${unknown ? `: ${unknown}` : ` = ${valueText(answer)}`}`;
     }
 
     /* Makes an accepted number of a line one that must be refused, or the other way round. */
     turn(place) {
-        const text = this.state.numbers.split("\n")[place];
-        this.put(place, text.startsWith("!") ? text.slice(1) : `!${text}`);
+        this.put(place, this.state.numbers.split("\n")[place].replace(/^!?/, (mark) => (mark ? "" : "!")));
         find(`refuse-${place}`)?.focus();
     }
 

@@ -1,4 +1,5 @@
-/* The report on a state: its reasons, with what ends them, its notes, and the comparison with another state, which is hidden until it is asked for. */
+/* The report on a state: its reasons, with what ends them, its notes, and the comparison with another state, which is
+ * hidden until it is asked for. */
 
 /* How many texts of a list are shown before it is opened. */
 const MOST_TEXTS = 6;

@@ -1,5 +1,6 @@
 //! What the page offers for a number that is not as expected: states near the shown one in which it is.
 
+use alloc::vec::Vec;
 use core::cmp::Reverse;
 
 use peltzivar::format::{
@@ -51,11 +52,6 @@ impl State {
             false => Syntax::new(format, self.exponent, self.point).ok()?,
         };
         syntax.with_conditions(self.conditions).ok()
-    }
-
-    /// Returns whether the word is lawful, and the options fit.
-    pub fn fits(self) -> bool {
-        Self { conditions: Conditions::NONE, ..self }.syntax().is_some()
     }
 
     /// Returns why each condition that does not fit a lawful word does not.
@@ -161,57 +157,33 @@ fn unsigned(text: &[u8]) -> &[u8] {
     text.strip_prefix(b"-").or(text.strip_prefix(b"+")).unwrap_or(text)
 }
 
-/// States that were found for some lines, each with how many of them are as expected and its index.
-pub struct Found<'a> {
-    lines: &'a [u8],
-    states: [Option<(Reverse<usize>, usize, State)>; 24],
-    size: usize,
-}
-
-impl<'a> Found<'a> {
-    pub fn new(lines: &'a [u8]) -> Self {
-        Self { lines, states: [None; 24], size: 0 }
-    }
-
-    fn push(&mut self, state: State) {
-        let is_new = self.states[..self.size].iter().flatten().all(|it| it.2 != state);
-        if let (true, Some(place)) = (is_new, self.states.get_mut(self.size)) {
-            *place = Some((Reverse(state.as_expected(self.lines)), self.size, state));
-            self.size += 1;
+/// Returns the states that are offered for one of the lines, each with how many lines are as expected: those that need the
+/// fewest new roles to accept it, or those with one other flag or condition that refuse it and with which the most lines are.
+pub fn offers(state: State, lines: &[u8], line: Line<'_>) -> Vec<(State, usize)> {
+    let mut found = Vec::new();
+    match line.is_refused {
+        true => refusing(state, line.text, lines, &mut found),
+        false => {
+            let mut roles = 0..=MOST_ROLES;
+            while let Some(roles) = roles.next().filter(|_| found.is_empty()) {
+                accepting(state, line.text, lines, roles, &mut found);
+            }
         }
     }
-
-    /// Puts the states first with which the most lines are as expected. Those with the same count stay in their order.
-    fn sorted(mut self) -> Self {
-        self.states[..self.size].sort_unstable_by_key(|it| it.map(|it| (it.0, it.1)));
-        self
-    }
-
-    /// Returns the states that are offered, each with how many lines are as expected.
-    pub fn best(&self) -> impl Iterator<Item = (State, usize)> + '_ {
-        self.states.iter().flatten().map(|it| (it.2, it.0 .0)).take(MOST)
-    }
-}
-
-/// Returns the states that are offered for one of the lines: those that need the fewest new roles to accept it, or those
-/// with one other flag or condition that refuse it and with which the most lines are as expected.
-pub fn offers<'a>(state: State, lines: &'a [u8], line: Line<'_>) -> Found<'a> {
-    let mut found = Found::new(lines);
-    if line.is_refused {
-        refusing(state, line.text, &mut found);
-        let most = found.states.iter().flatten().map(|it| it.0 .0).max();
-        found.states.iter_mut().for_each(|it| *it = it.filter(|it| Some(it.0 .0) == most));
-        return found;
-    }
-    for roles in 0..=MOST_ROLES {
-        if found.size == 0 {
-            accepting(state, line.text, roles, &mut found);
+    let mut offered: Vec<(State, usize)> = Vec::new();
+    for it in found {
+        if offered.iter().all(|other| other.0 != it) {
+            offered.push((it, it.as_expected(lines)));
         }
     }
-    found.sorted()
+    let most = offered.iter().map(|it| it.1).max();
+    offered.retain(|it| !line.is_refused || Some(it.1) == most);
+    offered.sort_by_key(|it| Reverse(it.1));
+    offered.truncate(MOST);
+    offered
 }
 
-fn refusing(state: State, text: &[u8], found: &mut Found<'_>) {
+fn refusing(state: State, text: &[u8], lines: &[u8], found: &mut Vec<State>) {
     let flags = bits_of(FLAG_MASK).map(|flag| {
         let other = State { word: state.word ^ flag, ..state };
         // Consecutive separators need another flag of their part.
@@ -219,29 +191,27 @@ fn refusing(state: State, text: &[u8], found: &mut Found<'_>) {
         other.syntax().map_or(single, |_| other)
     });
     let refuses = |it: &State| it.syntax().is_some_and(|it| read(it, text).is_err());
-    flags.filter(refuses).for_each(|it| found.push(it));
-    for &condition in Condition::ALL {
-        let best = State::first_best(state.with_numbers(condition).filter(refuses), found.lines);
-        best.into_iter().for_each(|it| found.push(it));
-    }
+    found.extend(flags.filter(refuses));
+    found.extend(
+        Condition::ALL.iter().filter_map(|&it| State::first_best(state.with_numbers(it).filter(refuses), lines)),
+    );
 }
 
 /// Finds states with up to this many new roles that accept the text.
-fn accepting(state: State, text: &[u8], roles: usize, found: &mut Found<'_>) {
+fn accepting(state: State, text: &[u8], lines: &[u8], roles: usize, found: &mut Vec<State>) {
     match settled(state, text) {
         Ok(settled) => {
             // In place of a condition that refuses the text, it or another one may have another number.
-            let numbered = Condition::ALL.iter().filter(|_| settled.conditions != state.conditions);
-            for &condition in numbered.filter(|it| it.limits().1 > 1) {
-                let states =
-                    state.with_numbers(condition).filter(|it| it.syntax().is_some_and(|it| read(it, text).is_ok()));
-                State::first_best(states, found.lines).into_iter().for_each(|it| found.push(it));
-            }
+            let numbered =
+                Condition::ALL.iter().filter(|it| settled.conditions != state.conditions && it.limits().1 > 1);
+            let accepts = |it: &State| it.syntax().is_some_and(|it| read(it, text).is_ok());
+            found.extend(numbered.filter_map(|&it| State::first_best(state.with_numbers(it).filter(accepts), lines)));
             found.push(settled);
         }
         Err(_) if roles == 0 => {}
         Err(at) => {
-            candidates(state, text, at).into_iter().flatten().for_each(|it| accepting(it, text, roles - 1, found))
+            let next = candidates(state, text, at).into_iter().flatten();
+            next.for_each(|it| accepting(it, text, lines, roles - 1, found));
         }
     }
 }

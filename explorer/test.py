@@ -690,7 +690,7 @@ class Walk(unittest.TestCase):
             self.emulate(width, height, False)
             for link in lines:
                 self.load(link)
-                self.wait(lambda: len(self.texts(".readers > summary")) == 4)
+                self.wait(lambda: [it[:7] for it in self.texts(".readers > summary")] == 4 * ["Read by"])
                 bottom, code = self.run_script("return ['read', 'code'].map((it) => find(it).getBoundingClientRect()).map((it, index) => index ? it.top : it.bottom)")
                 self.assertTrue(bottom < height and bottom < code, (width, link, bottom, code))
         self.click("#no_special")
@@ -719,7 +719,7 @@ class Walk(unittest.TestCase):
 
     def test_languages_are_shown_below_each_number(self):
         self.load("#numbers=0x1F%0A1_0%0A!010")
-        self.wait(lambda: len(self.texts(".readers > summary")) == 3)
+        self.wait(lambda: [it[:7] for it in self.texts(".readers > summary")] == 3 * ["Read by"])
         for row in self.driver.find_elements(By.CSS_SELECTOR, ".readers"):
             stars = ["all" in it.get_attribute("class") for it in row.find_elements(By.CSS_SELECTOR, "button")]
             self.assertEqual(stars, sorted(stars, reverse=True))

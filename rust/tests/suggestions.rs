@@ -1,5 +1,7 @@
 //! What the page offers for numbers that are not as expected.
 
+extern crate alloc;
+
 #[path = "../../explorer/suggest.rs"]
 mod suggest;
 
@@ -20,7 +22,7 @@ fn state(settings: &str, exponent: u8, point: u8) -> State {
 /// Returns what is offered for the first of the lines.
 fn offered(state: State, lines: &str) -> Vec<State> {
     let first = lines_of(lines.as_bytes()).next().unwrap();
-    offers(state, lines.as_bytes(), first).best().map(|(state, _)| state).collect()
+    offers(state, lines.as_bytes(), first).into_iter().map(|(state, _)| state).collect()
 }
 
 #[test]
@@ -92,7 +94,7 @@ fn walk(lines: &str) -> Option<State> {
     let mut state = State { word: STANDARD, exponent: b'e', point: b'.', conditions: Conditions::NONE };
     for line in lines_of(lines.as_bytes()) {
         if state.syntax().is_none_or(|it| read(it, line.text).is_err()) {
-            state = offers(state, lines.as_bytes(), line).best().next()?.0;
+            state = offers(state, lines.as_bytes(), line).first()?.0;
         }
     }
     (state.as_expected(lines.as_bytes()) == lines.lines().count()).then_some(state)
