@@ -63,7 +63,7 @@ pub extern "C" fn input() -> *mut u8 {
 /// Returns the text of a call: its first line, and the others.
 fn text_of(length: usize) -> (&'static str, &'static [u8]) {
     // SAFETY: WebAssembly has one thread, and the page writes the text only between calls.
-    let text = unsafe { &(&*(&raw const INPUT))[..length.min(INPUT_SIZE)] };
+    let text = unsafe { core::slice::from_raw_parts((&raw const INPUT).cast(), length.min(INPUT_SIZE)) };
     let end = text.iter().position(|&byte| byte == b'\n').unwrap_or(text.len());
     (utf8(&text[..end]), text.get(end + 1..).unwrap_or_default())
 }
