@@ -121,9 +121,11 @@ BEYOND = """return [...document.querySelectorAll(".panel *, header *, .bar *, fo
 MISLEADING = """const colour = (it, name = "color") => getComputedStyle(it)[name];
     const dots = (it) => it.dataset.field.split(" ").map((name) => document.querySelector(`[data-field=${name}] .dot`));
     const isGreen = (it) => colour(it).match(/\\d+/g).slice(0, 2).reduce((red, green) => green - red) > 0;
+    const rows = [...document.querySelectorAll("#read > li")].filter((it) => it.querySelector(".bad")
+        ? colour(it, "borderLeftColor") !== colour(it.querySelector(".bad")) : colour(it, "borderLeftColor") !== colour(it.querySelector(".good")));
     return [...document.querySelectorAll(".written [data-field], .good, .bad")].filter((it) => (it.matches("[data-field]")
         ? dots(it).some((dot) => colour(dot, "backgroundColor") !== colour(it)) : isGreen(it) !== it.matches(".good")))
-        .map((it) => it.outerHTML);"""
+        .concat(rows).map((it) => it.outerHTML);"""
 # Calls back with the shown buttons that neither change the state nor go elsewhere, nor copy what is beside them.
 IDLE = """const [link, done] = arguments;
     const not = ":not(#undo, #redo, .readers button, [aria-pressed=true], [aria-selected=true])";
@@ -320,6 +322,7 @@ class Walk(unittest.TestCase):
         self.type("#base_prefix", "x")
         self.type("#mantissa_radix", "16")
         self.assertEqual(self.value(), "0x0000100078000000000000000000000C")
+        self.assertEqual(self.texts(".byte-row .other"), ["", "x 120 0x78", "", "", "means 16", "means 16", "e 101 0x65", ". 46 0x2E"])
         self.assertEqual(self.text("#verdict"), "Not valid: 1 reason")
         self.assertEqual(self.texts(".reason strong"), ["the exponent character 'e' is a digit in radix 16"])
         self.assertEqual(self.texts(".reason .link"), ["exponent character", "mantissa_radix", "exponent_radix"])
@@ -527,6 +530,8 @@ class Walk(unittest.TestCase):
         self.click("#copy-code")
         self.wait(lambda: self.text("#copy-code") == "not copied: press Ctrl+C")
         self.assertEqual(self.run_script("return getSelection().toString()").strip(), self.text("#code").strip())
+        self.click("#copy-link")
+        self.wait(lambda: self.run_script("return getSelection().toString() === location.hash && location.hash"))
 
     def test_a_message_moves_nothing(self):
         place = """return ["#read", "#base_suffix", "#no_special"].map(
@@ -741,12 +746,14 @@ class Walk(unittest.TestCase):
         self.assertIn("no `+`".replace("`", ""), self.text("#sentence"))
         self.click("#tab-regex")
         self.assertEqual(self.text("#code"), "[-]?(?:[1-9][0-9]*|[0])(?:[.][0-9]+)?(?:[Ee][+-]?[0-9]+)?")
-        self.click("#tab-grammar")
+        self.find("#tab-regex").send_keys(Keys.ARROW_LEFT)
+        self.assertEqual(self.focused(), "tab-grammar")
         self.assertIn('Integer  ::= [1-9] Digit* | "0"', self.text("#code"))
 
     def test_parts_differ_by_more_than_colour(self):
-        lines = self.run_script("return [...document.querySelectorAll('#legend span')].map((it) => getComputedStyle(it).textDecorationStyle + getComputedStyle(it).textDecorationLine)")
-        self.assertEqual(len(set(lines)), len(lines))
+        for style in ("[it.textDecorationStyle, it.textDecorationLine].join()", "it.color"):
+            styles = self.run_script(f"return [...document.querySelectorAll('#legend span')].map((it) => getComputedStyle(it)).map((it) => {style})")
+            self.assertEqual(len(set(styles)), len(styles))
         self.type("#literal", "12\u05d03")
         before, mark = (self.run_script(f"return document.querySelector('#read {it}').getBoundingClientRect().toJSON()") for it in (".digits", "mark"))
         self.assertAlmostEqual(before["right"], mark["left"], delta=3)
