@@ -1,4 +1,5 @@
-/* The code of a state, with its spellings of special values in quotes, and with numbers as a test. If nothing can be read, it is the word, and says why. */
+/* The code of a state, with its spellings of special values in quotes, and with numbers as a test. If nothing can be read,
+ * it is the word, and says why. */
 
 /* Returns a byte as a character of Rust or C. */
 function character(byte, prefix) {
@@ -120,7 +121,8 @@ ${this.cTest(state.tests)}`;
     }
 
     cTest(tests) {
-        const octal = (it) => [...new TextEncoder().encode(String.fromCodePoint(it))].map((byte) => `\\${byte.toString(8).padStart(3, "0")}`);
+        const bytes = (it) => [...new TextEncoder().encode(String.fromCodePoint(it))];
+        const octal = (it) => bytes(it).map((byte) => `\\${byte.toString(8).padStart(3, "0")}`);
         const texts = tests.map(({ text, isRefused }) => literalText(`${isRefused ? "!" : "="}${text}`, (it) => octal(it).join("")));
         return tests.length ? `
 /* Returns whether the numbers behind a = are read, and those behind a ! are not. */

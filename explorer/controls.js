@@ -51,7 +51,8 @@ class Controls {
     flagRow(field) {
         const { name, part, meaning } = field;
         const label = element("label", { for: name }, element("span", { class: `dot ${part}` }), ...withCode(meaning));
-        const all = [this.box(field), label, element("span", { class: "meaning" }, withCode(examples(field))), element("span", { class: "name" }, name)];
+        const texts = element("span", { class: "meaning" }, withCode(examples(field)));
+        const all = [this.box(field), label, texts, element("span", { class: "name" }, name)];
         return element("div", { class: "flag-row control field", "data-field": name }, all);
     }
 

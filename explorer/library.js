@@ -81,7 +81,7 @@ class Library {
             return { text, fields: [...all.map(({ name }) => name), ...this.namesOf(BigInt(mask))] };
         };
         const [reasons, options, conditions, notes] = ["reasons", "options", "conditions", "notes"].map((it) => answer[it].map(named));
-        const taken = "numfmt options and is_valid_options_punctuation refuse this, but a reader takes it: no flag allows it as a separator";
+        const taken = "is_valid_options_punctuation refuses this, but a reader takes it: no flag allows it as a separator";
         if (answer.fits) notes.push(...options.splice(0).map((it) => ({ ...it, text: `${it.text}: ${taken}` })));
         return { ...answer, normal: BigInt(answer.normal), problems: [...reasons, ...options, ...conditions], notes };
     }
@@ -119,8 +119,9 @@ class Library {
     /* Returns the state of a syntax as the library prints it: a word, two bytes unless numbers are integers alone, and the
      * conditions as settings. */
     stateOfSyntax(text) {
-        const [settings, [word, exponent = 0, point = 0]] = [true, false].map((is) => text.split(" ").filter((it) => it.includes("=") === is));
-        const conditions = this.withConditions(0n, settings.join(" "));
+        const [word, ...rest] = text.split(" ");
+        const [exponent = 0, point = 0] = rest.filter((it) => !it.includes("="));
+        const conditions = this.withConditions(0n, rest.filter((it) => it.includes("=")).join(" "));
         return { word: BigInt(word), exponent: Number(exponent), point: Number(point), conditions };
     }
 

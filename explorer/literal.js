@@ -120,8 +120,10 @@ class Trial {
         const found = this.library.readers(lines.map(({ text, isRefused }) => (isRefused ? "!" : "") + text).join("\n"));
         chosen.forEach((answer, index) => {
             const readers = (found[lines.indexOf(answer)] ?? []).toSorted((a, b) => Number(b.hasAll) - Number(a.hasAll));
-            const groups = Map.groupBy(readers, (it) => `${valueText(it)}, ${languages[it.language].forms[it.form]?.name ?? "special value"}:`);
-            const parts = [...groups].flatMap(([title, group]) => [element("span", {}, title), ...group.map((it) => this.reader(it))]);
+            const name = (it) => languages[it.language].forms[it.form]?.name ?? "special value";
+            const groups = Map.groupBy(readers, (it) => `${valueText(it)}, ${name(it)}:`);
+            const reader = (it) => this.reader(it);
+            const parts = [...groups].flatMap(([title, group]) => [element("span", {}, title), ...group.map(reader)]);
             const all = readers.filter(({ hasAll }) => hasAll).length;
             const marks = all ? `; ${all} with a star read all` : "";
             const summary = element("summary", {}, `Read by ${readers.length || "none"} of ${languages.length} languages${marks}`);
@@ -177,7 +179,8 @@ class Trial {
             this.change(stateOf(this.answers.find((it) => it.place === place).offers[index]));
             (find("read").querySelector(".use") ?? find("literal")).focus();
         };
-        const attributes = { "data-field": changes.map(({ name }) => name).join(" "), title: changes.map(({ meaning }) => meaning).join("; ") };
+        const [names, meanings] = ["name", "meaning"].map((key) => changes.map((it) => it[key]));
+        const attributes = { "data-field": names.join(" "), title: meanings.join("; ") };
         return element("li", {}, button("use", label, use, attributes), then);
     }
 

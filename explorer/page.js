@@ -4,8 +4,9 @@
 const TABS = { rust: "Rust", c: "C", python: "Python", settings: "Settings", grammar: "Grammar", regex: "Regex" };
 /* After how many milliseconds without an edit the fragment is written. */
 const PAUSE = 400;
-/* The parts of a fragment, and the numbers of a page without one. */
+/* The parts of a fragment, what is told without a language, and the numbers of a page without a fragment. */
 const LINK = ["word", "exponent", "point", "conditions", "language", "numbers", "compare", "tab"];
+const ABOUT = "Type numbers of your language or file: the page finds their format, and the code that reads them.";
 const EXAMPLE = "1_000.5\n0x1F\n-2e-3\n!1__0";
 /* What is told of a link that is copied from a file, which others cannot open. */
 const OF_FILE = "Copied from # on: paste it behind the address of the page.";
@@ -142,7 +143,7 @@ class Page {
     showLanguage() {
         const language = this.languageOf(this.state);
         find("language").value = language?.name ?? "";
-        find("about").replaceChildren(...withCode(language?.about ?? ""));
+        find("about").replaceChildren(...withCode(language?.about ?? ABOUT));
         const forms = language?.forms ?? [this.state];
         const buttons = forms.map((form) => {
             return button("form", form.name, () => this.jump(stateOf(form)), { "aria-pressed": String(isSame(form, this.state)) });
@@ -181,7 +182,8 @@ class Page {
         const state = { ...this.state, ...part };
         if (Object.keys(state).some((name) => state[name] !== this.state[name])) {
             const lost = state.language && !this.languageOf(state);
-            setText(find("told"), lost ? `The format is not that of ${state.language} any more, and is read alone. Undo brings it back.` : "");
+            const told = () => `The format is not that of ${this.languageOf(this.state).short} any more. Undo brings it back.`;
+            setText(find("told"), lost ? told() : "");
             if (lost) state.language = "";
             if (!key || key !== this.key) this.past.push(this.state);
             this.future = [];
@@ -263,7 +265,8 @@ class Page {
         this.key = "";
         this.chooseTab(tab in TABS ? tab : "rust");
         this.showAnew();
-        setText(find("told"), lost.length ? `The page cannot read this of the link, and shows what is usual in its place: ${lost.join(", ")}.` : "");
+        const told = `The page cannot read this of the link, and shows what is usual in its place: ${lost.join(", ")}.`;
+        setText(find("told"), lost.length ? told : "");
     }
 
     /* Shows the word as text, in place of a typed text. */
@@ -295,7 +298,7 @@ class Page {
         setText(find("count"), count);
         find("count").className = isGood ? "good" : "bad";
         find("clear").disabled = !this.state.numbers;
-        setText(find("first-error"), this.shown.problems[0]?.text ?? (count ? told : "Type numbers of your language, and the page finds their format."));
+        setText(find("first-error"), this.shown.problems[0]?.text ?? told);
         const { sentence, problems } = this.shown;
         find("sentence").replaceChildren(...withCode(sentence ? `Numbers are ${sentence}.` : ""));
         const blamed = problems.flatMap(({ fields }) => fields);

@@ -345,7 +345,7 @@ class Walk(unittest.TestCase):
         self.assertEqual(self.run_script("return page.state.point"), 10)
         self.load("#word=0x0A0A0A000000002C000000000000000C&point=44&numbers=1,5")
         self.assertEqual((self.text("#verdict"), self.text("#count")), ("Valid format", "1 of 1 as expected"))
-        self.assertIn("is_valid_options_punctuation refuse this, but a reader takes it", self.text("#notes"))
+        self.assertIn("is_valid_options_punctuation refuses this, but a reader takes it", self.text("#notes"))
 
     def test_changes_are_undone_and_done_again(self):
         def state():
@@ -369,6 +369,7 @@ class Walk(unittest.TestCase):
         self.assertEqual(state(), both)
         self.click("#redo")
         self.assertEqual((self.value("#language"), len(self.texts("#forms button")) > 1), ("HASKELL", True))
+        self.wait(lambda: "HASKELL" in self.run_script("return location.hash"))
         self.driver.refresh()
         self.wait(lambda: self.run_script("return document.documentElement.dataset.ready"))
         self.click("#undo")
@@ -420,7 +421,7 @@ class Walk(unittest.TestCase):
         self.assertEqual(self.text("#count"), "3 of 4 as expected")
         self.click("#no_special")
         self.assertEqual((self.value("#language"), self.text("#count")), ("", "2 of 4 as expected"))
-        self.assertIn("The format is not that of RUST any more", self.text("#told"))
+        self.assertIn("The format is not that of Rust any more", self.text("#told"))
 
     def test_a_language_is_changed_in_the_form_that_goes_furthest(self):
         self.type("#literal", "0x1_000.5")
