@@ -5,12 +5,13 @@ const UNREADABLE = [
     [/[\u2010-\u2015\u2212]/g, "is a minus sign that no format has: replace it by `-`", "-"],
     [/\s*%$/g, "is a percent sign: divide the value by 100, and remove it", ""],
     [/\s*\p{Sc}\s*/gu, "is a currency sign: remove it", ""],
-    [/(?<=[\dA-F.])_?(?:[g-np-wyz]\w*|[fd](?:32|64|128)?)$/gi, "is a suffix, which `read_prefix` leaves: remove it", ""],
+    [/(?<=^[+-]?\.?\d([\w.,']*[\da-f.])?)_?[g-nq-wyz]\w*$|(?<=^[+-]?[\d._]*\d\.?)_?[fd](32|64|128)?$/gi,
+        "can be a suffix, which `read_prefix` leaves: remove it", ""],
 ];
 
-/* Returns what a text must lose before it is read, in words, and the text then. A suffix is one if nothing is offered. */
-function adviceFor(text, hasOffers) {
-    return UNREADABLE.slice(0, hasOffers ? -1 : undefined).flatMap(([pattern, told, other]) => {
+/* Returns what a text must lose before it is read, in words, and the text then. */
+function adviceFor(text) {
+    return UNREADABLE.flatMap(([pattern, told, other]) => {
         const [found] = text.match(pattern) ?? [];
         if (!found) return [];
         const [first] = found.trim() || found;

@@ -2,7 +2,6 @@
  * are read and written by bit arithmetic. A state is a word with the options. */
 "use strict";
 
-const MOST_WORD = (1n << 128n) - 1n;
 /* How many bytes a text may have. */
 const MOST_TEXT = 60000;
 /* The options of a parser, which are not in the word. If both are 0, numbers are integers alone. */
@@ -212,7 +211,7 @@ class Library {
         if (Object.values(options).includes(undefined)) return { error: "An option is not a byte." };
         if (lost.length) return { error: `${lost[0]}: the condition does not take this value.` };
         const isNumber = /^0x[0-9a-f]{1,32}$|^[0-9]{1,39}$/i.test(word) && !settings.length;
-        if (isNumber && BigInt(word) <= MOST_WORD) return { word: BigInt(word), options };
+        if (isNumber && BigInt(word) < 1n << 128n) return { word: BigInt(word), options };
         if (word || !(settings.length || Object.keys(options).length)) return { error: "This is neither a word nor a list of settings." };
         const { error, index, ...built } = this.build(settings);
         return error ? { error: `${settings[index]}: ${error}${error.endsWith("?") ? "" : "."}` } : { ...built, options };

@@ -92,7 +92,7 @@ class Trial {
     row(answer) {
         const { text, place, isRefused, isExpected, mask = 0, form = 0 } = answer;
         const offers = answer.offers.map((offer, index) => this.offer(place, offer, index));
-        const advice = isExpected || isRefused ? [] : adviceFor(text, offers.length > 0).map((it) => this.advice(place, it));
+        const advice = isExpected || isRefused ? [] : adviceFor(text).map((it) => this.advice(place, it));
         const nothing = isRefused ? "No flag alone refuses it." : "No change of a few fields was found that accepts it.";
         if (!isExpected && !offers.length && !advice.length) advice.push(element("li", {}, nothing));
         const attributes = { change: () => this.turn(place), id: `refuse-${place}`, "aria-label": `${text} must be refused` };
@@ -135,7 +135,7 @@ class Trial {
 
     reader({ language, hasAll, form = 0 }) {
         const { name, short } = this.languages[language];
-        return button(hasAll ? "link all" : "link", short, () => this.start(name, form), { title: `shows ${name}` });
+        return button(hasAll ? "link all" : "link", short, () => this.start(name, form), { title: `shows ${short}` });
     }
 
     /* Returns what is told of a number in a state. */

@@ -736,11 +736,14 @@ class Walk(unittest.TestCase):
 
     def test_what_no_format_has_is_replaced(self):
         rows = {"1\u2019000": "1'000", "1\u00a0000": "1 000", "1\u202f000": "1 000", "\u22125": "-5", "12 %": "12", "\u20ac5": "5",
-                "1u8": "1", "0x1Fu8": "0x1F", "3px": "3"}
+                "1u8": "1", "0x1Fu8": "0x1F", "3kg": "3", "10L": "10", "1.5f": "1.5"}
         for text, wanted in rows.items():
             self.run_script("page.jump({ ...page.library.usual, numbers: arguments[0] })", text)
             self.click("#read .use", f"try {wanted}")
             self.assertEqual(self.value("#literal"), wanted)
+        for text in ("0x1F", "0x1.8p3", "FF", "Infinity", "nAn", "1D3", "0o17", "1_000", "1,5"):
+            self.run_script("page.jump({ ...page.library.usual, numbers: arguments[0] })", text)
+            self.assertNotIn("can be a suffix", self.text("#read"))
 
     def test_notations_are_those_of_the_library(self):
         Select(self.find("#language")).select_by_value("JSON")
