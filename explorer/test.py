@@ -310,6 +310,7 @@ class Walk(unittest.TestCase):
         self.click("label[for=no_integer_leading_zeros]")
         self.find("#no_float_leading_zeros").send_keys(Keys.SPACE)
         self.assertEqual(self.value(), "0x00000A0000000000000000000000340C")
+        self.assertEqual(self.text("[data-field=no_positive_mantissa_sign] .meaning"), "refuses +1, accepts 1, -1")
         self.click("#no_positive_mantissa_sign")
         self.assertEqual(self.value(), "0x00000A0000000000000000000000341C")
         Select(self.find("#compare")).select_by_value("standard")
@@ -398,8 +399,8 @@ class Walk(unittest.TestCase):
         self.run_script("document.querySelectorAll('#texts details').forEach((it) => { it.open = true; })")
         self.assertEqual([int(it.split(": ")[1]) for it in heads], [
             self.run_script(f"return document.querySelectorAll('#texts > ul')[{index}].querySelectorAll('code').length") for index in (0, 1)])
-        self.assertIn("-1 unexpected minus sign, which no_negative_mantissa_sign forbids", self.texts("#texts li"))
-        self.assertIn("0x1 unexpected character 'x'", self.texts("#texts li"))
+        self.assertIn("-1 unexpected minus sign, which no_negative_mantissa_sign forbids", self.texts("#texts ul:first-of-type li"))
+        self.assertIn("0x1 unexpected character 'x'", self.texts("#texts ul:nth-of-type(2) li"))
         Select(self.find("#compare")).select_by_value("C:octal")
         self.click("#no_special")
         self.assertEqual(self.texts("#texts li")[-1], "10 is 10 here, and 8 there")
