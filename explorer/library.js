@@ -85,14 +85,15 @@ class Library {
         return { ...answer, normal: BigInt(answer.normal), problems: [...reasons, ...options, ...conditions], notes };
     }
 
-    /* Returns the states in which one of some fields is another one, if there are fewer problems then: absent, cleared, set,
-     * or a usual character. */
-    repairs(state, fields) {
+    /* Returns the states in which a problem has ended, also with another byte, and there are no more of them: one of its fields
+     * is absent, cleared, set or a usual character. */
+    repairs(state, { text, fields }) {
         const usual = { exponent: [101, 112, 94], point: [46, 44], mantissa_radix: [10], integer_group_size: [0, 3] };
-        const count = (it) => this.explain(it).problems.length;
-        const states = (name) => (usual[name] ?? [0, 1]).map((value) => this.with(state, name, value));
-        const most = count(state);
-        return fields.flatMap((name) => states(name).filter((it) => count(it) < most).slice(0, 1));
+        const kind = (it) => it.replace(/'.'|\d+/g, "");
+        const [problems, most] = [(it) => this.explain(it).problems, this.explain(state).problems.length];
+        const isBetter = (it) => problems(it).length <= most && !problems(it).some((other) => kind(other.text) === kind(text));
+        const first = (name) => (usual[name] ?? [0, 1]).map((value) => this.with(state, name, value)).find(isBetter);
+        return fields.map(first).filter(Boolean).sort((a, b) => problems(a).length - problems(b).length);
     }
 
     /* Returns a state with another value of a field, an option or a condition. */

@@ -122,8 +122,7 @@ class Trial {
             const readers = (found[lines.indexOf(answer)] ?? []).toSorted((a, b) => Number(b.hasAll) - Number(a.hasAll));
             const name = (it) => languages[it.language].forms[it.form]?.name ?? "special value";
             const groups = Map.groupBy(readers, (it) => `${valueText(it)}, ${name(it)}:`);
-            const reader = (it) => this.reader(it);
-            const parts = [...groups].flatMap(([title, group]) => [element("span", {}, title), ...group.map(reader)]);
+            const parts = [...groups].flatMap(([title, group]) => [element("span", {}, title), ...group.map((it) => this.reader(it))]);
             const all = readers.filter(({ hasAll }) => hasAll).length;
             const marks = all ? `; ${all} with a star read all` : "";
             const summary = element("summary", {}, `Read by ${readers.length || "none"} of ${languages.length} languages${marks}`);

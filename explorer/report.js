@@ -27,7 +27,7 @@ class Report {
 
     /* Shows why the format is not valid: a reason of the word, or an option or a condition that does not fit. */
     reason({ text, fields }) {
-        const buttons = this.library.repairs(this.state, fields).map((state) => {
+        const buttons = this.library.repairs(this.state, { text, fields }).map((state) => {
             const changes = this.library.differences(state, this.state);
             const label = changes.map((it) => it.text).join(", ") || "clear the reserved bits";
             return button("use", label, () => this.use(state), { "data-field": changes.map(({ name }) => name).join(" ") });

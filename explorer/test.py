@@ -477,6 +477,17 @@ class Walk(unittest.TestCase):
         self.click(".reason .use", "base_prefix=none")
         self.assertEqual((self.focused(), self.text("#verdict")), ("verdict", "Valid format"))
 
+    def test_repairs_end_all_reasons(self):
+        left = self.run_script("""const { library } = page;
+            const words = Array.from({ length: 60 }, (_, index) => BigInt.asUintN(128, (7919n ** BigInt(index + 9)) >> 40n));
+            return words.filter((word) => {
+                let state = { ...library.usual, word };
+                const problems = () => library.explain(state).problems;
+                for (let step = 0; problems().length && step < 40; step += 1) state = library.repairs(state, problems()[0])[0];
+                return problems().length;
+            }).map(wordText);""")
+        self.assertEqual(left, [])
+
     def test_words_are_typed_and_refused(self):
         self.type("#word", "0xC" + Keys.ENTER)
         self.assertEqual(self.texts(".reason strong"), ["the mantissa radix 0 is not between 2 and 36"])
