@@ -13,14 +13,13 @@ import shutil
 import subprocess
 import sys
 import tempfile
-import textwrap
 
 HERE = pathlib.Path(__file__).resolve().parent
 TOP = HERE.parent
 PAGE = HERE / "index.html"
 FORMAT = (TOP / "docs/FORMAT.md").read_text()
-SCRIPTS = ("library", "element", "bits", "controls", "code", "report", "literal", "page")
-MOST_BYTES = 250_000
+SCRIPTS = ("library", "element", "controls", "code", "report", "advice", "literal", "page")
+MOST_BYTES = 240_000
 TARGET = "wasm32-unknown-unknown"
 OPTIONS = [f"--target={TARGET}", "-Ctarget-feature=+bulk-memory", "-Copt-level=s", "-Cpanic=abort", "--cap-lints=allow"]
 NO_COMPILER = (
@@ -48,32 +47,13 @@ def section(title):
     return FORMAT.partition(f"\n## {title}\n\n")[2].partition("\n## ")[0] or sys.exit(f"docs/FORMAT.md: no section {title}")
 
 
-def named(text):
-    """Returns a text in which flags have names, in place of the numbers of their bits."""
-    names = dict(rows(r"^\| (\d+) \| (`\w+`) \| \w+ \|[^|]*\|[^|]*\| `[^|]*` \| `[^|]*` \|$"))
-    numbers = r"\b[Ff]lags? (\d+(?:,?\s+(?:and\s+|or\s+)?\d+)*)"
-    return re.sub(numbers, lambda match: re.sub(r"\d+", lambda number: names[number[0]], match[1]), text)
-
-
-def html(text):
-    """Returns paragraphs, lists, tables and blocks of code in Markdown as HTML. Links become their texts."""
-    made = ""
-    for block in text.strip("\n").replace("&", "&amp;").replace("<", "&lt;").split("\n\n"):
-        if block.startswith("    "):
-            made += f"<pre>{textwrap.dedent(block)}</pre>\n"
-            continue
-        block = re.sub(r"\[([^\]]*)\]\([^)]*\)", r"\1", block)
-        block = re.sub(r"`([^`]*)`", r"<code>\1</code>", block)
-        block = re.sub(r"\*([^*]+)\*", r"<em>\1</em>", block)
-        if block.startswith("| "):
-            head, _, *body = (re.findall(r"(?<=\| ).*?(?= \|)", line) for line in block.splitlines())
-            lines = [f"<th>{'<th>'.join(head)}", *(f"<td>{'<td>'.join(line)}" for line in body)]
-            made += "<table>" + "".join(f"<tr>{line}" for line in lines) + "</table>\n"
-        elif block.startswith("- "):
-            made += "<ul>" + "".join(f"<li>{item}</li>" for item in re.split(r"(?:^|\n)- ", block)[1:]) + "</ul>\n"
-        else:
-            made += f"<p>{block}</p>\n"
-    return made
+def table(text):
+    """Returns a table in Markdown as HTML. Links become their texts."""
+    text = text.strip().replace("&", "&amp;").replace("<", "&lt;")
+    text = re.sub(r"`([^`]*)`", r"<code>\1</code>", re.sub(r"\[([^\]]*)\]\([^)]*\)", r"\1", text))
+    head, _, *body = (re.findall(r"(?<=\| ).*?(?= \|)", line) for line in text.splitlines())
+    lines = [f"<th>{'<th>'.join(head)}", *(f"<td>{'<td>'.join(line)}" for line in body)]
+    return "<table>" + "".join(f"<tr>{line}" for line in lines) + "</table>"
 
 
 def sentences():
@@ -128,29 +108,18 @@ def numbers(name):
     return "\n".join(text if mark == "+" else f"!{text}" for mark, text in rows)
 
 
-def languages(forms):
-    """Returns the languages: name, comment, numbers and forms."""
+def languages():
+    """Returns the name, the comment and the numbers of each language."""
     text = (TOP / "rust/src/literal/language/tables.rs").read_text()
     for comment, name in re.findall(r"((?:^    ///[^\n]*\n)+)^    (\w+) = \{", text, re.M):
-        about = " ".join(comment.replace("///", "").split())
-        yield {"name": name, "about": about, "numbers": numbers(name), "forms": forms[name]}
+        yield {"name": name, "about": " ".join(comment.replace("///", "").split()), "numbers": numbers(name)}
 
 
-def rules():
-    """Returns the conditions of the rules."""
-    return [named(condition) for condition in rows(r"^\| \d+ \| (.*?) \| `Invalid")]
-
-
-def data(forms):
-    """Returns the data that the page shows, with these forms of languages."""
+def data():
+    """Returns the data that the page shows."""
     header = (TOP / "c/peltzivar.h").read_text()
-    return {
-        **fields(),
-        "conditions": [*conditions()],
-        "rules": rules(),
-        "languages": [*languages(forms)],
-        "version": re.search(r'^#define PELTZIVAR_VERSION "(.*)"$', header, re.M)[1],
-    }
+    version = re.search(r'^#define PELTZIVAR_VERSION "(.*)"$', header, re.M)[1]
+    return {**fields(), "conditions": [*conditions()], "languages": [*languages()], "version": version}
 
 
 def hash_of(wasm):
@@ -188,25 +157,19 @@ def compiler(folder):
     builtins = sources / "compiler-builtins/compiler-builtins/src/lib.rs"
     features = ['--cfg=feature="compiler-builtins"', '--cfg=feature="mem"']
     output(*library, "--crate-name=compiler_builtins", *features, builtins)
+    output(*library, "--crate-name=alloc", sources / "alloc/src/lib.rs")
     return [*debian, "-Clinker=wasm-ld", "-Clinker-flavor=wasm-ld"]
 
 
 def compiled():
-    """Returns the WebAssembly of library.rs with the crate, and what languages.rs prints, by language."""
+    """Returns the WebAssembly of library.rs with the crate, compressed, in base64."""
     with tempfile.TemporaryDirectory() as folder:
         rustc, wasm = compiler(folder), pathlib.Path(folder, "library.wasm")
         crate = ["--edition=2021", "--crate-type=rlib", "--crate-name=peltzivar", TOP / "rust/src/lib.rs"]
         output(*rustc, *crate, f"--out-dir={folder}")
         page = ["--edition=2024", "--crate-type=cdylib", "-Clto=fat", "-Ccodegen-units=1", "-Cstrip=symbols"]
         output(*rustc, *page, "--extern=peltzivar", "-o", wasm, HERE / "library.rs")
-        host, program = pathlib.Path(folder, "host"), pathlib.Path(folder, "languages")
-        output(rustc[0], *crate, f"--out-dir={host}")
-        output(rustc[0], "--edition=2024", f"-L{host}", "--extern=peltzivar", "-o", program, HERE / "languages.rs")
-        forms = {}
-        for line in output(program).splitlines():
-            language, name, syntax, specials = line.split("\t")
-            forms.setdefault(language, []).append({"name": name, "syntax": syntax, "specials": specials.split(" ")})
-        return base64.b64encode(gzip.compress(wasm.read_bytes(), mtime=0)).decode(), forms
+        return base64.b64encode(gzip.compress(wasm.read_bytes(), mtime=0)).decode()
 
 
 def digest(text):
@@ -214,17 +177,15 @@ def digest(text):
     return f"'sha256-{base64.b64encode(hashlib.sha256(text.encode()).digest()).decode()}'"
 
 
-def page(wasm, forms):
-    """Returns the page with this WebAssembly, which is compressed, and written in base64, and these forms of languages."""
+def page(wasm):
+    """Returns the page with this WebAssembly."""
     style = "\n" + (HERE / "page.css").read_text()
     script = "\n" + "\n".join((HERE / f"{name}.js").read_text() for name in SCRIPTS)
-    embedded = json.dumps(data(forms), ensure_ascii=False, separators=(",", ":")).replace("<", "\\u003c")
+    embedded = json.dumps(data(), ensure_ascii=False, separators=(",", ":")).replace("<", "\\u003c")
     policy = f"default-src 'none'; script-src {digest(script)} 'wasm-unsafe-eval'; style-src {digest(style)}"
     parts = {
-        "literals": html(section("Literals")) + html(section("Where separators may be")),
-        "rules": html("\n".join(f"- Rule {index}: {rule}." for index, rule in enumerate(rules(), 1))),
-        "limits": html(section("What a format cannot express")),
-        "terms": html(section("Terms")),
+        "limits": table(section("What a format cannot express")),
+    
         "policy": f"{policy}; img-src data:; base-uri 'none'; form-action 'none'",
         "style": style,
         "data": embedded,
@@ -242,12 +203,9 @@ def main(arguments):
     old = PAGE.read_text() if PAGE.exists() else ""
     found = re.search(r'<script id="library" [^>]*data-hash="(\w+)">([^<]*)</script>', old)
     is_current = bool(found) and found[1] == hash_of(found[2])
-    if is_current:
-        shown = json.loads(re.search(r'<script type="application/json" id="data">([^<]*)</script>', old)[1])["languages"]
-        made = found[2], {language["name"]: language["forms"] for language in shown}
     if arguments:
-        sys.exit(0 if is_current and old == page(*made) else "explorer/index.html: not up to date: run explorer/build")
-    text = page(*(made if is_current else compiled()))
+        sys.exit(0 if is_current and old == page(found[2]) else "explorer/index.html: not up to date: run explorer/build")
+    text = page(found[2] if is_current else compiled())
     if len(text.encode()) >= MOST_BYTES:
         sys.exit(f"explorer/index.html: {len(text.encode())} bytes, more than {MOST_BYTES}")
     PAGE.write_text(text)

@@ -1,27 +1,46 @@
-/* The code of a state, with its spellings of special values in quotes. If nothing can be read, it is the word, and says why. */
+/* The code of a state, with its spellings of special values in quotes, and with numbers as a test. If nothing can be read,
+ * it is the word, and says why. */
 
 /* Returns a byte as a character of Rust or C. */
 function character(byte, prefix) {
     return quoted(byte, prefix).replace(/'(['\\])'/, "'\\$1'");
 }
 
-/* Returns a comment with the reader of all forms of a language. */
+/* Comments with the reader of all forms of a language. */
 const COMMENTS = {
     rust: (name) => `// The reader of all forms is peltzivar::literal::Language::${name}.\n`,
     c: (name) => `/* peltzivar_forms_read reads all forms, with peltzivar_language("${name}", ${name.length}, NULL). */\n`,
     python: (name) => `# The reader of all forms is peltzivar.languages.${name}.\n`,
-    settings: () => "",
 };
 
+/* Returns a text between double quotes. Characters that are not plain are written by a function of their numbers. */
+function literalText(text, escape) {
+    const characters = [...text.replace(/\p{Surrogate}/gu, "\ufffd")];
+    return `"${characters.map((it) => (/[^ -~]|["\\?]/.test(it) ? escape(it.codePointAt()) : it)).join("")}"`;
+}
+
+/* Returns the numbers that must be accepted and those that must be refused, as texts of a language between commas. */
+function tested(tests, escape) {
+    const texts = (isRefused) => tests.filter((it) => it.isRefused === isRefused).map(({ text }) => literalText(text, escape)).join(", ");
+    return [texts(false), texts(true)];
+}
+
 class Code {
+    grammar = (_, shown) => shown.grammar ?? this.problem(shown);
+    regex = (_, shown) => shown.regex ?? this.problem(shown);
+
     constructor(library) {
         this.library = library;
     }
 
     /* Returns why nothing can be read: the first reason, or an empty text. */
-    problem({ reasons, options, conditions }) {
-        const [first] = [...reasons, ...options, ...conditions];
+    problem({ problems: [first] }) {
         return first ? `Nothing can be read: ${first.text}.` : "";
+    }
+
+    /* Returns a comment for the code of a tab, if a language is chosen. */
+    comment(tab, language) {
+        return language && (COMMENTS[tab]?.(language) ?? "");
     }
 
     rust(state, shown) {
@@ -34,22 +53,21 @@ class Code {
             const optional = value ? `NonZeroU8::new(${byte})` : "None";
             return `    .${name}(${!isByte ? Boolean(value) : name === "mantissa_radix" ? byte : optional})\n`;
         });
-        const build = `NumberFormatBuilder::new()\n${calls.join("")}    .build_format_or_panic()`;
         const isFloat = exponent || point;
         const options = [exponent, point].map((it) => character(it, "b")).join(", ");
         const set = changes.filter(({ shift }) => shift !== undefined);
         const conditions = set.map(({ name, isNumber, value }) => `.${name}(${isNumber ? `Some(${value})` : "true"})`);
-        const hasBytes = shown.isBuilt && calls.some((call) => call.includes("NonZeroU8"));
+        const hasBytes = calls.some((call) => call.includes("NonZeroU8"));
         const syntax = isFloat ? `Syntax::new_or_panic(FORMAT, ${options})` : "Syntax::integers(FORMAT)";
         const [nan, inf, infinity] = state.specials.map((it) => (it === '""' ? "None" : `Some(b${it})`));
         const names = `${conditions.length ? "Conditions, " : ""}FormError, Number, Readers, ${nan ? "Specials, " : ""}Syntax`;
         return [
             ...(hasBytes ? ["use core::num::NonZeroU8;"] : []),
             `use peltzivar::literal::{${names}};`,
-            `use peltzivar::${shown.isBuilt ? "{Format, NumberFormatBuilder}" : "Format"};`,
+            "use peltzivar::{Format, NumberFormatBuilder};",
             "",
             `/// ${wordText(word)}`,
-            `pub const FORMAT: Format = ${shown.isBuilt ? build : `Format::of::<${wordText(word)}>()`};`,
+            `pub const FORMAT: Format = NumberFormatBuilder::new()\n${calls.join("")}    .build_format_or_panic();`,
             `pub const SYNTAX: Syntax = ${syntax}${conditions.length ? "" : ";"}`,
             ...(conditions.length ? [`    .with_conditions_or_panic(Conditions::NONE${conditions.join("")});`] : []),
             `pub static READERS: Readers<'static> = Readers::new_or_panic(&[SYNTAX])${nan ? "" : ";"}`,
@@ -60,7 +78,15 @@ class Code {
             "    READERS.read(text)",
             "}",
             "",
+            ...this.rustTest(state.tests),
         ].join("\n");
+    }
+
+    rustTest(tests) {
+        const loops = tested(tests, (it) => `\\u{${it.toString(16)}}`).map((texts, index) => {
+            return texts && `    [${texts}].iter().for_each(|it| assert!(read(it).is_${["ok", "err"][index]}(), "{it}"));\n`;
+        });
+        return tests.length ? [`#[test]\nfn numbers() {\n${loops.join("")}}\n`] : [];
     }
 
     c(state, shown) {
@@ -91,27 +117,50 @@ bool read_number(
     special->spelling = 0;
     return peltzivar_read(syntax, text, strlen(text), literal, &error)${special};
 }
-`;
+${this.cTest(state.tests)}`;
+    }
+
+    cTest(tests) {
+        const bytes = (it) => [...new TextEncoder().encode(String.fromCodePoint(it))];
+        const octal = (it) => bytes(it).map((byte) => `\\${byte.toString(8).padStart(3, "0")}`);
+        const texts = tests.map(({ text, isRefused }) => literalText(`${isRefused ? "!" : "="}${text}`, (it) => octal(it).join("")));
+        return tests.length ? `
+/* Returns whether the numbers behind a = are read, and those behind a ! are not. */
+bool test_numbers(const peltzivar_syntax *syntax) {
+    static const char *const texts[] = {${texts.join(", ")}, NULL};
+    bool are_right = true;
+    peltzivar_literal literal;
+    peltzivar_special special;
+    for (const char *const *it = texts; *it; it++)
+        are_right &= read_number(syntax, *it + 1, &literal, &special) == (**it == '=');
+    return are_right;
+}
+` : "";
     }
 
     python(state, shown) {
         const problem = this.problem(shown);
         const word = wordText(state.word);
         if (problem) return `from peltzivar import FormatView\n\n# ${problem}\nview = FormatView(${word})\n`;
-        const lines = this.lines(state).map((line) => `    ${JSON.stringify(line)},\n`).join("");
+        const settings = this.lines(state).map((line) => `    ${JSON.stringify(line)},\n`).join("");
         const specials = state.specials.join(", ");
         const special = "if special := specials.read(syntax, text):\n            return special\n        raise";
         const read = "return syntax.read(text)";
-        return `from peltzivar import ${specials && "LiteralError, Specials, "}Syntax
+        const [accepted, refused] = tested(state.tests, (it) => `\\U${it.toString(16).padStart(8, "0")}`);
+        const lines = (texts, body) => texts && `    for text in [${texts}]:\n        ${body}\n`;
+        const raises = "try:\n            read(text)\n        except LiteralError:\n            continue\n        raise AssertionError(text)";
+        const test = `\n\ndef test_numbers():\n${lines(accepted, "read(text)")}${lines(refused, raises)}`;
+        const names = [specials || refused ? "LiteralError" : "", specials && "Specials", "Syntax"].filter(Boolean).join(", ");
+        return `from peltzivar import ${names}
 
 # ${word}
-syntax = Syntax.of(${lines && `\n${lines}`})
+syntax = Syntax.of(${settings && `\n${settings}`})
 ${specials && `specials = Specials(${specials})\n`}
 
 def read(text):
     """Returns a literal${specials && ", NaN or infinity"}, which has a \`value\`."""
     ${specials ? `try:\n        ${read}\n    except LiteralError:\n        ${special}` : read}
-`;
+${state.tests.length ? test : ""}`;
     }
 
     /* Returns the settings of a state that are not the usual ones. */

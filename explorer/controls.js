@@ -1,27 +1,11 @@
 /* The controls: bytes, options and flags. Each calls `edit` with the name of a field and its new value. */
 
-/* Words by which fields are found beside those of their rows. */
-const WORDS = [
-    [/separator/, "underscore comma apostrophe thousands group"],
-    [/_sign/, "plus minus + -"],
-    [/radix|base/, "hex hexadecimal octal binary 0x"],
-    [/special/, "nan infinity"],
-    [/point|fraction/, "float decimal comma dot"],
-    [/exponent/, "float scientific"],
-];
-
 /* Returns texts that a flag makes a parser refuse, and texts that it accepts then, in words. Flags of separators make it
  * accept texts. */
 function examples({ accepts = [], refuses = [], part }) {
     const texts = (all) => all.map((text) => `\`${text}\``).join(", ");
     if (!accepts.length) return refuses.length ? `refuses ${texts(refuses)}` : "";
     return part === "separator" ? `accepts ${texts(accepts)}` : `refuses ${texts(refuses)}, accepts ${texts(accepts)}`;
-}
-
-/* Returns where the field is in the word. */
-function placeOf({ bit, bits, isByte }) {
-    if (bit === undefined) return bits ? `bits ${bits.join(", ")}` : "not in the word";
-    return isByte ? `bits ${bit} to ${bit + 7}` : `bit ${bit}`;
 }
 
 class Controls {
@@ -33,7 +17,6 @@ class Controls {
         this.makeBytes();
         this.makeFlags();
         this.makeSeparators();
-        find("filter").addEventListener("input", () => this.filter());
     }
 
     /* Returns the check box of a flag or a group. */
@@ -68,14 +51,9 @@ class Controls {
     flagRow(field) {
         const { name, part, meaning } = field;
         const label = element("label", { for: name }, element("span", { class: `dot ${part}` }), ...withCode(meaning));
-        const all = [this.box(field), label, element("span", { class: "meaning" }, withCode(examples(field))), this.nameOf(field)];
+        const texts = element("span", { class: "meaning" }, withCode(examples(field)));
+        const all = [this.box(field), label, texts, element("span", { class: "name" }, name)];
         return element("div", { class: "flag-row control field", "data-field": name }, all);
-    }
-
-    /* Returns the name of a field, and where it is in the word. */
-    nameOf(field) {
-        const place = element("span", { class: "place" }, placeOf(field));
-        return element("span", { class: "name" }, `${field.name} \u00b7 `, place);
     }
 
     /* Makes the table of separator flags: a row for each part of a number, a column for each position. */
@@ -108,23 +86,6 @@ class Controls {
         return element("tr", {}, this.groupHead(row, row.name.replace("_digit_separator_flags", ""), "row"), cells);
     }
 
-    /* Hides the rows in which neither a name, a meaning nor another word has the text of the filter. */
-    filter() {
-        const plain = (text) => text.trim().toLowerCase().replaceAll(" ", "_");
-        const wanted = plain(find("filter").value);
-        const others = (name) => WORDS.filter(([pattern]) => pattern.test(name)).map(([, words]) => words).join(" ");
-        const textOf = ({ dataset: { field = "" }, textContent }) => plain(`${field} ${textContent} ${others(field)}`);
-        const has = (node) => textOf(node).includes(wanted);
-        const hide = (node, rows) => (node.hidden = !rows.some((row) => !row.hidden));
-        for (const row of document.querySelectorAll("#controls .control")) row.hidden = !has(row);
-        const rows = [...document.querySelectorAll("#separators tbody tr")];
-        for (const row of rows) row.hidden = ![...row.querySelectorAll("[data-field]")].some(has);
-        hide(find("separators"), rows);
-        const groups = document.querySelectorAll("#flags fieldset, #controls > section");
-        for (const group of groups) hide(group, [...group.querySelectorAll(".control, tbody tr")]);
-        find("no-field").hidden = [...groups].some((group) => !group.hidden);
-    }
-
     makeBytes() {
         find("bytes").append(...[...this.library.bytes, ...OPTIONS].map((field) => this.byteRow(field)));
         find("conditions").append(...this.library.conditions.map((condition) => this.flagRow(condition)));
@@ -146,12 +107,13 @@ class Controls {
         const keydown = ({ key }) => key === "Escape" && isRefused(box) && this.fill(name);
         const listeners = { input, focus, blur, keydown };
         const box = element("input", { id: name, ...listeners, autocomplete: "off", spellcheck: "false" });
-        box.setAttribute("aria-describedby", `${name}-problem ${name}-meaning`);
+        box.setAttribute("aria-describedby", `${name}-meaning`);
+        box.setAttribute("aria-errormessage", `${name}-problem`);
         const other = element("span", { class: "other" });
         this.inputs.set(name, { box, other, problem, isNumber });
         const label = element("label", { for: name }, element("span", { class: `dot ${part}` }), title);
         const text = element("span", { class: "meaning", id: `${name}-meaning` }, withCode(meaning));
-        const all = [label, box, other, problem, text, this.nameOf(field)];
+        const all = [label, box, other, problem, text, element("span", { class: "name" }, name)];
         return element("div", { class: "byte-row control field", "data-field": name }, all);
     }
 

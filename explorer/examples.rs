@@ -1,24 +1,20 @@
 //! Texts that tell two formats apart: one accepts them and the other refuses them, or both give them other values.
 
-use core::fmt;
+use alloc::vec::Vec;
 use core::num::NonZeroU8;
 
-use peltzivar::literal::{ReadError, ReadErrorKind};
-use peltzivar::{FormatView, Role};
+use peltzivar::literal::ReadError;
+use peltzivar::FormatView;
 
 use crate::forms::{value_of, Forms, Value};
 use crate::suggest::State;
-
-/// How many texts are shown of those that one format refuses, and how many of its causes are found.
-pub const MOST: usize = 6;
-const MOST_CAUSES: usize = 16;
 
 /// The parts of the texts that are tried, the usual one first. `_`, `x`, `e`, `.`, `h` and `F` stand for the separator, the
 /// prefix, the exponent character, the point, the suffix and the largest digit.
 const PARTS: [&[&str]; 6] = [
     &["", "+", "-"],
     &["", "0x", "0X"],
-    &["1", "10", "0", "", "01", "1F", "1_0", "_1", "1_", "1__0", "NaN", "nan", "N_aN"],
+    &["1", "10", "0", "", "01", "1F", "1_0", "_1", "1_", "1__0", "1_000", "1_0000", "NaN", "nan", "N_aN"],
     &["", ".1", ".", ".1_0", "._1", ".1_", ".1__0"],
     &["", "e1", "e+1", "e-1", "e", "E1", "e1_0", "e_1", "e1_", "e1__0"],
     &["", "h", "H"],
@@ -27,29 +23,10 @@ const PARTS: [&[&str]; 6] = [
 /// How many parts of a text are not the usual ones.
 const MOST_UNUSUAL: usize = 3;
 
-/// A text of the bytes of a state.
-#[derive(Clone, Copy)]
-pub struct Text {
-    bytes: [u8; 24],
-    size: usize,
-}
-
-impl Text {
-    pub fn as_bytes(&self) -> &[u8] {
-        &self.bytes[..self.size]
-    }
-
-    /// Returns the text of these parts, if the state has all of its bytes and they are visible.
-    fn new(state: State, parts: [&str; 6]) -> Option<Self> {
-        let mut text = Self { bytes: [0; 24], size: 0 };
-        for byte in parts.iter().flat_map(|part| part.bytes()) {
-            let byte = byte_for(state, byte);
-            *text.bytes.get_mut(text.size)? = byte;
-            text.size += 1;
-            byte.is_ascii_graphic().then_some(())?;
-        }
-        Some(text)
-    }
+/// Returns the text of these parts, if the state has all of its bytes and they are visible.
+fn text_of(state: State, parts: [&str; 6]) -> Option<Vec<u8>> {
+    let visible = |byte: &u8| matches!(byte, b' '..=b'~');
+    parts.iter().flat_map(|part| part.bytes()).map(|byte| Some(byte_for(state, byte)).filter(visible)).collect()
 }
 
 /// Returns the byte of a state that a byte of an example stands for. It is 0 if the state lacks it.
@@ -67,14 +44,8 @@ fn byte_for(state: State, byte: u8) -> u8 {
     }
 }
 
-impl fmt::Display for Text {
-    fn fmt(&self, f: &mut fmt::Formatter<'_>) -> fmt::Result {
-        f.write_str(core::str::from_utf8(self.as_bytes()).unwrap_or(""))
-    }
-}
-
 /// Returns the texts that are tried, in the bytes of a state.
-fn texts(state: State) -> impl Iterator<Item = Text> {
+fn texts(state: State) -> impl Iterator<Item = Vec<u8>> {
     let all = PARTS.iter().map(|parts| parts.len()).product();
     (0..all).filter_map(move |mut number: usize| {
         let mut unusual = 0;
@@ -84,40 +55,33 @@ fn texts(state: State) -> impl Iterator<Item = Text> {
             unusual += usize::from(index > 0);
             parts[index]
         });
-        Text::new(state, parts).filter(|_| unusual <= MOST_UNUSUAL)
+        Some(parts).filter(|_| unusual <= MOST_UNUSUAL).and_then(|parts| text_of(state, parts))
     })
 }
 
-/// What a text shows: the cause of its error with the flags to blame, and the role that the wrong byte has where the text
-/// is accepted. One text of each is enough.
-type Shown = (ReadErrorKind, u128, Option<Role>);
-
-/// A text that is refused, and why.
-pub type Refused = (Text, ReadError);
-
-/// Returns the shortest texts of each cause that forms accept and others refuse.
-pub fn refused(forms: &Forms, others: &Forms) -> impl Iterator<Item = Refused> {
-    let mut found: [Option<(Shown, Refused)>; MOST_CAUSES] = [None; MOST_CAUSES];
-    for text in forms.states().flat_map(texts) {
-        let (Ok(number), Err(refusal)) = (forms.readers().read(text.as_bytes()), others.readers().read(text.as_bytes())) else {
-            continue;
-        };
+/// Returns the shortest texts that forms accept and others refuse, with their errors: one of each cause with the flags to
+/// blame and of each role that the wrong byte has where the text is accepted.
+pub fn refused(forms: &Forms, others: &Forms) -> Vec<(Vec<u8>, ReadError)> {
+    let mut found: Vec<(_, (Vec<u8>, ReadError))> = Vec::new();
+    for text in forms.states.iter().flat_map(|&it| texts(it)) {
+        let (Ok(number), Err(refusal)) = (forms.readers().read(&text), others.readers().read(&text)) else { continue };
         let (error, syntax) = (refusal.error, forms.readers().as_slice()[number.form().unwrap_or(0)]);
         let shown = (error.kind(), error.mask(), error.byte().and_then(|byte| syntax.role_of(byte)));
-        let place = found.iter_mut().find(|it| it.is_none_or(|it| it.0 == shown));
-        if let Some(place) = place.filter(|it| it.is_none_or(|it| text.size < it.1 .0.size)) {
-            *place = Some((shown, (text, error)));
+        match found.iter_mut().find(|it| it.0 == shown) {
+            Some((_, old)) if text.len() < old.0.len() => *old = (text, error),
+            Some(_) => {}
+            None => found.push((shown, (text, error))),
         }
     }
-    found.sort_unstable_by_key(|it| it.map_or((usize::MAX, [0; 24]), |(_, (text, _))| (text.size, text.bytes)));
-    found.into_iter().flatten().map(|it| it.1).take(MOST)
+    found.sort_by(|(_, (text, _)), (_, (other, _))| (text.len(), text).cmp(&(other.len(), other)));
+    found.into_iter().map(|it| it.1).collect()
 }
 
 /// Returns the first text to which forms and others give different values, with both values.
-pub fn other_values(forms: &Forms, others: &Forms) -> Option<(Text, [Value; 2])> {
-    forms.states().flat_map(texts).find_map(|text| {
-        let number = forms.readers().read(text.as_bytes()).ok()?;
-        let values = [value_of(number), value_of(others.readers().read(text.as_bytes()).ok()?)];
+pub fn other_value(forms: &Forms, others: &Forms) -> Option<(Vec<u8>, [Value; 2])> {
+    forms.states.iter().flat_map(|&it| texts(it)).find_map(|text| {
+        let number = forms.readers().read(&text).ok()?;
+        let values = [value_of(number), value_of(others.readers().read(&text).ok()?)];
         (values[0] != values[1]).then_some((text, values))
     })
 }

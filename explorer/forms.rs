@@ -1,45 +1,31 @@
 //! The forms of the numbers that are read, such as decimal and hexadecimal, and the values of numbers.
 
+use alloc::vec::Vec;
 use core::str::FromStr;
 
 use peltzivar::literal::{Condition, Conditions, Number, Readers, Specials, Syntax, ValueError};
 
 use crate::suggest::State;
 
-/// How many forms a language has.
-const MOST: usize = 24;
-
 /// The states of forms, their syntaxes, and the spellings of special values.
 pub struct Forms {
-    states: [State; MOST],
-    syntaxes: [Syntax; MOST],
-    size: usize,
+    pub states: Vec<State>,
+    syntaxes: Vec<Syntax>,
     specials: Specials<'static>,
 }
 
 impl Forms {
-    /// Reads states and, behind tabs, the spellings of special values. Returns `None` if a word is not lawful.
+    /// Reads states and, behind tabs, the spellings of special values. Returns `None` if a state is not a syntax.
     pub fn new(line: &'static str) -> Option<Self> {
         let mut spellings = line.split('\t').skip(1).map(str::as_bytes);
         let [nan, inf, infinity] = [(); 3].map(|()| spellings.next());
-        let mut all = states_of(line);
-        let first = all.next()?;
-        let syntaxes = [first.syntax()?; MOST];
-        let mut forms = Self { states: [first; MOST], syntaxes, size: 1, specials: Specials { nan, inf, infinity } };
-        for state in all.take(MOST - 1) {
-            forms.syntaxes[forms.size] = state.syntax()?;
-            forms.states[forms.size] = state;
-            forms.size += 1;
-        }
-        Some(forms)
-    }
-
-    pub fn states(&self) -> impl ExactSizeIterator<Item = State> {
-        self.states[..self.size].iter().copied()
+        let states: Vec<_> = states_of(line).collect();
+        let syntaxes = states.iter().map(|it| it.syntax()).collect::<Option<_>>()?;
+        Some(Forms { states, syntaxes, specials: Specials { nan, inf, infinity } })
     }
 
     pub fn readers(&self) -> Readers<'_> {
-        Readers::new_or_panic(&self.syntaxes[..self.size]).with_specials(self.specials)
+        Readers::new_or_panic(&self.syntaxes).with_specials(self.specials)
     }
 }
 
@@ -49,7 +35,8 @@ pub fn states_of(line: &str) -> impl Iterator<Item = State> {
     line.split('\t').take(1).flat_map(|it| it.split(' ')).map(|state| {
         let (word, options) = state.split_once(':').unwrap_or((state, ""));
         let [exponent, point, numbers @ ..] = u128::from_str(options).unwrap_or(0).to_le_bytes();
-        let conditions = Condition::ALL.iter().zip(numbers).fold(Conditions::NONE, |all, (&it, number)| all.with(it, number));
+        let conditions =
+            Condition::ALL.iter().zip(numbers).fold(Conditions::NONE, |all, (&it, number)| all.with(it, number));
         State { word: u128::from_str(word).unwrap_or(0), exponent, point, conditions }
     })
 }

@@ -2,7 +2,6 @@
  * are read and written by bit arithmetic. A state is a word with the options. */
 "use strict";
 
-const MOST_WORD = (1n << 128n) - 1n;
 /* How many bytes a text may have. */
 const MOST_TEXT = 60000;
 /* The options of a parser, which are not in the word. If both are 0, numbers are integers alone. */
@@ -43,11 +42,12 @@ class Library {
 
     /* Returns the answer of a call that reads this text. */
     call(name, text) {
-        const { memory, input, output } = this.calls;
+        const { memory, input } = this.calls;
         const bytes = new TextEncoder().encode(text.slice(0, 2 * MOST_TEXT)).subarray(0, 2 * MOST_TEXT);
         new Uint8Array(memory.buffer).set(bytes, input());
-        const length = this.calls[name](bytes.length);
-        return JSON.parse(new TextDecoder().decode(new Uint8Array(memory.buffer, output(), length)));
+        const answer = BigInt.asUintN(64, this.calls[name](bytes.length));
+        const [start, length] = [answer & 0xffffffffn, answer >> 32n].map(Number);
+        return JSON.parse(new TextDecoder().decode(new Uint8Array(memory.buffer, start, length)));
     }
 
     /* Returns {word, notes} of a new builder with settings, or {error, index} for the first setting that is none. */
@@ -56,32 +56,53 @@ class Library {
         return answer.error ? answer : { ...answer, word: BigInt(answer.word) };
     }
 
-    /* Returns all about a state: whether the word is built, its error, normal form, reasons and notes, and why options or
-     * conditions do not fit. All have their text, the fields that they blame, the broken rules, and repaired states. */
+    /* Returns the languages, with what the page tells of each: their names, numbers and forms, each of which is a state. */
+    languages(told) {
+        return this.call("languages", "").map(({ name, specials, forms }, index) => {
+            const short = /^(\S+?)'s /.exec(told[index].about)?.[1] ?? name;
+            const states = forms.map((form) => ({ ...this.stateOfSyntax(form.syntax), name: form.name, specials }));
+            return { ...told[index], short, forms: states };
+        });
+    }
+
+    /* Returns the languages that read each line of a text, as `readers` of library.rs describes. */
+    readers(text) {
+        return this.call("readers", `\n${text}`);
+    }
+
+    /* Returns all about a state: whether the word is built, its normal form, reasons and notes, and why options or conditions
+     * do not fit: each with its text and the fields that it blames. If the state is a syntax, this includes its sentence, its
+     * grammar and its regular expression. */
     explain(state) {
         const answer = this.call("explain", passed([state]));
-        const named = ({ mask, options: own = [], repairs = [], ...it }) => {
-            const fields = [...own, ...this.namesOf(BigInt(mask))];
-            return { ...it, mask: BigInt(mask), fields, repairs: repairs.map(withWord) };
+        const named = ({ text, mask }) => {
+            const all = [...OPTIONS, ...this.conditions].filter(({ name, title = name }) => text.includes(title));
+            return { text, fields: [...all.map(({ name }) => name), ...this.namesOf(BigInt(mask))] };
         };
-        const [reasons, options, notes] = ["reasons", "options", "notes"].map((name) => answer[name].map(named));
-        const conditions = answer.conditions.map(({ text, condition, mask }) => {
-            const { name, mask: bits } = this.conditions[condition];
-            const others = this.conditions.filter((it) => it.name !== name && text.includes(it.name));
-            const fields = this.namesOf(BigInt(mask));
-            const fitted = this.put(state.word, "digit_separator", this.get(state.word, "digit_separator") || 95);
-            const flags = this.flags.filter((flag) => fields.includes(flag.name));
-            const words = fields.includes("digit_separator") ? [fitted] : flags.map((flag) => this.put(fitted, flag.name, 1));
-            const repairs = [
-                { ...state, conditions: state.conditions & ~bits },
-                ...words.map((word) => ({ ...state, word })),
-                ...others.map(({ shift }) => ({ ...state, conditions: state.conditions | (3n << shift) })),
-            ];
-            return { text, fields: [name, ...fields, ...others.map((it) => it.name)], rules: [], repairs };
-        });
-        const taken = "numfmt options and is_valid_options_punctuation refuse this, but a reader takes it: no flag allows it as a separator";
+        const [reasons, options, conditions, notes] = ["reasons", "options", "conditions", "notes"].map((it) => answer[it].map(named));
+        const taken = "is_valid_options_punctuation refuses this, but a reader takes it: no flag allows it as a separator";
         if (answer.fits) notes.push(...options.splice(0).map((it) => ({ ...it, text: `${it.text}: ${taken}` })));
-        return { ...answer, normal: BigInt(answer.normal), reasons, options, conditions, notes };
+        return { ...answer, normal: BigInt(answer.normal), problems: [...reasons, ...options, ...conditions], notes };
+    }
+
+    /* Returns the states in which a problem has ended, also with another byte, and there are no more of them: one of its fields
+     * is absent, cleared, set or a usual character. */
+    repairs(state, { text, fields }) {
+        const usual = { exponent: [101, 112, 94], point: [46, 44], mantissa_radix: [10], integer_group_size: [0, 3] };
+        const kind = (it) => it.replace(/'.'|\d+/g, "");
+        const [problems, most] = [(it) => this.explain(it).problems, this.explain(state).problems.length];
+        const isBetter = (it) => problems(it).length <= most && !problems(it).some((other) => kind(other.text) === kind(text));
+        const first = (name) => (usual[name] ?? [0, 1]).map((value) => this.with(state, name, value)).find(isBetter);
+        return fields.map(first).filter(Boolean).sort((a, b) => problems(a).length - problems(b).length);
+    }
+
+    /* Returns a state with another value of a field, an option or a condition. */
+    with(state, name, value) {
+        const condition = this.conditions.find((it) => it.name === name);
+        if (name === "reserved") return { ...state, word: state.word & this.known };
+        if (name in STANDARD_OPTIONS) return { ...state, [name]: value };
+        if (!condition) return { ...state, word: this.put(state.word, name, value) };
+        return { ...state, conditions: (state.conditions & ~condition.mask) | (BigInt(value) << condition.shift) };
     }
 
     /* Returns an object for each line of a text, as `numbers` of library.rs describes: none if a word is not lawful. */
@@ -98,16 +119,21 @@ class Library {
     /* Returns the state of a syntax as the library prints it: a word, two bytes unless numbers are integers alone, and the
      * conditions as settings. */
     stateOfSyntax(text) {
-        const [word, exponent = 0, point = 0] = text.split(" ").filter((it) => !it.includes("="));
-        const conditions = this.withConditions(0n, text);
+        const [word, ...rest] = text.split(" ");
+        const [exponent = 0, point = 0] = rest.filter((it) => !it.includes("="));
+        const conditions = this.withConditions(0n, rest.filter((it) => it.includes("=")).join(" "));
         return { word: BigInt(word), exponent: Number(exponent), point: Number(point), conditions };
     }
 
-    /* Returns conditions with those that are set in a text. */
-    withConditions(conditions, text) {
-        return this.conditions.reduce((all, { name, mask, shift }) => {
-            const [, value] = new RegExp(`\\b${name}=(\\w+)`).exec(text) ?? [];
-            return value ? (all & ~mask) | (BigInt(value === "true" ? 1 : Number(value) || 0) << shift) : all;
+    /* Returns conditions with those that are set in a text. What is not the setting of a condition is put into `lost`. */
+    withConditions(conditions, text, lost = []) {
+        return text.split(/[\s,;]+/).filter(Boolean).reduce((all, setting) => {
+            const [name, value] = setting.split("=");
+            const { mask, shift, limits: [least, most] = [1, 1] } = this.conditions.find((it) => it.name === name) ?? {};
+            const number = { true: 1, false: 0, none: 0 }[value] ?? Number(value);
+            if (mask && (number === 0 || (number >= least && number <= most))) return (all & ~mask) | (BigInt(number) << shift);
+            lost.push(setting);
+            return all;
         }, conditions);
     }
 
@@ -175,26 +201,19 @@ class Library {
     /* Returns {word, notes}, and the options and conditions of a text, or {error}. The text is hexadecimal, decimal, or
      * settings, in which # begins a comment. */
     read(text) {
-        const [options, settings] = [{}, []];
-        const rest = this.conditions.reduce((rest, { name }) => {
-            return rest.replace(new RegExp(`\\b${name}=\\w+[\\s,;]*`, "g"), (setting) => {
-                options.conditions = this.withConditions(options.conditions ?? 0n, setting);
-                return "";
-            });
-        }, text);
-        const word = rest.replace(/\b(exponent|point)\s*=\s*('.'|[^\s,;#]*)[\s,;]*/g, (_, name, value) => {
-            options[name] = this.byte(/^'.'$/.test(value) ? value[1] : value);
+        const [options, settings, lost] = [{}, [], []];
+        const word = text.replace(/\b(\w+)\s*=\s*('.'|[^\s,;#]*)|#.*/g, (_, name, value) => {
+            const setting = `${name}=${value}`;
+            if (OPTIONS.some((it) => it.name === name)) options[name] = this.byte(/^'.'$/.test(value) ? value[1] : value);
+            else if (!this.conditions.some((it) => it.name === name)) settings.push(...(name ? [setting] : []));
+            else options.conditions = this.withConditions(options.conditions ?? 0n, setting, lost);
             return "";
-        });
+        }).replace(/(?<=\w)_(?=\w)|[\s,;]/g, "");
         if (Object.values(options).includes(undefined)) return { error: "An option is not a byte." };
-        const digits = word.trim().replace(/(?<=\w)_(?=\w)/g, "").replace(/,$/, "");
-        const isNumber = /^0x[0-9a-f]{1,32}$|^[0-9]{1,39}$/i.test(digits);
-        if (isNumber && BigInt(digits) <= MOST_WORD) return { word: BigInt(digits), options };
-        const others = word.replace(/\b(\w+)\s*=\s*('.'|[^\s,;#]*)|#.*|[\s,;]/g, (_, name, value) => {
-            if (name) settings.push(`${name}=${value}`);
-            return "";
-        });
-        if (others || !(settings.length || Object.keys(options).length)) return { error: "This is neither a word nor a list of settings." };
+        if (lost.length) return { error: `${lost[0]}: the condition does not take this value.` };
+        const isNumber = /^0x[0-9a-f]{1,32}$|^[0-9]{1,39}$/i.test(word) && !settings.length;
+        if (isNumber && BigInt(word) < 1n << 128n) return { word: BigInt(word), options };
+        if (word || !(settings.length || Object.keys(options).length)) return { error: "This is neither a word nor a list of settings." };
         const { error, index, ...built } = this.build(settings);
         return error ? { error: `${settings[index]}: ${error}${error.endsWith("?") ? "" : "."}` } : { ...built, options };
     }

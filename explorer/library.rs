@@ -1,289 +1,248 @@
-//! The library for the page, as WebAssembly: calls of the crate `peltzivar`. A call reads a text from `INPUT`, writes
-//! its answer to `OUTPUT` as JSON, and returns how many bytes the answer has. States are passed as lines of the text, each
-//! of the states of one or more forms.
+//! The library for the page, as WebAssembly: calls of the crate `peltzivar`. A call reads a text from `INPUT`, and makes an
+//! answer in JSON, whose address and length it returns. States are passed as lines of the text, each of the states of one or
+//! more forms.
 #![no_std]
 
-use core::fmt::{self, Display, Write};
+extern crate alloc;
+
+use alloc::{format, string::String, string::ToString, vec::Vec};
+use core::alloc::{GlobalAlloc, Layout};
+use core::fmt::Display;
 use core::ops::Range;
 
+use examples::{other_value, refused};
+use forms::{states_of, value_of, Forms, Value};
 use peltzivar::edits::{apply, is_built, normal_form};
-use peltzivar::literal::{Condition, Conditions, FormError, Number, Readers};
-use peltzivar::{Edit, Error, FormatView, NumberFormatBuilder, Reason, Rule};
-use examples::{Refused, other_values, refused};
-use forms::{Forms, Value, states_of, value_of};
-use suggest::{Found, Line, SPECIALS, State, blamed_options, lines_of, offers, repairs};
+use peltzivar::literal::{Condition, Conditions, FormError, Language, Number, Readers, Specials};
+use peltzivar::{Edit, FormatView, NumberFormatBuilder};
+use suggest::{lines_of, offers, Line, State, SPECIALS};
 
 mod examples;
 mod forms;
 mod suggest;
 
-const SIZE: usize = 1 << 18;
+const INPUT_SIZE: usize = 1 << 18;
+const HEAP_SIZE: usize = 1 << 26;
 
-/// The texts of the page and the library. The page reads and writes them only between calls.
-static mut INPUT: [u8; SIZE] = [0; SIZE];
-static mut OUTPUT: [u8; SIZE] = [0; SIZE];
+/// The text that the page writes between calls, and the memory of a call, with how much of it is in use.
+static mut INPUT: [u8; INPUT_SIZE] = [0; INPUT_SIZE];
+static mut HEAP: [u8; HEAP_SIZE] = [0; HEAP_SIZE];
+static mut USED: usize = 0;
 
-/// Returns the address of the text that a call reads.
-#[unsafe(no_mangle)]
-pub extern "C" fn input() -> *mut u8 {
-    (&raw mut INPUT).cast()
+/// Gives memory that only the next call takes again.
+struct Memory;
+
+#[global_allocator]
+static MEMORY: Memory = Memory;
+
+// SAFETY: WebAssembly has one thread, and no two pieces overlap.
+unsafe impl GlobalAlloc for Memory {
+    unsafe fn alloc(&self, layout: Layout) -> *mut u8 {
+        unsafe {
+            let start = (&raw mut HEAP).cast::<u8>().add(USED);
+            USED += start.align_offset(layout.align()) + layout.size();
+            if USED > HEAP_SIZE {
+                core::ptr::null_mut()
+            } else {
+                start.add(start.align_offset(layout.align()))
+            }
+        }
+    }
+
+    unsafe fn dealloc(&self, _: *mut u8, _: Layout) {}
 }
 
-/// Returns the address of the answer.
+/// Returns the address of the text that the next call reads. The answer of the last one ends.
 #[unsafe(no_mangle)]
-pub extern "C" fn output() -> *const u8 {
-    (&raw const OUTPUT).cast()
+pub extern "C" fn input() -> *mut u8 {
+    // SAFETY: nothing of the last call is alive.
+    unsafe { USED = 0 };
+    (&raw mut INPUT).cast()
 }
 
 /// Returns the text of a call: its first line, and the others.
 fn text_of(length: usize) -> (&'static str, &'static [u8]) {
     // SAFETY: WebAssembly has one thread, and the page writes the text only between calls.
-    let text = unsafe { &(&*(&raw const INPUT))[..length.min(SIZE)] };
+    let text = unsafe { core::slice::from_raw_parts((&raw const INPUT).cast(), length.min(INPUT_SIZE)) };
     let end = text.iter().position(|&byte| byte == b'\n').unwrap_or(text.len());
-    (core::str::from_utf8(&text[..end]).unwrap_or(""), text.get(end + 1..).unwrap_or_default())
+    (utf8(&text[..end]), text.get(end + 1..).unwrap_or_default())
+}
+
+fn utf8(bytes: &[u8]) -> &str {
+    core::str::from_utf8(bytes).unwrap_or("")
+}
+
+/// Returns the address and, above it, the length of an answer.
+fn answer(text: String) -> u64 {
+    let text = text.leak();
+    (text.len() as u64) << 32 | text.as_ptr() as u64
 }
 
 /// Returns the word that settings, one a line behind an empty one, build, with the notes on fields without effect:
 /// `{"word", "notes"}`, or `{"error", "index"}` for the first that is none.
 #[unsafe(no_mangle)]
-pub extern "C" fn build(length: usize) -> usize {
-    let text = core::str::from_utf8(text_of(length).1).unwrap_or("");
+pub extern "C" fn build(length: usize) -> u64 {
     let mut builder = NumberFormatBuilder::new();
-    for (index, line) in text.split('\n').filter(|line| !line.is_empty()).enumerate() {
+    for (index, line) in utf8(text_of(length).1).split('\n').filter(|line| !line.is_empty()).enumerate() {
         match line.parse::<Edit>() {
             Ok(edit) => builder = apply(builder, edit),
-            Err(error) => return answer(|out| write!(out, r#"{{"error":{},"index":{index}}}"#, Quoted(error))),
+            Err(error) => return answer(format!(r#"{{"error":{},"index":{index}}}"#, quoted(error))),
         }
     }
-    answer(|out| {
-        write!(out, r#"{{"word":{},"notes":"#, Word(builder.build_unchecked()))?;
-        list(out, builder.notes(), |out, note| write!(out, "{}", Quoted(note)))?;
-        out.write_str("}")
-    })
+    let (word, notes) = (word(builder.build_unchecked()), list(builder.notes().map(quoted)));
+    answer(format!(r#"{{"word":{word},"notes":{notes}}}"#))
 }
 
-/// Returns all that the page shows of a state, which is the first line.
+/// Returns all that the page shows of a state, which is the first line. If it is a syntax, this includes the sentence, the
+/// grammar and the regular expression of it.
 #[unsafe(no_mangle)]
-pub extern "C" fn explain(length: usize) -> usize {
+pub extern "C" fn explain(length: usize) -> u64 {
     let Some(state) = states_of(text_of(length).0).next() else { return 0 };
-    let (word, view) = (state.word, FormatView::new(state.word));
-    answer(|out| {
-        write!(out, r#"{{"normal":{},"isBuilt":{}"#, Word(normal_form(word)), is_built(word))?;
-        write!(out, r#","error":{},"reasons":"#, Quoted(Failure(view.error())))?;
-        list(out, view.reasons(), |out, reason| put_reason(out, state, reason))?;
-        write!(out, r#","fits":{},"options":"#, State { conditions: Conditions::NONE, ..state }.exact().is_some())?;
-        let options = view.options_reasons(state.exponent, state.point).filter(|_| !state.is_integers());
-        list(out, options, |out, reason| put_reason(out, state, reason))?;
-        out.write_str(r#","conditions":"#)?;
-        list(out, state.misfits(), |out, error| {
-            let (condition, mask) = (error.condition as usize, Word(error.mask()));
-            write!(out, r#"{{"text":{},"condition":{condition},"mask":{mask}}}"#, Quoted(error))
-        })?;
-        out.write_str(r#","notes":"#)?;
-        list(out, view.notes(), |out, note| {
-            write!(out, r#"{{"text":{},"mask":{}}}"#, Quoted(note), Word(note.mask()))
-        })?;
-        out.write_str("}")
-    })
+    let view = FormatView::new(state.word);
+    let notation = state.syntax().map_or(String::new(), |it| {
+        let [sentence, grammar, regex] = [quoted(it.sentence()), quoted(it.grammar()), quoted(it.regex())];
+        format!(r#","sentence":{sentence},"grammar":{grammar},"regex":{regex}"#)
+    });
+    let put = |text: &dyn Display, mask| format!(r#"{{"text":{},"mask":{}}}"#, quoted(text), word(mask));
+    let options = view.options_reasons(state.exponent, state.point).filter(|_| !state.is_integers());
+    answer(format!(
+        r#"{{"normal":{},"isBuilt":{},"fits":{},"reasons":{},"options":{},"conditions":{},"notes":{}{notation}}}"#,
+        word(normal_form(state.word)),
+        is_built(state.word),
+        State { conditions: Conditions::NONE, ..state }.syntax().is_some(),
+        list(view.reasons().map(|it| put(&it, it.mask()))),
+        list(options.map(|it| put(&it, it.mask()))),
+        list(state.misfits().map(|it| put(&it, it.mask()))),
+        list(view.notes().map(|it| put(&it, it.mask()))),
+    ))
 }
 
-/// Writes a reason with the rules that it breaks, the options that it blames, and the states in which it has ended.
-fn put_reason(out: &mut Answer, state: State, reason: Reason) -> fmt::Result {
-    let [exponent, point] = blamed_options(reason);
-    write!(out, r#"{{"text":{},"mask":{},"rules":"#, Quoted(reason), Word(reason.mask()))?;
-    let rules = Rule::ALL.iter().enumerate().filter(|(_, rule)| reason.breaks(**rule));
-    list(out, rules, |out, (index, rule)| write!(out, r#"{{"index":{index},"error":{}}}"#, Quoted(rule.error())))?;
-    let options = [("exponent", exponent), ("point", point)].into_iter().filter(|it| it.1);
-    out.write_str(r#","options":"#)?;
-    list(out, options, |out, (name, _)| write!(out, r#""{name}""#))?;
-    out.write_str(r#","repairs":"#)?;
-    list(out, repairs(state, reason), |out, state| {
-        put_state(out, state)?;
-        out.write_str("}")
-    })?;
-    out.write_str("}")
+/// Returns an object for each language: its name, the spellings of its special values, and the name and text of each form.
+#[unsafe(no_mangle)]
+pub extern "C" fn languages(_: usize) -> u64 {
+    answer(list(Language::ALL.iter().map(|language| {
+        let Specials { nan, inf, infinity } = language.specials();
+        let specials = list([nan, inf, infinity].map(|it| quoted(utf8(it.unwrap_or_default()))).into_iter());
+        let forms = language.forms().iter().map(|it| format!(r#"{{"name":"{}","syntax":"{}"}}"#, it.name, it.syntax));
+        format!(r#"{{"name":"{language}","specials":{specials},"forms":{}}}"#, list(forms))
+    })))
 }
 
-/// Writes an object with a state, without its last brace.
-fn put_state(out: &mut Answer, State { word, exponent, point, conditions }: State) -> fmt::Result {
+/// Returns an array for each line but the first: an object for each language that reads its text, with the index of the
+/// language, the form unless it is a special value, the value, and whether it reads each line as it must.
+#[unsafe(no_mangle)]
+pub extern "C" fn readers(length: usize) -> u64 {
+    let lines = text_of(length).1;
+    let has_all = |it: &Language| lines_of(lines).all(|line| it.read(line.text).is_err() == line.is_refused);
+    let languages: Vec<_> = Language::ALL.iter().map(|it| (it, has_all(it))).collect();
+    answer(list(lines_of(lines).map(|line| {
+        list(languages.iter().enumerate().filter_map(|(index, (language, has_all))| {
+            let number = language.read(line.text).ok()?;
+            let form = number.form().map_or(String::new(), |form| format!(r#""form":{form},"#));
+            Some(format!(r#"{{"language":{index},"hasAll":{has_all},{form}{}}}"#, value(value_of(number))))
+        }))
+    })))
+}
+
+/// Returns the parts of an object with a state.
+fn parts_of(State { word: format, exponent, point, conditions }: State) -> String {
     let numbers = Condition::ALL.iter().rev().fold(0, |all, &it| all << 8 | u128::from(conditions.number(it)));
-    write!(out, r#"{{"word":{},"exponent":{exponent},"point":{point},"conditions":{}"#, Word(word), Word(numbers))
+    let (format, conditions) = (word(format), word(numbers));
+    format!(r#""word":{format},"exponent":{exponent},"point":{point},"conditions":{conditions}"#)
 }
 
 /// Returns an object for each line but the first, which has the forms: the value and the parts of its number, or the parts
 /// of the longest front of a refused text that is a number; the form that accepts the text, or to which it is nearest; why
-/// and where it is refused, with the flags to blame and the bytes to mark; and, if it is not as expected of one form, the
-/// states that are offered, each with the same for the number in it and how many lines are as expected then. If a word is
-/// not lawful, returns an empty array.
+/// and where it is refused, with the flags to blame and the bytes to mark; and, if it is not as expected, the states near
+/// this form that are offered, each with the same for the number in it and how many lines are as expected then. If a word
+/// is not lawful, returns an empty array.
 #[unsafe(no_mangle)]
-pub extern "C" fn numbers(length: usize) -> usize {
+pub extern "C" fn numbers(length: usize) -> u64 {
     let (states, lines) = text_of(length);
-    answer(|out| match Forms::new(states) {
-        Some(forms) => list(out, lines_of(lines), |out, line| put_line(out, &forms, lines, line)),
-        None => out.write_str("[]"),
-    })
+    let forms = Forms::new(states);
+    answer(list(forms.iter().flat_map(|forms| lines_of(lines).map(|line| number(forms, lines, line)))))
 }
 
-fn put_line(out: &mut Answer, forms: &Forms, lines: &[u8], line: Line<'_>) -> fmt::Result {
-    out.write_str("{")?;
-    put_reading(out, forms.readers(), line.text)?;
-    out.write_str(r#","offers":"#)?;
-    let is_expected = forms.readers().read(line.text).is_err() == line.is_refused;
-    let mut states = forms.states().filter(|_| !is_expected && forms.states().len() == 1);
-    let found = states.next().map_or(Found::new(lines), |state| offers(state, lines, line));
-    list(out, found.best(), |out, (state, expected)| {
-        put_state(out, state)?;
-        write!(out, r#","expected":{expected},"#)?;
-        let syntax = state.syntax();
-        Readers::new(syntax.as_slice()).map_or(Ok(()), |it| put_reading(out, it.with_specials(SPECIALS), line.text))?;
-        out.write_str("}")
-    })?;
-    out.write_str("}")
-}
-
-/// Writes the value and the parts of a text, or the parts of its longest front that is a number, and why and where it is
-/// refused.
-fn put_reading(out: &mut Answer, readers: Readers<'_>, text: &[u8]) -> fmt::Result {
-    let read = readers.read(text);
-    if let Ok(number) = read {
-        put_value(out, value_of(number))?;
-        out.write_str(",")?;
-    }
-    out.write_str(r#""parts":"#)?;
-    let put = |out: &mut Answer, (kind, bytes): (&str, &[u8])| {
-        let size = bytes.len();
-        write!(out, r#"{{"kind":"{kind}","size":{size}}}"#)
+fn number(forms: &Forms, lines: &[u8], line: Line<'_>) -> String {
+    let read = forms.readers().read(line.text);
+    let form = read.map_or_else(|error| error.form, |number| number.form().unwrap_or(0));
+    let offers = match read.is_err() == line.is_refused {
+        true => Vec::new(),
+        false => offers(forms.states[form], lines, line),
     };
-    if let Ok(Number::Special(special)) = read {
-        let (sign, rest) = text.split_at(special.sign.map_or(0, |_| 1));
-        return list(out, [("sign", sign), ("special", rest)].into_iter().filter(|(_, bytes)| !bytes.is_empty()), put);
-    }
-    match readers.read_prefix(text).ok().and_then(|(number, _)| number.literal()) {
-        Some(literal) => list(out, literal.parts(), put)?,
-        None => out.write_str("[]")?,
-    }
-    match read {
-        Ok(number) => write!(out, r#","form":{}"#, number.form().unwrap_or(0)),
-        Err(FormError { form, error, .. }) => {
-            let (mask, Range { start, end }) = (Word(error.mask()), error.span());
-            write!(out, r#","form":{form},"error":{},"mask":{mask},"start":{start},"end":{end}"#, Quoted(error))
+    let offers = list(offers.into_iter().map(|(state, expected)| {
+        let syntax = state.syntax();
+        let readers = Readers::new(syntax.as_slice()).map(|it| it.with_specials(SPECIALS));
+        let reading = readers.map_or(String::new(), |it| reading(it, line.text));
+        format!(r#"{{{},"expected":{expected},{reading}}}"#, parts_of(state))
+    }));
+    format!(r#"{{{},"offers":{offers}}}"#, reading(forms.readers(), line.text))
+}
+
+/// Returns the value and the parts of a text, or the parts of its longest front that is a number, and why and where it is
+/// refused, as parts of an object.
+fn reading(readers: Readers<'_>, text: &[u8]) -> String {
+    let part = |(kind, bytes): (&str, &[u8])| format!(r#"{{"kind":"{kind}","size":{}}}"#, bytes.len());
+    let parts = match readers.read(text) {
+        Ok(Number::Special(special)) => {
+            let (sign, rest) = text.split_at(special.sign.map_or(0, |_| 1));
+            list([("sign", sign), ("special", rest)].into_iter().filter(|it| !it.1.is_empty()).map(part))
         }
-    }
+        _ => {
+            let front = readers.read_prefix(text).ok().and_then(|(number, _)| number.literal());
+            list(front.iter().flat_map(|it| it.parts()).map(part))
+        }
+    };
+    let told = match readers.read(text) {
+        Ok(number) => format!(r#"{},"form":{}"#, value(value_of(number)), number.form().unwrap_or(0)),
+        Err(FormError { form, error, .. }) => {
+            let (error, mask, Range { start, end }) = (quoted(error), word(error.mask()), error.span());
+            format!(r#""form":{form},"error":{error},"mask":{mask},"start":{start},"end":{end}"#)
+        }
+    };
+    format!(r#""parts":{parts},{told}"#)
 }
 
 /// Returns texts that tell the forms of two lines apart: those that the second ones refuse, those that the first ones refuse,
 /// and one to which they give different values. If a word is not lawful, returns an empty array.
 #[unsafe(no_mangle)]
-pub extern "C" fn differ(length: usize) -> usize {
+pub extern "C" fn differ(length: usize) -> u64 {
     let (first, second) = text_of(length);
-    let lines = [first, core::str::from_utf8(second).unwrap_or("")];
-    let [Some(first), Some(second)] = lines.map(Forms::new) else {
-        return answer(|out| out.write_str("[]"));
+    let (Some(first), Some(second)) = (Forms::new(first), Forms::new(utf8(second))) else {
+        return answer("[]".to_string());
     };
-    answer(|out| {
-        out.write_str("[")?;
-        list(out, refused(&first, &second), put_refused)?;
-        out.write_str(",")?;
-        list(out, refused(&second, &first), put_refused)?;
-        out.write_str(",")?;
-        list(out, other_values(&first, &second).into_iter(), |out, (text, [here, there])| {
-            write!(out, r#"{{"text":{},"here":{{"#, Quoted(text))?;
-            put_value(out, here)?;
-            out.write_str(r#"},"there":{"#)?;
-            put_value(out, there)?;
-            out.write_str("}}")
-        })?;
-        out.write_str("]")
-    })
+    let one_way = |first, second| {
+        let texts = refused(first, second).into_iter();
+        list(texts.map(|(text, error)| format!(r#"{{"text":{},"error":{}}}"#, quoted(utf8(&text)), quoted(error))))
+    };
+    let others = list(other_value(&first, &second).into_iter().map(|(text, [here, there])| {
+        format!(r#"{{"text":{},"here":{{{}}},"there":{{{}}}}}"#, quoted(utf8(&text)), value(here), value(there))
+    }));
+    answer(list([one_way(&first, &second), one_way(&second, &first), others].into_iter()))
 }
 
-fn put_refused(out: &mut Answer, (text, error): Refused) -> fmt::Result {
-    write!(out, r#"{{"text":{},"error":{}}}"#, Quoted(text), Quoted(error))
-}
-
-/// Writes an integer as digits, a float as the number of its bits, and why a number has no value.
-fn put_value(out: &mut Answer, value: Value) -> fmt::Result {
+/// Returns an integer as digits, a float as the number of its bits, or why a number has no value, as a part of an object.
+fn value(value: Value) -> String {
     match value {
-        Value::Integer(is_negative, size) => write!(out, r#""integer":"{}{size}""#, if is_negative { "-" } else { "" }),
-        Value::Float(bits) => write!(out, r#""float":"{bits}""#),
-        Value::Unknown(error) => write!(out, r#""unknown":{}"#, Quoted(error)),
+        Value::Integer(is_negative, size) => format!(r#""integer":"{}{size}""#, if is_negative { "-" } else { "" }),
+        Value::Float(bits) => format!(r#""float":"{bits}""#),
+        Value::Unknown(error) => format!(r#""unknown":{}"#, quoted(error)),
     }
 }
 
-/// Writes an array, each item by a function.
-fn list<T>(
-    out: &mut Answer,
-    items: impl Iterator<Item = T>,
-    put: impl Fn(&mut Answer, T) -> fmt::Result,
-) -> fmt::Result {
-    out.write_str("[")?;
-    for (index, item) in items.enumerate() {
-        out.write_str(if index == 0 { "" } else { "," })?;
-        put(out, item)?;
-    }
-    out.write_str("]")
+/// Returns an array.
+fn list(items: impl Iterator<Item = String>) -> String {
+    format!("[{}]", items.collect::<Vec<_>>().join(","))
 }
 
-/// An answer that is written, and its length.
-struct Answer(&'static mut [u8; SIZE], usize);
-
-/// Returns the length of an answer that a function writes.
-fn answer(put: impl FnOnce(&mut Answer) -> fmt::Result) -> usize {
-    // SAFETY: WebAssembly has one thread, and no other reference to the answer is alive.
-    let mut out = Answer(unsafe { &mut *(&raw mut OUTPUT) }, 0);
-    put(&mut out).map_or(0, |()| out.1)
+/// Returns a word, as text.
+fn word(word: u128) -> String {
+    quoted(FormatView::new(word))
 }
 
-impl Write for Answer {
-    fn write_str(&mut self, text: &str) -> fmt::Result {
-        let place = self.0.get_mut(self.1..self.1 + text.len()).ok_or(fmt::Error)?;
-        place.copy_from_slice(text.as_bytes());
-        self.1 += text.len();
-        Ok(())
-    }
-}
-
-/// A word, as text in JSON.
-struct Word(u128);
-
-impl Display for Word {
-    fn fmt(&self, f: &mut fmt::Formatter<'_>) -> fmt::Result {
-        write!(f, r#""{}""#, FormatView::new(self.0))
-    }
-}
-
-/// An error, or an empty text for success.
-struct Failure(Error);
-
-impl Display for Failure {
-    fn fmt(&self, f: &mut fmt::Formatter<'_>) -> fmt::Result {
-        if self.0.is_success() { Ok(()) } else { self.0.fmt(f) }
-    }
-}
-
-/// A text in JSON. The texts of the library are visible ASCII.
-struct Quoted<T>(T);
-
-impl<T: Display> Display for Quoted<T> {
-    fn fmt(&self, f: &mut fmt::Formatter<'_>) -> fmt::Result {
-        write!(f, "\"")?;
-        write!(Escaped(f), "{}", self.0)?;
-        write!(f, "\"")
-    }
-}
-
-/// A place in which `"` and `\` follow a `\`.
-struct Escaped<'a, 'b>(&'a mut fmt::Formatter<'b>);
-
-impl Write for Escaped<'_, '_> {
-    fn write_str(&mut self, text: &str) -> fmt::Result {
-        text.chars().try_for_each(|it| {
-            if matches!(it, '"' | '\\') {
-                self.0.write_char('\\')?;
-            }
-            self.0.write_char(it)
-        })
-    }
+/// Returns a text. The texts of the library are visible ASCII, in lines.
+fn quoted(text: impl Display) -> String {
+    format!("\"{}\"", text.to_string().replace('\\', "\\\\").replace('"', "\\\"").replace('\n', "\\n"))
 }
 
 #[panic_handler]

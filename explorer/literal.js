@@ -1,5 +1,5 @@
-/* The numbers to try, one a line: their parts are coloured, wrong bytes are marked, and for a number that is not as
- * expected, states are offered in which it is. A number behind a `!` must be refused. */
+/* The numbers, one a line: their parts are coloured, wrong bytes are marked, and for a number that is not as expected,
+ * states are offered in which it is. Below each in view are the languages that read it. A number behind a `!` is refused. */
 
 /* The parts of a number, with the names of their colours and their fields. */
 const PARTS = {
@@ -15,24 +15,32 @@ const PARTS = {
     suffix: ["base", "base_suffix"],
     digit_separator: ["separator", "digit_separator"],
 };
-/* How many lines the field shows, and how many of them are read. */
-const [MOST_ROWS, MOST_LINES] = [8, 100];
+const LEGEND = [["sign", "sign"], ["prefix, suffix", "base"], ["digits", "digits"], ["separator", "separator"],
+    ["point", "option"], ["exponent", "exponent"], ["NaN, infinity", "special"]];
+/* How many lines the field shows, how many of them are read, and how many characters languages read. */
+const [MOST_ROWS, MOST_LINES, MOST_CHARACTERS] = [8, 100, 200];
 
 class Trial {
-    constructor(library, { change }) {
-        this.library = library;
-        this.change = change;
+    constructor(library, languages, { change, start, go }) {
+        Object.assign(this, { library, languages, change, start, go, isOpen: matchMedia("(min-width: 561px)").matches });
         find("literal").addEventListener("input", ({ target }) => change({ numbers: target.value }, "literal"));
+        find("literal").addEventListener("focus", ({ target }) => target.value === EXAMPLE && target.select());
+        find("legend").append(...LEGEND.map(([name, part]) => element("span", { class: part }, name)));
+        this.watcher = new IntersectionObserver((all) => {
+            const seen = all.filter((it) => it.isIntersecting).map(({ target }) => target);
+            seen.forEach((it) => this.watcher.unobserve(it));
+            if (seen.length) this.showReaders(seen);
+        });
     }
 
     /* Reads the numbers of a state, and shows what was read. Returns how many of them are as expected and how many are not
-     * read, in words, and the first number that is not as expected. */
+     * read, in words, and what is told of the first number that is not as expected, or of all. */
     show(state, forms) {
         this.state = state;
         this.forms = forms;
         const box = find("literal");
         if (box.value !== state.numbers) box.value = state.numbers;
-        box.rows = Math.min(Math.max(state.numbers.split("\n").length, 2), MOST_ROWS);
+        box.rows = Math.min(Math.max(state.numbers.split("\n").length, 4), MOST_ROWS);
         const all = state.numbers.split("\n").map((text, place) => ({ text, place })).filter(({ text }) => text);
         let size = 0;
         const bytes = (text) => new TextEncoder().encode(text).length;
@@ -43,17 +51,21 @@ class Trial {
         const left = all.length - lines.length;
         const unread = left === 1 ? "1 line is not read" : `${left} lines are not read`;
         const texts = [
-            ...(lines.length && !this.answers.length ? ["not read, since the word is not lawful"] : []),
+            ...(lines.length && !this.answers.length ? ["not read, since the format is not valid"] : []),
             ...(left ? [`${unread}: the page reads up to ${MOST_LINES} lines with ${MOST_TEXT / 1000} kB`] : []),
         ];
         const focused = document.activeElement.id;
         const messages = texts.map((text) => element("li", { class: "unexpected" }, element("p", { class: "bad" }, text)));
-        find("read").replaceChildren(...this.answers.map((answer) => this.row(answer)), ...messages);
+        const rows = this.answers.map((answer) => this.row(answer));
+        this.watcher.disconnect();
+        find("read").replaceChildren(...rows, ...messages);
+        for (const node of find("read").querySelectorAll(".readers")) this.watcher.observe(node);
         if (focused.startsWith("refuse-")) find(focused)?.focus();
         const expected = this.answers.filter(({ isExpected }) => isExpected).length;
         const count = this.answers.length ? `${expected} of ${this.answers.length} as expected` : "";
-        const counts = [count, left ? unread : ""].filter(Boolean).join("; ");
-        return { count: counts, isGood: !first && !left, first: first && `${first.text} ${this.told(first)}` };
+        const values = this.answers.filter(({ error }) => !error).map((it) => `${it.text} = ${valueText(it)}`).slice(0, MOST_ROWS);
+        const told = first ? `${first.text} ${this.told(first)}` : values.join(" \u00b7 ");
+        return { count: [count, left ? unread : ""].filter(Boolean).join("; "), isGood: !first && !left, told };
     }
 
     /* Returns what the library returns for lines, with what each line expects and what is offered in words. */
@@ -62,13 +74,15 @@ class Trial {
         return answers.map(({ offers, ...answer }, index) => {
             const isRefused = lines[index].text.startsWith("!");
             const text = lines[index].text.slice(Number(isRefused));
+            const form = this.forms[answer.form ?? 0];
             const worded = offers.map((offer) => {
-                const differences = this.library.differences(offer, this.state);
+                const differences = this.library.differences(offer, form);
                 const changes = differences.sort((a, b) => Number(!a.isByte) - Number(!b.isByte));
                 const count = answers.length > 1 ? `; ${offer.expected} of ${answers.length} as expected` : "";
-                const label = `set ${changes.map((it) => it.text).join(", ")}`;
-                const told = this.told({ ...offer, text, isRefused });
-                return { ...offer, changes, label, then: `then ${text} is ${told}${count}` };
+                const alone = this.forms.length > 1 ? ` in ${form.name} alone` : "";
+                const label = `set ${changes.map((it) => it.text).join(", ")}${alone}`;
+                const told = this.told({ ...offer, text, isRefused }, [form]);
+                return { ...offer, changes, label, then: `then ${told}${count}` };
             });
             const isExpected = isRefused === Boolean(answer.error);
             return { ...answer, text, place: lines[index].place, isRefused, isExpected, offers: worded };
@@ -76,25 +90,57 @@ class Trial {
     }
 
     row(answer) {
-        const { text, place, isRefused, isExpected, mask = 0 } = answer;
-        const nothing = isRefused ? "No flag alone refuses it." : "No change of a few fields was found that accepts it.";
+        const { text, place, isRefused, isExpected, mask = 0, form = 0 } = answer;
         const offers = answer.offers.map((offer, index) => this.offer(place, offer, index));
-        if (!isExpected && !offers.length && this.forms.length === 1) offers.push(element("li", {}, nothing));
+        const advice = isExpected || isRefused ? [] : adviceFor(text).map((it) => this.advice(place, it));
+        const nothing = isRefused ? "No flag alone refuses it." : "No change of a few fields was found that accepts it.";
+        if (!isExpected && !offers.length && !advice.length) advice.push(element("li", {}, nothing));
         const attributes = { change: () => this.turn(place), id: `refuse-${place}`, "aria-label": `${text} must be refused` };
         const box = element("input", { type: "checkbox", ...attributes });
         box.checked = isRefused;
         const told = element("p", { class: isExpected ? "good" : "bad" }, this.told(answer));
+        const fields = this.library.namesOf(BigInt(mask));
+        if (this.forms.length > 1 && answer.error) {
+            const go = () => (this.change(stateOf(this.forms[form])), this.go(fields[0] ?? "digit_separator"));
+            told.append(" ", button("link", this.forms[form].name, go, { title: "shows the settings of this form" }));
+        }
         const line = element("div", {}, element("span", { class: "written" }, this.pieces(answer)), told);
         const refuse = element("label", { class: "refuse", title: "must be refused" }, box, "refuse");
-        const fields = this.library.namesOf(BigInt(mask)).join(" ");
-        const kind = isExpected ? "" : "unexpected";
-        return element("li", { class: kind, "data-field": fields }, line, refuse, element("ul", {}, offers));
+        const summary = element("summary", {}, "Languages that read it");
+        const readers = text.length > MOST_CHARACTERS ? [] : [element("details", { class: "readers", "data-place": place }, summary)];
+        const row = { class: isExpected ? "" : "unexpected", "data-field": fields.join(" ") };
+        return element("li", row, line, refuse, element("ul", {}, offers, advice), readers);
+    }
+
+    /* Shows the languages that read each of some numbers, those first that read all, by value and form. */
+    showReaders(nodes) {
+        const { languages } = this;
+        const chosen = nodes.map(({ dataset }) => this.answers.find(({ place }) => place === Number(dataset.place)));
+        const lines = this.answers.filter(({ text }) => text.length <= MOST_CHARACTERS);
+        const found = this.library.readers(lines.map(({ text, isRefused }) => (isRefused ? "!" : "") + text).join("\n"));
+        chosen.forEach((answer, index) => {
+            const readers = (found[lines.indexOf(answer)] ?? []).toSorted((a, b) => Number(b.hasAll) - Number(a.hasAll));
+            const name = (it) => languages[it.language].forms[it.form]?.name ?? "special value";
+            const groups = Map.groupBy(readers, (it) => `${valueText(it)}, ${name(it)}:`);
+            const parts = [...groups].flatMap(([title, group]) => [element("span", {}, title), ...group.map((it) => this.reader(it))]);
+            const all = readers.filter(({ hasAll }) => hasAll).length;
+            const marks = all ? `; ${all} with a star read all` : "";
+            const summary = element("summary", {}, `Read by ${readers.length || "none"} of ${languages.length} languages${marks}`);
+            nodes[index].open = this.isOpen;
+            nodes[index].addEventListener("toggle", () => (this.isOpen = nodes[index].open));
+            nodes[index].replaceChildren(summary, ...parts);
+        });
+    }
+
+    reader({ language, hasAll, form = 0 }) {
+        const { name, short } = this.languages[language];
+        return button(hasAll ? "link all" : "link", short, () => this.start(name, form), { title: `shows ${short}` });
     }
 
     /* Returns what is told of a number in a state. */
-    told({ text, error, start, isRefused, form = 0, ...answer }) {
+    told({ text, error, start, isRefused, form = 0, ...answer }, forms = this.forms) {
         const where = start < text.length ? `at index ${start}` : "at the end";
-        const name = this.forms.length > 1 ? `, ${this.forms[form].name}` : "";
+        const name = forms.length > 1 && !error ? `, ${forms[form].name}` : "";
         const what = (error ? `${where}: ${error}` : this.reading(answer)) + name;
         if (isRefused) return error ? `refused: ${what}` : `accepted as ${what}, but it must be refused`;
         return error ? what : `accepted: ${what}`;
@@ -132,8 +178,14 @@ class Trial {
             this.change(stateOf(this.answers.find((it) => it.place === place).offers[index]));
             (find("read").querySelector(".use") ?? find("literal")).focus();
         };
-        const fields = changes.map(({ name }) => name).join(" ");
-        return element("li", {}, button("use", label, use, { "data-field": fields }), then);
+        const [names, meanings] = ["name", "meaning"].map((key) => changes.map((it) => it[key]));
+        const attributes = { "data-field": names.join(" "), title: meanings.join("; ") };
+        return element("li", {}, button("use", label, use, attributes), then);
+    }
+
+    /* Returns what must be replaced in a number, with a button that does. */
+    advice(place, { words, text }) {
+        return element("li", {}, element("span", {}, withCode(words)), button("use", `try ${text}`, () => this.put(place, text)));
     }
 
     /* Returns what a number is: its kind and its value. */
@@ -141,15 +193,17 @@ class Trial {
         const { parts, unknown } = answer;
         if (parts.some(({ kind }) => kind === "special")) return `special value = ${valueText(answer)}`;
         const isFloat = parts.some(({ kind }) => kind === "point" || kind === "exponent_character");
-        const kind = isFloat ? "float" : "integer";
-        return unknown ? `${kind}: ${unknown}` : `${kind} = ${valueText(answer)}`;
+        return `${isFloat ? "float" : "integer"}${unknown ? `: ${unknown}` : ` = ${valueText(answer)}`}`;
     }
 
     /* Makes an accepted number of a line one that must be refused, or the other way round. */
     turn(place) {
-        const lines = this.state.numbers.split("\n");
-        lines[place] = lines[place].startsWith("!") ? lines[place].slice(1) : `!${lines[place]}`;
-        this.change({ numbers: lines.join("\n") });
+        this.put(place, this.state.numbers.split("\n")[place].replace(/^!?/, (mark) => (mark ? "" : "!")));
         find(`refuse-${place}`)?.focus();
+    }
+
+    /* Replaces the text of a line. */
+    put(place, text) {
+        this.change({ numbers: this.state.numbers.split("\n").with(place, text).join("\n") });
     }
 }

@@ -1,44 +1,39 @@
-/* The state of the page: a word, an exponent character, a decimal point and the numbers. The fragment of the URL has it too,
- * with the format to compare with and the tab of the code. */
+/* The state of the page: a word, an exponent character, a decimal point, the conditions, the numbers and the language. The
+ * fragment of the URL has it too, with the format to compare with and the tab of the code. */
 
-const LANGUAGES = ["rust", "c", "python", "settings"];
-/* After how many milliseconds without an edit the fragment is written, and how many pixels are beside a hint. */
-const [PAUSE, GAP] = [400, 6];
-/* The parts of a fragment. */
-const FRAGMENT = /^#?(word|exponent|point|conditions|language|numbers|compare|tab)=/;
-/* What is told for a while of a link that is copied from a file, which others cannot open. */
-const [TOLD, TOLD_FOR] = ["Copied from # on: paste it behind the address of the page.", 8000];
-
-/* Returns what a hint tells of each field by its name: where it is, what it means, and examples. */
-function meaningsOf({ fields, groups, conditions }) {
-    const text = (field) => [placeOf(field), field.meaning, examples(field)].filter(Boolean).join(": ");
-    const all = [...fields, ...groups, ...OPTIONS, ...conditions].map((field) => [field.name, text(field)]);
-    return new Map([...all, ["reserved", "bits of no field, which are 0 in a lawful word"]]);
-}
+const TABS = { rust: "Rust", c: "C", python: "Python", settings: "Settings", grammar: "Grammar", regex: "Regex" };
+/* After how many milliseconds without an edit the fragment is written. */
+const PAUSE = 400;
+/* The parts of a fragment, what is told without a language, and the numbers of a page without a fragment. */
+const LINK = ["word", "exponent", "point", "conditions", "language", "numbers", "compare", "tab"];
+const ABOUT = "Type numbers of your language or file: the page finds their format, and the code that reads them.";
+const EXAMPLE = "1_000.5\n0x1F\n-2e-3\n!1__0";
+/* What is told of a link that is copied from a file, which others cannot open. */
+const OF_FILE = "Copied from # on: paste it behind the address of the page.";
+/* How many steps are kept for a page that is loaded again, and how long the numbers of each may be. */
+const [MOST_STEPS, MOST_KEPT] = [100, 2000];
 
 class Page {
     constructor(library, data) {
         this.library = library;
-        this.data = data;
-        const forms = data.languages.flatMap((language) => language.forms);
-        for (const form of forms) Object.assign(form, library.stateOfSyntax(form.syntax));
+        this.data = { ...data, languages: library.languages(data.languages) };
+        const { languages } = this.data;
         [this.past, this.future] = [[], []];
-        const edit = (name, value, key) => this.edit(name, value, key);
+        const [change, edit] = [this.change, this.edit].map((it) => it.bind(this));
+        const go = (name) => find(name)?.focus();
         const use = (state) => {
             this.jump(state);
             (find("reasons").querySelector(".use") ?? find("verdict")).focus();
         };
         this.controls = new Controls(library, edit);
-        this.report = new Report(library, data, { use, edit, go: (name) => this.go(name), change: () => this.saveLater() });
-        this.trial = new Trial(library, { change: (part, key) => this.change(part, key) });
-        this.cells = makeBits(library, (name) => this.controls.boxes.get(name).click());
+        this.report = new Report(library, languages, { use, edit, go, change: () => this.saveLater() });
+        this.trial = new Trial(library, languages, { change, go, start: (name, form) => this.start(name, form) });
         this.code = new Code(library);
-        this.meanings = meaningsOf(library);
         setText(find("version"), data.version);
         this.listen();
         this.listenToWord();
-        this.listenToTabs();
-        find("language").append(...choices(data.languages));
+        this.makeTabs();
+        find("language").append(...choices(languages));
         this.read();
     }
 
@@ -49,40 +44,31 @@ class Page {
         click("undo", () => this.travel(this.past, this.future));
         click("redo", () => this.travel(this.future, this.past));
         document.addEventListener("keydown", (event) => this.undo(event));
-        click("standard", () => this.jump(this.library.usual));
+        click("standard", () => this.enter({ ...this.library.usual, language: "" }));
+        click("clear", () => (this.change({ numbers: "" }), find("literal").focus()));
         find("language").addEventListener("change", ({ target }) => this.start(target.value));
         for (const { id, dataset } of document.querySelectorAll("[data-copies]")) {
             const beside = find(dataset.copies);
-            click(id, () => copy(find(id), beside.value ?? beside.textContent));
+            click(id, () => copy(find(id), beside.value ?? beside.textContent, beside));
         }
-        click("copy-link", (event) => {
+        click("copy-link", async ({ target }) => {
             this.save();
             const isFile = location.protocol === "file:";
-            setText(find("copied"), isFile ? TOLD : "");
-            setTimeout(() => setText(find("copied"), ""), TOLD_FOR);
-            copy(event.target, isFile ? location.hash : location.href);
+            const link = isFile ? location.hash : location.href;
+            setText(find("told"), (await copy(target, link)) ? (isFile ? OF_FILE : "") : link);
+            if (find("told").textContent === link) getSelection().selectAllChildren(find("told"));
         });
         click("verdict", () => find(find("report").hidden ? "code-title" : "report-title").focus());
         click("count", () => find("literal").focus());
         for (const { id, dataset } of document.querySelectorAll("[data-go]")) click(id, () => find(dataset.go).focus());
-        const marked = (node) => node.closest("[data-field]");
-        document.addEventListener("focusin", ({ target }) => {
-            if (target.id !== this.key) this.key = "";
-            this.mark(marked(target));
-        });
-        const point = ({ target }) => this.mark(marked(target) ?? marked(document.activeElement));
-        document.addEventListener("pointerover", point);
-        document.documentElement.addEventListener("pointerleave", (it) => it.pointerType === "mouse" && point(it));
-        const hide = () => (find("hint").hidden = true);
-        addEventListener("scroll", hide, { capture: true, passive: true });
-        document.addEventListener("keydown", ({ key }) => key === "Escape" && hide());
+        document.addEventListener("focusin", ({ target }) => (this.key = target.id === this.key ? this.key : ""));
     }
 
     /* Takes Ctrl+Z, Ctrl+Y and Ctrl+Shift+Z, except in the fields for texts. */
     undo(event) {
         const key = event.key?.toLowerCase();
         const isUndo = (event.ctrlKey || event.metaKey) && ["z", "y"].includes(key);
-        if (!isUndo || ["literal", "filter", "other"].includes(event.target.id)) return;
+        if (!isUndo || event.target.id === "literal") return;
         event.preventDefault();
         find(key === "y" || event.shiftKey ? "redo" : "undo").click();
     }
@@ -93,107 +79,98 @@ class Page {
         to.push(this.state);
         this.state = from.pop();
         this.key = "";
+        setText(find("told"), "");
         this.showAnew();
     }
 
+    /* The word is taken when it is whole or pasted. */
     listenToWord() {
         const box = find("word");
-        box.addEventListener("input", () => this.take(box.value, false));
-        box.addEventListener("change", () => this.take(box.value, true));
+        box.addEventListener("change", () => this.take(box.value));
         box.addEventListener("paste", (event) => {
-            event.preventDefault();
             const text = event.clipboardData.getData("text");
-            box.setRangeText(text.replace(/\s+/g, " ").trim(), box.selectionStart, box.selectionEnd, "end");
-            this.take(text.includes("\n") ? text : box.value, true);
+            if (!text.includes("\n")) return setTimeout(() => this.take(box.value));
+            event.preventDefault();
+            box.value = text.replace(/(#.*)?\s+/g, " ").trim();
+            return this.take(box.value);
         });
-        box.addEventListener("blur", () => isRefused(box) || this.showWord());
         box.addEventListener("keydown", ({ key }) => key === "Escape" && this.showWord());
     }
 
-    listenToTabs() {
-        LANGUAGES.forEach((name, index) => {
-            find(`tab-${name}`).addEventListener("click", () => this.chooseTab(name));
-            find(`tab-${name}`).addEventListener("keydown", ({ key }) => {
-                const step = { ArrowRight: 1, ArrowLeft: -1 }[key];
-                if (!step) return;
-                this.chooseTab(LANGUAGES[(index + step + LANGUAGES.length) % LANGUAGES.length]);
-                find(`tab-${this.language}`).focus();
-            });
-        });
+    makeTabs() {
+        const names = Object.keys(TABS);
+        const keydown = ({ key }) => {
+            const step = { ArrowRight: 1, ArrowLeft: -1 }[key];
+            if (!step) return;
+            this.chooseTab(names.at((names.indexOf(this.tab) + step) % names.length));
+            find(`tab-${this.tab}`).focus();
+        };
+        find("tabs").append(...names.map((name) => {
+            const attributes = { id: `tab-${name}`, role: "tab", "aria-controls": "code", keydown };
+            return button("", TABS[name], () => this.chooseTab(name), attributes);
+        }));
     }
 
-    /* Shows the code of a language. */
-    chooseTab(language) {
-        this.language = language;
-        for (const name of LANGUAGES) {
-            find(`tab-${name}`).setAttribute("aria-selected", String(name === language));
-            find(`tab-${name}`).tabIndex = name === language ? 0 : -1;
+    /* Shows the code of a tab. */
+    chooseTab(tab) {
+        this.tab = tab;
+        for (const name of Object.keys(TABS)) {
+            find(`tab-${name}`).setAttribute("aria-selected", String(name === tab));
+            find(`tab-${name}`).tabIndex = name === tab ? 0 : -1;
         }
-        find("code").setAttribute("aria-labelledby", `tab-${language}`);
+        find("code").setAttribute("aria-labelledby", `tab-${tab}`);
         if (!this.shown) return;
         this.showCode();
         this.saveLater();
     }
 
-    /* Starts from a language, with its numbers in place of those of another. */
-    start(name) {
+    /* Starts from a language: from one of its forms with the numbers as they are, or from the first with its own numbers in
+     * place of those of another language or of the example. */
+    start(name, form) {
         const { languages } = this.data;
         const { forms, numbers } = languages.find((it) => it.name === name) ?? { forms: [this.state], ...this.state };
-        const isOwn = this.state.numbers && !languages.some((it) => it.numbers === this.state.numbers);
-        this.jump({ ...stateOf(forms[0]), numbers: isOwn ? this.state.numbers : numbers });
+        const isOwn = this.state.numbers && ![EXAMPLE, ...languages.map((it) => it.numbers)].includes(this.state.numbers);
+        const kept = isOwn || form !== undefined ? this.state.numbers : numbers;
+        this.enter({ ...stateOf(forms[form ?? 0]), language: name, numbers: kept });
     }
 
-    /* Shows the language as chosen while the state is that of one of its forms, and returns the forms that are read. */
+    /* Returns the language of a state, if it is one of its forms. */
+    languageOf(state) {
+        return this.data.languages.find(({ name, forms }) => name === state.language && forms.some((it) => isSame(it, state)));
+    }
+
+    /* Shows the language, and returns the forms that are read. */
     showLanguage() {
-        const isShown = (form) => Object.entries(stateOf(form)).every(([name, value]) => this.state[name] === value);
-        const chosen = this.data.languages.find(({ name }) => name === find("language").value);
-        const language = chosen?.forms.some(isShown) ? chosen : undefined;
+        const language = this.languageOf(this.state);
         find("language").value = language?.name ?? "";
-        find("about").replaceChildren(...withCode(language?.about ?? ""));
+        find("about").replaceChildren(...withCode(language?.about ?? ABOUT));
         const forms = language?.forms ?? [this.state];
         const buttons = forms.map((form) => {
-            return button("form", form.name, () => this.jump(stateOf(form)), { "aria-pressed": String(isShown(form)) });
+            return button("form", form.name, () => this.jump(stateOf(form)), { "aria-pressed": String(isSame(form, this.state)) });
         });
         find("forms").hidden = forms.length === 1;
         refill(find("forms"), buttons);
         return forms;
     }
 
-    /* Takes a text as the word, or a link as the state, if it is whole, or shows why it is not one. */
-    take(text, isWhole) {
-        const [link] = /#\w+=\S*/.exec(text) ?? [""];
-        const isLink = FRAGMENT.test(link);
-        if (isLink && isWhole) {
-            history.replaceState(null, "", link);
-            return this.read();
-        }
-        if (isLink || (text.startsWith("#") && !isWhole)) return this.tell("Press Enter to take this link.", false);
+    /* Takes a text as the word, or shows why it is not one. */
+    take(text) {
         const { word, options, notes = [], error } = this.library.read(text);
-        if (error) {
-            const forms = "A word is `0x` and up to 32 hexadecimal digits, a decimal number, or settings such as `radix=16`.";
-            this.tell(`${error} ${forms}`, true);
-        } else if (isWhole || word === this.state.word) {
-            this.change({ word, ...options });
-            this.tell(notes.join(". "), false);
-        } else {
-            this.tell("Press Enter to take this word.", false);
-        }
+        if (!error) this.jump({ word, ...options });
+        const forms = "A word is `0x` and up to 32 hexadecimal digits, a decimal number, or settings such as `radix=16`.";
+        this.tell(error ? `${error} ${forms}` : notes.join(". "), error);
     }
 
-    /* Tells why a typed text is refused or waits. */
+    /* Tells why a typed text is refused, or what is lost of it. */
     tell(text, isProblem) {
         find("word-problem").replaceChildren(...withCode(text));
-        find("word-problem").classList.toggle("waiting", !isProblem);
-        find("word").setAttribute("aria-invalid", String(isProblem));
-        this.told = this.state.word;
+        find("word").setAttribute("aria-invalid", String(Boolean(isProblem)));
+        this.wordTold = this.state.word;
     }
 
     /* Changes a field or an option. Numbers are integers alone without both options, or floats with both. */
     edit(name, value, key) {
-        const condition = this.library.conditions.find((it) => it.name === name);
-        const { conditions } = this.state;
-        if (condition) return this.change({ conditions: (conditions & ~condition.mask) | (BigInt(value) << condition.shift) }, key);
-        if (!(name in STANDARD_OPTIONS)) return this.change({ word: this.library.put(this.state.word, name, value) }, key);
+        if (!OPTIONS.some((it) => it.name === name)) return this.change(this.library.with(this.state, name, value), key);
         const other = name === "point" ? "exponent" : "point";
         const isAlone = (value === 0) !== (this.state[other] === 0);
         const before = this.past.at(-1)?.[other] || STANDARD_OPTIONS[other];
@@ -204,6 +181,10 @@ class Page {
     change(part, key = "") {
         const state = { ...this.state, ...part };
         if (Object.keys(state).some((name) => state[name] !== this.state[name])) {
+            const lost = state.language && !this.languageOf(state);
+            const told = () => `The format is not that of ${this.languageOf(this.state).short} any more. Undo brings it back.`;
+            setText(find("told"), lost ? told() : "");
+            if (lost) state.language = "";
             if (!key || key !== this.key) this.past.push(this.state);
             this.future = [];
             this.key = key;
@@ -218,6 +199,14 @@ class Page {
         this.showAnew();
     }
 
+    /* Changes the state, from which the browser goes back to the present one. */
+    enter(part) {
+        this.save();
+        this.jump(part);
+        if (location.hash !== this.fragment()) history.pushState(null, "", this.fragment());
+        this.save();
+    }
+
     showAnew() {
         this.show();
         this.showWord();
@@ -225,21 +214,21 @@ class Page {
     }
 
     fragment() {
-        const { word, exponent, point, numbers } = this.state;
+        const { word, exponent, point, numbers, language } = this.state;
         const set = this.library.differences({ ...this.library.usual, conditions: this.state.conditions });
         const conditions = set.map(({ text }) => text).join(" ");
-        const compared = find("compare").value === "another" ? find("other").value : find("compare").value;
-        const tab = this.language === LANGUAGES[0] ? "" : this.language;
-        const language = find("language").value;
-        const others = Object.entries({ conditions, language, numbers, compare: compared, tab }).filter(([, text]) => text);
+        const compare = find("compare").value;
+        const tab = this.tab === "rust" ? "" : this.tab;
+        const others = Object.entries({ conditions, language, numbers, compare, tab }).filter(([, text]) => text);
         const all = others.map(([name, text]) => `&${name}=${encodeURIComponent(text)}`).join("");
         return `#word=${wordText(word)}&exponent=${exponent}&point=${point}${all}`;
     }
 
-    /* Writes the fragment, at once or after a pause. */
+    /* Writes the fragment, at once or after a pause, with the steps that can be undone and done again. */
     save() {
         clearTimeout(this.timer);
-        if (location.hash !== this.fragment()) history.replaceState(null, "", this.fragment());
+        const kept = [this.past, this.future].map((all) => all.slice(-MOST_STEPS).filter((it) => it.numbers.length < MOST_KEPT));
+        history.replaceState(kept, "", this.fragment());
     }
 
     saveLater() {
@@ -249,25 +238,35 @@ class Page {
 
     /* Reads the state from the fragment. A part that is missing has its default. If one is invalid, the page says so. */
     read() {
-        const hash = location.hash.slice(1);
-        const parts = new URLSearchParams(FRAGMENT.test(hash) ? hash.replaceAll("+", "%2B") : { word: hash });
-        const byte = (name) => (parts.has(name) ? this.library.byte(parts.get(name)) : STANDARD_OPTIONS[name]);
-        const word = parts.get("word") ? this.library.read(parts.get("word")).word : this.library.standard;
-        const conditions = this.library.withConditions(0n, parts.get("conditions") ?? "");
-        const found = { word, exponent: byte("exponent"), point: byte("point"), conditions };
-        const lost = Object.keys(found).filter((name) => found[name] === undefined);
-        for (const name of lost) found[name] = this.library.usual[name];
-        if (this.state) this.past.push(this.state);
-        this.future = [];
-        this.state = { ...found, numbers: (parts.get("numbers") ?? "").replace(/\r\n?/g, "\n") };
+        const { library, data: { languages } } = this;
+        const hash = location.hash.slice(1).replaceAll("&amp;", "&");
+        const parts = new URLSearchParams(/^\w+=/.test(hash) ? hash.replaceAll("+", "%2B") : { word: hash });
+        const lost = [...parts].filter(([name]) => !LINK.includes(name)).map(([name]) => name);
+        const language = languages.find(({ name }) => name === parts.get("language"));
+        const tab = parts.get("tab") || "rust";
+        const usual = language && !parts.has("word") ? stateOf(language.forms[0]) : library.usual;
+        const byte = (name) => (parts.has(name) ? library.byte(parts.get(name)) : usual[name]);
+        const word = parts.get("word") ? library.read(parts.get("word")).word : usual.word;
+        const found = { word, exponent: byte("exponent"), point: byte("point") };
+        for (const name of Object.keys(found).filter((it) => found[it] === undefined)) {
+            lost.push(`${name}=${parts.get(name).slice(0, 40)}`);
+            found[name] = usual[name];
+        }
+        const conditions = parts.has("conditions") ? library.withConditions(0n, parts.get("conditions"), lost) : usual.conditions;
+        const numbers = (parts.get("numbers") ?? (hash ? "" : EXAMPLE)).replace(/\r\n?/g, "\n");
+        const state = { ...found, conditions, numbers, language: language?.name ?? "" };
+        if (!this.languageOf(state)) state.language = "";
+        if (parts.get("language") && !state.language) lost.push(`language=${parts.get("language")}`);
+        if (!(tab in TABS)) lost.push(`tab=${tab}`);
+        find("compare").value = parts.get("compare") ?? "";
+        if (find("compare").selectedIndex < 0) lost.push(`compare=${parts.get("compare").slice(0, 40)}`);
+        [this.past, this.future] = history.state ?? [this.state ? [...this.past, this.state] : [], []];
+        this.state = state;
         this.key = "";
-        this.chooseTab(LANGUAGES.find((name) => name === parts.get("tab")) ?? LANGUAGES[0]);
-        find("language").value = parts.get("language") ?? "";
+        this.chooseTab(tab in TABS ? tab : "rust");
         this.showAnew();
-        this.report.choose(parts.get("compare") ?? "");
-        const titles = { word: "format word", exponent: "exponent character", point: "decimal point" };
-        const all = lost.map((name) => titles[name]).join(" and no ");
-        if (lost.length) this.tell(`This link has no ${all}. The page shows the standard one instead.`, true);
+        const told = `The page cannot read this of the link, and shows what is usual in its place: ${lost.join(", ")}.`;
+        setText(find("told"), lost.length ? told : "");
     }
 
     /* Shows the word as text, in place of a typed text. */
@@ -288,20 +287,21 @@ class Page {
     showAll() {
         const { word } = this.state;
         this.shown = this.library.explain(this.state);
-        const isKept = isRefused(find("word")) && this.told === word;
+        const isKept = isRefused(find("word")) && this.wordTold === word;
         if (document.activeElement !== find("word") && !isKept) this.showWord();
         find("undo").disabled = !this.past.length;
         find("redo").disabled = !this.future.length;
         const forms = this.showLanguage();
-        const reasons = this.report.show(this.state, this.shown, forms);
+        this.report.show(this.state, this.shown, forms);
         this.controls.show(this.state);
-        showBits(this.cells, word);
-        const { count, isGood, first } = this.trial.show(this.state, forms);
+        const { count, isGood, told } = this.trial.show(this.state, forms);
         setText(find("count"), count);
         find("count").className = isGood ? "good" : "bad";
-        const nothing = count ? "" : "The word satisfies all rules. Type numbers to try it.";
-        setText(find("first-error"), reasons[0]?.text ?? first ?? nothing);
-        const blamed = reasons.flatMap((reason) => reason.fields);
+        find("clear").disabled = !this.state.numbers;
+        setText(find("first-error"), this.shown.problems[0]?.text ?? told);
+        const { sentence, problems } = this.shown;
+        find("sentence").replaceChildren(...withCode(sentence ? `Numbers are ${sentence}.` : ""));
+        const blamed = problems.flatMap(({ fields }) => fields);
         this.blame(new Set(blamed), new Set(this.library.differences(this.state).map(({ name }) => name)));
         this.showCode();
         this.saveLater();
@@ -317,47 +317,35 @@ class Page {
         for (const [name, box] of this.controls.boxes) box.setAttribute("aria-invalid", String(blamed.has(name)));
     }
 
+    /* Shows the code, with the numbers as a test unless a language has several forms. */
     showCode() {
-        const name = find("language").value;
-        const all = name && COMMENTS[this.language](name);
-        const { specials = SPECIALS } = this.trial.forms[0];
+        const { forms } = this.trial;
+        const { specials = SPECIALS } = forms[0];
         const quoted = this.library.get(this.state.word, "no_special") ? [] : specials.map((it) => JSON.stringify(it));
-        setText(find("code"), all + this.code[this.language]({ ...this.state, specials: quoted }, this.shown));
-    }
-
-    /* Marks each element with the same field as this one. Beside this one, a hint describes the field, unless it does. */
-    mark(node) {
-        const names = (node?.dataset.field ?? "").split(" ").filter(Boolean);
-        for (const other of document.querySelectorAll("[data-field]")) {
-            const isMarked = other.dataset.field.split(" ").some((name) => names.includes(name));
-            other.classList.toggle("marked", isMarked);
-        }
-        const hint = find("hint");
-        hint.hidden = !names.length || node.matches(".control, .reason, .note");
-        if (hint.hidden) return;
-        hint.replaceChildren(element("code", {}, names[0]), " ", ...withCode(this.meanings.get(names[0])));
-        const [{ left, top, bottom }, { width, height }] = [node, hint].map((it) => it.getBoundingClientRect());
-        const isBelow = bottom + GAP + height < innerHeight;
-        hint.style.top = `${isBelow ? bottom + GAP : top - GAP - height}px`;
-        hint.style.left = `${Math.max(GAP, Math.min(left, document.documentElement.clientWidth - width - GAP))}px`;
-    }
-
-    /* Goes to the control of a field, which the filter may hide. */
-    go(name) {
-        find("filter").value = "";
-        this.controls.filter();
-        find(name)?.focus();
+        const tests = forms.length > 1 ? [] : this.trial.answers;
+        // The normal form is the same format, and a builder makes it.
+        const { problems, isBuilt, normal } = this.shown;
+        const word = problems.length || isBuilt || this.tab === "settings" ? this.state.word : normal;
+        const text = this.code[this.tab]({ ...this.state, word, specials: quoted, tests }, this.shown);
+        setText(find("code"), this.code.comment(this.tab, this.state.language) + text);
     }
 }
 
-/* Copies a text, and shows that on the button. Only pages from a file or by HTTPS have a clipboard. */
-async function copy(button, text) {
+/* Returns whether two states have the same syntax. */
+function isSame(form, state) {
+    return Object.entries(stateOf(form)).every(([name, value]) => state[name] === value);
+}
+
+/* Copies a text, and shows that on the button. If the browser allows no copy, selects the text, which is in a node. */
+async function copy(button, text, node) {
     const label = button.dataset.label ?? button.textContent;
     button.dataset.label = label;
-    const isCopied = await navigator.clipboard?.writeText(text).then(() => true, () => false);
+    const isCopied = (await navigator.clipboard?.writeText(text).then(() => true, () => false)) ?? false;
     button.focus();
-    setText(button, isCopied ? "copied" : "not copied: no clipboard");
+    if (!isCopied && node) node.select ? node.select() : getSelection().selectAllChildren(node);
+    setText(button, isCopied ? "copied" : "not copied: press Ctrl+C");
     setTimeout(() => setText(button, label), isCopied ? 1200 : 5000);
+    return isCopied;
 }
 
 async function main() {

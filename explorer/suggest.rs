@@ -1,5 +1,6 @@
 //! What the page offers for a number that is not as expected: states near the shown one in which it is.
 
+use alloc::vec::Vec;
 use core::cmp::Reverse;
 
 use peltzivar::format::{
@@ -9,8 +10,7 @@ use peltzivar::format::{
 use peltzivar::literal::{
     Condition, Conditions, ConditionsError, ConditionsErrorKind, ReadError, ReadErrorKind, Specials, Syntax,
 };
-use peltzivar::reasons::Byte;
-use peltzivar::{Cause, Format, FormatView, Reason, Rule};
+use peltzivar::{Format, FormatView, Rule};
 
 /// The spellings of special values that are read unless a language has its own.
 pub const SPECIALS: Specials = Specials { nan: Some(b"NaN"), inf: Some(b"inf"), infinity: Some(b"infinity") };
@@ -27,15 +27,8 @@ const SEPARATORS: u128 = DIGIT_SEPARATOR_FLAG_MASK & !SPECIAL_DIGIT_SEPARATOR;
 /// The bits of no field.
 const RESERVED: u128 = Rule::ReservedBitsAreZero.mask();
 
-/// The bytes that stand for an exponent character and a decimal point that do not fit. No number has them.
-const NO_EXPONENT: u8 = 11;
-const NO_POINT: u8 = 12;
-
 /// The usual size of groups of digits.
 const USUAL_SIZE: u8 = 3;
-
-/// The usual exponent characters.
-const EXPONENTS: [u8; 3] = [b'e', b'p', b'^'];
 
 /// A format word, the options of a parser, and the conditions. If both options are 0, numbers are integers alone.
 #[derive(Clone, Copy, Debug, PartialEq, Eq)]
@@ -52,7 +45,7 @@ impl State {
     }
 
     /// Returns the syntax if the word is lawful, and the options and the conditions fit.
-    pub fn exact(self) -> Option<Syntax> {
+    pub fn syntax(self) -> Option<Syntax> {
         let format = Format::new(self.word).ok()?;
         let syntax = match self.is_integers() {
             true => Syntax::integers(format),
@@ -83,25 +76,6 @@ impl State {
             _ => it,
         };
         usual.into_iter().chain(least..=most).map(with).map(whole)
-    }
-
-    /// Returns the syntax without the conditions that do not fit, if the word is lawful and the options fit.
-    fn fit(self) -> Option<Syntax> {
-        self.misfits().fold(self, |it, error| it.with_condition(error.condition, 0)).exact()
-    }
-
-    /// Returns the same, if the word is lawful. No byte matches an option that does not fit.
-    pub fn syntax(self) -> Option<Syntax> {
-        let others = [(NO_EXPONENT, self.point), (self.exponent, NO_POINT), (NO_EXPONENT, NO_POINT)];
-        let mut all = [(self.exponent, self.point)].into_iter().chain(others);
-        all.find_map(|(exponent, point)| Self { exponent, point, ..self }.fit())
-    }
-
-    /// Returns the state with an exponent character and a decimal point that fit, if the word is lawful.
-    fn fitting(self) -> Option<Self> {
-        let of_point = |point| [self.exponent].into_iter().chain(EXPONENTS).map(move |it| (it, point));
-        let mut options = [self.point, b'.', b','].into_iter().flat_map(of_point);
-        options.find_map(|(exponent, point)| Some(Self { exponent, point, ..self }).filter(|it| it.fit().is_some()))
     }
 
     /// Returns the state with a byte in a field of the word. The reserved bits are cleared, as by any edit.
@@ -183,90 +157,61 @@ fn unsigned(text: &[u8]) -> &[u8] {
     text.strip_prefix(b"-").or(text.strip_prefix(b"+")).unwrap_or(text)
 }
 
-/// States that were found for some lines, each with how many of them are as expected and its index.
-pub struct Found<'a> {
-    lines: &'a [u8],
-    states: [Option<(Reverse<usize>, usize, State)>; 24],
-    size: usize,
-}
-
-impl<'a> Found<'a> {
-    pub fn new(lines: &'a [u8]) -> Self {
-        Self { lines, states: [None; 24], size: 0 }
-    }
-
-    fn push(&mut self, state: State) {
-        let is_new = self.states[..self.size].iter().flatten().all(|it| it.2 != state);
-        if let (true, Some(place)) = (is_new, self.states.get_mut(self.size)) {
-            *place = Some((Reverse(state.as_expected(self.lines)), self.size, state));
-            self.size += 1;
+/// Returns the states that are offered for one of the lines, each with how many lines are as expected: those that need the
+/// fewest new roles to accept it, or those with one other flag or condition that refuse it and with which the most lines are.
+pub fn offers(state: State, lines: &[u8], line: Line<'_>) -> Vec<(State, usize)> {
+    let mut found = Vec::new();
+    match line.is_refused {
+        true => refusing(state, line.text, lines, &mut found),
+        false => {
+            let mut roles = 0..=MOST_ROLES;
+            while let Some(roles) = roles.next().filter(|_| found.is_empty()) {
+                accepting(state, line.text, lines, roles, &mut found);
+            }
         }
     }
-
-    /// Puts the states first with which the most lines are as expected. Those with the same count stay in their order.
-    fn sorted(mut self) -> Self {
-        self.states[..self.size].sort_unstable_by_key(|it| it.map(|it| (it.0, it.1)));
-        self
-    }
-
-    /// Returns the states that are offered, each with how many lines are as expected.
-    pub fn best(&self) -> impl Iterator<Item = (State, usize)> + '_ {
-        self.states.iter().flatten().map(|it| (it.2, it.0 .0)).take(MOST)
-    }
-}
-
-/// Returns the states that are offered for one of the lines: those that need the fewest new roles to accept it, or those
-/// with one other flag or condition that refuse it and with which the most lines are as expected.
-pub fn offers<'a>(state: State, lines: &'a [u8], line: Line<'_>) -> Found<'a> {
-    let mut found = Found::new(lines);
-    if line.is_refused {
-        refusing(state, line.text, &mut found);
-        let most = found.states.iter().flatten().map(|it| it.0 .0).max();
-        found.states.iter_mut().for_each(|it| *it = it.filter(|it| Some(it.0 .0) == most));
-        return found;
-    }
-    for roles in 0..=MOST_ROLES {
-        if found.size == 0 {
-            accepting(state, line.text, roles, &mut found);
+    let mut offered: Vec<(State, usize)> = Vec::new();
+    for it in found {
+        if offered.iter().all(|other| other.0 != it) {
+            offered.push((it, it.as_expected(lines)));
         }
     }
-    found.sorted()
+    let most = offered.iter().map(|it| it.1).max();
+    offered.retain(|it| !line.is_refused || Some(it.1) == most);
+    offered.sort_by_key(|it| Reverse(it.1));
+    offered.truncate(MOST);
+    offered
 }
 
-fn refusing(state: State, text: &[u8], found: &mut Found<'_>) {
+fn refusing(state: State, text: &[u8], lines: &[u8], found: &mut Vec<State>) {
     let flags = bits_of(FLAG_MASK).map(|flag| {
         let other = State { word: state.word ^ flag, ..state };
         // Consecutive separators need another flag of their part.
         let single = State { word: other.word & !CONSECUTIVE_DIGIT_SEPARATOR, ..other };
         other.syntax().map_or(single, |_| other)
     });
-    let count = |it: State| problems(it).count() + it.misfits().count();
-    let is_refused = |it: &State| it.syntax().is_some_and(|it| read(it, text).is_err());
-    let refuses = |it: &State| is_refused(it) && count(*it) <= count(state);
-    flags.filter(refuses).for_each(|it| found.push(it));
-    for &condition in Condition::ALL {
-        let best = State::first_best(state.with_numbers(condition).filter(refuses), found.lines);
-        best.into_iter().for_each(|it| found.push(it));
-    }
+    let refuses = |it: &State| it.syntax().is_some_and(|it| read(it, text).is_err());
+    found.extend(flags.filter(refuses));
+    found.extend(
+        Condition::ALL.iter().filter_map(|&it| State::first_best(state.with_numbers(it).filter(refuses), lines)),
+    );
 }
 
 /// Finds states with up to this many new roles that accept the text.
-fn accepting(state: State, text: &[u8], roles: usize, found: &mut Found<'_>) {
-    let Some(state) = state.fitting() else { return };
+fn accepting(state: State, text: &[u8], lines: &[u8], roles: usize, found: &mut Vec<State>) {
     match settled(state, text) {
         Ok(settled) => {
             // In place of a condition that refuses the text, it or another one may have another number.
-            let numbered = Condition::ALL.iter().filter(|_| settled.conditions != state.conditions);
-            for &condition in numbered.filter(|it| it.limits().1 > 1) {
-                let states =
-                    state.with_numbers(condition).filter(|it| it.exact().is_some_and(|it| read(it, text).is_ok()));
-                State::first_best(states, found.lines).into_iter().for_each(|it| found.push(it));
-            }
+            let numbered =
+                Condition::ALL.iter().filter(|it| settled.conditions != state.conditions && it.limits().1 > 1);
+            let accepts = |it: &State| it.syntax().is_some_and(|it| read(it, text).is_ok());
+            found.extend(numbered.filter_map(|&it| State::first_best(state.with_numbers(it).filter(accepts), lines)));
             found.push(settled);
         }
         Err(_) if roles == 0 => {}
         Err(at) => {
-            candidates(state, text, at).into_iter().flatten().for_each(|it| accepting(it, text, roles - 1, found))
+            let next = candidates(state, text, at).into_iter().flatten();
+            next.for_each(|it| accepting(it, text, lines, roles - 1, found));
         }
     }
 }
@@ -278,7 +223,7 @@ fn settled(mut state: State, text: &[u8]) -> Result<State, usize> {
     if FormatView::new(allowed).digit_separator().is_some_and(|it| text.contains(&it.get())) {
         state.word |= SEPARATORS;
     }
-    let read_in = |state: State| match state.fit() {
+    let read_in = |state: State| match state.syntax() {
         Some(syntax) => read(syntax, text).map_err(Some),
         None => Err(None),
     };
@@ -344,9 +289,9 @@ fn prefix(state: State, before: &[u8], byte: u8, rest: &[u8]) -> Option<State> {
     (unsigned(before) == b"0").then(|| shown.with(BASE_PREFIX, byte))
 }
 
-/// A letter or `^` between digits is the exponent character.
+/// A letter of a known exponent or `^` between digits is the exponent character. Others begin a suffix, such as `u8`.
 fn exponent(state: State, before: &[u8], byte: u8, rest: &[u8]) -> Option<State> {
-    let is_character = byte.is_ascii_alphabetic() || byte == b'^';
+    let is_character = matches!(byte.to_ascii_lowercase(), b'd' | b'e' | b'p' | b'q' | b'^');
     let follows =
         before.last().is_some_and(|&it| it == state.point || it.is_ascii_alphanumeric()) && unsigned(before) != b"0";
     let has_digits = unsigned(rest).first().is_some_and(u8::is_ascii_digit);
@@ -390,37 +335,4 @@ fn suffixes(state: State, text: &[u8], at: usize) -> [Option<State>; 3] {
     let needed = radix_of(digits, state.radix() + 1).filter(|_| at < digits.len());
     let with = |radix| state.with_radix(radix).with(BASE_SUFFIX, last);
     [shown.map(with), Some(state.with(BASE_SUFFIX, last)), needed.map(with)]
-}
-
-/// Returns why the word is not lawful, and why its options do not fit.
-pub fn problems(state: State) -> impl Iterator<Item = Reason> {
-    let view = FormatView::new(state.word);
-    let is_refused = move |_: &Reason| !state.is_integers() && state.fit().is_none();
-    view.reasons().chain(view.options_reasons(state.exponent, state.point).filter(is_refused))
-}
-
-/// Returns whether a reason blames the exponent character, and whether it blames the decimal point.
-pub fn blamed_options(reason: Reason) -> [bool; 2] {
-    let bytes = reason.cause().bytes();
-    [Byte::ExponentCharacter, Byte::DecimalPoint].map(|name| bytes.iter().flatten().any(|byte| byte.name == name))
-}
-
-/// Returns the states in which one field that a reason blames is absent or cleared, or one option is another character.
-/// In each, there are fewer problems, and none of them has the same cause, nor is the same byte a digit in other radixes.
-pub fn repairs(state: State, reason: Reason) -> impl Iterator<Item = State> {
-    let [exponents, points] = blamed_options(reason);
-    let flags = bits_of(reason.mask() & state.word & FLAG_MASK).map(move |flag| state.with(flag, 0));
-    let bytes = [DIGIT_SEPARATOR, BASE_PREFIX, BASE_SUFFIX, EXPONENT_BASE, EXPONENT_RADIX].map(|field| (field, 0));
-    let fields = bytes.into_iter().chain([(MANTISSA_RADIX, 10), (RESERVED, 0)]);
-    let fields = fields.filter(move |it| reason.mask() & it.0 != 0).map(move |(field, byte)| state.with(field, byte));
-    let is_alike = move |it: Reason| match (it.cause(), reason.cause()) {
-        (Cause::IsDigit(byte, _), Cause::IsDigit(other, _)) => byte.name == other.name,
-        (cause, other) => cause == other,
-    };
-    let is_better = move |it: &State| problems(*it).count() < problems(state).count() && !problems(*it).any(is_alike);
-    let exponents = exponents.then_some(EXPONENTS).into_iter().flatten();
-    let exponent = exponents.map(move |exponent| State { exponent, ..state }).filter(is_better).take(1);
-    let points = points.then_some([b'.', b',']).into_iter().flatten();
-    let point = points.map(move |point| State { point, ..state }).filter(is_better).take(1);
-    exponent.chain(point).chain(fields.chain(flags).filter(is_better))
 }

@@ -52,20 +52,21 @@ SHOWN = """const [shown, tried] = arguments;
     const states = shown.map(([word, exponent, point]) => [{ word: BigInt(word), exponent, point, conditions: 0n }, ""]);
     const each = library.conditions.map(({ isNumber, shift }) => (isNumber ? 3n : 1n) << shift);
     const all = [...each, each.reduce((all, it) => all | it)].map((conditions) => [{ ...states.at(-1)[0], conditions }, ""])
-        .filter(([state]) => !library.explain(state).conditions.length);
+        .filter(([state]) => !library.explain(state).problems.length);
     const forms = data.languages.flatMap(({ name, forms }) => forms.map((form) => [stateOf(form), name]));
     const texts = [...new Set([...tried, ...data.languages.flatMap((it) => it.numbers.replaceAll("!", "").split("\\n"))])];
     return [texts, [...states, ...all, ...forms].map(([state, language]) => {
-        find("language").value = language;
-        page.jump({ ...state, numbers: "1_0 %&\\n!+" });
+        page.jump({ ...state, language, numbers: "1_0 %&\\n!+" });
         const link = page.fragment();
         history.replaceState(null, "", link);
         page.read();
         const [form, again] = [{ ...page.state, specials: trial.forms[0].specials, name: "" }, page.fragment()];
-        const codes = ["rust", "c", "python"].map((tab) => (page.chooseTab(tab), find("code").textContent));
-        trial.forms = [form, form];  // Of several forms, nothing is offered.
+        trial.forms = [form];
         const answers = trial.read(texts.map((text, place) => ({ text, place })));
-        return [link, again, wordText(page.shown.normal), codes, answers.map((answer) => trial.told(answer))];
+        const told = answers.map((answer) => trial.told(answer));
+        const tests = answers.map(({ text, error }) => ({ text, isRefused: Boolean(error) }));
+        const codes = ["rust", "c", "python"].map((tab) => (trial.answers = tests, page.chooseTab(tab), find("code").textContent));
+        return [link, again, wordText(page.shown.normal), codes, told];
     })];"""
 # Programs that print what the code reads: of each text its value, `none` if it has none, or `refused`.
 RUST = """#![deny(warnings)]
@@ -83,10 +84,10 @@ C = r"""
 #include <stdio.h>
 typedef bool read(const peltzivar_syntax *, const char *, peltzivar_literal *, peltzivar_special *);
 static void print(uint64_t low, uint64_t high) { printf("0x%016llX%016llX\n", (long long)high, (long long)low); }
-static void show(bool (*make_syntax)(peltzivar_syntax *), read *read_number) {
+static void show(bool (*make_syntax)(peltzivar_syntax *), read *read_number, bool (*test)(const peltzivar_syntax *)) {
     static peltzivar_syntax syntax; peltzivar_literal literal; peltzivar_special special; peltzivar_i128 it; double value;
     FILE *file = fopen("texts", "r");
-    if (make_syntax(&syntax)) print(syntax.format.low, syntax.format.high);
+    if (make_syntax(&syntax) && test(&syntax)) print(syntax.format.low, syntax.format.high);
     for (char text[256]; fgets(text, sizeof text, file);) {
         text[strcspn(text, "\n")] = 0;
         if (!read_number(&syntax, text, &literal, &special)) puts("refused");
@@ -108,8 +109,8 @@ def show(syntax, read):
 """
 # Links with all parts of a number, several forms, reasons, notes, offers, and a condition that does not fit.
 LINKS = [f"#word={MIXED}&exponent=112&point=44&numbers=-0x1_0%2C8p%2B1h%0A!0x1h%0A1k&compare=JSON&tab=settings",
-         "#word=0x0A02100078000027000000070000441C&exponent=112&language=C" + f"&numbers={60 * '1'}%0A0xg&compare=another",
-         "#word=0x000010006200005F00000000000000CC&exponent=112&compare=another&tab=c",
+         "#word=0x0A02100078000027000000070000441C&exponent=112&language=C" + f"&numbers={60 * '1'}%0A0xg&compare=standard",
+         "#word=0x000010006200005F00000000000000CC&exponent=112&compare=standard&tab=regex",
          f"#word={STANDARD}&conditions=integer_group_size%3D3&numbers=-inf%0A1_0%0A0x1F&compare=standard&tab=python"]
 # Returns what is beyond an edge of its panel.
 BEYOND = """return [...document.querySelectorAll(".panel *, header *, .bar *, footer *")].filter((it) => {
@@ -120,12 +121,14 @@ BEYOND = """return [...document.querySelectorAll(".panel *, header *, .bar *, fo
 MISLEADING = """const colour = (it, name = "color") => getComputedStyle(it)[name];
     const dots = (it) => it.dataset.field.split(" ").map((name) => document.querySelector(`[data-field=${name}] .dot`));
     const isGreen = (it) => colour(it).match(/\\d+/g).slice(0, 2).reduce((red, green) => green - red) > 0;
+    const rows = [...document.querySelectorAll("#read > li")].filter((it) => it.querySelector(".bad")
+        ? colour(it, "borderLeftColor") !== colour(it.querySelector(".bad")) : colour(it, "borderLeftColor") !== colour(it.querySelector(".good")));
     return [...document.querySelectorAll(".written [data-field], .good, .bad")].filter((it) => (it.matches("[data-field]")
         ? dots(it).some((dot) => colour(dot, "backgroundColor") !== colour(it)) : isGreen(it) !== it.matches(".good")))
-        .map((it) => it.outerHTML);"""
+        .concat(rows).map((it) => it.outerHTML);"""
 # Calls back with the shown buttons that neither change the state nor go elsewhere, nor copy what is beside them.
 IDLE = """const [link, done] = arguments;
-    const not = ":not(#undo, #redo, [aria-pressed=true], [aria-selected=true])";
+    const not = ":not(#undo, #redo, .readers button, [aria-pressed=true], [aria-selected=true])";
     const buttons = () => [...document.querySelectorAll(`button:enabled${not}`)].filter((it) => it.checkVisibility());
     navigator.clipboard.writeText = async (text) => { window.copied = text; };
     (async () => {
@@ -210,7 +213,7 @@ class Walk(unittest.TestCase):
         cls.addClassCleanup(cls.driver.quit)
 
     def setUp(self):
-        self.load()
+        self.load(f"#word={STANDARD}")
 
     def tearDown(self):
         self.assertEqual(self.driver.get_log("browser"), [])
@@ -229,7 +232,7 @@ class Walk(unittest.TestCase):
             yield link
 
     def wait(self, condition):
-        WebDriverWait(self.driver, 20, 0.02).until(lambda _: condition())
+        WebDriverWait(self.driver, 8, 0.02).until(lambda _: condition())
 
     def run_script(self, script, *arguments):
         return self.driver.execute_script(script, *arguments)
@@ -275,8 +278,9 @@ class Walk(unittest.TestCase):
                     self.assertTrue(is_same(wanted, value), (program, link, text, wanted, value))
 
     def rust(self, folder, codes):
+        codes = [code.replace("#[test]\nfn", "pub fn") for code in codes]
         modules = "".join(f"mod m{index} {{\n{code}}}\n" for index, code in enumerate(codes))
-        show = [("show(m{0}::FORMAT, m{0}::read);" if "fn read" in it else 'println!("{{:#034X}}", m{0}::WORD);') for it in codes]
+        show = [("show(m{0}::FORMAT, m{0}::read); m{0}::numbers();" if "fn read" in it else 'println!("{{:#034X}}", m{0}::WORD);') for it in codes]
         calls = " ".join(call.format(index) for index, call in enumerate(show))
         (folder / "main.rs").write_text(f"{RUST}{modules}fn main() {{ {calls} }}\n")
         (folder / "Cargo.toml").write_text(
@@ -285,30 +289,29 @@ class Walk(unittest.TestCase):
         return run("cargo", "run", "--quiet", "--offline", "--target-dir", folder, cwd=folder)
 
     def c(self, folder, codes):
-        names = r"\b(SETTINGS|SPECIALS|WORD|make_syntax|read_number)\b"
+        names = r"\b(SETTINGS|SPECIALS|WORD|make_syntax|read_number|test_numbers)\b"
         parts = [re.sub(names, rf"\1_{index}", code) for index, code in enumerate(codes)]
-        show = [("show(make_syntax_{0}, read_number_{0});" if "make" in it else "print(WORD_{0}.low, WORD_{0}.high);") for it in codes]
+        show = [("show(make_syntax_{0}, read_number_{0}, test_numbers_{0});" if "make" in it else "print(WORD_{0}.low, WORD_{0}.high);") for it in codes]
         calls = " ".join(call.format(index) for index, call in enumerate(show))
         (folder / "main.c").write_text("".join([*parts, C, f"int main(void) {{ {calls} }}\n"]))
         run("cc", "-Wall", "-Wextra", "-Werror", "-I", TOP / "c", "-o", folder / "main", folder / "main.c", BUILD / "release/libpeltzivar_c.a")
         return run(folder / "main", cwd=folder)
 
     def python(self, folder, codes):
-        calls = ((code, "show(syntax, read)" if "def read" in code else "print(view)") for code in codes)
+        calls = ((code, "show(syntax, read)\ntest_numbers()" if "def read" in code else "print(view)") for code in codes)
         (folder / "main.py").write_text(PYTHON + "".join(f"{code}{call}\n" for code, call in calls))
         variables = {"PELTZIVAR_LIBRARY": f"{BUILD}/release/libpeltzivar_c.so", "PYTHONPATH": str(TOP / "c"), "PYTHONDONTWRITEBYTECODE": "1"}
         return run(sys.executable, "main.py", cwd=folder, env={**os.environ, **variables})
 
-    def test_flags_are_set_by_box_label_key_and_bit(self):
-        self.assertEqual((self.value(), self.text("#verdict")), (STANDARD, "Lawful"))
+    def test_flags_are_set_by_box_label_and_key(self):
+        self.assertEqual((self.value(), self.text("#verdict")), (STANDARD, "Valid format"))
         self.click("#no_special")
         self.assertEqual(self.value(), "0x00000A0000000000000000000000040C")
         self.click("label[for=no_integer_leading_zeros]")
         self.find("#no_float_leading_zeros").send_keys(Keys.SPACE)
         self.assertEqual(self.value(), "0x00000A0000000000000000000000340C")
-        self.click("#bits-panel summary")
-        self.click(".bit[data-field=no_positive_mantissa_sign]")
-        self.assertTrue(self.find("#no_positive_mantissa_sign").is_selected())
+        self.assertEqual(self.text("[data-field=no_positive_mantissa_sign] .meaning"), "refuses +1, accepts 1, -1")
+        self.click("#no_positive_mantissa_sign")
         self.assertEqual(self.value(), "0x00000A0000000000000000000000341C")
         Select(self.find("#compare")).select_by_value("standard")
         self.assertEqual(self.texts("#changes code")[:2], ["no_positive_mantissa_sign=true", "no_special=true"])
@@ -320,11 +323,12 @@ class Walk(unittest.TestCase):
         self.type("#base_prefix", "x")
         self.type("#mantissa_radix", "16")
         self.assertEqual(self.value(), "0x0000100078000000000000000000000C")
-        self.assertEqual(self.text("#verdict"), "An option does not fit")
+        self.assertEqual(self.texts(".byte-row .other"), ["", "x 120 0x78", "", "", "means 16", "means 16", "e 101 0x65", ". 46 0x2E"])
+        self.assertEqual(self.text("#verdict"), "Not valid: 1 reason")
         self.assertEqual(self.texts(".reason strong"), ["the exponent character 'e' is a digit in radix 16"])
         self.assertEqual(self.texts(".reason .link"), ["exponent character", "mantissa_radix", "exponent_radix"])
         self.type("#exponent", "p")
-        self.assertEqual((self.text("#verdict"), self.texts(".reason")), ("Lawful", []))
+        self.assertEqual((self.text("#verdict"), self.texts(".reason")), ("Valid format", []))
         self.type("#point", "p")
         self.assertEqual(self.texts(".reason .link"), ["exponent character", "decimal point"])
         self.type("#point", ".")
@@ -341,14 +345,13 @@ class Walk(unittest.TestCase):
         self.type("#point", "lf" + Keys.TAB)
         self.assertEqual(self.run_script("return page.state.point"), 10)
         self.load("#word=0x0A0A0A000000002C000000000000000C&point=44&numbers=1,5")
-        self.assertEqual((self.text("#verdict"), self.text("#count")), ("Lawful", "1 of 1 as expected"))
-        self.assertIn("is_valid_options_punctuation refuse this, but a reader takes it", self.text("#notes"))
+        self.assertEqual((self.text("#verdict"), self.text("#count")), ("Valid format", "1 of 1 as expected"))
+        self.assertIn("is_valid_options_punctuation refuses this, but a reader takes it", self.text("#notes"))
 
     def test_changes_are_undone_and_done_again(self):
         def state():
             return (self.value(), self.value("#mantissa_radix"), self.value("#literal"))
 
-        entries = self.run_script("return history.length")
         self.type("#mantissa_radix", "16")
         self.click("#no_special")
         both = ("0x0000100000000000000000000000040C", "16", "")
@@ -365,47 +368,39 @@ class Walk(unittest.TestCase):
         Select(self.find("#language")).select_by_value("HASKELL")
         self.click("#undo")
         self.assertEqual(state(), both)
-        self.wait(lambda: both[0] in self.run_script("return location.hash"))
-        self.assertEqual(self.run_script("return history.length"), entries)
-
-    def test_fields_are_found(self):
-        shown = """return [...document.querySelectorAll('#controls .field')].filter((it) => it.checkVisibility())
-            .map((it) => it.dataset.field)"""
-        rows = {"leading zeros": "no_float_leading_zeros", "plus": "required_exponent_sign", "hex": "mantissa_radix"}
-        for text, wanted in {**rows, "underscore": "digit_separator"}.items():
-            self.type("#filter", text)
-            self.assertIn(wanted, self.run_script(shown))
-            self.assertNotIn("no_special", self.run_script(shown))
+        self.click("#redo")
+        self.assertEqual((self.value("#language"), len(self.texts("#forms button")) > 1), ("HASKELL", True))
+        self.wait(lambda: "HASKELL" in self.run_script("return location.hash"))
+        self.driver.refresh()
+        self.wait(lambda: self.run_script("return document.documentElement.dataset.ready"))
+        self.click("#undo")
+        self.assertEqual(state(), both)
+        Select(self.find("#language")).select_by_value("JSON")
+        self.driver.back()
+        self.wait(lambda: state() == both)
 
     def test_two_formats_are_compared(self):
         def shown():
             return self.text("#same"), self.texts("#changes code")
 
         self.assertFalse(self.find("#comparison").is_displayed())
-        Select(self.find("#compare")).select_by_value("another")
+        Select(self.find("#compare")).select_by_value("standard")
         self.assertEqual(shown(), ("Same format.", []))
         self.type("#exponent", "p")
         self.assertEqual(shown(), ("Not the same.", ["exponent='p'"]))
         self.click("#changes button")
         self.assertEqual((shown(), self.value("#exponent")), (("Same format.", []), "e"))
-        self.type("#other", "0x0A0A0A0000000000000000000000000C")
-        self.assertEqual(shown(), ("Same format, stored differently.", ["exponent_base=none", "exponent_radix=none"]))
-        for text, wanted in {"nonsense": "This is neither a word nor a list of settings.", " ": ""}.items():
-            self.type("#other", text)
-            self.assertEqual(shown(), (wanted, []))
-        self.type("#other", "0xC")
-        told = "The other word is not lawful: lexical number format error: 'invalid radix for mantissa digits'."
-        self.assertEqual(shown(), (told, ["mantissa_radix=10"]))
-        self.load(LINKS[-1])
-        Select(self.find("#compare")).select_by_value("another")
-        self.assertEqual(shown(), ("Same format.", []))
 
     def test_texts_tell_two_languages_apart(self):
         Select(self.find("#language")).select_by_value("JSON")
         Select(self.find("#compare")).select_by_value("C")
-        self.assertEqual(self.texts("#texts h3")[:2], ["Accepted here and refused there", "Refused here and accepted there"])
-        self.assertIn("-1 unexpected minus sign, which no_negative_mantissa_sign forbids", self.texts("#texts li"))
-        self.assertIn("0x1 unexpected character 'x'", self.texts("#texts li"))
+        heads = self.texts("#texts h3")
+        self.assertRegex(" ".join(heads), r"^Accepted here and refused there: \d+ Refused here and accepted there: \d+$")
+        self.run_script("document.querySelectorAll('#texts details').forEach((it) => { it.open = true; })")
+        self.assertEqual([int(it.split(": ")[1]) for it in heads], [
+            self.run_script(f"return document.querySelectorAll('#texts > ul')[{index}].querySelectorAll('code').length") for index in (0, 1)])
+        self.assertIn("-1 unexpected minus sign, which no_negative_mantissa_sign forbids", self.texts("#texts ul:first-of-type li"))
+        self.assertIn("0x1 unexpected character 'x'", self.texts("#texts ul:nth-of-type(2) li"))
         Select(self.find("#compare")).select_by_value("C:octal")
         self.click("#no_special")
         self.assertEqual(self.texts("#texts li")[-1], "10 is 10 here, and 8 there")
@@ -417,8 +412,8 @@ class Walk(unittest.TestCase):
         self.type("#literal", "0x1F\n0b12\n1_000\n!1u")
         Select(self.find("#language")).select_by_value("RUST")
         self.assertEqual(self.texts("#read p"), [
-            "accepted: integer = 31, hexadecimal", "at index 3: unexpected character '2', binary",
-            "accepted: integer = 1000, decimal", "refused: at index 1: unexpected character 'u', decimal"])
+            "accepted: integer = 31, hexadecimal", "at index 3: unexpected character '2' binary",
+            "accepted: integer = 1000, decimal", "refused: at index 1: unexpected character 'u' decimal"])
         self.assertIn("peltzivar::literal::Language::RUST.", self.text("#code"))
         self.click("#forms button", "hexadecimal")
         self.assertEqual((self.value("#base_prefix"), self.value("#language"), self.focused()), ("x", "RUST", ""))
@@ -427,6 +422,15 @@ class Walk(unittest.TestCase):
         self.assertEqual(self.text("#count"), "3 of 4 as expected")
         self.click("#no_special")
         self.assertEqual((self.value("#language"), self.text("#count")), ("", "2 of 4 as expected"))
+        self.assertIn("The format is not that of Rust any more", self.text("#told"))
+
+    def test_a_language_is_changed_in_the_form_that_goes_furthest(self):
+        self.type("#literal", "0x1_000.5")
+        Select(self.find("#language")).select_by_value("JAVA")
+        self.click("#read p .link", "hexadecimal float")
+        self.assertEqual(self.focused(), "required_exponent_notation")
+        self.click("#read .use", "set required_exponent_notation=false in hexadecimal float alone")
+        self.assertEqual((self.text("#count"), self.value("#language")), ("1 of 1 as expected", ""))
 
     def test_conditions_are_offered_and_fit_the_format(self):
         self.load("#word=0x0A0210007800005F000000010000000C&exponent=112&numbers=!1F%0A0x1F%0A-0x1F")
@@ -437,9 +441,9 @@ class Walk(unittest.TestCase):
         self.assertIn("at index 0: unexpected minus sign", self.text("#read .unexpected p"))
         self.wait(lambda: "&conditions=required_base_prefix%3Dtrue%20no_" in self.run_script("return location.hash"))
         self.type("#base_prefix", "")
-        self.assertEqual(self.text("#verdict"), "A condition does not fit")
+        self.assertEqual(self.text("#verdict"), "Not valid: 1 reason")
         self.click(".reason .use", "required_base_prefix=false")
-        self.assertEqual((self.text("#verdict"), self.find("#required_base_prefix").is_selected()), ("Lawful", False))
+        self.assertEqual((self.text("#verdict"), self.find("#required_base_prefix").is_selected()), ("Valid format", False))
         self.load("#word=0x0A0A0A000000002C000000010000000C&numbers=1,234%0A!12,34")
         self.click("#read .use", "set integer_group_size=3")
         self.assertEqual((self.text("#count"), self.value("#integer_group_size")), ("2 of 2 as expected", "3"))
@@ -447,9 +451,9 @@ class Walk(unittest.TestCase):
         self.assertIn("integer_group_size=3", self.text("#code"))
         self.load(LINKS[-1])
         self.assertEqual(self.texts(".reason .link"), ["integer_group_size", "integer_internal_digit_separator"])
-        self.assertEqual(len(self.driver.find_elements(By.CSS_SELECTOR, "#read > .unexpected:has(.use)")), 2)
-        self.click(".reason .use", "integer_internal_digit_separator=true, digit_separator='_'")
-        self.assertEqual(self.text("#verdict"), "Lawful")
+        self.assertEqual(self.texts("#read li"), ["not read, since the format is not valid"])
+        self.click(".reason .use", "integer_group_size=none")
+        self.assertEqual(self.text("#verdict"), "Valid format")
 
     def test_groups_of_separator_flags_and_a_note(self):
         self.type("#digit_separator", "_")
@@ -462,7 +466,7 @@ class Walk(unittest.TestCase):
 
     def test_reasons_lead_to_the_controls_that_they_blame(self):
         self.load("#word=0x000010006200000000000000000000CC&exponent=112")
-        self.assertEqual(self.text("#verdict"), "Not lawful: 1 reason")
+        self.assertEqual(self.text("#verdict"), "Not valid: 1 reason")
         self.assertEqual(self.text("#first-error"), "the base prefix 'b' is a digit in radix 16")
         self.click("#verdict")
         self.assertEqual(self.focused(), "report-title")
@@ -471,14 +475,24 @@ class Walk(unittest.TestCase):
         self.assertEqual(self.focused(), "base_prefix")
         self.assertEqual(self.texts(".reason .use"), ["base_prefix=none", "mantissa_radix=10"])
         self.click(".reason .use", "base_prefix=none")
-        self.assertEqual((self.focused(), self.text("#verdict")), ("verdict", "Lawful"))
+        self.assertEqual((self.focused(), self.text("#verdict")), ("verdict", "Valid format"))
+
+    def test_repairs_end_all_reasons(self):
+        left = self.run_script("""const { library } = page;
+            const words = Array.from({ length: 60 }, (_, index) => BigInt.asUintN(128, (7919n ** BigInt(index + 9)) >> 40n));
+            return words.filter((word) => {
+                let state = { ...library.usual, word };
+                const problems = () => library.explain(state).problems;
+                for (let step = 0; problems().length && step < 40; step += 1) state = library.repairs(state, problems()[0])[0];
+                return problems().length;
+            }).map(wordText);""")
+        self.assertEqual(left, [])
 
     def test_words_are_typed_and_refused(self):
         self.type("#word", "0xC" + Keys.ENTER)
         self.assertEqual(self.texts(".reason strong"), ["the mantissa radix 0 is not between 2 and 36"])
-        self.assertEqual(len(self.texts(".rules li")), 3)
         for text in ("<img src=x onerror=alert(1)>", "0x", "0x" + 33 * "0", "\u00e9"):
-            self.type("#word", text)
+            self.type("#word", text + Keys.ENTER)
             self.assertEqual(self.find("#word").get_attribute("aria-invalid"), "true")
             self.assertNotEqual(self.text("#word-problem"), "")
         self.find("#word").send_keys(Keys.ESCAPE)
@@ -527,22 +541,23 @@ class Walk(unittest.TestCase):
         self.assertEqual((self.text("#count"), self.find("#count").get_attribute("class")), ("1 line is not read", "bad"))
         self.run_script("navigator.clipboard.writeText = () => Promise.reject()")
         self.click("#copy-code")
-        self.wait(lambda: self.text("#copy-code") == "not copied: no clipboard")
+        self.wait(lambda: self.text("#copy-code") == "not copied: press Ctrl+C")
+        self.assertEqual(self.run_script("return getSelection().toString()").strip(), self.text("#code").strip())
+        self.click("#copy-link")
+        self.wait(lambda: self.run_script("return getSelection().toString() === location.hash && location.hash"))
 
     def test_a_message_moves_nothing(self):
-        place = """return ["#filter", "#base_suffix", "#no_special"].map(
+        place = """return ["#read", "#base_suffix", "#no_special"].map(
             (it) => document.querySelector(it).getBoundingClientRect().top + scrollY)"""
         before = self.run_script(place)
-        self.type("#word", "nonsense")
         self.type("#base_prefix", "xyz")
-        self.type("#literal", "1_000")
         self.click("#copy-link")
         self.assertEqual(self.run_script(place), before)
 
     def test_languages_bring_options_and_numbers_as_expected(self):
         for name in self.run_script("return page.data.languages.map(({ name }) => name)"):
             Select(self.find("#language")).select_by_value(name)
-            self.assertEqual((self.text("#verdict"), self.texts("#read .unexpected")), ("Lawful", []), name)
+            self.assertEqual((self.text("#verdict"), self.texts("#read .unexpected")), ("Valid format", []), name)
         Select(self.find("#language")).select_by_value("C")
         self.assertIn("C23", self.text("#about"))
         self.click("#forms button", "hexadecimal float")
@@ -559,7 +574,7 @@ class Walk(unittest.TestCase):
         self.type("#exponent", "")
         self.assertEqual((self.value("#exponent"), self.value("#point")), ("", ""))
         self.type("#exponent", "p")
-        self.assertEqual((self.value("#point"), self.text("#verdict")), (".", "Lawful"))
+        self.assertEqual((self.value("#point"), self.text("#verdict")), (".", "Valid format"))
         self.type("#point", ",")
         self.type("#exponent", "")
         self.assertEqual(self.run_script("return [page.state.exponent, page.state.point]"), [0, 0])
@@ -575,18 +590,22 @@ class Walk(unittest.TestCase):
         wanted = "#word=0x0A0A10006200005F000000070001440C&exponent=112&point=44&numbers=1_0%20%25%26"
         self.wait(lambda: self.run_script("return location.hash") == wanted)
         self.load("#exponent=112")
-        self.assertEqual((self.value(), self.value("#exponent"), self.text("#word-problem")), (STANDARD, "p", ""))
+        self.assertEqual((self.value(), self.value("#exponent"), self.text("#told")), (STANDARD, "p", ""))
         self.click("#copy-link")
-        self.assertIn("Copied from # on", self.text("#copied"))
-        self.type("#word", "#wo")
-        self.assertEqual(self.find("#word").get_attribute("aria-invalid"), "false")
-        self.type("#word", "index.html#word=0xC&numbers=7" + Keys.ENTER)
-        self.assertEqual((self.value("#literal"), self.text("#verdict")), ("7", "Not lawful: 1 reason"))
-        self.load("#" + 100_000 * "a")
-        self.assertIn("This link has no format word", self.text("#word-problem"))
-        self.load("#word=nonsense&exponent=300&point=")
-        self.assertEqual((self.value(), self.value("#exponent"), self.value("#point")), (STANDARD, "e", "."))
-        self.assertIn("This link has no format word", self.text("#word-problem"))
+        self.wait(lambda: "Copied from # on" in self.text("#told"))
+        self.load("#language=JSON&amp;tab=c")
+        self.assertEqual((self.value("#language"), self.text("#code")[:2], self.text("#told")), ("JSON", "/*", ""))
+
+    def test_what_a_link_has_in_vain_is_told(self):
+        wrong = ["word=nonsense", "exponent=300", "point=", "language=NONE", "compare=NONE", "tab=none", "conditions=no_such=1",
+                 "conditions=integer_group_size=9", "unknown=1", 1000 * "a"]
+        for part in wrong:
+            self.load(f"#{part}")
+            wanted = part[:30].replace("conditions=", "").replace("unknown=1", "unknown")
+            self.assertIn(wanted, self.text("#told"))
+            self.assertEqual((self.value(), self.value("#exponent"), self.value("#point")), (STANDARD, "e", "."))
+        self.click("#no_special")
+        self.assertEqual(self.text("#told"), "")
 
     def test_a_link_is_followed_while_the_page_is_open(self):
         self.run_script("location.hash = `#word=${arguments[0]}&exponent=112&compare=JSON&tab=python`", MIXED)
@@ -594,12 +613,11 @@ class Walk(unittest.TestCase):
         self.assertEqual((self.value("#exponent"), self.value("#compare")), ("p", "JSON"))
         self.assertIn("from peltzivar import", self.text("#code"))
         self.click("#tab-c")
-        Select(self.find("#compare")).select_by_value("another")
-        self.type("#other", "radix=8")
-        self.wait(lambda: self.run_script("return location.hash").endswith("&compare=radix%3D8&tab=c"))
+        Select(self.find("#compare")).select_by_value("ADA")
+        self.wait(lambda: self.run_script("return location.hash").endswith("&compare=ADA&tab=c"))
         self.driver.refresh()
         self.wait(lambda: self.run_script("return document.documentElement.dataset.ready"))
-        self.assertEqual((self.value("#other"), self.text("#code")[:8]), ("radix=8", "#include"))
+        self.assertEqual((self.value("#compare"), self.text("#code")[:8]), ("ADA", "#include"))
 
     def test_each_control_has_a_name_and_each_button_does_something(self):
         for link in self.links():
@@ -617,11 +635,6 @@ class Walk(unittest.TestCase):
     def test_what_has_the_focus_has_an_outline(self):
         self.find("body").send_keys(Keys.TAB)
         self.assertEqual(self.run_script(BARE), [])
-
-    def test_bits_are_those_of_the_word(self):
-        self.load(f"#word={MIXED}")
-        bits = self.run_script("return [...document.querySelectorAll('.bit')].map((it) => it.textContent).join('')")
-        self.assertEqual(int(bits, 2), int(MIXED, 16))
 
     def test_numbers_are_tried(self):
         self.load("#word=0x00000A000000005F000000020000000C")
@@ -644,7 +657,7 @@ class Walk(unittest.TestCase):
         self.assertEqual(self.text("#count"), "3 of 5 as expected")
         self.click("#no_special")
         self.click("#case_sensitive_special")
-        self.assertEqual(self.texts("#read li"), ["not read, since the word is not lawful"])
+        self.assertEqual(self.texts("#read li"), ["not read, since the format is not valid"])
         self.load("#word=0x00000A0000000000000000000000101E")
         self.type("#literal", "001\n+Infinity\n1.")
         self.assertEqual(self.texts("#read mark"), ["001", "+", " "])
@@ -658,7 +671,7 @@ class Walk(unittest.TestCase):
         self.type("#literal", "0x1F\n0x1_0.8p3\n!0x.8\n0x1h")
         self.assertEqual(self.texts("#read ul li")[0],
             "set base_prefix='x', mantissa_radix=16, exponent_base=2, exponent_radix=10, exponent='p'\n"
-            "then 0x1F is accepted: integer = 31; 1 of 4 as expected")
+            "then accepted: integer = 31; 1 of 4 as expected")
         for _ in range(4):
             self.find("#read .use").send_keys(Keys.ENTER)
         self.assertEqual((self.focused(), self.text("#count")), ("literal", "4 of 4 as expected"))
@@ -679,21 +692,102 @@ class Walk(unittest.TestCase):
                 whole = self.run_script("return document.documentElement.scrollWidth")
                 self.assertEqual((self.run_script(BEYOND), whole), ([], width), link)
         self.load(f"#word={MIXED}")
+        self.assertTrue(self.run_script("""const tops = ["#literal", "#read", "#code"].map((it) => find(it.slice(1)).getBoundingClientRect().top);
+            return tops.every((it, index) => !index || tops[index - 1] < it);"""))
         place = "return document.querySelector('#base_prefix').getBoundingClientRect().top"
         self.find("#base_prefix").send_keys(Keys.CONTROL, "a")
         before = self.run_script(place)
         self.find("#base_prefix").send_keys("5")
-        self.assertEqual(self.text("#verdict"), "Not lawful: 2 reasons")
+        self.assertEqual(self.text("#verdict"), "Not valid: 2 reasons")
         self.assertAlmostEqual(self.run_script(place), before, delta=2)
         self.assertEqual(self.run_script("return document.querySelector('.bar').getBoundingClientRect().top"), 0)
 
-    def test_numbers_stay_in_view(self):
-        self.emulate(1100, 700, False)
-        self.type("#literal", "NaN")
+    def test_the_answer_is_in_view(self):
+        lines = ["", "#numbers=0x1F%0A-0x1_000.8p3%0A!1F%0A0x1h", "#numbers=1,234.5%0A1.234,5%0A!1,5%0A12h"]
+        for width, height in ((1280, 720), (1366, 657), (1000, 700)):
+            self.emulate(width, height, False)
+            for link in lines:
+                self.load(link)
+                self.wait(lambda: [it[:7] for it in self.texts(".readers > summary")] == 4 * ["Read by"])
+                bottom, code = self.run_script("return ['read', 'code'].map((it) => find(it).getBoundingClientRect()).map((it, index) => index ? it.top : it.bottom)")
+                self.assertTrue(bottom < height and bottom < code, (width, link, bottom, code))
         self.click("#no_special")
-        box = self.run_script("return document.querySelector('#read').getBoundingClientRect().toJSON()")
-        self.assertTrue(0 < box["top"] < box["bottom"] < 700, box)
-        self.assertEqual(self.text("#count"), "0 of 1 as expected")
+        self.assertTrue(self.find("#count").is_displayed() and self.run_script("return find('count').getBoundingClientRect().top") >= 0)
+
+    def test_an_example_is_replaced_by_what_is_typed(self):
+        self.load()
+        self.assertEqual(len(self.texts("#read > li")), 4)
+        self.find("#literal").click()
+        self.find("#literal").send_keys("7")
+        self.assertEqual(self.value("#literal"), "7")
+        self.click("#clear")
+        self.assertEqual((self.value("#literal"), self.focused()), ("", "literal"))
+
+    def test_languages_are_those_that_read_a_number(self):
+        wrong = self.run_script("""const { library, data: { languages } } = page;
+            const texts = [...new Set(languages.flatMap((it) => it.numbers.replaceAll("!", "").split("\\n")))];
+            const found = library.readers(texts.join("\\n"));
+            return languages.flatMap(({ name, forms }, language) => library.numbers(forms, texts.join("\\n")).map((answer, index) => {
+                const reader = found[index].find((it) => it.language === language);
+                const told = (it) => (it ? `${it.form} ${valueText(it)}` : "refused");
+                const there = told(answer.error ? undefined : answer);
+                return told(reader) === there ? [] : [name, texts[index], told(reader), there];
+            }).filter((it) => it.length));""")
+        self.assertEqual([it for it in wrong if "undefined" not in it[2]], [])
+
+    def test_languages_are_shown_below_each_number(self):
+        self.load("#numbers=0x1F%0A1_0%0A!010")
+        self.wait(lambda: [it[:7] for it in self.texts(".readers > summary")] == 3 * ["Read by"])
+        for row in self.driver.find_elements(By.CSS_SELECTOR, ".readers"):
+            stars = ["all" in it.get_attribute("class") for it in row.find_elements(By.CSS_SELECTOR, "button")]
+            self.assertEqual(stars, sorted(stars, reverse=True))
+        self.assertIn("31, hexadecimal:", self.text(".readers"))
+        self.click(".readers button", "★Ruby" if False else self.texts(".readers .all")[0])
+        self.assertEqual((self.text("#count"), self.value("#literal")), ("3 of 3 as expected", "0x1F\n1_0\n!010"))
+        self.assertEqual(self.text("#forms [aria-pressed=true]"), "hexadecimal")
+
+    def test_what_no_format_has_is_replaced(self):
+        rows = {"1\u2019000": "1'000", "1\u00a0000": "1 000", "1\u202f000": "1 000", "\u22125": "-5", "12 %": "12", "\u20ac5": "5",
+                "1u8": "1", "0x1Fu8": "0x1F", "3kg": "3", "10L": "10", "1.5f": "1.5"}
+        for text, wanted in rows.items():
+            self.run_script("page.jump({ ...page.library.usual, numbers: arguments[0] })", text)
+            self.click("#read .use", f"try {wanted}")
+            self.assertEqual(self.value("#literal"), wanted)
+        for text in ("0x1F", "0x1.8p3", "FF", "Infinity", "nAn", "1D3", "0o17", "1_000", "1,5"):
+            self.run_script("page.jump({ ...page.library.usual, numbers: arguments[0] })", text)
+            self.assertNotIn("can be a suffix", self.text("#read"))
+
+    def test_notations_are_those_of_the_library(self):
+        Select(self.find("#language")).select_by_value("JSON")
+        self.assertIn("no `+`".replace("`", ""), self.text("#sentence"))
+        self.click("#tab-regex")
+        self.assertEqual(self.text("#code"), "[-]?(?:[1-9][0-9]*|[0])(?:[.][0-9]+)?(?:[Ee][+-]?[0-9]+)?")
+        self.find("#tab-regex").send_keys(Keys.ARROW_LEFT)
+        self.assertEqual(self.focused(), "tab-grammar")
+        self.assertIn('Integer  ::= [1-9] Digit* | "0"', self.text("#code"))
+
+    def test_parts_differ_by_more_than_colour(self):
+        for style in ("[it.textDecorationStyle, it.textDecorationLine].join()", "it.color"):
+            styles = self.run_script(f"return [...document.querySelectorAll('#legend span')].map((it) => getComputedStyle(it)).map((it) => {style})")
+            self.assertEqual(len(set(styles)), len(styles))
+        self.type("#literal", "12\u05d03")
+        before, mark = (self.run_script(f"return document.querySelector('#read {it}').getBoundingClientRect().toJSON()") for it in (".digits", "mark"))
+        self.assertAlmostEqual(before["right"], mark["left"], delta=3)
+        self.driver.execute_cdp_cmd("Emulation.setEmulatedMedia", {"features": [{"name": "forced-colors", "value": "active"}]})
+        self.addCleanup(self.driver.execute_cdp_cmd, "Emulation.setEmulatedMedia", {"features": []})
+        outlines = self.run_script("return [...document.querySelectorAll('[role=tab]')].map((it) => getComputedStyle(it).outlineStyle)")
+        self.assertEqual(outlines, ["solid"] + 5 * ["none"])
+
+    def test_controls_are_large_and_tell_their_errors(self):
+        small = """return [...document.querySelectorAll("button, select, summary, label:has(input), label[for], textarea")]
+            .filter((it) => it.checkVisibility() && !it.closest(".skips, h2") && it.getBoundingClientRect().height < 24).map((it) => it.outerHTML);"""
+        wordless = """return [...document.querySelectorAll("[aria-invalid=true]:not([type=checkbox])")].filter((it) => {
+            const message = find(it.getAttribute("aria-errormessage"));
+            return !message?.textContent || !message.closest("[role=status], [role=alert]"); }).map((it) => it.outerHTML);"""
+        for link in self.links():
+            self.type("#base_prefix", "xyz")
+            self.type("#word", "nonsense" + Keys.ENTER)
+            self.assertEqual(self.run_script(small) + self.run_script(wordless), [], link)
 
     def test_nothing_is_requested_and_the_policy_allows_the_page_alone(self):
         requests = "return performance.getEntriesByType('resource').map((it) => it.name)"
