@@ -98,8 +98,7 @@ separators_mask _ = refl
 -- The flags of a word without requirements.
 pub bare_flags : (word : ℕ) (f : Flag)
     → (raw (bit_and word (bit_not w128 REQUIREMENTS))).flag f ≡ ((raw word).flag f && not (is_one_of requirement_flags f))
-bare_flags word f = flag_and f word (bit_not w128 REQUIREMENTS)
-    ∙ ap (λ t. (raw word).flag f && t) (flag_not f REQUIREMENTS (omega arith) ∙ ap not (requirement_mask f))
+bare_flags word f = grind (arith, flag_and, flag_not)
 
 -- Two sets of flags that have the same flags have the same mask.
 pub same_mask : (P Q : Flag → Bool) → ((f : Flag) → P f ≡ Q f) → mask_of P ≡ mask_of Q

@@ -3,7 +3,7 @@ use Rattle.std.proofs.Common.{ℕ, ◌≡◌, ◌↔◌, inl, inr, Bool, true, f
 use Rattle.std.proofs.Common.{refl, sym, ap, subst, ◌∙◌, arith}
 use Rattle.std.proofs.lemmas.Bool.{false≢true, and_parts, and_from, cases_Bool, or_left}
 use Rattle.std.specs.Prelude.{is_some}
-use Rattle.lexical_util.specs.Layout.{Flag, separators_in}
+use Rattle.lexical_util.specs.Layout.{Flag}
 use Rattle.lexical_util.specs.declared.feature_format.roles.Role.{Role}
 use Rattle.lexical_util.specs.declared.format_flags.Part.{Part}
 use Rattle.lexical_util.specs.declared.format_flags.Part.TheVariants as parts
@@ -12,7 +12,7 @@ use Rattle.lexical_literal.specs.Groups.{has_size, has_sizes}
 use Rattle.lexical_literal.specs.Notation.{Notation}
 use Rattle.lexical_literal.specs.Additions.Causes.{IsWeaker, lets}
 use Rattle.lexical_literal.specs.Additions.Plain.{HasRoles, HasSizes, IsReady}
-use Rattle.lexical_literal.specs.Additions.Sizes.{first_group, fits, follows, goes, group_after, grow, grown, is_size, makes_empty, role_next, unsized}
+use Rattle.lexical_literal.specs.Additions.Sizes.{first_group, fits, goes, group_after, grow, grown, is_size, makes_empty, role_next, unsized}
 use Rattle.lexical_literal.specs.Additions.Summary.{is_accepted, role_at, scan, start, step}
 use Rattle.lexical_literal.specs.declared.groups.Group.{Group}
 use Rattle.lexical_literal.specs.declared.steps.Summary.{Summary}
@@ -103,38 +103,14 @@ module _ (m : Notation) (A : Flag → Bool) (D : Condition → Bool) (weaker : I
     less i k di dk mi mk x a r one two three is = grind arith
 
   some_sizes : has_sizes n ≡ true → has_sizes m ≡ true
-  some_sizes is = go (D conditions.IntegerGroupSize) (D conditions.FractionGroupSize) (m.condition conditions.IntegerGroupSize)
-      (m.condition conditions.FractionGroupSize) (weaker.conditions conditions.IntegerGroupSize) (weaker.conditions conditions.FractionGroupSize) is where
-        go : (x y a b : Bool) → (x ≡ true → a ≡ true) → (y ≡ true → b ≡ true) → (x || y) ≡ true → (a || b) ≡ true
-        go x y a b one two is = grind arith
+  some_sizes is = grind arith
 
   other_sizes : HasSizes n
-  other_sizes = record {
-    integer = λ is. sizes.integer (weaker.conditions conditions.IntegerGroupSize is);
-    fraction = λ is. sizes.fraction (weaker.conditions conditions.FractionGroupSize is);
-    internal = internal;
-    separator = sizes.separator;
-    has_separator = λ is. sizes.has_separator (some_sizes is);
-  } where
-    kept : (a : Bool) → (a || false) ≡ true → a ≡ true
-    kept true is = refl
-    kept false is = is
-
-    internal : (part : Part) → has_size n part ≡ true → n.flag (separators_in part).internal ≡ true
-    internal parts.Integer is = kept _ (weaker.no_less (separators_in parts.Integer).internal (sizes.internal parts.Integer (weaker.conditions conditions.IntegerGroupSize is)))
-    internal parts.Fraction is = kept _ (weaker.no_less (separators_in parts.Fraction).internal (sizes.internal parts.Fraction (weaker.conditions conditions.FractionGroupSize is)))
-    internal parts.Exponent is = absurd (false≢true is)
+  other_sizes = grind arith
 
   -- Groups that fit still do.
   still : (g : Group) (r : Option Role) → fits m g r ≡ true → fits n g r ≡ true
-  still g r fit = go (has_size n g.part) (has_size m g.part) (follows m g r) (sized g.part) fit where
-    sized : (part : Part) → has_size n part ≡ true → has_size m part ≡ true
-    sized parts.Integer is = weaker.conditions conditions.IntegerGroupSize is
-    sized parts.Fraction is = weaker.conditions conditions.FractionGroupSize is
-    sized parts.Exponent is = is
-
-    go : (a b t : Bool) → (a ≡ true → b ≡ true) → (not b || t) ≡ true → (not a || t) ≡ true
-    go a b t is fit = grind arith
+  still g r fit = grind arith
 
   same_groups : has_sizes n ≡ true → has_sizes m ≡ true → (g : Group) (text : List ℕ) (last : Group) → group_after m (Some g) text ≡ Some last
       → group_after n (Some g) text ≡ Some last

@@ -216,8 +216,7 @@ module _ (m : Notation) where
     prefix_completed : (stage : Stage) → C conditions.BasePrefix ≡ true → lacks_prefix stage ≡ true → Completed (reading stage false)
     prefix_completed stages.Bare set lacks = bare_completed set
     prefix_completed stages.Empty set lacks = zero_completed set stages.Empty refl refl
-    prefix_completed stages.Start set lacks =
-        signed_completed stages.Start false refl (zero_completed set stages.Empty refl refl) (zero_completed set stages.Start refl)
+    prefix_completed stages.Start set lacks = grind (arith, signed_completed, zero_completed)
     prefix_completed _ set lacks = absurd (false≢true lacks)
 
     finishes_in : (part : Part) → Finishes part

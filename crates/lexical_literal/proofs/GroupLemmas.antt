@@ -10,12 +10,11 @@ use Rattle.lexical_util.specs.declared.format_flags.Part.TheVariants as parts
 use Rattle.lexical_literal.specs.Groups.{all_fit, first_fits, group_sizes, has_size, inner_fits, is_grouped, last_fits, one_more, rest_fits}
 use Rattle.lexical_literal.specs.Notation.{Notation}
 use Rattle.lexical_literal.specs.Additions.Summary.{gap_fits}
-use Rattle.lexical_literal.specs.Additions.Sizes.{follows, grown, is_size, makes_empty, most, unsized}
+use Rattle.lexical_literal.specs.Additions.Sizes.{follows, grown, is_size, most, unsized}
 use Rattle.lexical_literal.specs.declared.groups.Group.{Group}
 use Rattle.lexical_literal.specs.Additions.Plain.{HasRoles, HasSizes}
 use Rattle.lexical_literal.specs.Cause.{with_rules}
 use Rattle.lexical_literal.specs.declared.syntax.Condition.{Condition}
-use Rattle.lexical_literal.specs.declared.syntax.Condition.TheVariants as conditions
 use Rattle.lexical_literal.proofs.RunLemmas.{is_rest}
 use Rattle.lexical_literal.proofs.ScanLemmas.{as_role, digit_role}
 
@@ -42,10 +41,7 @@ module _ (m : Notation) (part : Part) where
 
   -- No group behind a separator has more digits than the greatest.
   at_most : (count : ℕ) → (inner_fits m part count || last_fits m part count) ≡ true → count ≤ most m part
-  at_most count fit = go part fit where
-    go : (part : Part) → (inner_fits m part count || last_fits m part count) ≡ true → count ≤ most m part
-    go parts.Integer fit = grind (arith, nat_tests)
-    go _ fit = grind (arith, nat_tests)
+  at_most count fit = grind arith
 
   -- Groups that are counted at once are those that are counted byte by byte.
   one_more_is : (digits : ℕ) (counts : List ℕ) → more digits (one_more counts) ≡ more (digits + 1) counts
@@ -66,8 +62,7 @@ module _ (m : Notation) (part : Part) where
   -- A group of several is not too large for one digit more.
   may_grow : (digits count : ℕ) (counts : List ℕ) → rest_fits m part ((digits + 1 + count) ∷ counts) ≡ true → nat_lt digits (most m part) ≡ true
   may_grow digits count [] fit = let low = at_most (digits + 1 + count) (or_right _ _ fit) in grind (arith, nat_tests)
-  may_grow digits count (next ∷ counts) fit =
-      let low = at_most (digits + 1 + count) (or_left _ _ (and_parts _ (rest_fits m part (next ∷ counts)) fit).0) in grind (arith, nat_tests)
+  may_grow digits count (next ∷ counts) fit = grind (arith, nat_tests)
 
   absorbed : (a b : Bool) → (b ≡ true → a ≡ true) → (a && b) ≡ b
   absorbed true b if_b = refl
@@ -168,15 +163,4 @@ module _ (m : Notation) (h : HasRoles m) (part : Part) (sizes : HasSizes m) (siz
 
 -- Without sizes, a notation is the same without them.
 pub same_unsized : (m : Notation) → ((c : Condition) → is_size c ≡ true → m.condition c ≡ false) → unsized m ≡ m
-same_unsized m none = λ j. with_rules m (λ f. same_flag f j) (λ c. same_condition c j) where
-  same_flag : (f : Flag) → (unsized m).flag f ≡ m.flag f
-  same_flag f = let integer = none conditions.IntegerGroupSize refl in let fraction = none conditions.FractionGroupSize refl in
-      rw (integer, fraction) (go (makes_empty parts.Integer f) (makes_empty parts.Fraction f) (m.flag f)) where
-        go : (a b t : Bool) → (not ((a && false) || (b && false)) && t) ≡ t
-        go a b t = grind arith
-
-  same_condition : (c : Condition) → (unsized m).condition c ≡ m.condition c
-  same_condition c = go (is_size c) (m.condition c) (none c) where
-    go : (is t : Bool) → (is ≡ true → t ≡ false) → (not is && t) ≡ t
-    go true t none = sym (none refl)
-    go false t none = refl
+same_unsized m none = grind arith

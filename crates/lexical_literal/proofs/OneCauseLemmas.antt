@@ -40,10 +40,7 @@ module _ (m : Notation) (front : List ℕ) (a b : Flag → Bool) where
   one_cause next causes.Requirement causes.Requirement one two = record { kind = refl; flags = λ f. same_truth (a f) (b f) (one.each f) (two.each f) }
   one_cause None causes.Requirement (causes.Missing part) one two = absurd (two.refused one.allowed.0 one.allowed.1)
   one_cause None (causes.Missing part) causes.Requirement one two = absurd (one.refused two.allowed.0 two.allowed.1)
-  one_cause None (causes.Missing p) (causes.Missing q) one two = record {
-    kind = ap causes.Missing (one.last ∙ sym two.last);
-    flags = λ f. one.none f ∙ sym (two.none f);
-  }
+  one_cause None (causes.Missing p) (causes.Missing q) one two = grind arith
   one_cause (Some byte) (causes.Missing p) other one two = absurd one
   one_cause (Some byte) other (causes.Missing q) one two = absurd two
   one_cause (Some byte) causes.Requirement other one two = absurd (two.refused one.allowed)

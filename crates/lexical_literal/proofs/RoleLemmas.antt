@@ -99,11 +99,7 @@ module _ (r : Record) (c : Conditions) (none : contradiction r c ≡ None) where
 
   -- A part whose groups have sizes may have separators between digits.
   has_separators : (f : Flag) (kind : ConditionsErrorKind) → lacks_separator r f kind ≡ None → (r.flag f ≡ true) × ((r.byte layout.digit_separator == 0) ≡ false)
-  has_separators f kind is = go (r.flag f) (r.byte layout.digit_separator == 0) is where
-    go : (flag none : Bool) → (if flag then (if none then Some faults.NoSeparator else None) else Some kind) ≡ None → (flag ≡ true) × (none ≡ false)
-    go true false is = (refl, refl)
-    go true true is = absurd (let apart : Some faults.NoSeparator ≡ None = is in cc)
-    go false none is = absurd (let apart : Some kind ≡ None = is in cc)
+  has_separators f kind is = grind arith
 
   integer_separator : has c conditions.IntegerGroupSize ≡ true → (r.flag layout.integer_internal_digit_separator ≡ true)
       × ((r.byte layout.digit_separator == 0) ≡ false)

@@ -1,5 +1,5 @@
 -- The bytes to show for a text that is refused are of the text.
-use Rattle.std.proofs.Common.{ℕ, ◌≡◌, ◌≤◌, ◌+◌, Bool, true, false, not, List, [], ◌∷◌, length, take, Option, None, Some}
+use Rattle.std.proofs.Common.{ℕ, ◌≡◌, ◌≤◌, ◌+◌, Bool, List, [], ◌∷◌, length, take, Option, None, Some}
 use Rattle.std.proofs.Common.{if◌then◌else◌, get_or, sym, ap, subst, ◌∙◌, arith}
 use Rattle.std.proofs.Math.Seq.{take-length}
 use Rattle.std.proofs.lemmas.List.{length-take-le, take_more}
@@ -8,8 +8,6 @@ use Rattle.std.specs.Prelude.{slice_get}
 use Rattle.lexical_util.specs.Ascii.{ByteSet}
 use Rattle.lexical_util.specs.Layout as layout
 use Rattle.lexical_util.specs.Layout.{Flag}
-use Rattle.lexical_util.specs.declared.format_flags.Part.TheVariants as parts
-use Rattle.lexical_literal.specs.Groups.{has_sizes}
 use Rattle.lexical_literal.specs.Cause.{IsRefusal, behind, condition_span, first_in, marks_of, requirement_span, span_of, wrong_end}
 use Rattle.lexical_literal.specs.Notation.{Notation, notation_of}
 use Rattle.lexical_literal.specs.declared.cause.Marks.{Marks}
@@ -47,20 +45,7 @@ record AreMarks (k : Marks) : Type 0 where
   group : k.group ≤ k.size
 
 are_marks : (m : Notation) (front : List ℕ) → AreMarks (marks_of m front)
-are_marks m front = let run = behind_within (λ byte. not (m.separator byte)) front in record {
-  exponent = behind_within _ front;
-  first = let first = first_within (m.digit parts.Integer) (take (marks_of m front).run front) in omega (
-    arith,
-    first,
-    length-take-le (marks_of m front).run
-        front run,
-  );
-  run = run;
-  group = group (has_sizes m);
-} where
-  group : (sized : Bool) → (if sized then behind (λ byte. not (m.digit parts.Integer byte)) front else 0) ≤ length front
-  group true = behind_within _ front
-  group false = omega arith
+are_marks m front = grind (arith, behind_within, first_within, length-take-le)
 
 -- `IsIn size span` holds if `span` does not end before it begins, and ends in a text of `size` bytes.
 abbrev IsIn : ℕ → ℕ × ℕ → Type 0

@@ -25,7 +25,7 @@ use Rattle.lexical_literal.proofs.DecideLemmas.{decided_of}
 use Rattle.lexical_literal.proofs.FitLemmas.{linked_there}
 use Rattle.lexical_literal.proofs.PartOfLemmas.{ends_in}
 use Rattle.lexical_literal.proofs.RefusalLemmas.{other_roles}
-use Rattle.lexical_literal.proofs.ScanLemmas.{as_digit, as_role, digit_role}
+use Rattle.lexical_literal.proofs.ScanLemmas.{as_role, digit_role}
 use Rattle.lexical_literal.proofs.SizeLemmas.{group_none}
 
 module _ (m : Notation) (h : HasRoles m) where
@@ -45,20 +45,15 @@ module _ (m : Notation) (h : HasRoles m) where
   behind_digit text b is = behind_more no_digit text b ∙ ap (λ t. if not t then length text + 1 else behind no_digit text) is
 
   behind_other : (text : List ℕ) (b : ℕ) → m.digit parts.Integer b ≡ false → 0 + behind no_digit (text ++ b ∷ []) ≡ length (text ++ b ∷ [])
-  behind_other text b other =
-      let is = behind_more no_digit text b ∙ ap (λ t. if not t then length text + 1 else behind no_digit text) other in
-      omega (arith, is, length-append {A = ℕ} text (b ∷ []))
+  behind_other text b other = grind (arith, behind_more, length-append)
 
   other_role : (part : Part) (b : ℕ) (r : Role) → (roles.Digit ≡ r → ⊥) → role_at m part b ≡ Some r → m.digit parts.Integer b ≡ false
   other_role part b r other role = false_from_ne_true _ (λ digit.
       other (h.one roles.Digit r b (as_role m parts.Integer b roles.Digit (digit_role m parts.Integer b digit)) (as_role m part b r role)))
 
   counts_more : (text : List ℕ) (b : ℕ) (g : Group) (o : Option Role) → role_at m g.part b ≡ o → Counts text g → Counts (text ++ b ∷ []) (grown g o)
-  counts_more text b g None role counts = λ sized. behind_other text b (sym (a_digit g.part b sized)
-      ∙ false_from_ne_true _ (λ digit. let same = sym role ∙ digit_role m g.part b digit in absurd (let apart : None ≡ Some roles.Digit = same in cc)))
-  counts_more text b g (Some roles.Digit) role counts = λ sized.
-      let same = behind_digit text b (sym (a_digit g.part b sized) ∙ as_digit m g.part b role) in
-      let old = counts sized in omega (arith, same, old, length-append {A = ℕ} text (b ∷ []))
+  counts_more text b g None role counts = grind (arith, behind_other, a_digit)
+  counts_more text b g (Some roles.Digit) role counts = grind (arith, behind_digit, a_digit, length-append)
   counts_more text b g (Some r) role counts = λ sized. behind_other text b (other_role g.part b r (λ e. cc) role)
 
   counts_all : has_sizes m ≡ true → (x text : List ℕ) (g last : Group) → Counts x g → group_after m (Some g) text ≡ Some last → Counts (x ++ text) last
@@ -93,8 +88,7 @@ module _ (m : Notation) (ready : IsReady (unsized m)) (sizes : HasSizes m) (fron
       λ j. record { part = linked_there m sized front s g read grouped j; separated = g.separated; digits = digits j }
 
   no_group : has_size m g.part ≡ false → has_size m (part_of s.stage) ≡ false
-  no_group none = false_from_ne_true _ (λ is. false≢true (sym none
-      ∙ ap (has_size m) (linked_there m (some_size (part_of s.stage) is) front s g read grouped) ∙ is))
+  no_group none = grind (arith, linked_there)
 
   module _ (A : Flag → Bool) (D : Condition → Bool) (weaker : IsWeaker m A D) where
     abbrev n : Notation

@@ -1,6 +1,6 @@
 -- The digits of a run, their number, and the number that they represent, modulo `2 ^ 64`.
-use Rattle.std.proofs.Common.{ℕ, ◌≡◌, ◌<◌, ◌≤◌, ◌+◌, ◌-◌, ◌*◌, ◌%◌, ◌^◌, ◌∙◌, Bool, true, false, List, [], ◌∷◌, ◌++◌, Option, Some, None, nat_lt, cond}
-use Rattle.std.proofs.Common.{get_or, length, take, drop, refl, sym, ap, subst, arith}
+use Rattle.std.proofs.Common.{ℕ, ◌≡◌, ◌<◌, ◌≤◌, ◌+◌, ◌-◌, ◌*◌, ◌%◌, ◌^◌, ◌∙◌, true, false, List, [], ◌∷◌, ◌++◌, Option, Some, None, nat_lt, cond}
+use Rattle.std.proofs.Common.{get_or, length, take, drop, sym, ap, subst, arith}
 use Rattle.std.proofs.lemmas.Int.Digits.{number_after_append}
 use Rattle.std.proofs.lemmas.List.Elements.{filter_map-append}
 use Rattle.std.proofs.lemmas.List.{drop-drop, get_or-drop, length-drop, take_more}
@@ -27,10 +27,7 @@ use Rattle.lexical_util.specs.declared.feature_format.roles.Role.TheVariants as 
 
 -- The value of a digit.
 pub is_digit : (radix b v : ℕ) → digit_of b radix ≡ Some v → nat_lt (byte_value b) radix ≡ true
-is_digit radix b v is = go (nat_lt (byte_value b) radix) is where
-  go : (test : Bool) → cond test (Some (byte_value b)) None ≡ Some v → test ≡ true
-  go true is = refl
-  go false is = absurd (let apart : None ≡ Some v = is in cc)
+is_digit radix b v is = grind arith
 
 no_value : (radix b : ℕ) → nat_lt (byte_value b) radix ≡ false → digit_of b radix ≡ None
 no_value radix b other = ap (λ test. cond test (Some (byte_value b)) None) other
@@ -100,12 +97,7 @@ pushed_sum radix s v = mod-mod (s * radix % 2 ^ 64 + v) (2 ^ 64) ∙ mod-add-mod
 one_digit : (m : Notation) (radix : ℕ) (text : List ℕ) (part : Part) (run : Run) (stage : Stage) (v : ℕ) → IsDigitAt radix text run.size v
     → IsReadOn m text (at_stage run.size run.stage) (digits_piece part) (at_stage (run.size + 1) stage)
     → IsRunOn m radix text part run (record (pushed radix run v 1) { stage = stage })
-one_digit m radix text part run stage v digit on = let one = byte_between radix text run.size (Some v) digit.0 digit.1 in record {
-  on = on;
-  within = λ is. omega (arith, digit.0);
-  digits = sym (ap (λ ds. run.digits + length ds) one);
-  sum = pushed_sum radix run.sum v ∙ sym (ap (λ ds. number_from_digits_after radix run.sum ds % 2 ^ 64) one);
-}
+one_digit m radix text part run stage v digit on = grind (arith, byte_between)
 
 -- One digit, and those behind it.
 pub behind_digit : (m : Notation) (radix : ℕ) (text : List ℕ) (part : Part) (run : Run) (stage : Stage) (v : ℕ) (one last : Run)
