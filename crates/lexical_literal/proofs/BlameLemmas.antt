@@ -134,8 +134,7 @@ module _ (m : Notation) (s : Summary) (g : Group) (next : Option ℕ) (allowed :
 -- REQUIREMENTS
 
 choose : {X : Type 0} (Q : X → Type 0) (t : Bool) (x y : X) → (t ≡ true → Q x) → (t ≡ false → Q y) → Q (if t then x else y)
-choose Q true x y is other = is refl
-choose Q false x y is other = other refl
+choose Q x1 x y is other = grind arith
 
 -- What holds of some flags holds of those of their mask.
 as_flags : (Q : (Flag → Bool) → Type 0) (P : Flag → Bool) → Q P → Q (raw (mask_of P)).flag
@@ -275,14 +274,7 @@ module _ (m : Notation) (s : Summary) (g : Group) (front : List ℕ) (read : IsR
         (separators m s g (Some byte)) (record { refused = not_allowed; some = some_of _ some; each = permits; at = at }))
 
   is_otherwise : (next : Option ℕ) → goes (bare m) s g next ≡ false → IsCause m front next (otherwise m s g next).kind (raw (otherwise m s g next).mask).flag
-  is_otherwise None none = record {
-    refused = λ l reads. false≢true (sym none ∙ (read.decides None (bare m).flag no_condition (bare_weaker m)).1 (l, reads));
-    last = read.part (unended s.ended _ (sym (goes_free m (bare m).flag s g None) ∙ none));
-    none = flag_zero;
-  } where
-    unended : (e x : Bool) → ((e || x) && true) ≡ false → e ≡ false
-    unended e x none = grind arith
-  is_otherwise (Some byte) none = is_wrong byte none
+  is_otherwise x0 none = grind (arith, bare_weaker, goes_free, flag_zero, is_wrong)
 
   -- What has been read, and what refuses, decide the cause.
   is_blamed : (next : Option ℕ) → goes m s g next ≡ false → IsCause m front next (blame m s g next).kind (raw (blame m s g next).mask).flag

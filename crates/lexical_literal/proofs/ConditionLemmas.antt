@@ -38,15 +38,11 @@ suffix_length l = simp added (omega arith)
 
 -- A part with bytes is there.
 some_bytes : (x : List ℕ) → nat_lt 0 (length x) ≡ is_present x
-some_bytes [] = refl
-some_bytes (b ∷ x) = grind (arith, nat_tests)
+some_bytes x0 = grind arith
 
 -- But for the zero of a prefix, no piece gets shorter.
 still : (c : Cuts) (part : Part) (r : Role) (q : Piece) → (q ≡ pieces.Integer → ⊥) → nat_lt 0 (c q) ≡ true → nat_lt 0 (count part (Some r) c q) ≡ true
-still c part roles.Prefix pieces.Prefix other some = refl
-still c part roles.Prefix pieces.Integer other some = absurd (other refl)
-still c part roles.Prefix _ other some = some
-still c part _ q other some = grind (arith, nat_tests)
+still c part x2 q other some = grind arith
 
 module _ (m : Notation) (h : HasRoles m) where
   abbrev C : Condition → Bool
@@ -131,8 +127,7 @@ module _ (m : Notation) (h : HasRoles m) where
     sign : (C conditions.NegativeSign && (is_fresh s.stage && is_negative (part_of s.stage) false roles.Sign)) ≡ false
 
   calm_admits : (s : Summary) (plus zero : Bool) (r : Role) → Calm s → takes m s plus r ≡ true → admits C s plus zero r ≡ true
-  calm_admits s plus zero roles.Sign calm taken = let a = calm.prefix in let b = calm.sign in grind arith
-  calm_admits s plus zero _ calm taken = let a = calm.prefix in grind arith
+  calm_admits s plus x2 x3 calm taken = grind arith
 
   calm_after : (s : Summary) (zero : Bool) (r : Role) → Calm s → Calm (after s zero r)
   calm_after s zero r calm = record { prefix = let a = calm.prefix in grind arith; sign = let b = calm.sign in grind arith }

@@ -1,9 +1,8 @@
 -- The lengths of parts.
-use Rattle.std.proofs.Common.{ℕ, ◌≡◌, ◌+◌, List, [], ◌∷◌, length, get_or, set, refl, arith}
+use Rattle.std.proofs.Common.{ℕ, ◌≡◌, ◌+◌, List, [], ◌∷◌, length, get_or, set, arith}
 use Rattle.lexical_literal.specs.Additions.Plain.{counts_of, integer_sizes}
 use Rattle.lexical_literal.specs.Additions.Summary.{add_more, cuts_of, piece_number, with_prefix}
 use Rattle.lexical_literal.specs.declared.steps.Piece.{Piece}
-use Rattle.lexical_literal.specs.declared.steps.Piece.TheVariants as pieces
 
 -- More bytes of a piece.
 pub count_more : (counts : List ℕ) → length counts ≡ 9 → (piece : Piece) (n : ℕ)
@@ -14,5 +13,4 @@ count_more counts nine piece n = absurd (omega (arith, nine))
 -- A base prefix behind a sign.
 pub count_prefix : (sign : ℕ) (other : Piece)
     → with_prefix (cuts_of (counts_of (integer_sizes sign 0 0) 0 0 0 0)) other ≡ cuts_of (counts_of (integer_sizes sign 2 0) 0 0 0 0) other
-count_prefix sign pieces.Sign = refl
-count_prefix sign _ = refl
+count_prefix sign x1 = grind arith

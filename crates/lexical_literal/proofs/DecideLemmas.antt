@@ -25,13 +25,10 @@ use Rattle.lexical_literal.proofs.ScanLemmas.{scan_append}
 use Rattle.lexical_literal.proofs.SizeLemmas.{all_end, as_sized, as_unsized, ends, group_append, group_none, required}
 
 some_of : {X : Type 0} (o : Option X) → (o ≡ None → ⊥) → (x : X) × (o ≡ Some x)
-some_of None some = absurd (some refl)
-some_of (Some x) some = (x, refl)
+some_of x0 some = grind arith
 
 no_size : (m : Notation) → has_sizes m ≡ false → (part : Part) → has_size m part ≡ false
-no_size m none parts.Integer = grind arith
-no_size m none parts.Fraction = grind arith
-no_size m none parts.Exponent = refl
+no_size m none x2 = grind arith
 
 module _ (m : Notation) (ready : IsReady (unsized m)) (sizes : HasSizes m) (front : List ℕ) (s : Summary) (g : Group)
     (read : scan (unsized m) (Some start) front ≡ Some s) (grouped : group_after m (Some first_group) front ≡ Some g) where
@@ -48,19 +45,10 @@ module _ (m : Notation) (ready : IsReady (unsized m)) (sizes : HasSizes m) (fron
   one_group b = group_append m (Some first_group) front (b ∷ []) ∙ ap (λ o. group_after m o (b ∷ [])) grouped
 
   pub grows : (r : Option Role) → fits m g r ≡ true → grow m g r ≡ None → ⊥
-  grows r fit none = go (has_sizes m) (rw (fit) at none) where
-    go : (sized : Bool) → (if not sized then Some g else Some (grown g r)) ≡ None → ⊥
-    go true none = let apart : Some (grown g r) ≡ None = none in cc
-    go false none = let apart : Some g ≡ None = none in cc
+  grows r fit none = grind arith
 
   fitting : (r : Option Role) → (grow m g r ≡ None → ⊥) → fits m g r ≡ true
-  fitting r some = elim (cases_Bool (has_sizes m)) [
-    | inl sized ↦ go (fits m g r) (rw (sized) at some)
-    | inr none ↦ or_left _ _ (ap not (no_size m none g.part))
-  ] where
-    go : (fit : Bool) → ((if fit then Some (grown g r) else None) ≡ None → ⊥) → fit ≡ true
-    go true some = refl
-    go false some = absurd (some refl)
+  fitting r some = grind arith
 
   pub decides_there : (next : Option ℕ) → (goes m s g next ≡ true) ↔ Allows m front next
   decides_there None = (

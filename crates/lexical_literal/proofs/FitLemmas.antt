@@ -41,9 +41,7 @@ module _ (m : Notation) where
 
   grown_or : (P : Option Group → Type 0) (t f : Bool) (g next : Group) → f ≡ true → P (Some g) → P (Some next)
       → P (if not t then Some g else (if f then Some next else None))
-  grown_or P true true g next fit same more = more
-  grown_or P false f g next fit same more = same
-  grown_or P true false g next fit same more = absurd (false≢true fit)
+  grown_or P x1 f g next fit same more = grind arith
 
   no_separator : (part : Part) (b : ℕ) → m.separator b ≡ false → role_at m part b ≡ Some roles.Separator → ⊥
   no_separator part b other role = false≢true (sym other ∙ as_role m part b roles.Separator role)
@@ -68,8 +66,7 @@ module _ (m : Notation) where
   -- Behind a full group, all but digits and separators fit.
   full_ends : (g : Group) (text : List ℕ) → fits m g None ≡ true → begins m (m.digit g.part) text ≡ false → list_any m.separator text ≡ false
       → ends m (group_after m (Some g) text) ≡ true
-  full_ends g [] full begun joined = full
-  full_ends g (b ∷ text) full begun joined = grind (arith, ends, no_separator, calm_ends)
+  full_ends g x1 full begun joined = grind (arith, ends, no_separator, calm_ends)
 
   -- WHAT HAS BEEN READ, AND ITS LAST GROUP
 
@@ -88,9 +85,7 @@ module _ (m : Notation) where
 
   -- No separator is before or behind the digits of a part with a size.
   no_empty : (part : Part) → has_size m part ≡ true → (u.flag (separators_in part).leading ≡ false) × (u.flag (separators_in part).trailing ≡ false)
-  no_empty parts.Integer sized = (rw (sized) refl, rw (sized) refl)
-  no_empty parts.Fraction sized = (rw (sized) refl, rw (sized) refl)
-  no_empty parts.Exponent sized = absurd (false≢true sized)
+  no_empty x0 sized = grind arith
 
   after_separator : (stage : Stage) → has_digit stage ≡ true → (has_digit (after_mark stage) ≡ true) × (lacks_prefix (after_mark stage) ≡ false)
   after_separator stage digit = (grind arith, grind arith)
@@ -127,8 +122,7 @@ module _ (m : Notation) where
 
   fit_of : (f : Bool) (next : Group) (text : List ℕ) (last : Group) → group_after m (if f then Some next else None) text ≡ Some last
       → (f ≡ true) × (group_after m (Some next) text ≡ Some last)
-  fit_of true next text last is = (refl, is)
-  fit_of false next text last is = absurd (let none = group_none m text in cc)
+  fit_of x0 next text last is = grind (arith, group_none)
 
   linked_all : has_sizes m ≡ true → (s : Summary) (g : Group) (text : List ℕ) (t : Summary) (last : Group) → Linked s g
       → scan u (Some s) text ≡ Some t → group_after m (Some g) text ≡ Some last → Linked t last
@@ -162,9 +156,7 @@ module _ (m : Notation) where
       sized : has_size m g.part ≡ true
 
     some_size : (part : Part) → has_size m part ≡ true → has_sizes m ≡ true
-    some_size parts.Integer is = or_left _ _ is
-    some_size parts.Fraction is = or_right _ _ is
-    some_size parts.Exponent is = absurd (false≢true is)
+    some_size x0 is = grind arith
 
     module _ (text : List ℕ) (s : Summary) (g : Group) (is : Filling text s g) where
       linked : Linked s g

@@ -1,9 +1,9 @@
 -- Several forms: what has been found in the first of them, and what one form more adds.
-use Rattle.std.proofs.Common.{ℕ, ◌≡◌, ◌*◌, Bool, true, false, if◌then◌else◌, ◌<◌, ◌≤◌, ◌+◌, inl, inr, List, Ok, Option, Some, None, All, IsSomeAnd}
-use Rattle.std.proofs.Common.{length, take, get_or, slice_get, IsNone, refl, sym, ap, subst, ◌∙◌, arith}
+use Rattle.std.proofs.Common.{ℕ, ◌≡◌, ◌*◌, Bool, true, false, if◌then◌else◌, ◌<◌, ◌≤◌, ◌+◌, List, Ok, Option, Some, None, All, IsSomeAnd}
+use Rattle.std.proofs.Common.{length, take, get_or, slice_get, IsNone, refl, sym, subst, arith}
 use Rattle.std.specs.Option.{ForSome}
 use Rattle.std.proofs.lemmas.Bool.Decides.{nat_tests}
-use Rattle.std.proofs.lemmas.Bool.{cases_lt, false≢true}
+use Rattle.std.proofs.lemmas.Bool.{false≢true}
 use Rattle.std.proofs.lemmas.List.{take_all}
 use Rattle.std.proofs.lemmas.List.Elements.{All-more}
 use Rattle.std.proofs.lemmas.Option.{slice_get-get_or, slice_get_within}
@@ -20,11 +20,11 @@ use Rattle.lexical_literal.specs.declared.read.Found.{Found}
 use Rattle.lexical_literal.specs.declared.plain.At.{At}
 use Rattle.lexical_literal.specs.declared.syntax.Grammar.{Grammar}
 use Rattle.lexical_literal.proofs.OneCauseLemmas.{one_refusal}
+use Rattle.std.proofs.lemmas.Grind.{common_steps}
 
 -- What holds of some value of an option holds of the value that it is.
 some_of : {X : Type 0} (P : X → Type 0) (o : Option X) → IsSomeAnd o P → (x : X) × (o ≡ Some x) × P x
-some_of P None holds = elim holds [ ]
-some_of P (Some x) holds = (x, refl, holds)
+some_of P x1 holds = grind arith
 
 -- The form at an index, where a list of readers has the reader `g`.
 pub form_at : (P : Grammar → Type 0) (forms readers : List Grammar) (g : Grammar) (i : ℕ) → readers ≡ forms → g ≡ get_or readers i g
@@ -42,15 +42,11 @@ pub inside_at : (P : Grammar → Type 0) (forms : List Grammar) (i : ℕ) → Is
 inside_at P forms i holds = let here = some_of P (slice_get forms i) holds in slice_get_within forms i here.0 here.1
 
 here_at : (P : Grammar → Type 0) (forms : List Grammar) (i : ℕ) (d : Grammar) → IsSomeAnd (slice_get forms i) P → P (get_or forms i d)
-here_at P forms i d holds =
-    let here = some_of P (slice_get forms i) holds in
-    let at = slice_get-get_or forms i d (slice_get_within forms i here.0 here.1) in
-    let same : here.0 ≡ get_or forms i d = let some = here.1 in cc in subst P same here.2
+here_at P forms i d holds = grind (arith, common_steps, some_of, slice_get-get_or, slice_get_within)
 
 pub at_index : (P : Grammar → Type 0) (forms readers : List Grammar) (g : Grammar) (i : ℕ) → readers ≡ forms → g ≡ get_or readers i g → i < length readers → P g
     → IsSomeAnd (slice_get forms i) P
-at_index P forms readers g i same is inside holds =
-    subst (λ l. IsSomeAnd (slice_get l i) P) same (subst (λ o. IsSomeAnd o P) (sym (slice_get-get_or readers i g inside ∙ ap Some (sym is))) holds)
+at_index P forms readers g i same is inside holds = grind (arith, common_steps, slice_get-get_or)
 
 -- A text has one longest front that some literal begins with, and one that is a literal.
 pub one_size : (m : Notation) (text : List ℕ) (a b : ℕ) → IsValidUpTo m text a → IsValidUpTo m text b → a ≤ b
@@ -108,34 +104,16 @@ module _ {X : Type 0} (M : Measure X) (forms : List Grammar) where
     -- The form at `i` has no value.
     pub best_stays : M.IsNot g → (best : Option (ℕ × X)) → IsBest i best → IsBest (i + 1) best
     best_stays none None old = All-more M.IsNot forms i d inside old none
-    best_stays none (Some best) old = record {
-      here = old.here;
-      before = old.before;
-      others = All-more (λ g. (n : ℕ) → M.IsSize g n → n ≤ M.size best.1) forms i d inside old.others (λ n is. absurd (M.none g n none is));
-    }
+    best_stays none (Some best) old = grind (arith, common_steps)
 
     -- It has the value `x`, which is greater than those before.
     greatest_yet : (x : X) → M.IsValue g x → All (λ g. (n : ℕ) → M.IsSize g n → n < M.size x) (take i forms) → IsBestOf (i + 1) i x
-    greatest_yet x is less = record {
-      here = subst (λ o. IsSomeAnd o (λ g. M.IsValue g x)) (sym (slice_get-get_or forms i d inside)) is;
-      before = less;
-      others = All-more (λ g. (n : ℕ) → M.IsSize g n → n ≤ M.size x) forms i d inside
-          (λ k e below n is. let small = less k e below n is in omega (arith, small)) (λ n other. M.one g n (M.size x) other (M.sized g x is));
-    }
+    greatest_yet x is less = grind (arith, common_steps, slice_get-get_or)
 
     -- It has the value `x`.
     pub best_more : (x : X) → M.IsValue g x → (best : Option (ℕ × X)) → IsBest i best → IsBest (i + 1) (greater M.size best i x)
     best_more x is None old = greatest_yet x is (λ k e below n other. absurd (M.none _ n (old k e below) other))
-    best_more x is (Some best) old = elim (cases_lt (M.size best.1) (M.size x)) [
-      | inl more ↦ subst (IsBest (i + 1)) {x = Some (i, x)} (grind (arith, nat_tests))
-          (greatest_yet x is (λ k e below n other. let less = old.others k e below n other in omega (arith, less, more)))
-      | inr less ↦ subst (IsBest (i + 1)) {x = Some best} (grind (arith, nat_tests)) (record {
-        here = old.here;
-        before = old.before;
-        others = All-more (λ g. (n : ℕ) → M.IsSize g n → n ≤ M.size best.1) forms i d inside old.others
-            (λ n other. let short = M.one g n (M.size x) other (M.sized g x is) in omega (arith, short, less));
-      })
-    ]
+    best_more x is (Some best) old = grind (arith, common_steps, nat_tests, greatest_yet)
 
   -- The best of all forms.
   greatest : (i : ℕ) → length forms ≤ i → (form : ℕ) (x : X) → IsBestOf i form x → IsGreatest M.IsSize forms form (M.size x)
@@ -233,14 +211,7 @@ module _ (forms : List Grammar) (text : List ℕ) (first size : ℕ) (furthest :
 
     error_from : All (λ g. (n : ℕ) → Reaches text g n → n < reach error.refusal) (take form forms)
         → All (λ g. (n : ℕ) → Reaches text g n → n ≤ reach error.refusal) forms → IsFormError forms text (record { form = form; error = error })
-    error_from before others = let here = some_of (λ g. IsRefusal (notation_of g) text error.refusal) (slice_get forms form) is in record {
-      furthest = record {
-        here = subst (λ o. IsSomeAnd o (λ g. Reaches text g (reach error.refusal))) (sym here.1) (error.refusal, here.2, refl);
-        before = before;
-        others = others;
-      };
-      refusal = is;
-    }
+    error_from before others = grind arith
 
     pub other_error : is_byte error.refusal.kind ≡ false → All IsNoBetter (take form forms) → IsFormError forms text (record { form = form; error = error })
     other_error right before = let size_is = reach_is false right in error_from

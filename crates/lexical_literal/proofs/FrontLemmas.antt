@@ -42,8 +42,7 @@ module _ (m : Notation) where
 
   -- What can go on does so after each byte that is taken.
   goes_on : (s : Summary) (plus zero : Bool) (r : Role) → CanGoOn m s → takes m s plus r ≡ true → admits C s plus zero r ≡ true → CanGoOn m (after s zero r)
-  goes_on s plus zero roles.Digit can is admitted = record { closes = refl; led = grind arith; prefixed = grind arith }
-  goes_on s plus zero _ can is admitted = record { closes = grind arith; led = grind arith; prefixed = grind arith }
+  goes_on s plus x2 x3 can is admitted = grind arith
 
   all_go_on : HasRoles m → (s : Summary) (text : List ℕ) (last : Summary) → CanGoOn m s → scan m (Some s) text ≡ Some last → CanGoOn m last
   all_go_on h s [] last can is = let same : s ≡ last = cc in subst (CanGoOn m) same can
@@ -55,8 +54,7 @@ module _ (m : Notation) where
 
   -- A digit is enough for a part, and another one may follow where it is no leading zero.
   enough : (part : Part) (stage : Stage) → has_digit stage ≡ true → digits_suffice m part stage ≡ true
-  enough parts.Fraction stage digit = grind arith
-  enough _ stage digit = grind arith
+  enough x0 stage digit = grind arith
 
   behind_digit : (stage : Stage) (gap : Bool) → is_signed m (part_of stage) (after_digit stage gap true) ≡ true
   behind_digit stage gap = grind arith

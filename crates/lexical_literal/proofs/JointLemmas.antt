@@ -43,8 +43,7 @@ split_role n s plus zero (Some role) = gate s.ended (takes n s plus role) (admit
 
 moved : (n : Notation) (s : Summary) (ended plus zero : Bool) (o : Option Role)
     → is_some (move_by no_condition n (record s { ended = ended }) plus zero o) ≡ (not ended && taken n (part_of s.stage) s.stage s.gap plus o)
-moved n s ended plus zero None = grind arith
-moved n s ended plus zero (Some role) = grind arith
+moved n s ended plus x4 x5 = grind arith
 
 module _ (m : Notation) where
   -- `role_of_next s next` is the role of the byte `next` after `s`, or that of a suffix, where `next` is `None`.
@@ -77,8 +76,7 @@ module _ (m : Notation) where
   split A D s (Some byte) = split_role (with_rules m A D) s (byte == 43) (byte == 48) (role_at m (part_of s.stage) byte)
 
   passes_free : (s : Summary) (next : Option ℕ) → passes no_condition s next ≡ true
-  passes_free s None = refl
-  passes_free s (Some byte) = grind arith
+  passes_free s x1 = grind arith
 
   pub free_is : (A : Flag → Bool) (s : Summary) (next : Option ℕ) → lets (with_rules m A no_condition) s next ≡ free_allows (with_rules m A no_condition) s next
   free_is A s next = split A no_condition s next ∙ (let pass = passes_free s next in grind arith)
@@ -134,8 +132,7 @@ module _ (m : Notation) where
     Kept part = KeepsPlaces b u.flag no_condition part
 
     kept_in : (part : Part) → has_size sizing part ≡ has_size m part → Kept part
-    kept_in parts.Exponent same = grind arith
-    kept_in _ same = grind arith
+    kept_in x0 same = grind arith
 
     kept_gap : (part : Part) → Kept part → (digit gap next : Bool) → gap_fits b part digit gap next ≡ true → gap_fits u part digit gap next ≡ true
     kept_gap part kept digit gap next is = grind arith
@@ -159,11 +156,7 @@ module _ (m : Notation) where
 
     closed : (part : Part) → Kept part → (stage : Stage) (gap plus : Bool) (role : Role) → is_digits role ≡ false
         → takes_in b part stage gap plus role ≡ true → takes_in u part stage false plus role ≡ true → takes_in u part stage gap plus role ≡ true
-    closed part kept stage gap plus roles.Sign other free whole = whole
-    closed part kept stage gap plus roles.Prefix other free whole = whole
-    closed part kept stage gap plus roles.Digit other free whole = absurd (false≢true (sym other))
-    closed part kept stage gap plus roles.Separator other free whole = absurd (false≢true (sym other))
-    closed part kept stage gap plus role other free whole = grind (arith, and_parts)
+    closed part kept stage gap plus role other free whole = grind (arith, false≢true, and_parts)
 
     open_kept : (part : Part) → Kept part → (digit next : Bool) → is_open b part digit next ≡ true → is_open u part digit true ≡ true
     open_kept part kept digit next is = grind arith
@@ -171,14 +164,11 @@ module _ (m : Notation) where
     shut : (part : Part) → Kept part → (stage : Stage) (gap plus : Bool) (role : Role) → is_digits role ≡ true
         → is_signed u part stage ≡ true → takes_in b part stage gap plus role ≡ true → takes_in u part stage gap plus role ≡ false
         → may_follow u stage ≡ false
-    shut part kept stage gap plus roles.Digit is sign free refused = grind (arith, kept_gap)
-    shut part kept stage gap plus roles.Separator is sign free refused = grind (arith, and_parts, open_kept, false≢true)
-    shut part kept stage gap plus _ is sign free refused = absurd (false≢true is)
+    shut part kept stage gap plus x5 is sign free refused = grind (arith, kept_gap, and_parts, open_kept)
 
     joint_role : (part : Part) → Kept part → (stage : Stage) (gap plus : Bool) (o : Option Role) → Alone (λ n. taken n part stage gap plus o)
         → taken b part stage gap plus o ≡ true → taken u part stage gap plus o ≡ false → leads ≡ true
-    joint_role part kept stage gap plus None a free refused = absurd (false≢true free)
-    joint_role part kept stage gap plus (Some role) a free refused = grind (arith, shut, closed, whole_role, drop_gap)
+    joint_role part kept stage gap plus x5 a free refused = grind (arith, shut, closed, whole_role, drop_gap)
 
   -- SEPARATORS
 
@@ -193,8 +183,7 @@ module _ (m : Notation) where
 
   -- What is allowed by one notation, and refused by another, follows no suffix.
   pub going : (n k : Notation) (s : Summary) (next : Option ℕ) → free_allows n s next ≡ true → free_allows k s next ≡ false → s.ended ≡ false
-  going n k s None free refused = grind arith
-  going n k s (Some byte) free refused = grind arith
+  going n k s x3 free refused = grind arith
 
   module _ (s : Summary) (next : Option ℕ) (unended : s.ended ≡ false) where
     abbrev o : Option Role

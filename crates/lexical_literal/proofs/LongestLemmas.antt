@@ -28,6 +28,7 @@ use Rattle.lexical_literal.proofs.DecideLemmas.{decides_there, grows}
 use Rattle.lexical_literal.proofs.FitLemmas.{front_of, linked_there}
 use Rattle.lexical_literal.proofs.RefusalLemmas.{other_roles}
 use Rattle.lexical_literal.proofs.SizeLemmas.{all_end, as_sized, as_unsized, ends, group_append, small_after}
+use Rattle.std.proofs.lemmas.Grind.{common_steps}
 
 front_shorter : (m : Notation) (text : List ℕ) (k n : ℕ) → k ≤ n → IsFront m (take n text) → IsFront m (take k text)
 front_shorter m text k n below is = record {
@@ -127,8 +128,7 @@ module _ (m : Notation) (text : List ℕ) where
 
 -- Without a longest front, no front is a literal.
 pub no_front : (m : Notation) (text : List ℕ) (longest : Option Found) → IsLongest m text (length text) longest → IsNone longest → NoFront m text
-no_front m text None is none size below = is.no_longer size below (λ other same. absurd (let clash : None ≡ Some other = same in cc))
-no_front m text (Some found) is none size below = absurd (false≢true (sym none))
+no_front m text x2 is none size below = grind arith
 
 -- A literal that has been found is the longest front that is one if reading stops behind it.
 pub found_there : (m : Notation) (text : List ℕ) (counted : Counted) → HasBegun m text counted → counted.complete ≡ true → (stop : At) → IsStopped m text stop
@@ -225,8 +225,7 @@ module _ (m : Notation) (ready : IsReady (unsized m)) (sizes : HasSizes m) (text
     group_of = grow m group (role_at m group.part b)
 
     next_scan : at.size < length text → scan u (Some start) (take (at.size + 1) text) ≡ step_of
-    next_scan inside =
-        rw (take_more text at.size 0 inside, scan_append u.condition u (Some start) (take at.size text) (b ∷ []), is.begun.read) refl
+    next_scan inside = grind (arith, common_steps, take_more, scan_append)
 
     next_group : at.size < length text → group_after m (Some first_group) (take (at.size + 1) text) ≡ group_of
     next_group inside = rw (take_more text at.size 0 inside, group_append m (Some first_group) (take at.size text) (b ∷ []), is.grouped) refl

@@ -1,12 +1,13 @@
 -- The conditions in their order, and those that are kept of others.
-use Rattle.std.proofs.Common.{ℕ, ◌≡◌, ◌<◌, ◌+◌, ◌&&◌, Bool, true, false, if◌then◌else◌, nat_lt, length, get_or, map, sym, ap, ◌∙◌, arith}
+use Rattle.std.proofs.Common.{ℕ, ◌≡◌, ◌<◌, ◌+◌, ◌&&◌, Bool, true, false, if◌then◌else◌, nat_lt, length, get_or, arith}
 use Rattle.std.proofs.lemmas.Bool.Decides.{nat_tests}
-use Rattle.std.proofs.lemmas.List.{ext_get_or, get_or-map}
+use Rattle.std.proofs.lemmas.List.{ext_get_or}
 use Rattle.std.specs.List.{list_any}
 use Rattle.lexical_literal.specs.Notation.{all_conditions, has, is_same, kept, number_of, order}
 use Rattle.lexical_literal.specs.declared.syntax.Condition.{Condition}
 use Rattle.lexical_literal.specs.declared.syntax.Condition.TheVariants as conditions
 use Rattle.lexical_literal.specs.declared.syntax.Conditions.{Conditions}
+use Rattle.std.proofs.lemmas.Grind.{common_steps}
 
 -- Each condition is at its place in the list.
 pub at_place : (i : ℕ) → i < length all_conditions → order (get_or all_conditions i conditions.BasePrefix) ≡ i
@@ -35,10 +36,4 @@ has_only c d e set = grind (arith, nat_tests)
 module _ (C : Condition → Bool) (N : Condition → ℕ) where
   -- Conditions with the numbers of those that are kept are these.
   pub is_kept : (c : Conditions) → length c.numbers ≡ length all_conditions → ((d : Condition) → number_of c d ≡ (if C d then N d else 0)) → c ≡ kept C N
-  is_kept c all each = λ j. record { numbers = numbers j } where
-    numbers : c.numbers ≡ map (λ d. if C d then N d else 0) all_conditions
-    numbers = ext_get_or 0 c.numbers (map (λ d. if C d then N d else 0) all_conditions) all (λ i below.
-        let inside : i < length all_conditions = omega (arith, all, below) in
-        let d = get_or all_conditions i conditions.BasePrefix in
-        ap (λ i. get_or c.numbers i 0) (sym (at_place i inside)) ∙ each d
-        ∙ sym (get_or-map (λ d. if C d then N d else 0) all_conditions i conditions.BasePrefix 0 inside))
+  is_kept c all each = grind (arith, common_steps, ext_get_or, at_place)

@@ -1,9 +1,8 @@
 -- A refusal has one cause, and a text has one refusal.
-use Rattle.std.proofs.Common.{ℕ, ◌≡◌, ◌<◌, ◌≤◌, ◌↔◌, ◌^◌, Bool, true, false, if◌then◌else◌, List, Option, Some, None, sum_by, take, refl, sym, ap, subst, ◌∙◌}
+use Rattle.std.proofs.Common.{ℕ, ◌≡◌, ◌<◌, ◌≤◌, ◌↔◌, ◌^◌, Bool, true, if◌then◌else◌, List, Option, Some, None, sum_by, take, refl, sym, ap, subst, ◌∙◌}
 use Rattle.std.proofs.Common.{arith}
 use Rattle.std.proofs.Math.Nat.{le_antisymm}
 use Rattle.std.specs.Prelude.{slice_get}
-use Rattle.std.proofs.lemmas.Bool.{false≢true, false_from_ne_true}
 use Rattle.std.proofs.lemmas.Bool.Decides.{nat_tests}
 use Rattle.lexical_util.specs.Groups.{bits_of}
 use Rattle.lexical_util.specs.Layout.{Flag, bit, flags}
@@ -25,8 +24,7 @@ same_at x y p q f first second = (grind (arith, nat_tests), grind (arith, nat_te
 
 -- Two truth values that are equivalent to one fact are the same.
 same_truth : {X : Type 0} (a b : Bool) → (a ≡ true) ↔ X → (b ≡ true) ↔ X → a ≡ b
-same_truth true b one two = sym (two.1 (one.0 refl))
-same_truth false b one two = sym (false_from_ne_true b (λ is. false≢true (one.1 (two.0 is))))
+same_truth x0 b one two = grind arith
 
 module _ (m : Notation) (front : List ℕ) (a b : Flag → Bool) where
   separators : (byte : ℕ) (p q : Part) (x y : Place) → IsSeparator m front byte p x a → IsSeparator m front byte q y b

@@ -1,6 +1,6 @@
 -- The roles of the bytes of a literal's parts.
 use Rattle.std.proofs.Common.{ℕ, ◌≡◌, true, List, [], ◌∷◌, ◌++◌, arith}
-use Rattle.std.proofs.lemmas.Bool.{false≢true, and_parts}
+use Rattle.std.proofs.lemmas.Bool.{and_parts}
 use Rattle.lexical_util.specs.Ascii.{ByteSet}
 use Rattle.lexical_util.specs.declared.format_flags.Part.{Part}
 use Rattle.lexical_literal.specs.Notation.{Notation}
@@ -15,9 +15,7 @@ module _ (m : Notation) (part : Part) where
   fit_bytes before (b ∷ run) is = (grind arith, fit_bytes (before ++ b ∷ []) run (and_parts (is_fit m part before b run) _ is).1)
 
 one_bytes : (A : ByteSet) (bytes : List ℕ) → is_none_or_one A bytes ≡ true → AllIn A bytes
-one_bytes A [] is = tt
-one_bytes A (b ∷ []) is = (is, tt)
-one_bytes A (b ∷ c ∷ bytes) is = absurd (false≢true is)
+one_bytes A x1 is = grind arith
 
 pub parts_have_roles : (m : Notation) (l : Literal) → IsSpelled m l → PartsHaveRoles m l
 parts_have_roles m l is = grind (arith, one_bytes, fit_bytes)

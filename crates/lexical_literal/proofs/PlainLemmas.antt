@@ -1,7 +1,7 @@
 -- What is read of a text part after part.
 use Rattle.lexical_literal.proofs.StepLemmas.{awaited_part}
-use Rattle.std.proofs.Common.{ℕ, ◌≡◌, ◌<◌, ◌≤◌, ◌+◌, ◌-◌, ◌==◌, ◌&&◌, ◌||◌, Bool, true, false, not, IsTrue, if◌then◌else◌, List, [], ◌∷◌, Some, get_or, length}
-use Rattle.std.proofs.Common.{take, refl, sym, ap, subst, ◌∙◌, arith}
+use Rattle.std.proofs.Common.{ℕ, ◌≡◌, ◌<◌, ◌≤◌, ◌+◌, ◌-◌, ◌==◌, ◌&&◌, ◌||◌, Bool, true, false, not, IsTrue, if◌then◌else◌, List, Some, get_or, length}
+use Rattle.std.proofs.Common.{refl, sym, ap, subst, ◌∙◌, arith}
 use Rattle.std.proofs.lemmas.Bool.{false≢true, and_from}
 use Rattle.std.proofs.lemmas.List.{take_more}
 use Rattle.lexical_util.specs.Layout.{separators_in}
@@ -12,8 +12,8 @@ use Rattle.lexical_util.specs.declared.format_flags.Part.TheVariants as parts
 use Rattle.lexical_literal.specs.Notation.{Notation}
 use Rattle.lexical_literal.specs.Additions.Plain.{HasRoles, IsAt, IsReadOn, fresh, is_free, at_stage}
 use Rattle.lexical_literal.specs.Additions.Summary.{Cuts, add, add_more, admits, after, after_digit, after_mark, digits_piece, forbids_plus}
-use Rattle.lexical_literal.specs.Additions.Summary.{has_digit, awaits_integer, is_negative, is_run, is_signed, may_follow, no_cuts, piece_of}
-use Rattle.lexical_literal.specs.Additions.Summary.{start, takes, role_at, part_of, takes_in, digits_of, count, with_prefix}
+use Rattle.lexical_literal.specs.Additions.Summary.{has_digit, awaits_integer, is_negative, is_run, is_signed, may_follow, piece_of}
+use Rattle.lexical_literal.specs.Additions.Summary.{takes, role_at, part_of, takes_in, digits_of, count, with_prefix}
 use Rattle.lexical_literal.specs.declared.plain.At.{At}
 use Rattle.lexical_literal.specs.declared.steps.Piece.{Piece}
 use Rattle.lexical_literal.specs.declared.steps.Piece.TheVariants as pieces
@@ -22,21 +22,18 @@ use Rattle.lexical_literal.specs.declared.steps.Stage.TheVariants as stages
 use Rattle.lexical_literal.specs.declared.steps.Summary.{Summary}
 use Rattle.lexical_literal.specs.declared.syntax.Condition.TheVariants as conditions
 use Rattle.lexical_literal.proofs.ScanLemmas.{digit_role, is_role, moved, scan_append, tally_append}
+use Rattle.std.proofs.lemmas.Grind.{common_steps}
 
 sum_more : (c : Cuts) (p other : Piece) (k n l : ℕ) → k ≤ n → n ≤ l → add_more (add_more c p (n - k)) p (l - n) other ≡ add_more c p (l - k) other
 sum_more c p other k n l low high = let same : n - k + (l - n) ≡ l - k = omega arith in grind arith
 
 -- A stage before the first digit of the integer has none.
 pub none_begun : (stage : Stage) → awaits_integer stage ≡ true → has_digit stage ≡ false
-none_begun stages.Start is = refl
-none_begun stages.Empty is = refl
-none_begun _ is = absurd (false≢true is)
+none_begun x0 is = grind arith
 
 -- What a digit makes of a stage without digits.
 first_follows : (m : Notation) (stage : Stage) → has_digit stage ≡ false → may_follow m stage ≡ true
-first_follows m stages.Bare none = absurd (false≢true (sym none))
-first_follows m stages.Zero none = absurd (false≢true (sym none))
-first_follows m _ none = refl
+first_follows m x1 none = grind arith
 
 after_first : (stage : Stage) (zero : Bool) → has_digit stage ≡ false
     → after_digit stage false zero ≡ (if zero && awaits_integer stage then stages.Bare else digits_of (part_of stage))
@@ -86,21 +83,7 @@ module _ (m : Notation) (text : List ℕ) where
         → takes m at.read (get_or text at.size 0 == 43) r ≡ true
         → admits m.condition at.read (get_or text at.size 0 == 43) (get_or text at.size 0 == 48) r ≡ true → (c : Cuts) → IsAt m text at c
         → IsAt m text (record { size = at.size + 1; read = after at.read (get_or text at.size 0 == 48) r }) (count (part_of at.read.stage) (Some r) c)
-    read_one at r inside plays going taken admitted c is = let b = get_or text at.size 0 in record {
-      begun = record {
-        within = omega arith;
-        read = rw (take_more text at.size 0 inside, scan_append m.condition m (Some start) (take at.size text) (b ∷ []), is.begun.read)
-            (moved m.condition m at.read b r plays going taken admitted);
-      };
-      counted = rw (
-        take_more text at.size 0 inside,
-        tally_append m.condition m (Some start) no_cuts (take at.size text) (b ∷ []),
-        is.begun.read,
-        is.counted,
-        plays,
-      )
-          refl;
-    }
+    read_one at r inside plays going taken admitted c is = grind (arith, common_steps, take_more, scan_append, moved, tally_append)
 
     -- One byte that is no sign is read, where no base prefix is missing.
     pub read_free : (part : Part) (at : At) (r : Role) → part_of at.read.stage ≡ part → (roles.Sign ≡ r → ⊥) → at.size < length text

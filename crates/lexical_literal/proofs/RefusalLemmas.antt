@@ -2,10 +2,8 @@
 use Rattle.std.proofs.Common.{ℕ, ◌≡◌, Bool, true, false, ◌==◌, ◌&&◌, ◌||◌, IsTrue, List, [], ◌∷◌, ◌++◌}
 use Rattle.std.proofs.Common.{Option, Some, None, refl, sym, ap, subst, ◌∙◌, arith}
 use Rattle.std.proofs.lemmas.Bool.{and_parts, and_from}
-use Rattle.lexical_util.specs.Layout as layout
 use Rattle.lexical_util.specs.Layout.{Flag, separators_in}
 use Rattle.lexical_util.specs.declared.format_flags.Part.{Part}
-use Rattle.lexical_util.specs.declared.format_flags.Part.TheVariants as parts
 use Rattle.lexical_literal.specs.Additions.Plain.{IsReady, HasRoles}
 use Rattle.lexical_literal.specs.Notation.{Notation}
 use Rattle.lexical_literal.specs.Run.{is_place, is_fit, are_fit}
@@ -24,8 +22,7 @@ use Rattle.lexical_literal.proofs.PartOfLemmas.{none_after}
 
 -- A flag that requires something allows no separator.
 pub apart : (f : Flag) → (is_one_of requirement_flags f && is_one_of number_separator_flags f) ≡ false
-apart layout.required_integer_digits = refl
-apart _ = refl
+apart x0 = grind arith
 
 -- FEWER REQUIREMENTS
 
@@ -57,14 +54,8 @@ module _ (m : Notation) (A : Flag → Bool) (D : Condition → Bool) where
   -- Flags that require no more, and are no less otherwise.
   module _ (no_more : (f : Flag) → IsTrue (A f && is_one_of requirement_flags f) → IsTrue (m.flag f))
       (no_less : (f : Flag) → IsTrue (m.flag f) → IsTrue (A f || is_one_of requirement_flags f)) where
-    -- A flag that requires nothing is kept.
-    keep : (f : Flag) → is_one_of requirement_flags f ≡ false → IsTrue (m.flag f) → IsTrue (A f)
-    keep f none set = let more = no_less f set in grind arith
-
     kept : (part : Part) → KeepsPlaces part
-    kept parts.Integer = record { leading = keep _ refl; internal = keep _ refl; trailing = keep _ refl; consecutive = keep _ refl }
-    kept parts.Fraction = record { leading = keep _ refl; internal = keep _ refl; trailing = keep _ refl; consecutive = keep _ refl }
-    kept parts.Exponent = record { leading = keep _ refl; internal = keep _ refl; trailing = keep _ refl; consecutive = keep _ refl }
+    kept x0 = grind arith
 
     pub spelled_too : (l : Literal) → IsSpelled m l → IsSpelled n l
     spelled_too l is = grind (arith, all_fit, kept)
@@ -90,8 +81,7 @@ module _ (m : Notation) (A : Flag → Bool) (D : Condition → Bool) where
       same_last h (after t (b == 48) one.role) text s r one.rest (subst (λ x. scan n (Some (after t (b == 48) x)) text ≡ Some r) same two.rest)
 
   some_of : (o : Option Summary) → (o ≡ None → ⊥) → (u : Summary) × (o ≡ Some u)
-  some_of None some = absurd (some refl)
-  some_of (Some u) some = (u, refl)
+  some_of x0 some = grind arith
 
   module _ (ready : IsReady m) (weaker : IsWeaker m A D) (front : List ℕ) (s : Summary) (read : scan m (Some start) front ≡ Some s) where
     pub read_too : scan n (Some start) front ≡ Some s

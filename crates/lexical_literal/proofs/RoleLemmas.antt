@@ -77,8 +77,7 @@ module _ (r : Record) (c : Conditions) (none : contradiction r c ≡ None) where
   has_suffix set = grind (arith, nat_tests)
 
   both_none : (a b : Option ConditionsError) → option_or a b ≡ None → (a ≡ None) × (b ≡ None)
-  both_none None b is = (refl, is)
-  both_none (Some a) b is = absurd (let apart : Some a ≡ None = is in cc)
+  both_none x0 b is = grind arith
 
   each_none : (ds : List Condition) → first_fault r c ds ≡ None → AllByRecursion (λ d. fault r c d ≡ None) ds
   each_none [] is = tt
@@ -92,10 +91,7 @@ module _ (r : Record) (c : Conditions) (none : contradiction r c ≡ None) where
   not_missing d set is = go (has c d) (nat_le (limits d).0 (number_of c d) && nat_le (number_of c d) (limits d).1) (missing r c d) set is where
     go : (has fits : Bool) (kind : Option ConditionsErrorKind) → has ≡ true
         → option_map (error_of d) (if has then (if fits then kind else Some faults.Number) else None) ≡ None → kind ≡ None
-    go true true None set is = refl
-    go true true (Some kind) set is = absurd (let apart : Some (error_of d kind) ≡ None = is in cc)
-    go true false kind set is = absurd (let apart : Some (error_of d faults.Number) ≡ None = is in cc)
-    go false fits kind set is = absurd (false≢true set)
+    go x0 fits kind set is = grind arith
 
   -- A part whose groups have sizes may have separators between digits.
   has_separators : (f : Flag) (kind : ConditionsErrorKind) → lacks_separator r f kind ≡ None → (r.flag f ≡ true) × ((r.byte layout.digit_separator == 0) ≡ false)

@@ -73,12 +73,10 @@ module _ (m : Notation) (part : Part) (b : ℕ) where
   no_digit role = false_from_ne_true _ (λ is. let same = sym role ∙ digit_role is in cc)
 
   pub as_role : (r : Role) → role_at m part b ≡ Some r → set_of_role m r b ≡ true
-  as_role roles.Digit role = grind arith
-  as_role _ role = grind arith
+  as_role x0 role = grind arith
 
   pub no_role : (r : Role) → (roles.Digit ≡ r → ⊥) → role_at m part b ≡ None → set_of_role m r b ≡ false
-  no_role roles.Digit other none = absurd (other refl)
-  no_role _ other none = grind arith
+  no_role x0 other none = grind arith
 
   -- A byte has no other role.
   pub is_role : HasRoles m → (r : Role) → (roles.Digit ≡ r → ⊥) → set_of_role m r b ≡ true → role_at m part b ≡ Some r

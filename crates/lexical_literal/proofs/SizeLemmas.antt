@@ -27,8 +27,7 @@ use Rattle.lexical_literal.proofs.ScanLemmas.{digit_role, is_role}
 use Rattle.lexical_literal.proofs.StepLemmas.{text_after}
 
 and_true : (t : Bool) → (t && true) ≡ t
-and_true true = refl
-and_true false = refl
+and_true x0 = grind arith
 
 module _ (m : Notation) where
   pub group_none : (text : List ℕ) → group_after m None text ≡ None
@@ -87,14 +86,11 @@ module _ (m : Notation) where
     byte_after part separated digits b text r plays = rw (sized, plays) refl
 
     chosen : (t : Bool) (g : Group) (text : List ℕ) → ends (group_after m (if t then Some g else None) text) ≡ (t && ends (group_after m (Some g) text))
-    chosen true g text = refl
-    chosen false g text = ap ends (group_none text)
+    chosen x0 g text = grind (arith, group_none)
 
     -- A byte that is no digit and no separator ends a part.
     closes : (part : Part) (b : ℕ) (text : List ℕ) (r : Role) → (roles.Digit ≡ r → ⊥) → (roles.Separator ≡ r → ⊥) → role_at m part b ≡ Some r
         → Closes part (b ∷ text) (at (next_part part (Some r)) false 0 text)
-    closes part b text roles.Digit other apart plays = absurd (other refl)
-    closes part b text roles.Separator other apart plays = absurd (apart refl)
     closes part b text r other apart plays = grind (arith, chosen)
 
     nothing : (part : Part) → Closes part [] true
@@ -201,14 +197,10 @@ module _ (m : Notation) where
   as_spelled = spelled_too u m.flag m.condition required (λ f set. or_left _ _ (kept_flag f set))
 
   keeps : (part : Part) → has_size m part ≡ false → KeepsPlaces m u.flag u.condition part
-  keeps parts.Integer none = grind arith
-  keeps parts.Fraction none = grind arith
-  keeps parts.Exponent none = record { leading = λ set. set; internal = λ set. set; trailing = λ set. set; consecutive = λ set. set }
+  keeps x0 none = grind arith
 
   pub same_internal : (part : Part) → m.flag (separators_in part).internal ≡ true → u.flag (separators_in part).internal ≡ true
-  same_internal parts.Integer is = is
-  same_internal parts.Fraction is = is
-  same_internal parts.Exponent is = is
+  same_internal x0 is = grind arith
 
   module _ (h : HasRoles m) (sizes : HasSizes m) where
     run_too : (part : Part) (run : List ℕ) → part_fits part false 0 run ≡ true → is_run m part run ≡ true → is_run u part run ≡ true
