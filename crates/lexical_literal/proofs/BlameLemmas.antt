@@ -260,7 +260,8 @@ module _ (m : Notation) (s : Summary) (g : Group) (front : List ℕ) (read : IsR
 
     is_wrong : IsCause m front (Some byte) (otherwise m s g (Some byte)).kind (raw (otherwise m s g (Some byte)).mask).flag
     is_wrong = choose (λ (b : Blame). IsCause m front (Some byte) b.kind (raw b.mask).flag) (mask_of (separators m s g (Some byte)) == 0) _ _
-        (λ zero. choose (λ (kind : ReadErrorKind). IsCause m front (Some byte) kind (raw (mask_of (cases m s g byte))).flag) (mask_of (cases m s g byte) == 0) _ _
+        (λ zero. choose (λ (kind : ReadErrorKind). IsCause m front (Some byte) kind (raw (mask_of (cases m s g byte))).flag)
+        (mask_of (cases m s g byte) == 0) _ _
         (λ no_cases. record {
           refused = not_allowed;
           no_separator = no_flag _ permits zero;

@@ -13,9 +13,8 @@ use Rattle.lexical_literal.specs.Groups.{has_sizes}
 use Rattle.lexical_literal.specs.Notation.{Notation}
 use Rattle.lexical_literal.specs.Literal.{Literal, IsLiteral, IsSpelled, Reads, condition, is_absent, is_none_or_one, is_none_or_prefix, is_plus, is_present}
 use Rattle.lexical_literal.specs.Literal.{text_of}
-use Rattle.lexical_literal.specs.Additions.Summary.{Cuts, HasLengths, add, admits, after, count, is_fresh, is_negative, role_at, part_of}
-use Rattle.lexical_literal.specs.Additions.Summary.{digits_piece, lacks_prefix, no_condition, no_cuts, piece_of, start, step_by, takes, tally_by}
-use Rattle.lexical_literal.specs.Additions.Summary.{awaits_integer}
+use Rattle.lexical_literal.specs.Additions.Summary.{Cuts, HasLengths, add, admits, after, count, is_fresh, is_negative, role_at, part_of, digits_piece}
+use Rattle.lexical_literal.specs.Additions.Summary.{lacks_prefix, no_condition, no_cuts, piece_of, start, step_by, takes, tally_by, awaits_integer}
 use Rattle.lexical_literal.specs.declared.steps.Piece.{Piece}
 use Rattle.lexical_literal.specs.declared.steps.Piece.TheVariants as pieces
 use Rattle.lexical_literal.specs.declared.steps.Stage.{Stage}

@@ -103,12 +103,13 @@ module _ (m : Notation) (A : Flag → Bool) (D : Condition → Bool) (weaker : I
   same_groups : has_sizes n ≡ true → has_sizes m ≡ true → (g : Group) (text : List ℕ) (last : Group) → group_after m (Some g) text ≡ Some last
       → group_after n (Some g) text ≡ Some last
   same_groups less more g [] last is = is
-  same_groups less more g (b ∷ text) last is = go (fits m g (role_at m g.part b)) refl (rw (more) at is) (same_groups less more (grown g (role_at m g.part b)) text last) where
-    go : (f : Bool) → fits m g (role_at m g.part b) ≡ f → group_after m (if f then Some (grown g (role_at m g.part b)) else None) text ≡ Some last
-        → (group_after m (Some (grown g (role_at m g.part b))) text ≡ Some last → group_after n (Some (grown g (role_at m g.part b))) text ≡ Some last)
-        → group_after n (grow n g (role_at n g.part b)) text ≡ Some last
-    go true fit is rest = rw (less, still g (role_at m g.part b) fit) (rest is)
-    go false fit is rest = absurd (let none = group_none m text in cc)
+  same_groups less more g (b ∷ text) last is = go (fits m g (role_at m g.part b)) refl (rw (more) at is)
+      (same_groups less more (grown g (role_at m g.part b)) text last) where
+        go : (f : Bool) → fits m g (role_at m g.part b) ≡ f → group_after m (if f then Some (grown g (role_at m g.part b)) else None) text ≡ Some last
+            → (group_after m (Some (grown g (role_at m g.part b))) text ≡ Some last → group_after n (Some (grown g (role_at m g.part b))) text ≡ Some last)
+            → group_after n (grow n g (role_at n g.part b)) text ≡ Some last
+        go true fit is rest = rw (less, still g (role_at m g.part b) fit) (rest is)
+        go false fit is rest = absurd (let none = group_none m text in cc)
 
   -- What has been read decides what is allowed.
   pub decided_of : (front : List ℕ) (s : Summary) (g : Group) → scan (unsized m) (Some start) front ≡ Some s

@@ -1,6 +1,6 @@
 -- What some literal of a notation with sizes of groups begins with: what one without begins with, if its groups fit byte by byte.
-use Rattle.std.proofs.Common.{ℕ, ◌≡◌, ◌≤◌, ◌+◌, ◌-◌, ◌==◌, inl, inr, Bool, true, false, not, ◌&&◌, ◌||◌, if◌then◌else◌, nat_le, nat_lt, List, [], ◌∷◌, ◌++◌, Option}
-use Rattle.std.proofs.Common.{Some, None, refl, sym, ap, subst, append_assoc, ◌∙◌, arith, zero, suc}
+use Rattle.std.proofs.Common.{ℕ, ◌≡◌, ◌≤◌, ◌+◌, ◌-◌, ◌==◌, inl, inr, Bool, true, false, not, ◌&&◌, ◌||◌, if◌then◌else◌, nat_le, nat_lt, List, [], ◌∷◌, ◌++◌}
+use Rattle.std.proofs.Common.{Option, Some, None, refl, sym, ap, subst, append_assoc, ◌∙◌, arith, zero, suc}
 use Rattle.std.proofs.lemmas.Bool.{false≢true, and_parts, and_from, cases_Bool, or_left, or_parts, or_right}
 use Rattle.std.proofs.lemmas.Bool.Decides.{nat_tests}
 use Rattle.std.specs.List.{list_any}
@@ -15,7 +15,8 @@ use Rattle.lexical_literal.specs.Literal.{Literal, Reads}
 use Rattle.lexical_literal.specs.Notation.{Notation}
 use Rattle.lexical_literal.specs.Additions.Plain.{HasRoles, HasSizes, IsReady}
 use Rattle.lexical_literal.specs.Additions.Sizes.{first_group, fits, follows, group_after, grow, grown, most, unsized}
-use Rattle.lexical_literal.specs.Additions.Summary.{admits, after, after_mark, gap_fits, has_digit, is_open, is_run, is_signed, lacks_prefix, may_follow, part_of, role_at, scan, start, takes, takes_in}
+use Rattle.lexical_literal.specs.Additions.Summary.{admits, after, after_mark, gap_fits, has_digit, is_open, is_run, is_signed, lacks_prefix}
+use Rattle.lexical_literal.specs.Additions.Summary.{may_follow, part_of, role_at, scan, start, takes, takes_in}
 use Rattle.lexical_literal.specs.Run.{is_place}
 use Rattle.lexical_literal.specs.declared.groups.Group.{Group}
 use Rattle.lexical_literal.specs.declared.syntax.Condition.TheVariants as conditions
@@ -262,7 +263,8 @@ module _ (m : Notation) where
           closable_from x (sizes.separator ∷ []) (last (x ++ sizes.separator ∷ []) (after t (sizes.separator == 48) roles.Separator)
           (grown full (Some roles.Separator)) (separator_more x t full more ((opened x t full more).gap ∙ some) fit) (same ∙ part) (grind (arith, nat_tests))))
     ] where
-      last : (text : List ℕ) (s : Summary) (g : Group) → Filling text s g → g.part ≡ parts.Integer → nat_le g.digits (m.number conditions.IntegerGroupSize) ≡ true
+      last : (text : List ℕ) (s : Summary) (g : Group) → Filling text s g → g.part ≡ parts.Integer
+          → nat_le g.digits (m.number conditions.IntegerGroupSize) ≡ true
           → Closable text
       last text s g is part low =
           zeros (m.number conditions.IntegerGroupSize - g.digits) text s g is
@@ -276,7 +278,8 @@ module _ (m : Notation) where
         elim (cases_Bool (nat_lt 0 g.digits)) [
           | inl some ↦ close text s g is (subst (λ part. last_fits m part g.digits ≡ true) (sym part) (grind (arith, nat_tests)))
           | inr none ↦ zeros 1 text s g is (subst (λ part. g.digits + 1 ≤ most m part) (sym part) (grind (arith, nat_tests)))
-              (λ x t full more same count. close x t full more (subst (λ part. last_fits m part full.digits ≡ true) (sym (same ∙ part)) (grind (arith, nat_tests))))
+              (λ x t full more same count. close x t full more (subst (λ part. last_fits m part full.digits ≡ true) (sym (same ∙ part))
+              (grind (arith, nat_tests))))
         ]
 
     close_group : (text : List ℕ) (s : Summary) (g : Group) (part : Part) → g.part ≡ part → Filling text s g → Closable text

@@ -288,7 +288,8 @@ module _ (m : Notation) (ready : IsReady (unsized m)) (sizes : HasSizes m) (text
           subst (λ (f : Found). (f.size ≤ next.size) × (l : Literal) × Reads m l (take f.size text)) same
           (let l = (decides next last follows.1 None).0 (sym complete) in (omega arith, l.0, l.1));
       counted = λ found is. let same : record { size = next.size; counts = counts } ≡ found = cc in
-          subst (λ (f : Found). (l : Literal) → Reads m l (take f.size text) → HasLengths l (cuts_of f.counts)) same (has_sized_counted next.size counts counted);
+          subst (λ (f : Found). (l : Literal) → Reads m l (take f.size text) → HasLengths l (cuts_of f.counts)) same
+          (has_sized_counted next.size counts counted);
       no_longer = λ more over past. absurd (let low : next.size < more = past _ refl in omega (arith, over, low));
     }
     longer counts counted false incomplete = record {

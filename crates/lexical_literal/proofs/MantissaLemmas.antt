@@ -19,7 +19,8 @@ use Rattle.lexical_literal.proofs.SumLemmas.{after_same}
 use Rattle.lexical_number.specs.Number.{digits_in, number, places}
 
 -- Digits of one run, and then of another.
-pub both_digits : (radix : ℕ) (xs ys : List ℕ) (first second : ℕ) → first ≡ places radix xs → second ≡ first + places radix ys → second ≡ places radix (xs ++ ys)
+pub both_digits : (radix : ℕ) (xs ys : List ℕ) (first second : ℕ) → first ≡ places radix xs → second ≡ first + places radix ys
+    → second ≡ places radix (xs ++ ys)
 both_digits radix xs ys first second F S = grind (arith, length-append, filter_map-append)
 
 pub both_sums : (radix : ℕ) (xs ys : List ℕ) (first second : ℕ) → first % 2 ^ 64 ≡ number radix xs % 2 ^ 64

@@ -1,6 +1,5 @@
 -- A refusal has one cause, and a text has one refusal.
-use Rattle.std.proofs.Common.{ℕ, ◌≡◌, ◌<◌, ◌≤◌, ◌↔◌, ◌^◌, Bool, true, if◌then◌else◌, List, Option, Some, None, sum_by, take, refl, sym, ap, subst, ◌∙◌}
-use Rattle.std.proofs.Common.{arith}
+use Rattle.std.proofs.Common.{ℕ, ◌≡◌, ◌<◌, ◌≤◌, ◌↔◌, ◌^◌, Bool, true, if◌then◌else◌, List, Option, Some, None, sum_by, take, refl, sym, ap, subst, ◌∙◌, arith}
 use Rattle.std.proofs.Math.Nat.{le_antisymm}
 use Rattle.std.specs.Prelude.{slice_get}
 use Rattle.std.proofs.lemmas.Bool.Decides.{nat_tests}
@@ -9,8 +8,7 @@ use Rattle.lexical_util.specs.Layout.{Flag, bit, flags}
 use Rattle.lexical_util.specs.Record.{raw}
 use Rattle.lexical_util.specs.declared.format_flags.Part.{Part}
 use Rattle.lexical_literal.specs.Notation.{Notation, has, kept}
-use Rattle.lexical_literal.specs.Cause.{IsCause, IsRefusal, IsSeparator, IsUnmet, SameBlame, error_of, first_unmet, is_at, lowest, marks_of}
-use Rattle.lexical_literal.specs.Cause.{span_of, tail_of}
+use Rattle.lexical_literal.specs.Cause.{IsCause, IsRefusal, IsSeparator, IsUnmet, SameBlame, error_of, first_unmet, is_at, lowest, marks_of, span_of, tail_of}
 use Rattle.lexical_literal.specs.Front.{IsValidUpTo}
 use Rattle.lexical_literal.specs.declared.cause.ReadErrorKind.{ReadErrorKind}
 use Rattle.lexical_literal.specs.declared.cause.ReadErrorKind.TheVariants as causes

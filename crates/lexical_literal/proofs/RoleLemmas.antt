@@ -1,5 +1,6 @@
 -- In a syntax, no byte plays two roles.
-use Rattle.std.proofs.Common.{ℕ, ◌≡◌, ◌<◌, ◌↔◌, Bool, true, false, not, nat_lt, ◌==◌, IsTrue, List, [], ◌∷◌, ◌&&◌, ◌||◌, Option, Some, None, inl, inr, refl, sym, ap, ◌∙◌, arith}
+use Rattle.std.proofs.Common.{ℕ, ◌≡◌, ◌<◌, ◌↔◌, Bool, true, false, not, nat_lt, ◌==◌, IsTrue, List, [], ◌∷◌, ◌&&◌, ◌||◌, Option, Some, None, inl}
+use Rattle.std.proofs.Common.{inr, refl, sym, ap, ◌∙◌, arith}
 use Rattle.std.proofs.lemmas.Bool.{lt-ltb, false≢true, and_from, cases_Bool}
 use Rattle.std.proofs.lemmas.Bool.Decides.{nat_tests}
 use Rattle.std.specs.List.{AllByRecursion}
@@ -94,7 +95,8 @@ module _ (r : Record) (c : Conditions) (none : contradiction r c ≡ None) where
     go x0 fits kind set is = grind arith
 
   -- A part whose groups have sizes may have separators between digits.
-  has_separators : (f : Flag) (kind : ConditionsErrorKind) → lacks_separator r f kind ≡ None → (r.flag f ≡ true) × ((r.byte layout.digit_separator == 0) ≡ false)
+  has_separators : (f : Flag) (kind : ConditionsErrorKind) → lacks_separator r f kind ≡ None
+      → (r.flag f ≡ true) × ((r.byte layout.digit_separator == 0) ≡ false)
   has_separators f kind is = grind arith
 
   integer_separator : has c conditions.IntegerGroupSize ≡ true → (r.flag layout.integer_internal_digit_separator ≡ true)

@@ -51,12 +51,13 @@ module _ (m : Notation) where
 
   pub small_after : (g last : Group) (text : List ℕ) → group_after m (Some g) text ≡ Some last → last.digits ≤ g.digits + length text
   small_after g last [] is = let same : g ≡ last = cc in subst (λ (x : Group). x.digits ≤ g.digits + 0) same (omega arith)
-  small_after g last (b ∷ text) is = go (grow m g (role_at m g.part b)) (λ next. grown_small g next (role_at m g.part b)) (λ next. small_after next last text) is where
-    go : (o : Option Group) → ((next : Group) → o ≡ Some next → next.digits ≤ g.digits + 1)
-        → ((next : Group) → group_after m (Some next) text ≡ Some last → last.digits ≤ next.digits + length text)
-        → group_after m o text ≡ Some last → last.digits ≤ g.digits + length (b ∷ text)
-    go None low more is = absurd (let none = group_none text in cc)
-    go (Some next) low more is = omega (arith, low next refl, more next is)
+  small_after g last (b ∷ text) is = go (grow m g (role_at m g.part b)) (λ next. grown_small g next (role_at m g.part b))
+      (λ next. small_after next last text) is where
+        go : (o : Option Group) → ((next : Group) → o ≡ Some next → next.digits ≤ g.digits + 1)
+            → ((next : Group) → group_after m (Some next) text ≡ Some last → last.digits ≤ next.digits + length text)
+            → group_after m o text ≡ Some last → last.digits ≤ g.digits + length (b ∷ text)
+        go None low more is = absurd (let none = group_none text in cc)
+        go (Some next) low more is = omega (arith, low next refl, more next is)
 
   -- `ends o` is true if what has been read, with the last group `o`, may end.
   abbrev pub ends : Option Group → Bool
@@ -106,7 +107,8 @@ module _ (m : Notation) where
           byte_after part separated digits b (run ++ rest) roles.Digit (digit_role m part b digit)
           ∙ chosen (fits m (group part separated digits) (Some roles.Digit)) (group part separated (digits + 1)) (run ++ rest)
           ∙ ap (λ t. fits m (group part separated digits) (Some roles.Digit) && t) (run_at part separated (digits + 1) run rest fit all.1 closed)
-          ∙ rw (no) (both (has_size m part) (follows m (group part separated digits) (Some roles.Digit)) (run_fits m (group part separated (digits + 1)) run) fit)
+          ∙ rw (no) (both (has_size m part) (follows m (group part separated digits) (Some roles.Digit))
+          (run_fits m (group part separated (digits + 1)) run) fit)
       | inr other ↦
           let is : m.separator b ≡ true = let one = all.0 in grind arith in
           byte_after part separated digits b (run ++ rest) roles.Separator (is_role m part b h roles.Separator (λ e. cc) is)

@@ -68,7 +68,8 @@ module _ (m : Notation) (ready : IsReady (unsized m)) (sizes : HasSizes m) where
 
     pub negative_read : ((l : Literal) × Reads m l (45 ∷ first ∷ digits)) ↔ IsFalse ((m.condition conditions.BasePrefix || m.condition conditions.BaseSuffix)
         || (m.condition conditions.NegativeSign || (m.flag layout.required_exponent_notation && not m.integers_only)))
-    negative_read = literal_exactly (45 ∷ first ∷ digits) _ (or_from _ _ minus (joined (first ∷ digits) all)) (ap (λ o. is_accepted u (scan u o (first ∷ digits)))
+    negative_read = literal_exactly (45 ∷ first ∷ digits) _ (or_from _ _ minus (joined (first ∷ digits) all))
+        (ap (λ o. is_accepted u (scan u o (first ∷ digits)))
         (ap (move_by u.condition u start false false) (is_role u parts.Integer 45 ready.roles roles.Sign (λ e. cc) refl)) ∙ go
         (m.condition conditions.NegativeSign) refl) where
           minus : m.separator 45 ≡ false

@@ -17,4 +17,5 @@ refuse-requires-clause-refused c = all_at (λ g. NoLiteral (notation_of g) c.arg
 
 pub returns : goal.returns
 returns c = at_index (λ g. IsRefusal (notation_of g) c.args.text.now c.in-Err.error.refusal) c.args.self.now c.syntaxes-syntaxes.result.now
-    c.index-syntaxes-form.result c.args.form c.syntaxes-syntaxes.ensures.list c.index-syntaxes-form.is (rw (c.syntaxes-syntaxes.ensures.list) c.requires.inside) c.in-Err.ensures
+    c.index-syntaxes-form.result c.args.form c.syntaxes-syntaxes.ensures.list c.index-syntaxes-form.is
+    (rw (c.syntaxes-syntaxes.ensures.list) c.requires.inside) c.in-Err.ensures

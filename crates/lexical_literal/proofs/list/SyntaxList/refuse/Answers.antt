@@ -39,7 +39,8 @@ pub loop-form-preserved : goal.loop-form-preserved
 loop-form-preserved c =
     let a = subst (IsFurthestForm c.args.self.now c.args.text.now) c.in-Some.is c.requires.furthest in
     let goes = at_index (λ g. GoesTo c.args.text.now g c.walk-reached.result.size) c.args.self.now c.syntaxes-syntaxes.result.now
-    c.index-syntaxes-form.result c.loop-form.form c.syntaxes-syntaxes.ensures.list c.index-syntaxes-form.is c.loop-form-test.true c.walk-reached.ensures.valid in
+    c.index-syntaxes-form.result c.loop-form.form c.syntaxes-syntaxes.ensures.list c.index-syntaxes-form.is c.loop-form-test.true
+    c.walk-reached.ensures.valid in
     elim c.if-reached-stop.branch [
       | then-reached-stop+else-not-is_byte-2 w ↦
           wrong_byte c.args.self.now c.args.text.now c.in-Some.first c.in-Some.stop.size a.0 c.loop-form.form w.error_of-other.result.refusal
@@ -53,7 +54,8 @@ pub returns-then-not-is_byte-2 : goal.returns-then-not-is_byte-2
 returns-then-not-is_byte-2 c =
     let a = subst (IsFurthestForm c.args.self.now c.args.text.now) c.in-Some.is c.requires.furthest in
     let goes = at_index (λ g. GoesTo c.args.text.now g c.walk-reached.result.size) c.args.self.now c.syntaxes-syntaxes.result.now
-    c.index-syntaxes-form.result c.loop-form.form c.syntaxes-syntaxes.ensures.list c.index-syntaxes-form.is c.loop-form-test.true c.walk-reached.ensures.valid in
+    c.index-syntaxes-form.result c.loop-form.form c.syntaxes-syntaxes.ensures.list c.index-syntaxes-form.is c.loop-form-test.true
+    c.walk-reached.ensures.valid in
     other_error c.args.self.now c.args.text.now c.in-Some.first c.in-Some.stop.size a.0 c.loop-form.form c.error_of-other.result c.error_of-other.ensures
     (subst (λ n. IsSomeAnd (slice_get c.args.self.now c.loop-form.form) (λ g. GoesTo c.args.text.now g n)) c.if-reached-stop.true goes)
     (sym c.if-not-is_byte-2.ensures) c.loop-form.invariant
