@@ -1,20 +1,19 @@
 -- The flags that are found are to blame.
 use Rattle.std.proofs.Common.{ℕ, ◌≡◌, ◌≤◌, ◌↔◌, ◌⊎◌, Bool, true, false, not, ◌==◌, ◌&&◌, ◌||◌, inl, inr, IsTrue, if◌then◌else◌, List, length, take}
 use Rattle.std.proofs.Common.{Option, None, Some, refl, sym, ap, subst, ◌∙◌, arith}
-use Rattle.std.proofs.lemmas.Bool.{false≢true, and_parts, and_from, cases_Bool, eqb-true, false_from_ne_true}
+use Rattle.std.proofs.lemmas.Bool.{false≢true, and_parts, and_from, cases_Bool}
 use Rattle.std.proofs.lemmas.List.{length-take-le}
-use Rattle.std.proofs.lemmas.Bool.Decides.{nat_tests}
 use Rattle.std.specs.Prelude.{slice_get}
 use Rattle.lexical_util.specs.Groups.{bits_of}
 use Rattle.lexical_util.specs.Layout as layout
-use Rattle.lexical_util.specs.Layout.{Flag, bit}
+use Rattle.lexical_util.specs.Layout.{Flag}
 use Rattle.lexical_util.specs.Record.{raw}
 use Rattle.lexical_util.specs.Roles.{other_case}
 use Rattle.lexical_util.specs.declared.feature_format.roles.Role.{Role}
 use Rattle.lexical_util.specs.declared.format_flags.Part.{Part}
 use Rattle.lexical_util.specs.declared.format_flags.Part.TheVariants as parts
 use Rattle.lexical_literal.specs.Groups.{has_size}
-use Rattle.lexical_literal.specs.Notation.{all_conditions, Notation, has, is_same, kept, notation_of}
+use Rattle.lexical_literal.specs.Notation.{all_conditions, Notation, has, kept, notation_of}
 use Rattle.lexical_literal.specs.Cause.{Allows, IsCaseFlag, IsCause, IsRefusal, IsRequirement, IsUnmet, Permits, RefusesAlone, SomeFlag, adding}
 use Rattle.lexical_literal.specs.Cause.{bare, binds, case_set, error_of, first_unmet, is_at, is_one_of, lowest, marks_of, number_separator_flags}
 use Rattle.lexical_literal.specs.Cause.{requirement_flags, requiring, span_of, tail_of, with_rules}
@@ -22,7 +21,7 @@ use Rattle.lexical_literal.specs.Front.{IsValidUpTo}
 use Rattle.lexical_literal.specs.Additions.Causes.{IsWeaker, is_at_gap, lets, place_of}
 use Rattle.lexical_literal.specs.Additions.Explained.{alone, blame, cases, group_at, mask_of, otherwise, refusal_of, requirements, separators}
 use Rattle.lexical_literal.specs.Additions.Explained.{some_unmet, unmet, zeros}
-use Rattle.lexical_literal.specs.Additions.Sizes.{IsReadOf, fits, follows, goes, role_next, unsized}
+use Rattle.lexical_literal.specs.Additions.Sizes.{IsReadOf, fits, goes, role_next, unsized}
 use Rattle.lexical_literal.specs.Additions.Summary.{no_condition, role_at, part_of}
 use Rattle.lexical_literal.specs.declared.cause.Blame.{Blame}
 use Rattle.lexical_literal.specs.declared.cause.Marks.{Marks}
@@ -34,7 +33,7 @@ use Rattle.lexical_literal.specs.declared.steps.Summary.{Summary}
 use Rattle.lexical_literal.specs.declared.syntax.Condition.{Condition}
 use Rattle.lexical_literal.specs.declared.syntax.Condition.TheVariants as conditions
 use Rattle.lexical_literal.specs.declared.syntax.Grammar.{Grammar}
-use Rattle.lexical_literal.proofs.CauseLemmas.{flag_zero, found_in, mask_flags, none_of, only_mask, only_none, same_flag, some_of}
+use Rattle.lexical_literal.proofs.CauseLemmas.{flag_zero, found_in, mask_flags, none_of, only_mask, only_none, some_of}
 use Rattle.lexical_literal.proofs.GroupLemmas.{same_unsized}
 use Rattle.lexical_literal.proofs.JointLemmas.{at_next, each_passes, free_allows, free_is, going, joint, leads, passes, sizing, split}
 use Rattle.lexical_literal.proofs.NumberLemmas.{has_kept, none_of_all}
@@ -49,29 +48,16 @@ module _ (m : Notation) where
   pub own_weaker : IsWeaker m m.flag m.condition
   own_weaker = record { no_more = λ f is. grind arith; no_less = λ f is. grind arith; conditions = λ c is. is }
 
-  same_condition : (c d : Condition) → (is_same c d || false) ≡ true → c ≡ d
-  same_condition c d is = grind (arith, nat_tests)
-
   -- One condition of those that are set.
   requiring_weaker : (c : Condition) → m.condition c ≡ true → IsWeaker m (bare m).flag (requiring c (bare m)).condition
-  requiring_weaker c set = record {
-    no_more = bare_weaker.no_more;
-    no_less = bare_weaker.no_less;
-    conditions = λ d is. subst (λ d. m.condition d ≡ true) (same_condition c d is) set;
-  }
+  requiring_weaker c set = grind arith
 
   weak_adding : (e x r : Bool) → ((e || (x && not r)) && r) ≡ true → e ≡ true
   weak_adding e x r is = grind arith
 
   -- One requirement that is set, or one that allows separators.
   pub adding_weaker : (f : Flag) → (IsTrue (is_one_of requirement_flags f) → m.flag f ≡ true) → IsWeaker m (adding f (bare m)).flag no_condition
-  adding_weaker f set = record {
-    no_more = λ g is.
-        let same = same_flag g f (eqb-true (bit g) (bit f) (weak_adding _ (m.flag g) (is_one_of requirement_flags g) is)) in
-        ap m.flag same ∙ set (ap (is_one_of requirement_flags) (sym same) ∙ (and_parts ((bit g == bit f) || (bare m).flag g) _ is).1);
-    no_less = λ g is. grind arith;
-    conditions = λ c is. absurd (false≢true is);
-  }
+  adding_weaker f set = grind (arith, weak_adding)
 
   pub permits_weaker : (f : Flag) → is_one_of number_separator_flags f ≡ true → IsWeaker m (adding f (bare m)).flag no_condition
   permits_weaker f separates = adding_weaker f (λ requires. absurd (false≢true (sym (apart f) ∙ and_from _ _ requires separates)))
@@ -112,21 +98,10 @@ module _ (m : Notation) (s : Summary) (g : Group) (next : Option ℕ) (allowed :
   parts_with C is = and_parts _ _ (sym (split m (unsized (sizing m C)).flag (unsized (sizing m C)).condition s next) ∙ (and_parts _ _ is).0)
 
   fit : fits m g role ≡ true
-  fit = go g.part (follows m g role) (λ c set. (and_parts _ _ (goes_with c set)).1) where
-    sized : (x t : Bool) → (x ≡ true → t ≡ true) → (not x || t) ≡ true
-    sized true t is = is refl
-    sized false t is = refl
-
-    go : (part : Part) (t : Bool) → ((c : Condition) → m.condition c ≡ true → (not (has_size (only c) part) || t) ≡ true) → (not (has_size m part) || t) ≡ true
-    go parts.Integer t each = sized (m.condition conditions.IntegerGroupSize) t (each conditions.IntegerGroupSize)
-    go parts.Fraction t each = sized (m.condition conditions.FractionGroupSize) t (each conditions.FractionGroupSize)
-    go parts.Exponent t each = refl
+  fit = grind (arith, and_parts, goes_with)
 
   flags_refuse : free_allows m (unsized m) s next ≡ false
-  flags_refuse = flags _ _ _ (ap (λ t. t && fits m g role) (sym (split m (unsized m).flag (unsized m).condition s next)) ∙ refused)
-      (each_passes m m.condition s next (λ c set. (parts_with (only c).condition (goes_with c set)).1)) fit where
-        flags : (f p t : Bool) → ((f && p) && t) ≡ false → p ≡ true → t ≡ true → f ≡ false
-        flags f p t none pass last = grind arith
+  flags_refuse = grind (arith, split, each_passes, parts_with, goes_with, fit)
 
   leading : (C : Condition → Bool) (part : Part) → part_of s.stage ≡ part → has_size (sizing m C) part ≡ has_size m part
       → goes (sizing m C) s g next ≡ true → leads m ≡ true
@@ -140,10 +115,7 @@ module _ (m : Notation) (s : Summary) (g : Group) (next : Option ℕ) (allowed :
 
   by_size : (c : Condition) (part : Part) → part_of s.stage ≡ part → has_size (only c) part ≡ true → has_size (bare m) part ≡ false
       → has_size m part ≡ m.condition c → leads m ≡ true
-  by_size c part at one none sized = elim (cases_Bool (m.condition c)) [
-    | inl set ↦ leading (only c).condition part at (one ∙ sym (sized ∙ set)) (goes_with c set)
-    | inr unset ↦ leading no_condition part at (none ∙ sym (sized ∙ unset)) allowed
-  ]
+  by_size c part at one none sized = grind (arith, leading, goes_with)
 
   in_part : (part : Part) → part_of s.stage ≡ part → leads m ≡ true
   in_part parts.Integer at = by_size conditions.IntegerGroupSize parts.Integer at refl refl refl
@@ -162,8 +134,7 @@ module _ (m : Notation) (s : Summary) (g : Group) (next : Option ℕ) (allowed :
 -- REQUIREMENTS
 
 choose : {X : Type 0} (Q : X → Type 0) (t : Bool) (x y : X) → (t ≡ true → Q x) → (t ≡ false → Q y) → Q (if t then x else y)
-choose Q true x y is other = is refl
-choose Q false x y is other = other refl
+choose Q x1 x y is other = grind arith
 
 -- What holds of some flags holds of those of their mask.
 as_flags : (Q : (Flag → Bool) → Type 0) (P : Flag → Bool) → Q P → Q (raw (mask_of P)).flag
@@ -172,10 +143,7 @@ as_flags Q P = subst Q (λ j f. sym (mask_flags P f) j)
 module _ (m : Notation) (s : Summary) (g : Group) (front : List ℕ) (read : IsReadOf m s g front) (next : Option ℕ) where
   refuses : (A : Flag → Bool) (D : Condition → Bool) → IsWeaker m A D
       → (not (goes (with_rules m A D) s g next) ≡ true) ↔ (Allows (with_rules m A D) front next → ⊥)
-  refuses A D weaker = (
-    λ none allowed. false≢true (sym (ap not ((read.decides next A D weaker).1 allowed)) ∙ none),
-    λ none. ap not (false_from_ne_true _ (λ is. none ((read.decides next A D weaker).0 is))),
-  )
+  refuses A D weaker = grind arith
 
   binding : (f : Flag) → binds m f ≡ true → IsWeaker m (adding f (bare m)).flag no_condition
   binding f is = adding_weaker m f (λ _. (and_parts (m.flag f) _ is).0)
@@ -188,18 +156,7 @@ module _ (m : Notation) (s : Summary) (g : Group) (front : List ℕ) (read : IsR
 
   -- The conditions that are to blame.
   pub each_unmet : (c : Condition) → (unmet m s g next c ≡ true) ↔ IsUnmet m front next c
-  each_unmet c = (
-    λ is.
-        let both = and_parts (m.condition c) _ is in
-        let more = and_parts (goes (bare m) s g next) _ both.1 in
-        record {
-          set = both.0;
-          allowed = (read.decides next _ _ (bare_weaker m)).0 more.0;
-          refused = (refuses _ _ (requiring_weaker m c both.0)).0 more.1;
-        },
-    λ is. and_from _ _ is.set (and_from _ _ ((read.decides next _ _ (bare_weaker m)).1 is.allowed)
-        ((refuses _ _ (requiring_weaker m c is.set)).1 is.refused)),
-  )
+  each_unmet c = grind (arith, and_parts, bare_weaker, requiring_weaker)
 
   none_unmet : some_unmet m s g next ≡ false → (c : Condition) → unmet m s g next c ≡ false
   none_unmet none c = none_of_all (unmet m s g next) none c
@@ -303,7 +260,8 @@ module _ (m : Notation) (s : Summary) (g : Group) (front : List ℕ) (read : IsR
 
     is_wrong : IsCause m front (Some byte) (otherwise m s g (Some byte)).kind (raw (otherwise m s g (Some byte)).mask).flag
     is_wrong = choose (λ (b : Blame). IsCause m front (Some byte) b.kind (raw b.mask).flag) (mask_of (separators m s g (Some byte)) == 0) _ _
-        (λ zero. choose (λ (kind : ReadErrorKind). IsCause m front (Some byte) kind (raw (mask_of (cases m s g byte))).flag) (mask_of (cases m s g byte) == 0) _ _
+        (λ zero. choose (λ (kind : ReadErrorKind). IsCause m front (Some byte) kind (raw (mask_of (cases m s g byte))).flag)
+        (mask_of (cases m s g byte) == 0) _ _
         (λ no_cases. record {
           refused = not_allowed;
           no_separator = no_flag _ permits zero;
@@ -317,14 +275,7 @@ module _ (m : Notation) (s : Summary) (g : Group) (front : List ℕ) (read : IsR
         (separators m s g (Some byte)) (record { refused = not_allowed; some = some_of _ some; each = permits; at = at }))
 
   is_otherwise : (next : Option ℕ) → goes (bare m) s g next ≡ false → IsCause m front next (otherwise m s g next).kind (raw (otherwise m s g next).mask).flag
-  is_otherwise None none = record {
-    refused = λ l reads. false≢true (sym none ∙ (read.decides None (bare m).flag no_condition (bare_weaker m)).1 (l, reads));
-    last = read.part (unended s.ended _ (sym (goes_free m (bare m).flag s g None) ∙ none));
-    none = flag_zero;
-  } where
-    unended : (e x : Bool) → ((e || x) && true) ≡ false → e ≡ false
-    unended e x none = grind arith
-  is_otherwise (Some byte) none = is_wrong byte none
+  is_otherwise x0 none = grind (arith, bare_weaker, goes_free, flag_zero, is_wrong)
 
   -- What has been read, and what refuses, decide the cause.
   is_blamed : (next : Option ℕ) → goes m s g next ≡ false → IsCause m front next (blame m s g next).kind (raw (blame m s g next).mask).flag

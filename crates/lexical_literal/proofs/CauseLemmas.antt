@@ -26,16 +26,14 @@ use Rattle.lexical_literal.specs.Notation.{Notation}
 -- FLAGS
 
 flag_at_bit : (f : Flag) → flag_at (bit f) ≡ f
-flag_at_bit layout.required_integer_digits = refl
-flag_at_bit _ = refl
+flag_at_bit x0 = grind arith
 
 -- Two flags with the same bit are one.
 pub same_flag : (g f : Flag) → bit g ≡ bit f → g ≡ f
 same_flag g f same = sym (flag_at_bit g) ∙ ap flag_at same ∙ flag_at_bit f
 
 pub all_flags : (f : Flag) → is_one_of layout.flags f ≡ true
-all_flags layout.required_integer_digits = refl
-all_flags _ = refl
+all_flags x0 = grind arith
 
 -- An item of a list for which a test is true.
 pub found_in : {X : Type 0} (P : X → Bool) (xs : List X) → list_any P xs ≡ true → (x : X) × (P x ≡ true)
@@ -57,8 +55,7 @@ module _ (P : Flag → Bool) where
 -- THE FLAGS OF MASKS
 
 pub bit_below : (f : Flag) → bit f < 45
-bit_below layout.required_integer_digits = omega arith
-bit_below _ = omega arith
+bit_below x0 = grind arith
 
 pub bit_small : (n k : ℕ) → part n k 1 < 2
 bit_small n k = mod-lt _ (omega arith)
@@ -80,26 +77,21 @@ module _ (f : Flag) where
   flag_pow k = let same = bit_at-pow_same k in let other = bit_at-pow_other k (bit f) in grind (arith, nat_tests)
 
 pub requirement_mask : (f : Flag) → (raw REQUIREMENTS).flag f ≡ is_one_of requirement_flags f
-requirement_mask layout.required_integer_digits = refl
-requirement_mask _ = refl
+requirement_mask x0 = grind arith
 
 pub float_mask : (f : Flag) → (raw FLOAT_REQUIREMENTS).flag f ≡ (is_one_of requirement_flags f && not (bit f == 12))
-float_mask layout.required_integer_digits = refl
-float_mask _ = refl
+float_mask x0 = grind arith
 
 pub zeros_mask : (f : Flag) → (raw ZEROS).flag f ≡ is_one_of leading_zero_flags f
-zeros_mask layout.required_integer_digits = refl
-zeros_mask _ = refl
+zeros_mask x0 = grind arith
 
 pub separators_mask : (f : Flag) → (raw SEPARATORS).flag f ≡ is_one_of number_separator_flags f
-separators_mask layout.required_integer_digits = refl
-separators_mask _ = refl
+separators_mask x0 = grind arith
 
 -- The flags of a word without requirements.
 pub bare_flags : (word : ℕ) (f : Flag)
     → (raw (bit_and word (bit_not w128 REQUIREMENTS))).flag f ≡ ((raw word).flag f && not (is_one_of requirement_flags f))
-bare_flags word f = flag_and f word (bit_not w128 REQUIREMENTS)
-    ∙ ap (λ t. (raw word).flag f && t) (flag_not f REQUIREMENTS (omega arith) ∙ ap not (requirement_mask f))
+bare_flags word f = grind (arith, flag_and, flag_not)
 
 -- Two sets of flags that have the same flags have the same mask.
 pub same_mask : (P Q : Flag → Bool) → ((f : Flag) → P f ≡ Q f) → mask_of P ≡ mask_of Q
@@ -149,8 +141,7 @@ module _ (P : Flag → Bool) where
 
 -- A mask of one flag, if `t` is true.
 pub one_flag : (t : Bool) (k : ℕ) (f : Flag) → (raw (if t then 2 ^ k else 0)).flag f ≡ (t && (bit f == k))
-one_flag true k f = flag_pow f k
-one_flag false k f = flag_zero f
+one_flag x0 k f = grind (arith, flag_pow)
 
 -- A bit that a mask has not.
 pub is_unset : (n k : ℕ) → bit_and n (2 ^ k) ≡ 0 → part n k 1 ≡ 0

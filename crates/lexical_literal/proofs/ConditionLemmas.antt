@@ -13,9 +13,8 @@ use Rattle.lexical_literal.specs.Groups.{has_sizes}
 use Rattle.lexical_literal.specs.Notation.{Notation}
 use Rattle.lexical_literal.specs.Literal.{Literal, IsLiteral, IsSpelled, Reads, condition, is_absent, is_none_or_one, is_none_or_prefix, is_plus, is_present}
 use Rattle.lexical_literal.specs.Literal.{text_of}
-use Rattle.lexical_literal.specs.Additions.Summary.{Cuts, HasLengths, add, admits, after, count, finishes, is_fresh, is_negative, role_at, part_of}
-use Rattle.lexical_literal.specs.Additions.Summary.{digits_piece, lacks_prefix, no_condition, no_cuts, piece_of, start, step_by, takes, tally_by}
-use Rattle.lexical_literal.specs.Additions.Summary.{awaits_integer}
+use Rattle.lexical_literal.specs.Additions.Summary.{Cuts, HasLengths, add, admits, after, count, is_fresh, is_negative, role_at, part_of, digits_piece}
+use Rattle.lexical_literal.specs.Additions.Summary.{lacks_prefix, no_condition, no_cuts, piece_of, start, step_by, takes, tally_by, awaits_integer}
 use Rattle.lexical_literal.specs.declared.steps.Piece.{Piece}
 use Rattle.lexical_literal.specs.declared.steps.Piece.TheVariants as pieces
 use Rattle.lexical_literal.specs.declared.steps.Stage.{Stage}
@@ -24,38 +23,25 @@ use Rattle.lexical_literal.specs.declared.steps.Summary.{Summary}
 use Rattle.lexical_literal.specs.declared.syntax.Condition.{Condition}
 use Rattle.lexical_literal.specs.declared.syntax.Condition.TheVariants as conditions
 use Rattle.lexical_literal.proofs.LiteralLemmas.{all_cuts, spelled_arrives, spelled_from}
-use Rattle.lexical_literal.proofs.ScanLemmas.{Accepts, Arrives, Took, added, arrives_byte, digit_role, is_role, moved, none_accepts, took}
+use Rattle.lexical_literal.proofs.ScanLemmas.{Accepts, Arrives, Took, added, arrives_byte, digit_role, is_role, none_accepts, took}
 use Rattle.lexical_literal.proofs.StepLemmas.{awaited_part, reading}
 
 -- LENGTHS
 
 -- The lengths that are counted are those of the parts.
 pub has_lengths : (l : Literal) → HasLengths l (all_cuts l)
-has_lengths l = record {
-  sign = simp added (omega arith);
-  prefix = simp added (omega arith);
-  integer = simp added (omega arith);
-  point = simp added (omega arith);
-  fraction = simp added (omega arith);
-  exponent_character = simp added (omega arith);
-  exponent_sign = simp added (omega arith);
-  exponent = simp added (omega arith);
-}
+has_lengths l = grind (arith, added)
 
 suffix_length : (l : Literal) → all_cuts l pieces.Suffix ≡ length l.suffix
 suffix_length l = simp added (omega arith)
 
 -- A part with bytes is there.
 some_bytes : (x : List ℕ) → nat_lt 0 (length x) ≡ is_present x
-some_bytes [] = refl
-some_bytes (b ∷ x) = grind (arith, nat_tests)
+some_bytes x0 = grind arith
 
 -- But for the zero of a prefix, no piece gets shorter.
 still : (c : Cuts) (part : Part) (r : Role) (q : Piece) → (q ≡ pieces.Integer → ⊥) → nat_lt 0 (c q) ≡ true → nat_lt 0 (count part (Some r) c q) ≡ true
-still c part roles.Prefix pieces.Prefix other some = refl
-still c part roles.Prefix pieces.Integer other some = absurd (other refl)
-still c part roles.Prefix _ other some = some
-still c part _ q other some = grind (arith, nat_tests)
+still c part x2 q other some = grind arith
 
 module _ (m : Notation) (h : HasRoles m) where
   abbrev C : Condition → Bool
@@ -83,28 +69,18 @@ module _ (m : Notation) (h : HasRoles m) where
 
   shows_after : (s : Summary) (c : Cuts) (plus zero : Bool) (r : Role) → s.ended ≡ false → admits C s plus zero r ≡ true → Shows s c
       → Shows (after s zero r) (count (part_of s.stage) (Some r) c)
-  shows_after s c plus zero r going admitted shows = record {
-    prefix = λ set.
-        let some = still c (part_of s.stage) r pieces.Prefix (λ e. cc) in let before = shows.prefix set in grind (arith, nat_tests);
-    suffix = let before = shows.suffix in grind (arith, nat_tests);
-  }
+  shows_after s c plus zero r going admitted shows = grind arith
 
   counted : {P : Option Summary → Type 0} (s : Summary) (b : ℕ) (c : Cuts) (text : List ℕ) (t : Took C m s b P)
       → tally_by O m (Some s) c (b ∷ text) ≡ tally_by O m (Some (after s (b == 48) t.role)) (count (part_of s.stage) (Some t.role) c) text
-  counted s b c text t = λ j. tally_by O m (is j) (count (part_of s.stage) (t.plays j) c) text where
-    is : step_by O m s b ≡ Some (after s (b == 48) t.role)
-    is = moved O m s b t.role t.plays t.going t.taken refl
+  counted s b c text t = grind arith
 
   -- `Meets d` holds if the lengths `d` are as the conditions on the prefix and the suffix require.
   abbrev Meets : Cuts → Type 0
   Meets d = (C conditions.BasePrefix ≡ true → nat_lt 0 (d pieces.Prefix) ≡ true) × (C conditions.BaseSuffix ≡ true → nat_lt 0 (d pieces.Suffix) ≡ true)
 
   meets : (s : Summary) (c : Cuts) (text : List ℕ) → Shows s c → Accepts C m (Some s) text → Meets (tally_by O m (Some s) c text)
-  meets s c [] shows is =
-      let end : finishes C s ≡ true = (and_parts _ (finishes C s) is).1 in (
-        λ set. let here = shows.prefix set in grind arith,
-        λ set. let here = shows.suffix in grind arith,
-      )
+  meets s c [] shows is = grind (arith, and_parts)
   meets s c (b ∷ text) shows is =
       let t = took C m s b (λ o. Accepts C m o text) (none_accepts C m text) is in
       subst Meets (sym (counted s b c text t))
@@ -150,23 +126,19 @@ module _ (m : Notation) (h : HasRoles m) where
     sign : (C conditions.NegativeSign && (is_fresh s.stage && is_negative (part_of s.stage) false roles.Sign)) ≡ false
 
   calm_admits : (s : Summary) (plus zero : Bool) (r : Role) → Calm s → takes m s plus r ≡ true → admits C s plus zero r ≡ true
-  calm_admits s plus zero roles.Sign calm taken = let a = calm.prefix in let b = calm.sign in grind arith
-  calm_admits s plus zero _ calm taken = let a = calm.prefix in grind arith
+  calm_admits s plus x2 x3 calm taken = grind arith
 
   calm_after : (s : Summary) (zero : Bool) (r : Role) → Calm s → Calm (after s zero r)
   calm_after s zero r calm = record { prefix = let a = calm.prefix in grind arith; sign = let b = calm.sign in grind arith }
 
   peel : (s : Summary) (b : ℕ) (c : Cuts) (text : List ℕ) (d : Cuts) → Arrives O m (Some s) c (b ∷ text) d
       → Took O m s b (λ o. Arrives O m o (count (part_of s.stage) (role_at m (part_of s.stage) b) c) text d)
-  peel s b c text d is =
-      took O m s b (λ o. Arrives O m o (count (part_of s.stage) (role_at m (part_of s.stage) b) c) text d) (λ none. none_accepts O m text none.0) is
+  peel s b c text d is = grind (arith, took, none_accepts)
 
   module _ (d : Cuts) (has_suffix : C conditions.BaseSuffix ≡ true → nat_lt 0 (d pieces.Suffix) ≡ true) where
     finished : (s : Summary) (c : Cuts) → (C conditions.BasePrefix && lacks_prefix s.stage) ≡ false → nat_lt 0 (c pieces.Suffix) ≡ s.ended
         → Arrives O m (Some s) c [] d → Arrives C m (Some s) c [] d
-    finished s c prefix suffix is =
-        let same : c pieces.Suffix ≡ d pieces.Suffix = ap (λ (c : Cuts). c pieces.Suffix) is.1 in
-        (let done = is.0 in let need = has_suffix in grind arith, is.1)
+    finished s c prefix suffix is = grind arith
 
     shown : (s : Summary) (c : Cuts) (zero : Bool) (r : Role) → s.ended ≡ false → nat_lt 0 (c pieces.Suffix) ≡ s.ended
         → nat_lt 0 (count (part_of s.stage) (Some r) c pieces.Suffix) ≡ (after s zero r).ended

@@ -146,8 +146,7 @@ module _ (m : Notation) where
 
     -- What is accepted can be cut into parts.
     pub cut_of : (stage : Stage) (gap : Bool) (text : List ℕ) → Accepts C m (Some (reading stage gap)) text → Cut m (part_of stage) stage gap text
-    cut_of stage gap [] is =
-        stopped (part_of stage) stage gap [] (and_parts (ends m (part_of stage) stage gap && continues m (part_of stage) stage roles.Suffix) _ is).0 refl
+    cut_of stage gap [] is = grind (arith, stopped, and_parts)
     cut_of stage gap (b ∷ text) is =
         let t = took C m (reading stage gap) b (λ o. Accepts C m o text) (none_accepts C m text) is in
         go t.role t.plays t.taken t.rest (λ stage gap. cut_of stage gap text) where

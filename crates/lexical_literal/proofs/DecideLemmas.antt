@@ -3,7 +3,7 @@ use Rattle.std.proofs.Common.{ℕ, ◌≡◌, ◌↔◌, inl, inr, Bool, true, f
 use Rattle.std.proofs.Common.{refl, sym, ap, subst, ◌∙◌, arith}
 use Rattle.std.proofs.lemmas.Bool.{false≢true, and_parts, and_from, cases_Bool, or_left}
 use Rattle.std.specs.Prelude.{is_some}
-use Rattle.lexical_util.specs.Layout.{Flag, separators_in}
+use Rattle.lexical_util.specs.Layout.{Flag}
 use Rattle.lexical_util.specs.declared.feature_format.roles.Role.{Role}
 use Rattle.lexical_util.specs.declared.format_flags.Part.{Part}
 use Rattle.lexical_util.specs.declared.format_flags.Part.TheVariants as parts
@@ -12,7 +12,7 @@ use Rattle.lexical_literal.specs.Groups.{has_size, has_sizes}
 use Rattle.lexical_literal.specs.Notation.{Notation}
 use Rattle.lexical_literal.specs.Additions.Causes.{IsWeaker, lets}
 use Rattle.lexical_literal.specs.Additions.Plain.{HasRoles, HasSizes, IsReady}
-use Rattle.lexical_literal.specs.Additions.Sizes.{first_group, fits, follows, goes, group_after, grow, grown, is_size, makes_empty, role_next, unsized}
+use Rattle.lexical_literal.specs.Additions.Sizes.{first_group, fits, goes, group_after, grow, grown, is_size, makes_empty, role_next, unsized}
 use Rattle.lexical_literal.specs.Additions.Summary.{is_accepted, role_at, scan, start, step}
 use Rattle.lexical_literal.specs.declared.groups.Group.{Group}
 use Rattle.lexical_literal.specs.declared.steps.Summary.{Summary}
@@ -25,13 +25,10 @@ use Rattle.lexical_literal.proofs.ScanLemmas.{scan_append}
 use Rattle.lexical_literal.proofs.SizeLemmas.{all_end, as_sized, as_unsized, ends, group_append, group_none, required}
 
 some_of : {X : Type 0} (o : Option X) → (o ≡ None → ⊥) → (x : X) × (o ≡ Some x)
-some_of None some = absurd (some refl)
-some_of (Some x) some = (x, refl)
+some_of x0 some = grind arith
 
 no_size : (m : Notation) → has_sizes m ≡ false → (part : Part) → has_size m part ≡ false
-no_size m none parts.Integer = grind arith
-no_size m none parts.Fraction = grind arith
-no_size m none parts.Exponent = refl
+no_size m none x2 = grind arith
 
 module _ (m : Notation) (ready : IsReady (unsized m)) (sizes : HasSizes m) (front : List ℕ) (s : Summary) (g : Group)
     (read : scan (unsized m) (Some start) front ≡ Some s) (grouped : group_after m (Some first_group) front ≡ Some g) where
@@ -48,19 +45,10 @@ module _ (m : Notation) (ready : IsReady (unsized m)) (sizes : HasSizes m) (fron
   one_group b = group_append m (Some first_group) front (b ∷ []) ∙ ap (λ o. group_after m o (b ∷ [])) grouped
 
   pub grows : (r : Option Role) → fits m g r ≡ true → grow m g r ≡ None → ⊥
-  grows r fit none = go (has_sizes m) (rw (fit) at none) where
-    go : (sized : Bool) → (if not sized then Some g else Some (grown g r)) ≡ None → ⊥
-    go true none = let apart : Some (grown g r) ≡ None = none in cc
-    go false none = let apart : Some g ≡ None = none in cc
+  grows r fit none = grind arith
 
   fitting : (r : Option Role) → (grow m g r ≡ None → ⊥) → fits m g r ≡ true
-  fitting r some = elim (cases_Bool (has_sizes m)) [
-    | inl sized ↦ go (fits m g r) (rw (sized) at some)
-    | inr none ↦ or_left _ _ (ap not (no_size m none g.part))
-  ] where
-    go : (fit : Bool) → ((if fit then Some (grown g r) else None) ≡ None → ⊥) → fit ≡ true
-    go true some = refl
-    go false some = absurd (some refl)
+  fitting r some = grind arith
 
   pub decides_there : (next : Option ℕ) → (goes m s g next ≡ true) ↔ Allows m front next
   decides_there None = (
@@ -103,48 +91,25 @@ module _ (m : Notation) (A : Flag → Bool) (D : Condition → Bool) (weaker : I
     less i k di dk mi mk x a r one two three is = grind arith
 
   some_sizes : has_sizes n ≡ true → has_sizes m ≡ true
-  some_sizes is = go (D conditions.IntegerGroupSize) (D conditions.FractionGroupSize) (m.condition conditions.IntegerGroupSize)
-      (m.condition conditions.FractionGroupSize) (weaker.conditions conditions.IntegerGroupSize) (weaker.conditions conditions.FractionGroupSize) is where
-        go : (x y a b : Bool) → (x ≡ true → a ≡ true) → (y ≡ true → b ≡ true) → (x || y) ≡ true → (a || b) ≡ true
-        go x y a b one two is = grind arith
+  some_sizes is = grind arith
 
   other_sizes : HasSizes n
-  other_sizes = record {
-    integer = λ is. sizes.integer (weaker.conditions conditions.IntegerGroupSize is);
-    fraction = λ is. sizes.fraction (weaker.conditions conditions.FractionGroupSize is);
-    internal = internal;
-    separator = sizes.separator;
-    has_separator = λ is. sizes.has_separator (some_sizes is);
-  } where
-    kept : (a : Bool) → (a || false) ≡ true → a ≡ true
-    kept true is = refl
-    kept false is = is
-
-    internal : (part : Part) → has_size n part ≡ true → n.flag (separators_in part).internal ≡ true
-    internal parts.Integer is = kept _ (weaker.no_less (separators_in parts.Integer).internal (sizes.internal parts.Integer (weaker.conditions conditions.IntegerGroupSize is)))
-    internal parts.Fraction is = kept _ (weaker.no_less (separators_in parts.Fraction).internal (sizes.internal parts.Fraction (weaker.conditions conditions.FractionGroupSize is)))
-    internal parts.Exponent is = absurd (false≢true is)
+  other_sizes = grind arith
 
   -- Groups that fit still do.
   still : (g : Group) (r : Option Role) → fits m g r ≡ true → fits n g r ≡ true
-  still g r fit = go (has_size n g.part) (has_size m g.part) (follows m g r) (sized g.part) fit where
-    sized : (part : Part) → has_size n part ≡ true → has_size m part ≡ true
-    sized parts.Integer is = weaker.conditions conditions.IntegerGroupSize is
-    sized parts.Fraction is = weaker.conditions conditions.FractionGroupSize is
-    sized parts.Exponent is = is
-
-    go : (a b t : Bool) → (a ≡ true → b ≡ true) → (not b || t) ≡ true → (not a || t) ≡ true
-    go a b t is fit = grind arith
+  still g r fit = grind arith
 
   same_groups : has_sizes n ≡ true → has_sizes m ≡ true → (g : Group) (text : List ℕ) (last : Group) → group_after m (Some g) text ≡ Some last
       → group_after n (Some g) text ≡ Some last
   same_groups less more g [] last is = is
-  same_groups less more g (b ∷ text) last is = go (fits m g (role_at m g.part b)) refl (rw (more) at is) (same_groups less more (grown g (role_at m g.part b)) text last) where
-    go : (f : Bool) → fits m g (role_at m g.part b) ≡ f → group_after m (if f then Some (grown g (role_at m g.part b)) else None) text ≡ Some last
-        → (group_after m (Some (grown g (role_at m g.part b))) text ≡ Some last → group_after n (Some (grown g (role_at m g.part b))) text ≡ Some last)
-        → group_after n (grow n g (role_at n g.part b)) text ≡ Some last
-    go true fit is rest = rw (less, still g (role_at m g.part b) fit) (rest is)
-    go false fit is rest = absurd (let none = group_none m text in cc)
+  same_groups less more g (b ∷ text) last is = go (fits m g (role_at m g.part b)) refl (rw (more) at is)
+      (same_groups less more (grown g (role_at m g.part b)) text last) where
+        go : (f : Bool) → fits m g (role_at m g.part b) ≡ f → group_after m (if f then Some (grown g (role_at m g.part b)) else None) text ≡ Some last
+            → (group_after m (Some (grown g (role_at m g.part b))) text ≡ Some last → group_after n (Some (grown g (role_at m g.part b))) text ≡ Some last)
+            → group_after n (grow n g (role_at n g.part b)) text ≡ Some last
+        go true fit is rest = rw (less, still g (role_at m g.part b) fit) (rest is)
+        go false fit is rest = absurd (let none = group_none m text in cc)
 
   -- What has been read decides what is allowed.
   pub decided_of : (front : List ℕ) (s : Summary) (g : Group) → scan (unsized m) (Some start) front ≡ Some s

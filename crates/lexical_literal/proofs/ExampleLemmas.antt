@@ -14,6 +14,7 @@ use Rattle.lexical_literal.specs.Run.{is_run}
 use Rattle.lexical_literal.specs.Additions.Summary.{implies}
 use Rattle.lexical_literal.specs.declared.syntax.Condition.{Condition}
 use Rattle.lexical_literal.proofs.CutLemmas.{only}
+use Rattle.std.proofs.lemmas.Grind.{common_steps}
 
 -- `is_free m` is true if no flag and no condition requires anything.
 abbrev is_free : Notation → Bool
@@ -65,13 +66,7 @@ literal_if m l free is =
 -- A text has two readings if it is the text of two different lists of parts that pass the test.
 pub two : (m : Notation) (text : List ℕ) (l k : Literal) → is_free m ≡ true → text ≡ text_of l → text ≡ text_of k → list_any not (tests m l) ≡ false
     → list_any not (tests m k) ≡ false → (l ≡ k → ⊥) → HasTwoReadings m text
-two m text l k free first second is_l is_k differ = record {
-  first = l;
-  second = k;
-  reads_first = record { whole = first; literal = literal_if m l free is_l };
-  reads_second = record { whole = second; literal = literal_if m k free is_k };
-  differ = differ;
-}
+two m text l k free first second is_l is_k differ = grind (arith, common_steps, literal_if)
 
 -- `a_literal sign prefix integer point character exponent suffix` has these parts, and no others.
 abbrev pub a_literal : List ℕ → List ℕ → List ℕ → List ℕ → List ℕ → List ℕ → List ℕ → Literal

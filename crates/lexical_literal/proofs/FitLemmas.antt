@@ -1,6 +1,6 @@
 -- What some literal of a notation with sizes of groups begins with: what one without begins with, if its groups fit byte by byte.
-use Rattle.std.proofs.Common.{ℕ, ◌≡◌, ◌≤◌, ◌+◌, ◌-◌, ◌==◌, inl, inr, Bool, true, false, not, ◌&&◌, ◌||◌, if◌then◌else◌, nat_le, nat_lt, List, [], ◌∷◌, ◌++◌, Option}
-use Rattle.std.proofs.Common.{Some, None, refl, sym, ap, subst, append_assoc, ◌∙◌, arith, zero, suc}
+use Rattle.std.proofs.Common.{ℕ, ◌≡◌, ◌≤◌, ◌+◌, ◌-◌, ◌==◌, inl, inr, Bool, true, false, not, ◌&&◌, ◌||◌, if◌then◌else◌, nat_le, nat_lt, List, [], ◌∷◌, ◌++◌}
+use Rattle.std.proofs.Common.{Option, Some, None, refl, sym, ap, subst, append_assoc, ◌∙◌, arith, zero, suc}
 use Rattle.std.proofs.lemmas.Bool.{false≢true, and_parts, and_from, cases_Bool, or_left, or_parts, or_right}
 use Rattle.std.proofs.lemmas.Bool.Decides.{nat_tests}
 use Rattle.std.specs.List.{list_any}
@@ -15,7 +15,8 @@ use Rattle.lexical_literal.specs.Literal.{Literal, Reads}
 use Rattle.lexical_literal.specs.Notation.{Notation}
 use Rattle.lexical_literal.specs.Additions.Plain.{HasRoles, HasSizes, IsReady}
 use Rattle.lexical_literal.specs.Additions.Sizes.{first_group, fits, follows, group_after, grow, grown, most, unsized}
-use Rattle.lexical_literal.specs.Additions.Summary.{admits, after, after_digit, after_mark, gap_fits, has_digit, is_fresh, is_open, is_run, is_signed, lacks_prefix, may_follow, part_of, role_at, scan, start, takes, takes_in}
+use Rattle.lexical_literal.specs.Additions.Summary.{admits, after, after_mark, gap_fits, has_digit, is_open, is_run, is_signed, lacks_prefix}
+use Rattle.lexical_literal.specs.Additions.Summary.{may_follow, part_of, role_at, scan, start, takes, takes_in}
 use Rattle.lexical_literal.specs.Run.{is_place}
 use Rattle.lexical_literal.specs.declared.groups.Group.{Group}
 use Rattle.lexical_literal.specs.declared.syntax.Condition.TheVariants as conditions
@@ -25,10 +26,9 @@ use Rattle.lexical_literal.proofs.FrontLemmas.{begins, completed_there, ended_th
 use Rattle.lexical_literal.proofs.GroupLemmas.{not_empty}
 use Rattle.lexical_literal.proofs.RefusalLemmas.{other_roles}
 use Rattle.lexical_literal.proofs.PartOfLemmas.{none_after}
-use Rattle.lexical_literal.proofs.PlainLemmas.{admits_free}
-use Rattle.lexical_literal.proofs.ScanLemmas.{as_digit, as_role, digit_role, is_role, moved, scan_append, took}
-use Rattle.lexical_literal.proofs.SizeLemmas.{all_end, as_sized, as_unsized, ends, group_append, group_none, same_internal}
-use Rattle.lexical_literal.proofs.StepLemmas.{bare_part, digit_part, digit_seen, mark_part, point_part}
+use Rattle.lexical_literal.proofs.ScanLemmas.{as_role, digit_role, is_role, scan_append, took}
+use Rattle.lexical_literal.proofs.SizeLemmas.{as_sized, as_unsized, ends, group_append, group_none, same_internal}
+use Rattle.lexical_literal.proofs.StepLemmas.{mark_part}
 
 module _ (m : Notation) where
   abbrev pub u : Notation
@@ -42,9 +42,7 @@ module _ (m : Notation) where
 
   grown_or : (P : Option Group → Type 0) (t f : Bool) (g next : Group) → f ≡ true → P (Some g) → P (Some next)
       → P (if not t then Some g else (if f then Some next else None))
-  grown_or P true true g next fit same more = more
-  grown_or P false f g next fit same more = same
-  grown_or P true false g next fit same more = absurd (false≢true fit)
+  grown_or P x1 f g next fit same more = grind arith
 
   no_separator : (part : Part) (b : ℕ) → m.separator b ≡ false → role_at m part b ≡ Some roles.Separator → ⊥
   no_separator part b other role = false≢true (sym other ∙ as_role m part b roles.Separator role)
@@ -69,18 +67,7 @@ module _ (m : Notation) where
   -- Behind a full group, all but digits and separators fit.
   full_ends : (g : Group) (text : List ℕ) → fits m g None ≡ true → begins m (m.digit g.part) text ≡ false → list_any m.separator text ≡ false
       → ends m (group_after m (Some g) text) ≡ true
-  full_ends g [] full begun joined = full
-  full_ends g (b ∷ text) full begun joined = elim (cases_Bool (has_sizes m)) [
-    | inl sized ↦ go (role_at m g.part b) refl sized
-    | inr none ↦ ap (ends m) (all_end m none g (b ∷ text)) ∙ full
-  ] where
-    both : (m.separator b ≡ false) × (list_any m.separator text ≡ false)
-    both = or_parts (m.separator b) _ joined
-
-    go : (o : Option Role) → role_at m g.part b ≡ o → has_sizes m ≡ true → ends m (group_after m (grow m g o) text) ≡ true
-    go (Some roles.Separator) role sized = absurd (no_separator g.part b both.0 role)
-    go (Some roles.Digit) role sized = absurd (false≢true (sym begun ∙ as_digit m g.part b role))
-    go o role sized = rw (sized, full) (calm_ends (grown g o) text refl both.1)
+  full_ends g x1 full begun joined = grind (arith, ends, no_separator, calm_ends)
 
   -- WHAT HAS BEEN READ, AND ITS LAST GROUP
 
@@ -99,14 +86,7 @@ module _ (m : Notation) where
 
   -- No separator is before or behind the digits of a part with a size.
   no_empty : (part : Part) → has_size m part ≡ true → (u.flag (separators_in part).leading ≡ false) × (u.flag (separators_in part).trailing ≡ false)
-  no_empty parts.Integer sized = (rw (sized) refl, rw (sized) refl)
-  no_empty parts.Fraction sized = (rw (sized) refl, rw (sized) refl)
-  no_empty parts.Exponent sized = absurd (false≢true sized)
-
-  -- After a digit and after a separator, of a part that has digits.
-  after_digits : (stage : Stage) (gap naught : Bool) → has_digit stage ≡ true → lacks_prefix stage ≡ false
-      → (lacks_prefix (after_digit stage gap naught) ≡ false) × (is_run (after_digit stage gap naught) ≡ true)
-  after_digits stage gap naught digit settled = (grind arith, grind arith)
+  no_empty x0 sized = grind arith
 
   after_separator : (stage : Stage) → has_digit stage ≡ true → (has_digit (after_mark stage) ≡ true) × (lacks_prefix (after_mark stage) ≡ false)
   after_separator stage digit = (grind arith, grind arith)
@@ -121,19 +101,7 @@ module _ (m : Notation) where
 
   linked_after : (s : Summary) (g : Group) (plus naught : Bool) (r : Role) → Linked s g → s.ended ≡ false → takes u s plus r ≡ true
       → fits m g (Some r) ≡ true → Linked (after s naught r) (grown g (Some r))
-  linked_after s g plus naught roles.Digit linked going taken fit = record {
-    part = linked.part ∙ sym (digit_part s.stage s.gap naught);
-    sized = λ is. let o = linked.sized is in let more = after_digits s.stage s.gap naught o.digit o.settled in record {
-      going = going;
-      digit = digit_seen s.stage s.gap naught;
-      settled = more.0;
-      gap = grind (arith, nat_tests);
-      run = λ _. more.1;
-      within = let both = and_parts g.separated _ is in let low = below _ _ _ both.0 both.1 fit in grind (arith, nat_tests);
-    };
-  } where
-    below : (separated size small : Bool) → separated ≡ true → size ≡ true → (not size || (not separated || small)) ≡ true → small ≡ true
-    below separated size small one two is = grind arith
+  linked_after s g plus naught roles.Digit linked going taken fit = grind arith
   linked_after s g plus naught roles.Separator linked going taken fit = record {
     part = linked.part ∙ sym (mark_part s.stage);
     sized = λ is.
@@ -147,24 +115,19 @@ module _ (m : Notation) where
           within = omega arith;
         };
   }
-  linked_after s g plus naught roles.Sign linked going taken fit =
-      record { part = linked.part ∙ sym (mark_part s.stage); sized = λ is. absurd (false≢true is) }
-  linked_after s g plus naught roles.Prefix linked going taken fit =
-      record { part = linked.part ∙ bare_part s.stage taken; sized = λ is. absurd (false≢true is) }
-  linked_after s g plus naught roles.Point linked going taken fit =
-      record { part = sym (point_part (has_digit s.stage)); sized = λ is. absurd (false≢true is) }
+  linked_after s g plus naught roles.Sign linked going taken fit = grind arith
+  linked_after s g plus naught roles.Prefix linked going taken fit = grind arith
+  linked_after s g plus naught roles.Point linked going taken fit = grind arith
   linked_after s g plus naught roles.Exponent linked going taken fit = record { part = refl; sized = λ is. absurd (false≢true is) }
   linked_after s g plus naught roles.Suffix linked going taken fit = record { part = linked.part; sized = λ is. absurd (false≢true is) }
 
   fit_of : (f : Bool) (next : Group) (text : List ℕ) (last : Group) → group_after m (if f then Some next else None) text ≡ Some last
       → (f ≡ true) × (group_after m (Some next) text ≡ Some last)
-  fit_of true next text last is = (refl, is)
-  fit_of false next text last is = absurd (let none = group_none m text in cc)
+  fit_of x0 next text last is = grind (arith, group_none)
 
   linked_all : has_sizes m ≡ true → (s : Summary) (g : Group) (text : List ℕ) (t : Summary) (last : Group) → Linked s g
       → scan u (Some s) text ≡ Some t → group_after m (Some g) text ≡ Some last → Linked t last
-  linked_all sized s g [] t last linked read grouped =
-      let same : s ≡ t = cc in let also : g ≡ last = cc in subst (λ s. Linked s last) same (subst (Linked s) also linked)
+  linked_all sized s g [] t last linked read grouped = grind arith
   linked_all sized s g (b ∷ text) t last linked read grouped =
       let one = took u.condition u s b (λ o. scan u o text ≡ Some t) (none_after u text t) read in
       let role = ap (λ part. role_at m part b) linked.part ∙ one.plays in
@@ -194,9 +157,7 @@ module _ (m : Notation) where
       sized : has_size m g.part ≡ true
 
     some_size : (part : Part) → has_size m part ≡ true → has_sizes m ≡ true
-    some_size parts.Integer is = or_left _ _ is
-    some_size parts.Fraction is = or_right _ _ is
-    some_size parts.Exponent is = absurd (false≢true is)
+    some_size x0 is = grind arith
 
     module _ (text : List ℕ) (s : Summary) (g : Group) (is : Filling text s g) where
       linked : Linked s g
@@ -209,23 +170,13 @@ module _ (m : Notation) where
       one_more : (b : ℕ) (r : Role) → role_at m g.part b ≡ Some r → takes u s (b == 43) r ≡ true → admits u.condition s (b == 43) (b == 48) r ≡ true
           → follows m g (Some r) ≡ true → (grown g (Some r)).separated ≡ true → (grown g (Some r)).part ≡ g.part
           → Filling (text ++ b ∷ []) (after s (b == 48) r) (grown g (Some r))
-      one_more b r role taken admitted follow separated part = record {
-        read = scan_append u.condition u (Some start) text (b ∷ []) ∙ ap (λ o. scan u o (b ∷ [])) is.read
-            ∙ moved u.condition u s b r (ap (λ part. role_at m part b) (sym linked.part) ∙ role) opened.going taken admitted;
-        grouped = group_append m (Some first_group) text (b ∷ []) ∙ ap (λ o. group_after m o (b ∷ [])) is.grouped ∙ grows role;
-        separated = separated;
-        sized = ap (has_size m) part ∙ is.sized;
-      } where
-        grows : role_at m g.part b ≡ Some r → grow m g (role_at m g.part b) ≡ Some (grown g (Some r))
-        grows role = rw (some_size g.part is.sized, role, is.sized, follow) refl
+      one_more b r role taken admitted follow separated part = grind (arith, scan_append, linked, group_append)
 
       internal : u.flag (separators_in (part_of s.stage)).internal ≡ true
       internal = same_internal m (part_of s.stage) (sizes.internal (part_of s.stage) (ap (has_size m) (sym linked.part) ∙ is.sized))
 
       signed : is_signed u (part_of s.stage) s.stage ≡ true
-      signed = or_left _ _ (ap not (old s.stage opened.digit)) where
-        old : (stage : Stage) → has_digit stage ≡ true → is_fresh stage ≡ false
-        old stage digit = grind arith
+      signed = grind (arith, opened)
 
       follow_run : (stage : Stage) → is_run stage ≡ true → may_follow u stage ≡ true
       follow_run stage run = grind arith
@@ -244,10 +195,7 @@ module _ (m : Notation) where
         next false more seen none is = absurd (false≢true seen)
 
       admitted : (plus naught : Bool) (r : Role) → (roles.Sign ≡ r → ⊥) → admits u.condition s plus naught r ≡ true
-      admitted plus naught r other = admits_free u s plus naught r other (free (u.condition conditions.BasePrefix) opened.settled) where
-        free : (set : Bool) → lacks_prefix s.stage ≡ false → not (set && lacks_prefix s.stage) ≡ true
-        free true settled = ap not settled
-        free false settled = refl
+      admitted plus naught r other = grind (arith, opened)
 
       zero_more : nat_lt g.digits (most m g.part) ≡ true → Filling (text ++ 48 ∷ []) (after s true roles.Digit) (grown g (Some roles.Digit))
       zero_more small = one_more 48 roles.Digit (digit_role m g.part 48 (h.zero_is_digit g.part))
@@ -315,7 +263,8 @@ module _ (m : Notation) where
           closable_from x (sizes.separator ∷ []) (last (x ++ sizes.separator ∷ []) (after t (sizes.separator == 48) roles.Separator)
           (grown full (Some roles.Separator)) (separator_more x t full more ((opened x t full more).gap ∙ some) fit) (same ∙ part) (grind (arith, nat_tests))))
     ] where
-      last : (text : List ℕ) (s : Summary) (g : Group) → Filling text s g → g.part ≡ parts.Integer → nat_le g.digits (m.number conditions.IntegerGroupSize) ≡ true
+      last : (text : List ℕ) (s : Summary) (g : Group) → Filling text s g → g.part ≡ parts.Integer
+          → nat_le g.digits (m.number conditions.IntegerGroupSize) ≡ true
           → Closable text
       last text s g is part low =
           zeros (m.number conditions.IntegerGroupSize - g.digits) text s g is
@@ -329,7 +278,8 @@ module _ (m : Notation) where
         elim (cases_Bool (nat_lt 0 g.digits)) [
           | inl some ↦ close text s g is (subst (λ part. last_fits m part g.digits ≡ true) (sym part) (grind (arith, nat_tests)))
           | inr none ↦ zeros 1 text s g is (subst (λ part. g.digits + 1 ≤ most m part) (sym part) (grind (arith, nat_tests)))
-              (λ x t full more same count. close x t full more (subst (λ part. last_fits m part full.digits ≡ true) (sym (same ∙ part)) (grind (arith, nat_tests))))
+              (λ x t full more same count. close x t full more (subst (λ part. last_fits m part full.digits ≡ true) (sym (same ∙ part))
+              (grind (arith, nat_tests))))
         ]
 
     close_group : (text : List ℕ) (s : Summary) (g : Group) (part : Part) → g.part ≡ part → Filling text s g → Closable text

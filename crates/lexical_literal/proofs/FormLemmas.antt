@@ -1,9 +1,9 @@
 -- Several forms: what has been found in the first of them, and what one form more adds.
-use Rattle.std.proofs.Common.{ℕ, ◌≡◌, ◌*◌, Bool, true, false, if◌then◌else◌, ◌<◌, ◌≤◌, ◌+◌, inl, inr, List, Ok, Option, Some, None, All, IsSomeAnd}
-use Rattle.std.proofs.Common.{length, take, get_or, slice_get, IsNone, refl, sym, ap, subst, ◌∙◌, arith}
+use Rattle.std.proofs.Common.{ℕ, ◌≡◌, ◌*◌, Bool, true, false, if◌then◌else◌, ◌<◌, ◌≤◌, ◌+◌, List, Ok, Option, Some, None, All, IsSomeAnd}
+use Rattle.std.proofs.Common.{length, take, get_or, slice_get, IsNone, refl, sym, subst, arith}
 use Rattle.std.specs.Option.{ForSome}
 use Rattle.std.proofs.lemmas.Bool.Decides.{nat_tests}
-use Rattle.std.proofs.lemmas.Bool.{cases_lt, false≢true}
+use Rattle.std.proofs.lemmas.Bool.{false≢true}
 use Rattle.std.proofs.lemmas.List.{take_all}
 use Rattle.std.proofs.lemmas.List.Elements.{All-more}
 use Rattle.std.proofs.lemmas.Option.{slice_get-get_or, slice_get_within}
@@ -20,20 +20,16 @@ use Rattle.lexical_literal.specs.declared.read.Found.{Found}
 use Rattle.lexical_literal.specs.declared.plain.At.{At}
 use Rattle.lexical_literal.specs.declared.syntax.Grammar.{Grammar}
 use Rattle.lexical_literal.proofs.OneCauseLemmas.{one_refusal}
+use Rattle.std.proofs.lemmas.Grind.{common_steps}
 
 -- What holds of some value of an option holds of the value that it is.
 some_of : {X : Type 0} (P : X → Type 0) (o : Option X) → IsSomeAnd o P → (x : X) × (o ≡ Some x) × P x
-some_of P None holds = elim holds [ ]
-some_of P (Some x) holds = (x, refl, holds)
+some_of P x1 holds = grind arith
 
 -- The form at an index, where a list of readers has the reader `g`.
 pub form_at : (P : Grammar → Type 0) (forms readers : List Grammar) (g : Grammar) (i : ℕ) → readers ≡ forms → g ≡ get_or readers i g
     → IsSomeAnd (slice_get forms i) P → (slice_get forms i ≡ Some g) × P g
-form_at P forms readers g i same is holds =
-    let here = some_of P (slice_get forms i) holds in
-    let inside = slice_get_within forms i here.0 here.1 in
-    let at : slice_get forms i ≡ Some g = slice_get-get_or forms i g inside ∙ ap Some (sym (is ∙ ap (λ l. get_or l i g) same)) in
-    (at, subst (λ o. IsSomeAnd o P) at holds)
+form_at P forms readers g i same is holds = grind (arith, slice_get_within, slice_get-get_or)
 
 -- What holds of all forms holds of the form at an index.
 pub all_at : (P : Grammar → Type 0) (forms : List Grammar) (i : ℕ) (g : Grammar) → slice_get forms i ≡ Some g → All P forms → P g
@@ -41,6 +37,16 @@ all_at P forms i g at all =
     let inside = slice_get_within forms i g at in
     let here = slice_get-get_or forms i g inside in
     let same : get_or forms i g ≡ g = cc in subst P same (all i g inside)
+
+pub inside_at : (P : Grammar → Type 0) (forms : List Grammar) (i : ℕ) → IsSomeAnd (slice_get forms i) P → i < length forms
+inside_at P forms i holds = let here = some_of P (slice_get forms i) holds in slice_get_within forms i here.0 here.1
+
+here_at : (P : Grammar → Type 0) (forms : List Grammar) (i : ℕ) (d : Grammar) → IsSomeAnd (slice_get forms i) P → P (get_or forms i d)
+here_at P forms i d holds = grind (arith, common_steps, some_of, slice_get-get_or, slice_get_within)
+
+pub at_index : (P : Grammar → Type 0) (forms readers : List Grammar) (g : Grammar) (i : ℕ) → readers ≡ forms → g ≡ get_or readers i g → i < length readers → P g
+    → IsSomeAnd (slice_get forms i) P
+at_index P forms readers g i same is inside holds = grind (arith, common_steps, slice_get-get_or)
 
 -- A text has one longest front that some literal begins with, and one that is a literal.
 pub one_size : (m : Notation) (text : List ℕ) (a b : ℕ) → IsValidUpTo m text a → IsValidUpTo m text b → a ≤ b
@@ -53,20 +59,9 @@ one_front m text l k a b is other = let longer = λ (below : b < a). other.no_lo
 pub none_whole : (m : Notation) (text : List ℕ) → NoFront m text → NoLiteral m text
 none_whole m text none l reads = none (length text) (omega arith) l (subst (Reads m l) (sym (take_all (length text) text (omega arith))) reads)
 
--- An error of the form that goes furthest says how far this is.
-pub error_is : (g : Grammar) (text : List ℕ) (size : ℕ) (error : Refusal) → IsValidUpTo (notation_of g) text size → IsRefusal (notation_of g) text error
-    → size ≡ error.valid_up_to
-error_is g text size error valid is =
-    let reached = is.valid_up_to in
-    let up = one_size (notation_of g) text size error.valid_up_to valid reached in
-    let down = one_size (notation_of g) text error.valid_up_to size reached valid in omega (arith, up, down)
-
 module _ (g : Grammar) (text : List ℕ) where
   reach_within : (error : Refusal) → reach error ≤ 2 * error.valid_up_to + 1
-  reach_within error = go (is_byte error.kind) where
-    go : (b : Bool) → 2 * error.valid_up_to + (if b then 0 else 1) ≤ 2 * error.valid_up_to + 1
-    go true = omega arith
-    go false = omega arith
+  reach_within error = grind arith
 
   -- The reach of a form that goes up to `size`, or less far.
   pub reach_up_to : (size : ℕ) → ((other : ℕ) → GoesTo text g other → other ≤ size) → (n : ℕ) → Reaches text g n → n ≤ 2 * size + 1
@@ -78,8 +73,7 @@ module _ (g : Grammar) (text : List ℕ) where
   -- Its reach is that of its error.
   pub reach_of : (error : Refusal) (size : ℕ) (b : Bool) → IsRefusal (notation_of g) text error → IsValidUpTo (notation_of g) text size → is_byte error.kind ≡ b
       → (n : ℕ) → Reaches text g n → n ≡ 2 * size + (if b then 0 else 1)
-  reach_of error size b is valid byte n other =
-      sym other.2 ∙ ap reach (one_refusal (notation_of g) text other.0 error other.1 is) ∙ rw (byte, ← error_is g text size error valid is) refl
+  reach_of error size b is valid byte n other = grind (arith, one_refusal)
 
 -- `Measure X` has what is compared: values with a size. It tells which sizes and values a form has, and whether it has none.
 pub record Measure (X : Type 0) : Type 1 where
@@ -110,42 +104,20 @@ module _ {X : Type 0} (M : Measure X) (forms : List Grammar) where
     -- The form at `i` has no value.
     pub best_stays : M.IsNot g → (best : Option (ℕ × X)) → IsBest i best → IsBest (i + 1) best
     best_stays none None old = All-more M.IsNot forms i d inside old none
-    best_stays none (Some best) old = record {
-      here = old.here;
-      before = old.before;
-      others = All-more (λ g. (n : ℕ) → M.IsSize g n → n ≤ M.size best.1) forms i d inside old.others (λ n is. absurd (M.none g n none is));
-    }
+    best_stays none (Some best) old = grind (arith, common_steps)
 
     -- It has the value `x`, which is greater than those before.
     greatest_yet : (x : X) → M.IsValue g x → All (λ g. (n : ℕ) → M.IsSize g n → n < M.size x) (take i forms) → IsBestOf (i + 1) i x
-    greatest_yet x is less = record {
-      here = subst (λ o. IsSomeAnd o (λ g. M.IsValue g x)) (sym (slice_get-get_or forms i d inside)) is;
-      before = less;
-      others = All-more (λ g. (n : ℕ) → M.IsSize g n → n ≤ M.size x) forms i d inside
-          (λ k e below n is. let small = less k e below n is in omega (arith, small)) (λ n other. M.one g n (M.size x) other (M.sized g x is));
-    }
+    greatest_yet x is less = grind (arith, common_steps, slice_get-get_or)
 
     -- It has the value `x`.
     pub best_more : (x : X) → M.IsValue g x → (best : Option (ℕ × X)) → IsBest i best → IsBest (i + 1) (greater M.size best i x)
     best_more x is None old = greatest_yet x is (λ k e below n other. absurd (M.none _ n (old k e below) other))
-    best_more x is (Some best) old = elim (cases_lt (M.size best.1) (M.size x)) [
-      | inl more ↦ subst (IsBest (i + 1)) {x = Some (i, x)} (grind (arith, nat_tests))
-          (greatest_yet x is (λ k e below n other. let less = old.others k e below n other in omega (arith, less, more)))
-      | inr less ↦ subst (IsBest (i + 1)) {x = Some best} (grind (arith, nat_tests)) (record {
-        here = old.here;
-        before = old.before;
-        others = All-more (λ g. (n : ℕ) → M.IsSize g n → n ≤ M.size best.1) forms i d inside old.others
-            (λ n other. let short = M.one g n (M.size x) other (M.sized g x is) in omega (arith, short, less));
-      })
-    ]
+    best_more x is (Some best) old = grind (arith, common_steps, nat_tests, greatest_yet)
 
   -- The best of all forms.
   greatest : (i : ℕ) → length forms ≤ i → (form : ℕ) (x : X) → IsBestOf i form x → IsGreatest M.IsSize forms form (M.size x)
-  greatest i end form x is = let here = some_of (λ g. M.IsValue g x) (slice_get forms form) is.here in record {
-    here = subst (λ o. IsSomeAnd o (λ g. M.IsSize g (M.size x))) (sym here.1) (M.sized here.0 x here.2);
-    before = is.before;
-    others = subst (All (λ g. (n : ℕ) → M.IsSize g n → n ≤ M.size x)) (take_all i forms end) is.others;
-  }
+  greatest i end form x is = grind (arith, take_all)
 
 -- How far each form goes, and the longest front that is a literal of each form.
 abbrev pub goes : List ℕ → Measure At
@@ -182,14 +154,7 @@ fronts_more text forms i d inside longest old (Some found) has none = best_more 
 pub found_is : (forms : List Grammar) (text : List ℕ) (i : ℕ) (d : Grammar) (read : Read) → i < length forms
     → (read.format ≡ (get_or forms i d).word) × Reads (notation_of (get_or forms i d)) read.literal text
     → All (λ g. NoLiteral (notation_of g) text) (take i forms) → IsFoundForm forms text (Ok (i, read))
-found_is forms text i d read inside is before = record {
-  found = record {
-    reads = subst (λ o. IsSomeAnd o (λ g. (read.format ≡ g.word) × Reads (notation_of g) read.literal text)) (sym (slice_get-get_or forms i d inside)) is;
-    before = before;
-  };
-  none = λ err. absurd (false≢true err);
-  error = tt;
-}
+found_is forms text i d read inside is before = grind (arith, slice_get-get_or)
 
 -- All forms have been tried.
 module _ (forms : List Grammar) (text : List ℕ) (i : ℕ) (end : length forms ≤ i) where
@@ -204,15 +169,6 @@ module _ (forms : List Grammar) (text : List ℕ) (i : ℕ) (end : length forms 
   pub all_tried : (P : Grammar → Type 0) → All P (take i forms) → All P forms
   all_tried P all = subst (All P) (take_all i forms end) all
 
--- The form that goes furthest, where a list of readers has the reader `g`.
-pub furthest_at : (forms readers : List Grammar) (text : List ℕ) (furthest : Option (ℕ × At)) (first : ℕ) (stop : At) → readers ≡ forms
-    → furthest ≡ Some (first, stop) → IsFurthestForm forms text furthest → (g : Grammar) → g ≡ get_or readers first g
-    → IsGreatest (GoesTo text) readers first stop.size × (slice_get readers first ≡ Some g) × IsStopped (notation_of g) text stop
-furthest_at forms readers text furthest first stop same is best g at =
-    let b = subst (IsFurthestForm readers text) is (subst (λ l. IsFurthestForm l text furthest) (sym same) best) in
-    let form = form_at (λ g. IsStopped (notation_of g) text stop) readers readers g first refl at b.1 in
-    (b.0, form.0, form.1)
-
 -- The forms that go up to `size`, of which `first` is the first.
 module _ (forms : List Grammar) (text : List ℕ) (first size : ℕ) (furthest : IsGreatest (GoesTo text) forms first size) where
   -- `IsNoBetter g` holds if no error of the form `g` goes further than one that goes up to `size` and whose cause is a wrong byte.
@@ -222,40 +178,48 @@ module _ (forms : List Grammar) (text : List ℕ) (first size : ℕ) (furthest :
   pub none_before : All IsNoBetter (take first forms)
   none_before k d below n reaches = let less = reach_below _ text size (furthest.before k d below) n reaches in omega (arith, less)
 
-  pub at_byte : (g : Grammar) (error : Refusal) → IsRefusal (notation_of g) text error → IsValidUpTo (notation_of g) text size → is_byte error.kind ≡ true → IsNoBetter g
-  at_byte g error is valid byte n reaches = omega (arith, reach_of g text error size true is valid byte n reaches)
+  one_more : (form : ℕ) → IsSomeAnd (slice_get forms form) IsNoBetter → All IsNoBetter (take form forms) → All IsNoBetter (take (form + 1) forms)
+  one_more form is before = let here = some_of IsNoBetter (slice_get forms form) is in
+      All-more IsNoBetter forms form here.0 (slice_get_within forms form here.0 here.1) before (here_at IsNoBetter forms form here.0 is)
 
-  pub elsewhere : (form : ℕ) (g : Grammar) (other : ℕ) → slice_get forms form ≡ Some g → IsValidUpTo (notation_of g) text other → (other ≡ size → ⊥)
-      → IsNoBetter g
-  elsewhere form g other at valid apart n reaches =
-      let up = all_at (λ g. (other : ℕ) → GoesTo text g other → other ≤ size) forms form g at furthest.others other valid in
-      let other_is : other < size = grind (arith, nat_tests) in
-      let less = reach_below g text size (λ k goes. let most = one_size (notation_of g) text k other goes valid in omega (arith, most, other_is)) n reaches in
-      omega (arith, less)
+  -- A form that goes up to `size`, where a byte is wrong, and one that goes elsewhere.
+  pub wrong_byte : (form : ℕ) (error : Refusal) → IsSomeAnd (slice_get forms form) (λ g. IsRefusal (notation_of g) text error)
+      → IsSomeAnd (slice_get forms form) (λ g. GoesTo text g size) → is_byte error.kind ≡ true → All IsNoBetter (take form forms)
+      → All IsNoBetter (take (form + 1) forms)
+  wrong_byte form error is valid byte = one_more form (go (slice_get forms form) is valid) where
+    go : (o : Option Grammar) → IsSomeAnd o (λ g. IsRefusal (notation_of g) text error) → IsSomeAnd o (λ g. GoesTo text g size) → IsSomeAnd o IsNoBetter
+    go None is valid = is
+    go (Some g) is valid = λ n reaches. omega (arith, reach_of g text error size true is valid byte n reaches)
+
+  pub elsewhere : (form other : ℕ) → IsSomeAnd (slice_get forms form) (λ g. GoesTo text g other) → (other ≡ size → ⊥) → All IsNoBetter (take form forms)
+      → All IsNoBetter (take (form + 1) forms)
+  elsewhere form other valid apart = one_more form (go (slice_get forms form) refl valid) where
+    go : (o : Option Grammar) → slice_get forms form ≡ o → IsSomeAnd o (λ g. GoesTo text g other) → IsSomeAnd o IsNoBetter
+    go None at valid = valid
+    go (Some g) at valid = λ n reaches.
+        let up = all_at (λ g. (other : ℕ) → GoesTo text g other → other ≤ size) forms form g at furthest.others other valid in
+        let other_is : other < size = grind (arith, nat_tests) in
+        let less = reach_below g text size (λ k goes. let most = one_size (notation_of g) text k other goes valid in omega (arith, most, other_is)) n reaches in
+        omega (arith, less)
 
   -- The error of a form that goes up to `size`.
-  module _ (form : ℕ) (g : Grammar) (error : Explained) (at : slice_get forms form ≡ Some g) (is : IsRefusal (notation_of g) text error.refusal)
-      (valid : IsValidUpTo (notation_of g) text size) where
+  module _ (form : ℕ) (error : Explained) (is : IsSomeAnd (slice_get forms form) (λ g. IsRefusal (notation_of g) text error.refusal))
+      (valid : IsSomeAnd (slice_get forms form) (λ g. GoesTo text g size)) where
+    reach_is : (b : Bool) → is_byte error.refusal.kind ≡ b → reach error.refusal ≡ 2 * size + (if b then 0 else 1)
+    reach_is b byte = let here = some_of (λ g. IsRefusal (notation_of g) text error.refusal) (slice_get forms form) is in
+        reach_of here.0 text error.refusal size b here.2 (subst (λ o. IsSomeAnd o (λ g. GoesTo text g size)) here.1 valid) byte _ (error.refusal, here.2, refl)
+
     error_from : All (λ g. (n : ℕ) → Reaches text g n → n < reach error.refusal) (take form forms)
         → All (λ g. (n : ℕ) → Reaches text g n → n ≤ reach error.refusal) forms → IsFormError forms text (record { form = form; error = error })
-    error_from before others = record {
-      furthest = record {
-        here = subst (λ o. IsSomeAnd o (λ g. Reaches text g (reach error.refusal))) (sym at) (error.refusal, is, refl);
-        before = before;
-        others = others;
-      };
-      refusal = subst (λ o. IsSomeAnd o (λ g. IsRefusal (notation_of g) text error.refusal)) (sym at) is;
-    }
+    error_from before others = grind arith
 
     pub other_error : is_byte error.refusal.kind ≡ false → All IsNoBetter (take form forms) → IsFormError forms text (record { form = form; error = error })
-    other_error right before =
-        let size_is = reach_of g text error.refusal size false is valid right (reach error.refusal) (error.refusal, is, refl) in error_from
+    other_error right before = let size_is = reach_is false right in error_from
         (λ k d below n reaches. let less = before k d below n reaches in omega (arith, less, size_is))
         (λ k d below n reaches. let less = reach_up_to _ text size (furthest.others k d below) n reaches in omega (arith, less, size_is))
 
     pub first_error : form ≡ first → is_byte error.refusal.kind ≡ true → All IsNoBetter forms → IsFormError forms text (record { form = form; error = error })
-    first_error same byte others =
-        let size_is = reach_of g text error.refusal size true is valid byte (reach error.refusal) (error.refusal, is, refl) in error_from
+    first_error same byte others = let size_is = reach_is true byte in error_from
         (subst (λ k. All (λ g. (n : ℕ) → Reaches text g n → n < reach error.refusal) (take k forms)) (sym same)
         (λ k d below n reaches. let less = reach_below _ text size (furthest.before k d below) n reaches in omega (arith, less, size_is)))
         (λ k d below n reaches. let less = others k d below n reaches in omega (arith, less, size_is))

@@ -15,7 +15,8 @@ use Rattle.lexical_literal.specs.Front.{IsFront}
 use Rattle.lexical_literal.specs.Literal.{Literal, Reads}
 use Rattle.lexical_literal.specs.Additions.Summary.{admits, continues, implies, has_digit, is_fresh, is_led, after_digit, after_mark, after_point, may_lead}
 use Rattle.lexical_literal.specs.Additions.Summary.{is_negative, lacks_prefix, needs_exponent, may_follow, gap_fits, ends, is_open, is_signed, takes, after}
-use Rattle.lexical_literal.specs.Additions.Summary.{scan, is_accepted, start, no_cuts, role_at, part_of, awaits_integer, digits_suffice, takes_in, forbids_plus, is_run}
+use Rattle.lexical_literal.specs.Additions.Summary.{scan, is_accepted, start, no_cuts, role_at, part_of, awaits_integer, digits_suffice, takes_in}
+use Rattle.lexical_literal.specs.Additions.Summary.{forbids_plus, is_run}
 use Rattle.lexical_literal.specs.declared.steps.Stage.{Stage}
 use Rattle.lexical_literal.specs.declared.steps.Stage.TheVariants as stages
 use Rattle.lexical_literal.specs.declared.steps.Summary.{Summary}
@@ -42,8 +43,7 @@ module _ (m : Notation) where
 
   -- What can go on does so after each byte that is taken.
   goes_on : (s : Summary) (plus zero : Bool) (r : Role) → CanGoOn m s → takes m s plus r ≡ true → admits C s plus zero r ≡ true → CanGoOn m (after s zero r)
-  goes_on s plus zero roles.Digit can is admitted = record { closes = refl; led = grind arith; prefixed = grind arith }
-  goes_on s plus zero _ can is admitted = record { closes = grind arith; led = grind arith; prefixed = grind arith }
+  goes_on s plus x2 x3 can is admitted = grind arith
 
   all_go_on : HasRoles m → (s : Summary) (text : List ℕ) (last : Summary) → CanGoOn m s → scan m (Some s) text ≡ Some last → CanGoOn m last
   all_go_on h s [] last can is = let same : s ≡ last = cc in subst (CanGoOn m) same can
@@ -55,8 +55,7 @@ module _ (m : Notation) where
 
   -- A digit is enough for a part, and another one may follow where it is no leading zero.
   enough : (part : Part) (stage : Stage) → has_digit stage ≡ true → digits_suffice m part stage ≡ true
-  enough parts.Fraction stage digit = grind arith
-  enough _ stage digit = grind arith
+  enough x0 stage digit = grind arith
 
   behind_digit : (stage : Stage) (gap : Bool) → is_signed m (part_of stage) (after_digit stage gap true) ≡ true
   behind_digit stage gap = grind arith
@@ -216,8 +215,7 @@ module _ (m : Notation) where
     prefix_completed : (stage : Stage) → C conditions.BasePrefix ≡ true → lacks_prefix stage ≡ true → Completed (reading stage false)
     prefix_completed stages.Bare set lacks = bare_completed set
     prefix_completed stages.Empty set lacks = zero_completed set stages.Empty refl refl
-    prefix_completed stages.Start set lacks =
-        signed_completed stages.Start false refl (zero_completed set stages.Empty refl refl) (zero_completed set stages.Start refl)
+    prefix_completed stages.Start set lacks = grind (arith, signed_completed, zero_completed)
     prefix_completed _ set lacks = absurd (false≢true lacks)
 
     finishes_in : (part : Part) → Finishes part

@@ -1,21 +1,19 @@
 -- Groups, counted at once and byte by byte, and runs without empty groups.
-use Rattle.std.proofs.Common.{ℕ, ◌≡◌, ◌≤◌, ◌+◌, ◌==◌, inl, inr, Bool, true, false, not, ◌&&◌, ◌||◌, if◌then◌else◌, nat_lt, List, [], ◌∷◌, Some, None, zero, suc}
+use Rattle.std.proofs.Common.{ℕ, ◌≡◌, ◌≤◌, ◌+◌, ◌==◌, inl, inr, Bool, true, false, not, ◌&&◌, ◌||◌, if◌then◌else◌, nat_lt, List, [], ◌∷◌, Some, None}
 use Rattle.std.proofs.Common.{refl, sym, ap, subst, ◌∙◌, arith}
 use Rattle.std.proofs.lemmas.Bool.{false≢true, and_parts, and_from, cases_Bool, false_from_ne_true, or_left, or_right}
 use Rattle.std.proofs.lemmas.Bool.Decides.{nat_tests}
 use Rattle.lexical_util.specs.Layout.{Flag, separators_in}
 use Rattle.lexical_util.specs.declared.feature_format.roles.Role.TheVariants as roles
 use Rattle.lexical_util.specs.declared.format_flags.Part.{Part}
-use Rattle.lexical_util.specs.declared.format_flags.Part.TheVariants as parts
 use Rattle.lexical_literal.specs.Groups.{all_fit, first_fits, group_sizes, has_size, inner_fits, is_grouped, last_fits, one_more, rest_fits}
 use Rattle.lexical_literal.specs.Notation.{Notation}
 use Rattle.lexical_literal.specs.Additions.Summary.{gap_fits}
-use Rattle.lexical_literal.specs.Additions.Sizes.{follows, grown, is_size, makes_empty, most, unsized}
+use Rattle.lexical_literal.specs.Additions.Sizes.{follows, grown, is_size, most, unsized}
 use Rattle.lexical_literal.specs.declared.groups.Group.{Group}
 use Rattle.lexical_literal.specs.Additions.Plain.{HasRoles, HasSizes}
 use Rattle.lexical_literal.specs.Cause.{with_rules}
 use Rattle.lexical_literal.specs.declared.syntax.Condition.{Condition}
-use Rattle.lexical_literal.specs.declared.syntax.Condition.TheVariants as conditions
 use Rattle.lexical_literal.proofs.RunLemmas.{is_rest}
 use Rattle.lexical_literal.proofs.ScanLemmas.{as_role, digit_role}
 
@@ -42,19 +40,14 @@ module _ (m : Notation) (part : Part) where
 
   -- No group behind a separator has more digits than the greatest.
   at_most : (count : ℕ) → (inner_fits m part count || last_fits m part count) ≡ true → count ≤ most m part
-  at_most count fit = go part fit where
-    go : (part : Part) → (inner_fits m part count || last_fits m part count) ≡ true → count ≤ most m part
-    go parts.Integer fit = grind (arith, nat_tests)
-    go _ fit = grind (arith, nat_tests)
+  at_most count fit = grind arith
 
   -- Groups that are counted at once are those that are counted byte by byte.
   one_more_is : (digits : ℕ) (counts : List ℕ) → more digits (one_more counts) ≡ more (digits + 1) counts
-  one_more_is digits [] = refl
-  one_more_is digits (count ∷ counts) = let sum : digits + (count + 1) ≡ digits + 1 + count = omega arith in ap (λ n. n ∷ counts) sum
+  one_more_is digits x1 = grind arith
 
   none_more : (counts : List ℕ) → more 0 counts ≡ counts
-  none_more [] = refl
-  none_more (count ∷ counts) = let sum : 0 + count ≡ count = omega arith in ap (λ n. n ∷ counts) sum
+  none_more x0 = grind arith
 
   some_counts : (bytes : List ℕ) → (count : ℕ) × (counts : List ℕ) × (group_sizes m.separator bytes ≡ count ∷ counts)
   some_counts [] = (0, [], refl)
@@ -65,14 +58,10 @@ module _ (m : Notation) (part : Part) where
 
   -- A group of several is not too large for one digit more.
   may_grow : (digits count : ℕ) (counts : List ℕ) → rest_fits m part ((digits + 1 + count) ∷ counts) ≡ true → nat_lt digits (most m part) ≡ true
-  may_grow digits count [] fit = let low = at_most (digits + 1 + count) (or_right _ _ fit) in grind (arith, nat_tests)
-  may_grow digits count (next ∷ counts) fit =
-      let low = at_most (digits + 1 + count) (or_left _ _ (and_parts _ (rest_fits m part (next ∷ counts)) fit).0) in grind (arith, nat_tests)
+  may_grow digits count x2 fit = grind (arith, at_most, nat_tests)
 
   absorbed : (a b : Bool) → (b ≡ true → a ≡ true) → (a && b) ≡ b
-  absorbed true b if_b = refl
-  absorbed false true if_b = if_b refl
-  absorbed false false if_b = refl
+  absorbed x0 b if_b = grind arith
 
   pub sizes_fit : (separated : Bool) (digits : ℕ) (run : List ℕ)
       → run_fits m (group part separated digits) run ≡ counts_fit separated (more digits (group_sizes m.separator run))
@@ -103,9 +92,7 @@ grouped_is m part run = ap (all_fit m part) (sym (none_more m part (group_sizes 
 -- No group of several is empty.
 pub not_empty : (m : Notation) (part : Part) → HasSizes m → has_size m part ≡ true → (first_fits m part 0 ≡ false) × (inner_fits m part 0 ≡ false)
     × (last_fits m part 0 ≡ false)
-not_empty m parts.Integer sizes is = let some = sizes.integer is in (refl, grind (arith, nat_tests), grind (arith, nat_tests))
-not_empty m parts.Fraction sizes is = let some = sizes.fraction is in (grind (arith, nat_tests), grind (arith, nat_tests), refl)
-not_empty m parts.Exponent sizes is = absurd (false≢true is)
+not_empty m x1 sizes is = grind arith
 
 -- A digit is no separator.
 pub one_role : (m : Notation) → HasRoles m → (part : Part) (b : ℕ) → m.digit part b ≡ true → m.separator b ≡ false
@@ -125,17 +112,11 @@ module _ (m : Notation) (h : HasRoles m) (part : Part) (sizes : HasSizes m) (siz
   abbrev gap : Bool → ℕ → Bool
   gap separated digits = separated && (digits == 0)
 
-  some_digits : (f : ℕ → Bool) (digits : ℕ) → f 0 ≡ false → f digits ≡ true → nat_lt 0 digits ≡ true
-  some_digits f zero none is = absurd (false≢true (sym none ∙ is))
-  some_digits f (suc digits) none is = grind (arith, nat_tests)
-
   at_end : (separated : Bool) (digits : ℕ) → follows m (group part separated digits) None ≡ true → gap separated digits ≡ false
-  at_end false digits fit = refl
-  at_end true digits fit = let some = some_digits (last_fits m part) digits (not_empty m part sizes sized).2 fit in grind (arith, nat_tests)
+  at_end x0 digits fit = grind arith
 
   before : (separated : Bool) (digits : ℕ) → follows m (group part separated digits) (Some roles.Separator) ≡ true → nat_lt 0 digits ≡ true
-  before false digits fit = some_digits (first_fits m part) digits (not_empty m part sizes sized).0 fit
-  before true digits fit = some_digits (inner_fits m part) digits (not_empty m part sizes sized).1 fit
+  before x0 digits fit = grind arith
 
   pub tighter : (separated : Bool) (digits : ℕ) (run : List ℕ) → run_fits m (group part separated digits) run ≡ true
       → is_rest m part (seen separated digits) (gap separated digits) run ≡ true
@@ -168,15 +149,4 @@ module _ (m : Notation) (h : HasRoles m) (part : Part) (sizes : HasSizes m) (siz
 
 -- Without sizes, a notation is the same without them.
 pub same_unsized : (m : Notation) → ((c : Condition) → is_size c ≡ true → m.condition c ≡ false) → unsized m ≡ m
-same_unsized m none = λ j. with_rules m (λ f. same_flag f j) (λ c. same_condition c j) where
-  same_flag : (f : Flag) → (unsized m).flag f ≡ m.flag f
-  same_flag f = let integer = none conditions.IntegerGroupSize refl in let fraction = none conditions.FractionGroupSize refl in
-      rw (integer, fraction) (go (makes_empty parts.Integer f) (makes_empty parts.Fraction f) (m.flag f)) where
-        go : (a b t : Bool) → (not ((a && false) || (b && false)) && t) ≡ t
-        go a b t = grind arith
-
-  same_condition : (c : Condition) → (unsized m).condition c ≡ m.condition c
-  same_condition c = go (is_size c) (m.condition c) (none c) where
-    go : (is t : Bool) → (is ≡ true → t ≡ false) → (not is && t) ≡ t
-    go true t none = sym (none refl)
-    go false t none = refl
+same_unsized m none = grind arith

@@ -1,13 +1,10 @@
 -- What has been read where one part ends and the next one begins.
-use Rattle.lexical_literal.proofs.StepLemmas.{awaited_part}
-use Rattle.std.proofs.Common.{ℕ, ◌≡◌, ◌<◌, ◌+◌, ◌-◌, ◌==◌, Bool, true, false, List, if◌then◌else◌, get_or, length, refl, ap, subst, ◌∙◌, arith}
-use Rattle.std.proofs.Common.{replicate, set}
+use Rattle.std.proofs.Common.{ℕ, ◌≡◌, ◌<◌, ◌+◌, ◌-◌, true, false, List, get_or, length, refl, ap, subst, ◌∙◌, arith, set}
 use Rattle.lexical_util.specs.declared.feature_format.roles.Role.TheVariants as roles
 use Rattle.lexical_util.specs.declared.format_flags.Part.TheVariants as parts
 use Rattle.lexical_literal.specs.Notation.{Notation}
 use Rattle.lexical_literal.specs.Additions.Plain.{HasRoles, IsAt, IsBegun, IsOpened, IsReadOn, IsSign, behind_sign, counts_of, integer_sizes, is_free, at_stage}
-use Rattle.lexical_literal.specs.Additions.Summary.{Cuts, after_point, cuts_of, has_digit, awaits_integer, is_signed, takes}
-use Rattle.lexical_literal.specs.Additions.Summary.{part_of, piece_number, with_prefix}
+use Rattle.lexical_literal.specs.Additions.Summary.{Cuts, after_point, cuts_of, has_digit, awaits_integer, is_signed, takes, part_of, piece_number, with_prefix}
 use Rattle.lexical_literal.specs.declared.plain.At.{At}
 use Rattle.lexical_literal.specs.declared.plain.Opening.{Opening}
 use Rattle.lexical_literal.specs.declared.plain.Sizes.{Sizes}
@@ -16,16 +13,13 @@ use Rattle.lexical_literal.specs.declared.steps.Piece.TheVariants as pieces
 use Rattle.lexical_literal.specs.declared.steps.Stage.{Stage}
 use Rattle.lexical_literal.specs.declared.steps.Stage.TheVariants as stages
 use Rattle.lexical_literal.specs.declared.syntax.Condition.TheVariants as conditions
-use Rattle.lexical_literal.proofs.CountLemmas.{count_more, count_prefix, no_counts}
-use Rattle.lexical_literal.proofs.PlainLemmas.{none_begun, read_free, read_zero}
+use Rattle.lexical_literal.proofs.CountLemmas.{count_more, count_prefix}
+use Rattle.lexical_literal.proofs.PlainLemmas.{read_free, read_zero}
 use Rattle.lexical_literal.proofs.ScanLemmas.{is_role}
 
 -- Stages behind a sign.
 begun_behind : (sign : ℕ) → awaits_integer (behind_sign parts.Integer sign) ≡ true
-begun_behind sign = go (sign == 0) where
-  go : (b : Bool) → awaits_integer (if b then stages.Start else stages.Empty) ≡ true
-  go true = refl
-  go false = refl
+begun_behind sign = grind arith
 
 module _ (m : Notation) (text : List ℕ) where
   -- Bytes of one part, which has none yet, are read.
@@ -39,23 +33,12 @@ module _ (m : Notation) (text : List ℕ) where
   -- The sign of the mantissa.
   sign_at : (sign : ℕ) → IsSign m text parts.Integer 0 sign → IsAt m text (at_stage sign (behind_sign parts.Integer sign))
       (cuts_of (counts_of (integer_sizes sign 0 0) 0 0 0 0))
-  sign_at sign is =
-      let same : 0 + sign ≡ sign = omega arith in
-      subst (λ n. IsAt m text (at_stage n (behind_sign parts.Integer sign)) (cuts_of (counts_of (integer_sizes sign 0 0) 0 0 0 0))) same
-      (at_more (at_stage 0 stages.Start) (at_stage (0 + sign) (behind_sign parts.Integer sign)) pieces.Sign (replicate 9 0) sign (omega arith) refl refl is.on
-      (record { begun = record { within = omega arith; read = refl }; counted = no_counts }))
+  sign_at sign is = grind arith
 
   -- Without a base prefix.
   pub opened : (sign : ℕ) → IsSign m text parts.Integer 0 sign → m.condition conditions.BasePrefix ≡ false
       → IsOpened m text (record { sign = sign; prefix = 0; size = sign; stage = behind_sign parts.Integer sign })
-  opened sign is free = record {
-    size = omega arith;
-    at = sign_at sign is;
-    signed = is.signed;
-    free = grind arith;
-    none = none_begun (behind_sign parts.Integer sign) (begun_behind sign);
-    inside = awaited_part (behind_sign parts.Integer sign) (begun_behind sign);
-  }
+  opened sign is free = grind arith
 
   -- Behind a base prefix.
   pub opened_prefix : HasRoles m → (sign : ℕ) → IsSign m text parts.Integer 0 sign

@@ -1,9 +1,9 @@
 -- Which flags refuse what is allowed without requirements: flags that refuse alone, or those on leading zeros.
-use Rattle.std.proofs.Common.{ℕ, ◌≡◌, ◌==◌, Bool, true, false, not, ◌&&◌, ◌||◌, inl, inr, if◌then◌else◌, Option, Some, None, refl, sym, ap, subst, ◌∙◌, arith}
-use Rattle.std.proofs.lemmas.Bool.{false≢true, and_from, and_parts, cases_Bool, false_from_ne_true}
+use Rattle.std.proofs.Common.{ℕ, ◌≡◌, ◌==◌, Bool, true, false, not, ◌&&◌, ◌||◌, if◌then◌else◌, Option, Some, None, refl, sym, ap, subst, ◌∙◌, arith}
+use Rattle.std.proofs.lemmas.Bool.{false≢true, and_parts}
 use Rattle.std.specs.Prelude.{is_some}
 use Rattle.lexical_util.specs.Layout as layout
-use Rattle.lexical_util.specs.Layout.{Flag, separators_in}
+use Rattle.lexical_util.specs.Layout.{Flag}
 use Rattle.lexical_util.specs.declared.feature_format.roles.Role.{Role}
 use Rattle.lexical_util.specs.declared.feature_format.roles.Role.TheVariants as roles
 use Rattle.lexical_util.specs.declared.format_flags.Part.{Part}
@@ -12,7 +12,7 @@ use Rattle.lexical_literal.specs.Groups.{has_size}
 use Rattle.lexical_literal.specs.Notation.{Notation, is_same}
 use Rattle.lexical_literal.specs.Cause.{adding, bare, binds, is_at, is_one_of, number_separator_flags, with_rules}
 use Rattle.lexical_literal.specs.Additions.Causes.{is_separator, lets, place_of}
-use Rattle.lexical_literal.specs.Additions.Summary.{admits, after, complete_by, continues, digits_suffice, ends, finishes, has_digit, implies, may_follow}
+use Rattle.lexical_literal.specs.Additions.Summary.{admits, after, complete_by, continues, ends, finishes, implies, may_follow}
 use Rattle.lexical_literal.specs.Additions.Sizes.{unsized}
 use Rattle.lexical_literal.specs.Additions.Summary.{gap_fits, is_open, is_signed, move_by, no_condition, role_at, takes, part_of, takes_in}
 use Rattle.lexical_literal.specs.declared.steps.Stage.{Stage}
@@ -43,8 +43,7 @@ split_role n s plus zero (Some role) = gate s.ended (takes n s plus role) (admit
 
 moved : (n : Notation) (s : Summary) (ended plus zero : Bool) (o : Option Role)
     → is_some (move_by no_condition n (record s { ended = ended }) plus zero o) ≡ (not ended && taken n (part_of s.stage) s.stage s.gap plus o)
-moved n s ended plus zero None = grind arith
-moved n s ended plus zero (Some role) = grind arith
+moved n s ended plus x4 x5 = grind arith
 
 module _ (m : Notation) where
   -- `role_of_next s next` is the role of the byte `next` after `s`, or that of a suffix, where `next` is `None`.
@@ -77,11 +76,7 @@ module _ (m : Notation) where
   split A D s (Some byte) = split_role (with_rules m A D) s (byte == 43) (byte == 48) (role_at m (part_of s.stage) byte)
 
   passes_free : (s : Summary) (next : Option ℕ) → passes no_condition s next ≡ true
-  passes_free s None = refl
-  passes_free s (Some byte) = go (role_at m (part_of s.stage) byte) where
-    go : (o : Option Role) → passes_role no_condition s (byte == 43) (byte == 48) o ≡ true
-    go None = refl
-    go (Some role) = refl
+  passes_free s x1 = grind arith
 
   pub free_is : (A : Flag → Bool) (s : Summary) (next : Option ℕ) → lets (with_rules m A no_condition) s next ≡ free_allows (with_rules m A no_condition) s next
   free_is A s next = split A no_condition s next ∙ (let pass = passes_free s next in grind arith)
@@ -89,8 +84,7 @@ module _ (m : Notation) where
   -- What one condition refuses, with others it is refused too.
   pub each_passes : (C : Condition → Bool) (s : Summary) (next : Option ℕ)
       → ((c : Condition) → C c ≡ true → passes (λ d. is_same c d || false) s next ≡ true) → passes C s next ≡ true
-  each_passes C s None each =
-      let prefix = each conditions.BasePrefix in let suffix = each conditions.BaseSuffix in grind arith
+  each_passes C s None each = grind arith
   each_passes C s (Some byte) each = go (role_at m (part_of s.stage) byte) (λ c. each c) where
     go : (o : Option Role) → ((c : Condition) → C c ≡ true → passes_role (λ d. is_same c d || false) s (byte == 43) (byte == 48) o ≡ true)
         → passes_role C s (byte == 43) (byte == 48) o ≡ true
@@ -100,9 +94,7 @@ module _ (m : Notation) where
   -- What is allowed without conditions is a question of roles, before a suffix.
   allows_is : (n : Notation) (s : Summary) (next : Option ℕ) → s.ended ≡ false
       → free_allows n s next ≡ taken n (part_of s.stage) s.stage s.gap (is_plus_next next) (role_of_next s next)
-  allows_is n s None going = unended s.ended (ends n (part_of s.stage) s.stage s.gap && continues n (part_of s.stage) s.stage roles.Suffix) going where
-    unended : (e x : Bool) → e ≡ false → ((e || x) && true) ≡ x
-    unended e x going = grind arith
+  allows_is n s None going = grind arith
   allows_is n s (Some byte) going = moved n s s.ended (byte == 43) (byte == 48) (role_at m (part_of s.stage) byte)
       ∙ ap (λ e. not e && taken n (part_of s.stage) s.stage s.gap (byte == 43) (role_at m (part_of s.stage) byte)) going
 
@@ -128,11 +120,6 @@ module _ (m : Notation) where
   abbrev u : Notation
   u = unsized m
 
-  led : (stage : Stage) → may_follow u stage ≡ false → leads ≡ true
-  led stages.Bare none = grind arith
-  led stages.Zero none = grind arith
-  led _ none = absurd (false≢true (sym none))
-
   -- What is allowed without requirements but the sizes in `C`, of which one is on `part` if `m` has one, and with each flag alone.
   module _ (C : Condition → Bool) where
     abbrev pub sizing : Notation
@@ -145,42 +132,23 @@ module _ (m : Notation) where
     Kept part = KeepsPlaces b u.flag no_condition part
 
     kept_in : (part : Part) → has_size sizing part ≡ has_size m part → Kept part
-    kept_in parts.Exponent same =
-        record { leading = λ set. grind arith; internal = λ set. grind arith; trailing = λ set. grind arith; consecutive = λ set. grind arith }
-    kept_in _ same =
-        record { leading = λ set. grind arith; internal = λ set. grind arith; trailing = λ set. grind arith; consecutive = λ set. grind arith }
+    kept_in x0 same = grind arith
 
     kept_gap : (part : Part) → Kept part → (digit gap next : Bool) → gap_fits b part digit gap next ≡ true → gap_fits u part digit gap next ≡ true
-    kept_gap part kept digit gap next is =
-        let leading = kept.leading in let internal = kept.internal in let trailing = kept.trailing in grind arith
+    kept_gap part kept digit gap next is = grind arith
 
     -- Gaps aside, the flags refuse no byte but those of digits together.
     whole_role : (part : Part) (stage : Stage) (plus : Bool) (role : Role) → Alone (λ n. takes_in n part stage false plus role) → is_digits role ≡ false
         → takes_in b part stage false plus role ≡ true → takes_in u part stage false plus role ≡ true
     whole_role parts.Exponent stage plus roles.Sign a other free = let forbidden = met a layout.no_positive_exponent_sign in grind arith
     whole_role _ stage plus roles.Sign a other free = let forbidden = met a layout.no_positive_mantissa_sign in grind arith
-    whole_role parts.Integer stages.Start plus roles.Suffix a other free =
-        let sign = met a layout.required_mantissa_sign in let digits = met a layout.required_integer_digits in
-        let needs = met a layout.required_exponent_notation in grind arith
-    whole_role parts.Integer _ plus roles.Suffix a other free =
-        let sign = met a layout.required_mantissa_sign in let digits = met a layout.required_integer_digits in
-        let leads = met a layout.no_integer_leading_zeros in let needs = met a layout.required_exponent_notation in grind arith
-    whole_role parts.Integer stages.Start plus role a other free =
-        let sign = met a layout.required_mantissa_sign in let digits = met a layout.required_integer_digits in
-        let mantissa = met a layout.required_mantissa_digits in
-        let none = met a layout.no_exponent_notation in let fraction = met a layout.no_exponent_without_fraction in grind arith
-    whole_role parts.Integer _ plus role a other free =
-        let sign = met a layout.required_mantissa_sign in let digits = met a layout.required_integer_digits in
-        let floats = met a layout.no_float_leading_zeros in let mantissa = met a layout.required_mantissa_digits in
-        let none = met a layout.no_exponent_notation in let fraction = met a layout.no_exponent_without_fraction in grind arith
-    whole_role parts.Fraction stages.Lone plus role a other free =
-        let digits = met a layout.required_fraction_digits in let mantissa = met a layout.required_mantissa_digits in
-        let needs = met a layout.required_exponent_notation in let none = met a layout.no_exponent_notation in grind arith
-    whole_role parts.Fraction _ plus role a other free =
-        let sign = met a layout.required_mantissa_sign in let digits = met a layout.required_fraction_digits in
-        let needs = met a layout.required_exponent_notation in let none = met a layout.no_exponent_notation in grind arith
-    whole_role parts.Exponent stage plus role a other free =
-        let sign = met a layout.required_exponent_sign in let digits = met a layout.required_exponent_digits in grind arith
+    whole_role parts.Integer stages.Start plus roles.Suffix a other free = grind arith
+    whole_role parts.Integer _ plus roles.Suffix a other free = grind arith
+    whole_role parts.Integer stages.Start plus role a other free = grind arith
+    whole_role parts.Integer _ plus role a other free = grind arith
+    whole_role parts.Fraction stages.Lone plus role a other free = grind arith
+    whole_role parts.Fraction _ plus role a other free = grind arith
+    whole_role parts.Exponent stage plus role a other free = grind arith
 
     drop_gap : (n : Notation) (part : Part) (stage : Stage) (gap plus : Bool) (role : Role) → is_digits role ≡ false
         → takes_in n part stage gap plus role ≡ true → takes_in n part stage false plus role ≡ true
@@ -188,52 +156,19 @@ module _ (m : Notation) where
 
     closed : (part : Part) → Kept part → (stage : Stage) (gap plus : Bool) (role : Role) → is_digits role ≡ false
         → takes_in b part stage gap plus role ≡ true → takes_in u part stage false plus role ≡ true → takes_in u part stage gap plus role ≡ true
-    closed part kept stage gap plus roles.Sign other free whole = whole
-    closed part kept stage gap plus roles.Prefix other free whole = whole
-    closed part kept stage gap plus roles.Digit other free whole = absurd (false≢true (sym other))
-    closed part kept stage gap plus roles.Separator other free whole = absurd (false≢true (sym other))
-    closed part kept stage gap plus role other free whole =
-        let ending = and_parts (is_signed b part stage) _ (and_parts (ends b part stage gap) _ free).0 in
-        let fit = kept_gap part kept (has_digit stage) gap false (and_parts (gap_fits b part (has_digit stage) gap false) _ ending.1).0 in
-        subst (λ t. ((is_signed u part stage && (t && digits_suffice u part stage)) && continues u part stage role) ≡ true) (sym fit) whole
-
-    -- A digit or a separator is refused if no digit may follow.
-    signed : (part : Part) (stage : Stage) (gap plus : Bool) (role : Role) → is_digits role ≡ true → Alone (λ n. takes_in n part stage gap plus role)
-        → takes_in b part stage gap plus role ≡ true → is_signed u part stage ≡ true
-    signed parts.Exponent stage gap plus role is a free = let sign = met a layout.required_exponent_sign in grind arith
-    signed _ stage gap plus role is a free = let sign = met a layout.required_mantissa_sign in grind arith
+    closed part kept stage gap plus role other free whole = grind (arith, false≢true, and_parts)
 
     open_kept : (part : Part) → Kept part → (digit next : Bool) → is_open b part digit next ≡ true → is_open u part digit true ≡ true
-    open_kept part kept digit next is =
-        let leading = kept.leading in let internal = kept.internal in let trailing = kept.trailing in grind arith
-
-    either_kept : (x y z : Bool) → (y ≡ true → z ≡ true) → (x || y) ≡ true → (x || z) ≡ true
-    either_kept x y z kept is = grind arith
+    open_kept part kept digit next is = grind arith
 
     shut : (part : Part) → Kept part → (stage : Stage) (gap plus : Bool) (role : Role) → is_digits role ≡ true
         → is_signed u part stage ≡ true → takes_in b part stage gap plus role ≡ true → takes_in u part stage gap plus role ≡ false
         → may_follow u stage ≡ false
-    shut part kept stage gap plus roles.Digit is sign free refused =
-        let two = and_parts (gap_fits b part (has_digit stage) gap true) _ (and_parts (is_signed b part stage) _ free).1 in
-        let fit = kept_gap part kept (has_digit stage) gap true two.0 in
-        false_from_ne_true _ (λ may. false≢true (sym refused ∙ and_from _ _ sign (and_from _ _ fit may)))
-    shut part kept stage gap plus roles.Separator is sign free refused =
-        let two = and_parts (not gap || b.flag (separators_in part).consecutive) _ (and_parts (is_signed b part stage) _ free).1 in
-        let more = either_kept (not gap) _ _ kept.consecutive two.0 in
-        let opens = open_kept part kept (has_digit stage) (may_follow b stage) two.1 in
-        false_from_ne_true _ (λ may. false≢true (sym refused ∙ and_from _ _ sign (and_from _ _ more
-        (subst (λ t. is_open u part (has_digit stage) t ≡ true) (sym may) opens))))
-    shut part kept stage gap plus _ is sign free refused = absurd (false≢true is)
+    shut part kept stage gap plus x5 is sign free refused = grind (arith, kept_gap, and_parts, open_kept)
 
     joint_role : (part : Part) → Kept part → (stage : Stage) (gap plus : Bool) (o : Option Role) → Alone (λ n. taken n part stage gap plus o)
         → taken b part stage gap plus o ≡ true → taken u part stage gap plus o ≡ false → leads ≡ true
-    joint_role part kept stage gap plus None a free refused = absurd (false≢true free)
-    joint_role part kept stage gap plus (Some role) a free refused = elim (cases_Bool (is_digits role)) [
-      | inl is ↦ led stage (shut part kept stage gap plus role is (signed part stage gap plus role is a free) free refused)
-      | inr other ↦ absurd (false≢true (sym refused ∙ closed part kept stage gap plus role other free (whole_role part stage plus role
-          (record { each = λ f is. drop_gap (adding f (bare m)) part stage gap plus role other (a.each f is) }) other
-          (drop_gap b part stage gap plus role other free))))
-    ]
+    joint_role part kept stage gap plus x5 a free refused = grind (arith, shut, closed, whole_role, drop_gap)
 
   -- SEPARATORS
 
@@ -248,11 +183,7 @@ module _ (m : Notation) where
 
   -- What is allowed by one notation, and refused by another, follows no suffix.
   pub going : (n k : Notation) (s : Summary) (next : Option ℕ) → free_allows n s next ≡ true → free_allows k s next ≡ false → s.ended ≡ false
-  going n k s None free refused = unended s.ended (ends k (part_of s.stage) s.stage s.gap && continues k (part_of s.stage) s.stage roles.Suffix) refused where
-    unended : (e x : Bool) → ((e || x) && true) ≡ false → e ≡ false
-    unended e x none = grind arith
-  going n k s (Some byte) free refused =
-      let is = sym (moved n s s.ended (byte == 43) (byte == 48) (role_at m (part_of s.stage) byte)) ∙ free in grind arith
+  going n k s x3 free refused = grind arith
 
   module _ (s : Summary) (next : Option ℕ) (unended : s.ended ≡ false) where
     abbrev o : Option Role

@@ -13,7 +13,7 @@ use Rattle.lexical_util.specs.declared.format_flags.Part.TheVariants as parts
 use Rattle.lexical_literal.specs.Additions.Plain.{HasRoles}
 use Rattle.lexical_literal.specs.Notation.{Notation}
 use Rattle.lexical_literal.specs.Run.{is_run}
-use Rattle.lexical_literal.specs.Literal.{Literal, IsSpelled, text_of, is_present, is_absent, is_plus, is_none_or_one, is_none_or_prefix, is_zero_led}
+use Rattle.lexical_literal.specs.Literal.{Literal, IsSpelled, text_of, is_present, is_absent, is_none_or_one, is_none_or_prefix, is_zero_led}
 use Rattle.lexical_literal.specs.Additions.Summary.{Cuts, implies, has_digit, is_lone, is_led, after_digit, after_mark, after_point, may_follow, may_lead}
 use Rattle.lexical_literal.specs.Additions.Summary.{is_signed, part_of, forbids_plus, gap_fits, digits_suffice, ends, continues, add, digits_piece}
 use Rattle.lexical_literal.specs.Additions.Summary.{no_condition, piece_of, start, no_cuts, with_prefix}
@@ -65,10 +65,6 @@ module _ (k one_k s one_s plus e fits_e one_x no_plus sign_required digits_requi
     tail_if : digit ≡ not e → TailFacts stop scale → tail_fits stop scale digit ≡ true
     tail_if same facts = grind arith
 
-    module _ (absent_s : implies s (one_s && not plus) ≡ true) (absent_e : implies e fits_e ≡ true) (is : tail_fits stop scale digit ≡ true) where
-      tail_facts : (fits_e ≡ true → digit ≡ not e) → TailFacts stop scale
-      tail_facts seen = let fits : fits_e ≡ true = grind arith in let same : digit ≡ not e = seen fits in grind arith
-
 -- What an integer and a fraction satisfy: `any` and `led` tell whether the integer has a digit and a leading zero, and `p`, `f` and
 -- `k` whether the point, the fraction and the exponent character are absent.
 module _ (any led p one_p f fits_f k : Bool) (flag : Flag → Bool) (only : Bool) where
@@ -110,12 +106,6 @@ module _ (any led p one_p f fits_f k : Bool) (flag : Flag → Bool) (only : Bool
     end_if : digit ≡ not f → lone ≡ not (not f || any) → EndFacts → (implies k stops_so && (implies (not k) scales_so && fraction_so digit lone)) ≡ true
     end_if same_digit same_lone facts = grind arith
 
-    module _ (absent_f : implies f fits_f ≡ true) (is_point : one_p ≡ true) (integer : implies (flag layout.required_integer_digits) any ≡ true)
-        (is : fraction_so digit lone ≡ true) where
-      end_facts : implies k stops_so ≡ true → implies (not k) scales_so ≡ true
-          → (fits_f ≡ true → digit ≡ not f) → (fits_f ≡ true → lone ≡ not (not f || any)) → EndFacts
-      end_facts stop scale seen counted = grind arith
-
 module _ (m : Notation) where
   -- Digits that are present have a digit.
   has_bytes : (part : Part) (stage : Stage) (run : List ℕ) → has_digit stage ≡ false → is_rest m part false false run ≡ true
@@ -123,12 +113,6 @@ module _ (m : Notation) where
   has_bytes part stage run none fit = let seen = (passed (m.digit part) stage false run).seen in let present = digits_present m part run fit in grind arith
 
   module _ (l : Literal) where
-    abbrev Tail : Bool → Bool → Type 0
-    Tail = TailFacts (is_absent l.exponent_character) (is_none_or_one m.exponent_character l.exponent_character) (is_absent l.exponent_sign)
-        (is_none_or_one signs l.exponent_sign) (is_plus l.exponent_sign) (is_absent l.exponent) (is_rest m parts.Exponent false false l.exponent)
-        (is_none_or_one m.suffix l.suffix) (m.flag layout.no_positive_exponent_sign) (m.flag layout.required_exponent_sign)
-        (m.flag layout.required_exponent_digits)
-
     abbrev End : Bool → Bool → Type 0
     End any led = EndFacts any led (is_absent l.point) (is_none_or_one m.point l.point) (is_absent l.fraction) (is_rest m parts.Fraction false false l.fraction)
         (is_absent l.exponent_character) m.flag m.integers_only
@@ -163,40 +147,9 @@ module _ (m : Notation) where
 
     -- WHAT IS ACCEPTED IS A LITERAL
 
-    tail_of : (stop scale : Bool) → ends_mantissa m l stop scale ≡ true → Tail stop scale
-    tail_of stop scale is = tail_facts _ _ _ _ _ _ _ _ _ _ _ stop scale (has_digit exponent_last)
-        (grind arith) (grind arith) is exponent_seen
-
-    end_of : (last : Stage) → Tail (stops m l last) (scales m l last) → digits_suffice m parts.Integer last ≡ true → is_none_or_one m.point l.point ≡ true
-        → fraction_fits m l last ≡ true → End (has_digit last) (is_led last)
-    end_of last tail digits point fraction =
-        let any = has_digit last in
-        end_facts _ _ _ _ _ _ _ _ _ (has_digit (fraction_last any)) (is_lone (fraction_last any)) (grind arith)
-        point digits fraction tail.stop tail.scale (fraction_seen any) (fraction_counts any)
-
     literal_if : sign_fits m parts.Integer stages.Start l.sign ≡ true → prefix_fits m stages.Start false l.prefix ≡ true
         → is_rest m parts.Integer false false l.integer ≡ true → ends_part m parts.Integer l integer_last ≡ true → IsSpelled m l
-    literal_if sign prefix run is =
-        let digits = and_parts (digits_suffice m parts.Integer integer_last) _ is in
-        let point = and_parts (is_none_or_one m.point l.point) _ digits.1 in
-        let fraction = and_parts (fraction_fits m l integer_last) _ point.1 in
-        let tail = tail_of (stops m l integer_last) (scales m l integer_last) fraction.1 in
-        let end = rw (integer_seen run, integer_led) at (end_of integer_last tail digits.0 point.0 fraction.0) in
-        record {
-          sign = grind arith;
-          prefix = grind arith;
-          integer = sym (rest_of_none m parts.Integer l.integer) ∙ run;
-          point = end.point;
-          fraction = sym (rest_of_none m parts.Fraction l.fraction) ∙ end.fraction;
-          exponent_character = tail.character;
-          exponent_sign = tail.sign;
-          exponent = sym (rest_of_none m parts.Exponent l.exponent) ∙ tail.exponent;
-          suffix = tail.suffix;
-          after_point = λ none. grind arith;
-          after_character = λ none. (grind arith, grind arith);
-          some_number = end.some;
-          requirements = λ f set. grind arith;
-        }
+    literal_if sign prefix run is = grind (arith, and_parts, fraction_fits, stops, integer_seen, integer_led, rest_of_none)
 
 module _ (m : Notation) (h : HasRoles m) where
   -- What is accepted is spelled as a literal.
@@ -271,8 +224,7 @@ module _ (m : Notation) (h : HasRoles m) where
   stop_arrives : (part : Part) (stage : Stage) (gap : Bool) (c : Cuts) (suffix : List ℕ) → part_of stage ≡ part
       → (ends m part stage gap && continues m part stage roles.Suffix) ≡ true → is_none_or_one m.suffix suffix ≡ true
       → Arrives no_condition m (Some (reading stage gap)) c suffix (add_all c pieces.Suffix suffix)
-  stop_arrives part stage gap c [] at is one =
-      (and_from _ true (subst (λ part. (ends m part stage gap && continues m part stage roles.Suffix) ≡ true) (sym at) is) refl, refl)
+  stop_arrives part stage gap c [] at is one = grind arith
   stop_arrives part stage gap c (b ∷ []) at is one =
       free_byte m part stage gap b roles.Suffix c [] _ at (is_role m part b h roles.Suffix (λ e. cc) one) is (refl, refl)
   stop_arrives part stage gap c (b ∷ x ∷ suffix) at is one = absurd (false≢true one)
@@ -359,11 +311,7 @@ module _ (m : Notation) (h : HasRoles m) where
     run part digits is = rest_of_none m part digits ∙ is
 
     end : End m l (has_digit (integer_last m l)) (is_led (integer_last m l))
-    end =
-        let fits = run parts.Fraction l.fraction is.fraction in
-        let any = integer_seen m l (run parts.Integer l.integer is.integer) in
-        let led = integer_led m l in
-        grind arith
+    end = grind (arith, run, integer_seen, integer_led)
 
     ends_well : ends_part m parts.Integer l (integer_last m l) ≡ true
     ends_well =

@@ -1,5 +1,5 @@
 -- Fronts of a text, and where the loop is left.
-use Rattle.std.proofs.Common.{ℕ, Bool, IsNone, Option, if◌then◌else◌, ◌≡◌, ◌<◌, ◌≤◌, ◌+◌, ◌&&◌, ◌||◌, ◌↔◌, ◌⊎◌, not, inl, inr, true, false, List, [], ◌∷◌, ◌++◌}
+use Rattle.std.proofs.Common.{ℕ, Bool, IsNone, Option, if◌then◌else◌, ◌≡◌, ◌<◌, ◌≤◌, ◌+◌, ◌||◌, ◌↔◌, ◌⊎◌, not, inl, inr, true, false, List, [], ◌∷◌, ◌++◌}
 use Rattle.std.proofs.Common.{length, get_or, replicate, take, drop, Some, None, refl, sym, ap, subst, append_assoc, append-nil, take-append-drop, ◌∙◌, arith}
 use Rattle.std.specs.Prelude.{is_some, slice_get}
 use Rattle.std.proofs.lemmas.Bool.{false≢true, and_parts, cases_Bool, cases_lt, false_from_ne_true, or_parts}
@@ -23,12 +23,12 @@ use Rattle.lexical_literal.specs.declared.syntax.Condition.TheVariants as condit
 use Rattle.lexical_literal.proofs.ScanLemmas.{scan_append, tally_append}
 use Rattle.lexical_literal.proofs.ConditionLemmas.{has_lengths, literal_from, literal_arrives}
 use Rattle.lexical_literal.proofs.LiteralLemmas.{all_cuts}
-use Rattle.lexical_literal.proofs.CountLemmas.{no_counts, small_at_first}
 use Rattle.lexical_util.specs.declared.feature_format.roles.Role.{Role}
 use Rattle.lexical_literal.proofs.DecideLemmas.{decides_there, grows}
 use Rattle.lexical_literal.proofs.FitLemmas.{front_of, linked_there}
 use Rattle.lexical_literal.proofs.RefusalLemmas.{other_roles}
 use Rattle.lexical_literal.proofs.SizeLemmas.{all_end, as_sized, as_unsized, ends, group_append, small_after}
+use Rattle.std.proofs.lemmas.Grind.{common_steps}
 
 front_shorter : (m : Notation) (text : List ℕ) (k n : ℕ) → k ≤ n → IsFront m (take n text) → IsFront m (take k text)
 front_shorter m text k n below is = record {
@@ -68,11 +68,7 @@ module _ (m : Notation) (text : List ℕ) where
 
     -- If what was read is a literal, then it is the longest front that is one.
     pub stop_literal : (l : Literal) → Reads m l (take stop.size text) → ReadsFront m l text stop.size
-    stop_literal l reads = record {
-      within = is.valid.within;
-      reads = reads;
-      no_longer = λ more past below k other. absurd (let low = no_longer_than stop.size is.valid more below k other in omega (arith, past, low));
-    }
+    stop_literal l reads = grind (arith, no_longer_than)
 
     -- If what was read is not all of the text, or not a literal, then the text is not a literal.
     pub none_whole : (stop.size ≡ length text → goes m stop.read is.group None ≡ false) → NoLiteral m text
@@ -132,8 +128,7 @@ module _ (m : Notation) (text : List ℕ) where
 
 -- Without a longest front, no front is a literal.
 pub no_front : (m : Notation) (text : List ℕ) (longest : Option Found) → IsLongest m text (length text) longest → IsNone longest → NoFront m text
-no_front m text None is none size below = is.no_longer size below (λ other same. absurd (let clash : None ≡ Some other = same in cc))
-no_front m text (Some found) is none size below = absurd (false≢true (sym none))
+no_front m text x2 is none size below = grind arith
 
 -- A literal that has been found is the longest front that is one if reading stops behind it.
 pub found_there : (m : Notation) (text : List ℕ) (counted : Counted) → HasBegun m text counted → counted.complete ≡ true → (stop : At) → IsStopped m text stop
@@ -147,11 +142,7 @@ found_there m text counted has complete stop is same = let l = has.literal compl
 -- What a pass finds that seeks the longest front.
 pub fronted : (m : Notation) (text : List ℕ) (stop : At) (found : Found) → IsStopped m text stop → IsCountedFront m text found
     → IsFronted m text stop (Some found)
-fronted m text stop found reached is = record {
-  reached = reached;
-  longest = λ other same. let equal : found ≡ other = cc in subst (IsCountedFront m text) equal is;
-  none = λ none. absurd (false≢true (sym none));
-}
+fronted m text stop found reached is = grind arith
 
 -- WITHOUT SIZES
 
@@ -234,8 +225,7 @@ module _ (m : Notation) (ready : IsReady (unsized m)) (sizes : HasSizes m) (text
     group_of = grow m group (role_at m group.part b)
 
     next_scan : at.size < length text → scan u (Some start) (take (at.size + 1) text) ≡ step_of
-    next_scan inside =
-        rw (take_more text at.size 0 inside, scan_append u.condition u (Some start) (take at.size text) (b ∷ []), is.begun.read) refl
+    next_scan inside = grind (arith, common_steps, take_more, scan_append)
 
     next_group : at.size < length text → group_after m (Some first_group) (take (at.size + 1) text) ≡ group_of
     next_group inside = rw (take_more text at.size 0 inside, group_append m (Some first_group) (take at.size text) (b ∷ []), is.grouped) refl
@@ -255,10 +245,7 @@ module _ (m : Notation) (ready : IsReady (unsized m)) (sizes : HasSizes m) (text
     pub underway_more : (t : Summary) (g : Group) (role : Role) → at.size < length text → step_of ≡ Some t
         → role_at m (part_of at.read.stage) b ≡ Some role → grow m group (Some role) ≡ Some g
         → IsUnderway m text (record { size = at.size + 1; read = t }) g
-    underway_more t g role inside taken plays grown = record {
-      begun = record { within = omega (arith, inside); read = next_scan inside ∙ taken };
-      grouped = next_group inside ∙ same_grow role plays ∙ grown;
-    }
+    underway_more t g role inside taken plays grown = grind (arith, next_scan, next_group, same_grow)
 
     -- A byte that is not taken, or the end of the text.
     pub stops_at : (at.size < length text → (step_of ≡ None) ⊎ (group_of ≡ None)) → IsStopped m text at
@@ -285,23 +272,7 @@ module _ (m : Notation) (ready : IsReady (unsized m)) (sizes : HasSizes m) (text
 
   -- Nothing is the longest front of nothing.
   pub first_counted : HasCounted m text (record { size = 0; read = start }) first_group (replicate 9 0) None
-  first_counted = record {
-    nine = refl;
-    small = small_at_first;
-    read = underway_none;
-    counted = no_counts;
-    longest = record {
-      found = λ found is. absurd (cc);
-      counted = λ found is. absurd (cc);
-      no_longer = λ more over past l reads. let none : more ≡ 0 = omega (arith, over) in
-          no_literal_at (record { size = 0; read = start }) first_group underway_none incomplete l (subst (λ n. Reads m l (take n text)) none reads);
-    };
-  } where
-    incomplete : goes m start first_group None ≡ false
-    incomplete = ap (λ t. t && fits m first_group None) (let none : is_complete u start ≡ false = grind arith in none)
-
-    underway_none : IsUnderway m text (record { size = 0; read = start }) first_group
-    underway_none = record { begun = record { within = omega arith; read = refl }; grouped = refl }
+  first_counted = grind arith
 
   module _ (at next : At) (group last : Group) (counts : List ℕ) (found : Option Found) (has : HasCounted m text at group counts found) (role : Role)
       (follows : (role_at m (part_of at.read.stage) (get_or text at.size 0) ≡ Some role) × IsUnderway m text next last × (next.size ≡ at.size + 1)) where
@@ -317,7 +288,8 @@ module _ (m : Notation) (ready : IsReady (unsized m)) (sizes : HasSizes m) (text
           subst (λ (f : Found). (f.size ≤ next.size) × (l : Literal) × Reads m l (take f.size text)) same
           (let l = (decides next last follows.1 None).0 (sym complete) in (omega arith, l.0, l.1));
       counted = λ found is. let same : record { size = next.size; counts = counts } ≡ found = cc in
-          subst (λ (f : Found). (l : Literal) → Reads m l (take f.size text) → HasLengths l (cuts_of f.counts)) same (has_sized_counted next.size counts counted);
+          subst (λ (f : Found). (l : Literal) → Reads m l (take f.size text) → HasLengths l (cuts_of f.counts)) same
+          (has_sized_counted next.size counts counted);
       no_longer = λ more over past. absurd (let low : next.size < more = past _ refl in omega (arith, over, low));
     }
     longer counts counted false incomplete = record {

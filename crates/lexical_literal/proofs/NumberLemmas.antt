@@ -1,30 +1,17 @@
 -- The conditions in their order, and those that are kept of others.
-use Rattle.std.proofs.Common.{ℕ, ◌≡◌, ◌<◌, ◌+◌, ◌==◌, ◌&&◌, Bool, true, false, if◌then◌else◌, nat_lt, length, get_or, map, inl, inr, refl, sym, ap, ◌∙◌, arith}
-use Rattle.std.proofs.lemmas.Bool.{cases_Bool, eqb-true}
+use Rattle.std.proofs.Common.{ℕ, ◌≡◌, ◌<◌, ◌+◌, ◌&&◌, Bool, true, false, if◌then◌else◌, nat_lt, length, get_or, arith}
 use Rattle.std.proofs.lemmas.Bool.Decides.{nat_tests}
-use Rattle.std.proofs.lemmas.List.{ext_get_or, get_or-map}
-use Rattle.std.proofs.lemmas.List.FromFn.{get_or-range_with_len}
-use Rattle.std.specs.List.{list_any, range_with_len}
+use Rattle.std.proofs.lemmas.List.{ext_get_or}
+use Rattle.std.specs.List.{list_any}
 use Rattle.lexical_literal.specs.Notation.{all_conditions, has, is_same, kept, number_of, order}
 use Rattle.lexical_literal.specs.declared.syntax.Condition.{Condition}
 use Rattle.lexical_literal.specs.declared.syntax.Condition.TheVariants as conditions
 use Rattle.lexical_literal.specs.declared.syntax.Conditions.{Conditions}
-
-in_order : map order all_conditions ≡ range_with_len 0 (length all_conditions)
-in_order = refl
+use Rattle.std.proofs.lemmas.Grind.{common_steps}
 
 -- Each condition is at its place in the list.
 pub at_place : (i : ℕ) → i < length all_conditions → order (get_or all_conditions i conditions.BasePrefix) ≡ i
-at_place i below = sym (get_or-map order all_conditions i conditions.BasePrefix 0 below) ∙ ap (λ is. get_or is i 0) in_order
-    ∙ get_or-range_with_len 0 (length all_conditions) i 0 below ∙ omega arith
-
-pub placed : (d : Condition) → get_or all_conditions (order d) conditions.BasePrefix ≡ d
-placed conditions.BasePrefix = refl
-placed conditions.BaseSuffix = refl
-placed conditions.NegativeSign = refl
-placed conditions.IntegerGroupSize = refl
-placed conditions.HigherGroupSize = refl
-placed conditions.FractionGroupSize = refl
+at_place i below = grind arith
 
 -- The number of a condition after the one at a place has been looked at.
 pub number_next : (X : Condition → Bool) (N : Condition → ℕ) (i n : ℕ) (d : Condition) → i < length all_conditions
@@ -32,19 +19,7 @@ pub number_next : (X : Condition → Bool) (N : Condition → ℕ) (i n : ℕ) (
     → (if X (get_or all_conditions i conditions.BasePrefix)
     then (if is_same (get_or all_conditions i conditions.BasePrefix) d then N (get_or all_conditions i conditions.BasePrefix) else n) else n)
     ≡ (if nat_lt (order d) (i + 1) && X d then N d else 0)
-number_next X N i n d inside before = elim (cases_Bool (order d == i)) [
-  | inl here ↦
-      let place : order d ≡ i = eqb-true (order d) i here in
-      let same : get_or all_conditions i conditions.BasePrefix ≡ d = ap (λ i. get_or all_conditions i conditions.BasePrefix) (sym place) ∙ placed d in
-      let old : nat_lt (order d) i ≡ false = grind (arith, nat_tests) in
-      let new : nat_lt (order d) (i + 1) ≡ true = grind (arith, nat_tests) in
-      let none : n ≡ 0 = before ∙ ap (λ t. if t && X d then N d else 0) old in
-      rw (same, new, none) (grind (arith, nat_tests))
-  | inr other ↦
-      let not_next : is_same (get_or all_conditions i conditions.BasePrefix) d ≡ false = let place = at_place i inside in grind (arith, nat_tests) in
-      let as_before : nat_lt (order d) (i + 1) ≡ nat_lt (order d) i = grind (arith, nat_tests) in
-      rw (not_next, as_before) (grind (arith, before))
-]
+number_next X N i n d inside before = grind (arith, nat_tests)
 
 -- What is true of no condition of the list is true of none.
 pub none_of_all : (P : Condition → Bool) → list_any P all_conditions ≡ false → (d : Condition) → P d ≡ false
@@ -61,10 +36,4 @@ has_only c d e set = grind (arith, nat_tests)
 module _ (C : Condition → Bool) (N : Condition → ℕ) where
   -- Conditions with the numbers of those that are kept are these.
   pub is_kept : (c : Conditions) → length c.numbers ≡ length all_conditions → ((d : Condition) → number_of c d ≡ (if C d then N d else 0)) → c ≡ kept C N
-  is_kept c all each = λ j. record { numbers = numbers j } where
-    numbers : c.numbers ≡ map (λ d. if C d then N d else 0) all_conditions
-    numbers = ext_get_or 0 c.numbers (map (λ d. if C d then N d else 0) all_conditions) all (λ i below.
-        let inside : i < length all_conditions = omega (arith, all, below) in
-        let d = get_or all_conditions i conditions.BasePrefix in
-        ap (λ i. get_or c.numbers i 0) (sym (at_place i inside)) ∙ each d
-        ∙ sym (get_or-map (λ d. if C d then N d else 0) all_conditions i conditions.BasePrefix 0 inside))
+  is_kept c all each = grind (arith, common_steps, ext_get_or, at_place)

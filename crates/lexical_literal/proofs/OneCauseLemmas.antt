@@ -1,17 +1,14 @@
 -- A refusal has one cause, and a text has one refusal.
-use Rattle.std.proofs.Common.{ℕ, ◌≡◌, ◌<◌, ◌≤◌, ◌↔◌, ◌^◌, Bool, true, false, if◌then◌else◌, List, Option, Some, None, sum_by, take, refl, sym, ap, subst, ◌∙◌}
-use Rattle.std.proofs.Common.{arith}
+use Rattle.std.proofs.Common.{ℕ, ◌≡◌, ◌<◌, ◌≤◌, ◌↔◌, ◌^◌, Bool, true, if◌then◌else◌, List, Option, Some, None, sum_by, take, refl, sym, ap, subst, ◌∙◌, arith}
 use Rattle.std.proofs.Math.Nat.{le_antisymm}
 use Rattle.std.specs.Prelude.{slice_get}
-use Rattle.std.proofs.lemmas.Bool.{false≢true, false_from_ne_true}
 use Rattle.std.proofs.lemmas.Bool.Decides.{nat_tests}
 use Rattle.lexical_util.specs.Groups.{bits_of}
 use Rattle.lexical_util.specs.Layout.{Flag, bit, flags}
 use Rattle.lexical_util.specs.Record.{raw}
 use Rattle.lexical_util.specs.declared.format_flags.Part.{Part}
 use Rattle.lexical_literal.specs.Notation.{Notation, has, kept}
-use Rattle.lexical_literal.specs.Cause.{IsCause, IsRefusal, IsSeparator, IsUnmet, SameBlame, error_of, first_unmet, is_at, lowest, marks_of}
-use Rattle.lexical_literal.specs.Cause.{span_of, tail_of}
+use Rattle.lexical_literal.specs.Cause.{IsCause, IsRefusal, IsSeparator, IsUnmet, SameBlame, error_of, first_unmet, is_at, lowest, marks_of, span_of, tail_of}
 use Rattle.lexical_literal.specs.Front.{IsValidUpTo}
 use Rattle.lexical_literal.specs.declared.cause.ReadErrorKind.{ReadErrorKind}
 use Rattle.lexical_literal.specs.declared.cause.ReadErrorKind.TheVariants as causes
@@ -25,8 +22,7 @@ same_at x y p q f first second = (grind (arith, nat_tests), grind (arith, nat_te
 
 -- Two truth values that are equivalent to one fact are the same.
 same_truth : {X : Type 0} (a b : Bool) → (a ≡ true) ↔ X → (b ≡ true) ↔ X → a ≡ b
-same_truth true b one two = sym (two.1 (one.0 refl))
-same_truth false b one two = sym (false_from_ne_true b (λ is. false≢true (one.1 (two.0 is))))
+same_truth x0 b one two = grind arith
 
 module _ (m : Notation) (front : List ℕ) (a b : Flag → Bool) where
   separators : (byte : ℕ) (p q : Part) (x y : Place) → IsSeparator m front byte p x a → IsSeparator m front byte q y b
@@ -40,10 +36,7 @@ module _ (m : Notation) (front : List ℕ) (a b : Flag → Bool) where
   one_cause next causes.Requirement causes.Requirement one two = record { kind = refl; flags = λ f. same_truth (a f) (b f) (one.each f) (two.each f) }
   one_cause None causes.Requirement (causes.Missing part) one two = absurd (two.refused one.allowed.0 one.allowed.1)
   one_cause None (causes.Missing part) causes.Requirement one two = absurd (one.refused two.allowed.0 two.allowed.1)
-  one_cause None (causes.Missing p) (causes.Missing q) one two = record {
-    kind = ap causes.Missing (one.last ∙ sym two.last);
-    flags = λ f. one.none f ∙ sym (two.none f);
-  }
+  one_cause None (causes.Missing p) (causes.Missing q) one two = grind arith
   one_cause (Some byte) (causes.Missing p) other one two = absurd one
   one_cause (Some byte) other (causes.Missing q) one two = absurd two
   one_cause (Some byte) causes.Requirement other one two = absurd (two.refused one.allowed)

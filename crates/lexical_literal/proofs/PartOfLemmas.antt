@@ -24,8 +24,7 @@ module _ (m : Notation) (h : HasRoles m) where
 
   over : (t : Summary) (text : List ℕ) (last : Summary) → t.ended ≡ true → scan m (Some t) text ≡ Some last → last.ended ≡ true
   over t [] last ended is = cc
-  over t (b ∷ text) last ended is =
-      absurd (false≢true (sym (took m.condition m t b (λ o. scan m o text ≡ Some last) (none_after m text last) is).going ∙ ended))
+  over t (b ∷ text) last ended is = grind (arith, none_after)
 
   moves : (t : Summary) (b : ℕ) (text : List ℕ) (last : Summary) (r : Role) → role_at m (part_of t.stage) b ≡ Some r → takes m t (b == 43) r ≡ true
       → last.ended ≡ false → scan m (Some (after t (b == 48) r)) text ≡ Some last

@@ -1,8 +1,7 @@
 -- What is read of a text part after part.
 use Rattle.lexical_literal.proofs.StepLemmas.{awaited_part}
-use Rattle.lexical_literal.specs.Run.{is_place}
-use Rattle.std.proofs.Common.{ℕ, ◌≡◌, ◌<◌, ◌≤◌, ◌+◌, ◌-◌, ◌==◌, ◌&&◌, ◌||◌, Bool, true, false, not, IsTrue, if◌then◌else◌, List, [], ◌∷◌, Some, get_or, length}
-use Rattle.std.proofs.Common.{take, refl, sym, ap, subst, ◌∙◌, arith}
+use Rattle.std.proofs.Common.{ℕ, ◌≡◌, ◌<◌, ◌≤◌, ◌+◌, ◌-◌, ◌==◌, ◌&&◌, ◌||◌, Bool, true, false, not, IsTrue, if◌then◌else◌, List, Some, get_or, length}
+use Rattle.std.proofs.Common.{refl, sym, ap, subst, ◌∙◌, arith}
 use Rattle.std.proofs.lemmas.Bool.{false≢true, and_from}
 use Rattle.std.proofs.lemmas.List.{take_more}
 use Rattle.lexical_util.specs.Layout.{separators_in}
@@ -12,9 +11,9 @@ use Rattle.lexical_util.specs.declared.format_flags.Part.{Part}
 use Rattle.lexical_util.specs.declared.format_flags.Part.TheVariants as parts
 use Rattle.lexical_literal.specs.Notation.{Notation}
 use Rattle.lexical_literal.specs.Additions.Plain.{HasRoles, IsAt, IsReadOn, fresh, is_free, at_stage}
-use Rattle.lexical_literal.specs.Additions.Summary.{Cuts, add, add_more, admits, after, after_digit, after_mark, digits_piece, forbids_plus, leads_to_prefix}
-use Rattle.lexical_literal.specs.Additions.Summary.{has_digit, awaits_integer, is_negative, is_run, is_signed, may_follow, gap_fits, is_open, no_cuts, piece_of}
-use Rattle.lexical_literal.specs.Additions.Summary.{start, takes, role_at, part_of, takes_in, digits_of, is_fresh, needs_sign, implies, count, with_prefix}
+use Rattle.lexical_literal.specs.Additions.Summary.{Cuts, add, add_more, admits, after, after_digit, after_mark, digits_piece, forbids_plus}
+use Rattle.lexical_literal.specs.Additions.Summary.{has_digit, awaits_integer, is_negative, is_run, is_signed, may_follow, piece_of}
+use Rattle.lexical_literal.specs.Additions.Summary.{takes, role_at, part_of, takes_in, digits_of, count, with_prefix}
 use Rattle.lexical_literal.specs.declared.plain.At.{At}
 use Rattle.lexical_literal.specs.declared.steps.Piece.{Piece}
 use Rattle.lexical_literal.specs.declared.steps.Piece.TheVariants as pieces
@@ -23,42 +22,26 @@ use Rattle.lexical_literal.specs.declared.steps.Stage.TheVariants as stages
 use Rattle.lexical_literal.specs.declared.steps.Summary.{Summary}
 use Rattle.lexical_literal.specs.declared.syntax.Condition.TheVariants as conditions
 use Rattle.lexical_literal.proofs.ScanLemmas.{digit_role, is_role, moved, scan_append, tally_append}
-
--- Sums of lengths.
-none_more : (c : Cuts) (p other : Piece) (n : ℕ) → add_more c p (n - n) other ≡ c other
-none_more c p other n = let same : n - n ≡ 0 = omega arith in grind arith
+use Rattle.std.proofs.lemmas.Grind.{common_steps}
 
 sum_more : (c : Cuts) (p other : Piece) (k n l : ℕ) → k ≤ n → n ≤ l → add_more (add_more c p (n - k)) p (l - n) other ≡ add_more c p (l - k) other
 sum_more c p other k n l low high = let same : n - k + (l - n) ≡ l - k = omega arith in grind arith
 
 -- A stage before the first digit of the integer has none.
 pub none_begun : (stage : Stage) → awaits_integer stage ≡ true → has_digit stage ≡ false
-none_begun stages.Start is = refl
-none_begun stages.Empty is = refl
-none_begun _ is = absurd (false≢true is)
+none_begun x0 is = grind arith
 
 -- What a digit makes of a stage without digits.
 first_follows : (m : Notation) (stage : Stage) → has_digit stage ≡ false → may_follow m stage ≡ true
-first_follows m stages.Bare none = absurd (false≢true (sym none))
-first_follows m stages.Zero none = absurd (false≢true (sym none))
-first_follows m _ none = refl
+first_follows m x1 none = grind arith
 
 after_first : (stage : Stage) (zero : Bool) → has_digit stage ≡ false
     → after_digit stage false zero ≡ (if zero && awaits_integer stage then stages.Bare else digits_of (part_of stage))
 after_first stage zero none = grind arith
 
--- Bytes that are no signs are admitted where no base prefix is missing.
-no_sign : (part : Part) (plus : Bool) (r : Role) → (roles.Sign ≡ r → ⊥) → is_negative part plus r ≡ false
-no_sign parts.Exponent plus r other = refl
-no_sign _ plus roles.Sign other = absurd (other refl)
-no_sign _ plus _ other = refl
-
 pub admits_free : (m : Notation) (s : Summary) (plus zero : Bool) (r : Role) → (roles.Sign ≡ r → ⊥) → is_free m s.stage ≡ true
     → admits m.condition s plus zero r ≡ true
-admits_free m s plus zero r other free = both _ (leads_to_prefix s.stage zero r) (m.condition conditions.NegativeSign) _ free
-    (no_sign (part_of s.stage) plus r other) where
-      both : (lacks leads none negative : Bool) → not lacks ≡ true → negative ≡ false → (implies lacks leads && not (none && negative)) ≡ true
-      both lacks leads none negative free positive = grind arith
+admits_free m s plus zero r other free = grind arith
 
 -- A stage that another digit does not change.
 module _ (m : Notation) (stage : Stage) (run : is_run stage ≡ true) where
@@ -71,27 +54,12 @@ module _ (m : Notation) (stage : Stage) (run : is_run stage ≡ true) where
   same_mark : after_mark stage ≡ stage
   same_mark = grind arith
 
-  run_facts : (is_fresh stage ≡ false) × (has_digit stage ≡ true) × (may_follow m stage ≡ true)
-  run_facts = (grind arith, grind arith, grind arith)
-
   takes_more : (part : Part) (plus gap : Bool) → (gap ≡ true → m.flag (separators_in part).internal ≡ true)
       → takes_in m part stage gap plus roles.Digit ≡ true
-  takes_more part plus gap allowed =
-      and_from _ _ (signed (is_fresh stage) run_facts.0) (and_from _ _ (fits gap (has_digit stage) run_facts.1 allowed) run_facts.2) where
-        signed : (fresh : Bool) → fresh ≡ false → (not fresh || not (needs_sign m part)) ≡ true
-        signed fresh is = grind arith
-
-        fits : (gap digit : Bool) → digit ≡ true → (gap ≡ true → m.flag (separators_in part).internal ≡ true) → gap_fits m part digit gap true ≡ true
-        fits false digit is allowed = refl
-        fits true true is allowed = allowed refl
-        fits true false is allowed = absurd (false≢true is)
+  takes_more part plus gap allowed = grind arith
 
   takes_separator : (part : Part) (plus : Bool) → m.flag (separators_in part).internal ≡ true → takes_in m part stage false plus roles.Separator ≡ true
-  takes_separator part plus allowed = go (is_fresh stage) (has_digit stage) (may_follow m stage) run_facts.0 run_facts.1 run_facts.2 where
-    go : (fresh digit follow : Bool) → fresh ≡ false → digit ≡ true → follow ≡ true
-        → ((not fresh || not (needs_sign m part)) && ((true || m.flag (separators_in part).consecutive) && is_open m part digit follow)) ≡ true
-    go false true true _ _ _ = ap (λ b. (b && true) || is_place m part true false) allowed
-    go _ _ _ one two three = grind arith
+  takes_separator part plus allowed = grind arith
 
 module _ (m : Notation) (text : List ℕ) where
   -- More is read.
@@ -115,21 +83,7 @@ module _ (m : Notation) (text : List ℕ) where
         → takes m at.read (get_or text at.size 0 == 43) r ≡ true
         → admits m.condition at.read (get_or text at.size 0 == 43) (get_or text at.size 0 == 48) r ≡ true → (c : Cuts) → IsAt m text at c
         → IsAt m text (record { size = at.size + 1; read = after at.read (get_or text at.size 0 == 48) r }) (count (part_of at.read.stage) (Some r) c)
-    read_one at r inside plays going taken admitted c is = let b = get_or text at.size 0 in record {
-      begun = record {
-        within = omega arith;
-        read = rw (take_more text at.size 0 inside, scan_append m.condition m (Some start) (take at.size text) (b ∷ []), is.begun.read)
-            (moved m.condition m at.read b r plays going taken admitted);
-      };
-      counted = rw (
-        take_more text at.size 0 inside,
-        tally_append m.condition m (Some start) no_cuts (take at.size text) (b ∷ []),
-        is.begun.read,
-        is.counted,
-        plays,
-      )
-          refl;
-    }
+    read_one at r inside plays going taken admitted c is = grind (arith, common_steps, take_more, scan_append, moved, tally_append)
 
     -- One byte that is no sign is read, where no base prefix is missing.
     pub read_free : (part : Part) (at : At) (r : Role) → part_of at.read.stage ≡ part → (roles.Sign ≡ r → ⊥) → at.size < length text

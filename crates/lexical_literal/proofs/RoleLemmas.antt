@@ -1,5 +1,6 @@
 -- In a syntax, no byte plays two roles.
-use Rattle.std.proofs.Common.{ℕ, ◌≡◌, ◌<◌, ◌↔◌, Bool, true, false, not, nat_lt, ◌==◌, IsTrue, List, [], ◌∷◌, ◌&&◌, ◌||◌, Option, Some, None, inl, inr, refl, sym, ap, ◌∙◌, arith}
+use Rattle.std.proofs.Common.{ℕ, ◌≡◌, ◌<◌, ◌↔◌, Bool, true, false, not, nat_lt, ◌==◌, IsTrue, List, [], ◌∷◌, ◌&&◌, ◌||◌, Option, Some, None, inl}
+use Rattle.std.proofs.Common.{inr, refl, sym, ap, ◌∙◌, arith}
 use Rattle.std.proofs.lemmas.Bool.{lt-ltb, false≢true, and_from, cases_Bool}
 use Rattle.std.proofs.lemmas.Bool.Decides.{nat_tests}
 use Rattle.std.specs.List.{AllByRecursion}
@@ -77,8 +78,7 @@ module _ (r : Record) (c : Conditions) (none : contradiction r c ≡ None) where
   has_suffix set = grind (arith, nat_tests)
 
   both_none : (a b : Option ConditionsError) → option_or a b ≡ None → (a ≡ None) × (b ≡ None)
-  both_none None b is = (refl, is)
-  both_none (Some a) b is = absurd (let apart : Some a ≡ None = is in cc)
+  both_none x0 b is = grind arith
 
   each_none : (ds : List Condition) → first_fault r c ds ≡ None → AllByRecursion (λ d. fault r c d ≡ None) ds
   each_none [] is = tt
@@ -92,18 +92,12 @@ module _ (r : Record) (c : Conditions) (none : contradiction r c ≡ None) where
   not_missing d set is = go (has c d) (nat_le (limits d).0 (number_of c d) && nat_le (number_of c d) (limits d).1) (missing r c d) set is where
     go : (has fits : Bool) (kind : Option ConditionsErrorKind) → has ≡ true
         → option_map (error_of d) (if has then (if fits then kind else Some faults.Number) else None) ≡ None → kind ≡ None
-    go true true None set is = refl
-    go true true (Some kind) set is = absurd (let apart : Some (error_of d kind) ≡ None = is in cc)
-    go true false kind set is = absurd (let apart : Some (error_of d faults.Number) ≡ None = is in cc)
-    go false fits kind set is = absurd (false≢true set)
+    go x0 fits kind set is = grind arith
 
   -- A part whose groups have sizes may have separators between digits.
-  has_separators : (f : Flag) (kind : ConditionsErrorKind) → lacks_separator r f kind ≡ None → (r.flag f ≡ true) × ((r.byte layout.digit_separator == 0) ≡ false)
-  has_separators f kind is = go (r.flag f) (r.byte layout.digit_separator == 0) is where
-    go : (flag none : Bool) → (if flag then (if none then Some faults.NoSeparator else None) else Some kind) ≡ None → (flag ≡ true) × (none ≡ false)
-    go true false is = (refl, refl)
-    go true true is = absurd (let apart : Some faults.NoSeparator ≡ None = is in cc)
-    go false none is = absurd (let apart : Some kind ≡ None = is in cc)
+  has_separators : (f : Flag) (kind : ConditionsErrorKind) → lacks_separator r f kind ≡ None
+      → (r.flag f ≡ true) × ((r.byte layout.digit_separator == 0) ≡ false)
+  has_separators f kind is = grind arith
 
   integer_separator : has c conditions.IntegerGroupSize ≡ true → (r.flag layout.integer_internal_digit_separator ≡ true)
       × ((r.byte layout.digit_separator == 0) ≡ false)

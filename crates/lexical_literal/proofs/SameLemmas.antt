@@ -6,15 +6,13 @@ use Rattle.lexical_util.specs.NormalForm.{SameFormat}
 use Rattle.lexical_util.specs.Record.{Record, raw}
 use Rattle.lexical_util.specs.Roles.{cased, used_separator}
 use Rattle.lexical_util.specs.declared.format_flags.Part.{Part}
-use Rattle.lexical_util.specs.declared.format_flags.Part.TheVariants as parts
 use Rattle.lexical_literal.specs.declared.syntax.Conditions.{Conditions}
 use Rattle.lexical_literal.specs.declared.syntax.Options.{Options}
 use Rattle.lexical_literal.specs.Notation.{has, notation_of, number_of, radix_of, point_of, exponent_character_of, lacks_options}
 
 module _ (r s : Record) (same : SameFormat r s) where
   same_radix : (part : Part) → radix_of r part ≡ radix_of s part
-  same_radix parts.Exponent = same.exponent_radix
-  same_radix _ = same.mantissa_radix
+  same_radix x0 = grind arith
 
   same_separator : (byte : ℕ) → used_separator r byte ≡ used_separator s byte
   same_separator byte = grind arith

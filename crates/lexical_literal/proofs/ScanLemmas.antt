@@ -1,6 +1,6 @@
 -- How a text is read, byte by byte.
 use Rattle.std.proofs.Common.{ℕ, ◌≡◌, Bool, true, false, not, ◌+◌, ◌==◌, ◌&&◌, if◌then◌else◌, List, [], ◌∷◌, ◌++◌, length, Option, Some, None}
-use Rattle.std.proofs.Common.{refl, sym, ap, subst, ◌∙◌, arith}
+use Rattle.std.proofs.Common.{refl, sym, ap, ◌∙◌, arith}
 use Rattle.std.proofs.lemmas.Bool.{false≢true, false_from_ne_true}
 use Rattle.std.proofs.lemmas.Bool.Decides.{nat_tests}
 use Rattle.lexical_util.specs.declared.feature_format.roles.Role.{Role}
@@ -73,14 +73,10 @@ module _ (m : Notation) (part : Part) (b : ℕ) where
   no_digit role = false_from_ne_true _ (λ is. let same = sym role ∙ digit_role is in cc)
 
   pub as_role : (r : Role) → role_at m part b ≡ Some r → set_of_role m r b ≡ true
-  as_role roles.Digit role = go part (as_digit role) where
-    go : (part : Part) → m.digit part b ≡ true → set_of_role m roles.Digit b ≡ true
-    go part is = grind arith
-  as_role _ role = grind arith
+  as_role x0 role = grind arith
 
   pub no_role : (r : Role) → (roles.Digit ≡ r → ⊥) → role_at m part b ≡ None → set_of_role m r b ≡ false
-  no_role roles.Digit other none = absurd (other refl)
-  no_role _ other none = grind arith
+  no_role x0 other none = grind arith
 
   -- A byte has no other role.
   pub is_role : HasRoles m → (r : Role) → (roles.Digit ≡ r → ⊥) → set_of_role m r b ≡ true → role_at m part b ≡ Some r
@@ -104,21 +100,15 @@ module _ (C : Condition → Bool) (m : Notation) where
   -- What a byte makes of a summary.
   pub moved : (s : Summary) (b : ℕ) (r : Role) → role_at m (part_of s.stage) b ≡ Some r → s.ended ≡ false → takes m s (b == 43) r ≡ true
       → admits C s (b == 43) (b == 48) r ≡ true → step_by C m s b ≡ Some (after s (b == 48) r)
-  moved s b r plays going taken admitted = ap (move_by C m s (b == 43) (b == 48)) plays
-      ∙ (λ j. if not (going j) && (taken j && admitted j) then Some (after s (b == 48) r) else None)
+  moved s b r plays going taken admitted = grind arith
 
   pub arrives_byte : (s : Summary) (b : ℕ) (r : Role) (c : Cuts) (text : List ℕ) (d : Cuts) → s.ended ≡ false → role_at m (part_of s.stage) b ≡ Some r
       → takes m s (b == 43) r ≡ true → admits C s (b == 43) (b == 48) r ≡ true
       → Arrives C m (Some (after s (b == 48) r)) (count (part_of s.stage) (Some r) c) text d → Arrives C m (Some s) c (b ∷ text) d
-  arrives_byte s b r c text d going plays taken admitted more = subst (λ o. Arrives C m (step_by C m s b) (count (part_of s.stage) o c) text d) (sym plays)
-      (subst (λ o. Arrives C m o (count (part_of s.stage) (Some r) c) text d) (sym (moved s b r plays going taken admitted)) more)
+  arrives_byte s b r c text d going plays taken admitted more = grind arith
 
 -- Without conditions, what is taken arrives.
 pub free_byte : (m : Notation) (part : Part) (stage : Stage) (gap : Bool) (b : ℕ) (r : Role) (c : Cuts) (text : List ℕ) (d : Cuts) → part_of stage ≡ part
     → role_at m part b ≡ Some r → takes_in m part stage gap (b == 43) r ≡ true → let s : Summary = record { stage = stage; gap = gap; ended = false } in
     Arrives no_condition m (Some (after s (b == 48) r)) (count part (Some r) c) text d → Arrives no_condition m (Some s) c (b ∷ text) d
-free_byte m part stage gap b r c text d at = subst (λ part. role_at m part b ≡ Some r → takes_in m part stage gap (b == 43) r ≡ true
-    → Arrives no_condition m (Some (after s (b == 48) r)) (count part (Some r) c) text d → Arrives no_condition m (Some s) c (b ∷ text) d) at
-    (λ plays taken more. arrives_byte no_condition m s b r c text d refl plays taken refl more) where
-      s : Summary
-      s = record { stage = stage; gap = gap; ended = false }
+free_byte m part stage gap b r c text d at = grind arith

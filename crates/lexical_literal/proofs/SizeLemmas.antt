@@ -1,9 +1,8 @@
 -- The literals of a notation with sizes of groups are those without, whose groups fit, at once or byte by byte.
 use Rattle.std.proofs.Common.{ℕ, ◌≡◌, ◌+◌, ◌==◌, inl, inr, Bool, true, false, not, ◌&&◌, ◌||◌, if◌then◌else◌, List, [], ◌∷◌, ◌++◌, Option, Some, None}
 use Rattle.std.proofs.Common.{IsTrue, ◌<◌, ◌≤◌, drop, get_or, length, take, refl, sym, ap, subst, ◌∙◌, arith}
-use Rattle.std.proofs.lemmas.Bool.{false≢true, and_parts, and_from, cases_Bool, eqb-true, or_left, or_right}
+use Rattle.std.proofs.lemmas.Bool.{false≢true, and_parts, cases_Bool, eqb-true, or_left, or_right}
 use Rattle.std.proofs.lemmas.List.{drop_more, get_or-take, length-take-le}
-use Rattle.lexical_util.specs.Layout as layout
 use Rattle.lexical_util.specs.Layout.{Flag, separators_in}
 use Rattle.lexical_util.specs.Roles.{signs}
 use Rattle.lexical_util.specs.declared.feature_format.roles.Role.{Role}
@@ -12,16 +11,14 @@ use Rattle.lexical_util.specs.declared.format_flags.Part.{Part}
 use Rattle.lexical_util.specs.declared.format_flags.Part.TheVariants as parts
 use Rattle.lexical_literal.specs.Cause.{is_one_of, requirement_flags}
 use Rattle.lexical_literal.specs.Groups.{has_size, has_sizes, is_grouped}
-use Rattle.lexical_literal.specs.Literal.{Literal, IsSpelled, Reads, condition, is_absent, is_none_or_one, is_none_or_prefix, requirement, text_of}
+use Rattle.lexical_literal.specs.Literal.{Literal, IsSpelled, Reads, condition, is_absent, is_none_or_one, is_none_or_prefix, text_of}
 use Rattle.lexical_literal.specs.Notation.{Notation}
 use Rattle.lexical_literal.specs.Readings.{AllIn, run_byte}
 use Rattle.lexical_literal.specs.Run.{is_run}
 use Rattle.lexical_literal.specs.Additions.Plain.{HasRoles, HasSizes}
-use Rattle.lexical_literal.specs.Additions.Sizes.{first_group, fits, follows, group_after, grow, grown, is_idle, is_size, makes_empty, next_part, unsized}
+use Rattle.lexical_literal.specs.Additions.Sizes.{first_group, fits, follows, group_after, grow, grown, is_idle, next_part, unsized}
 use Rattle.lexical_literal.specs.Additions.Summary.{role_at}
 use Rattle.lexical_literal.specs.declared.groups.Group.{Group}
-use Rattle.lexical_literal.specs.declared.syntax.Condition.{Condition}
-use Rattle.lexical_literal.specs.declared.syntax.Condition.TheVariants as conditions
 use Rattle.lexical_literal.proofs.GroupLemmas.{group, grouped_is, one_role, run_fits, tighter}
 use Rattle.lexical_literal.proofs.PartLemmas.{parts_have_roles}
 use Rattle.lexical_literal.proofs.RefusalLemmas.{KeepsPlaces, all_fit, spelled_too}
@@ -30,8 +27,7 @@ use Rattle.lexical_literal.proofs.ScanLemmas.{digit_role, is_role}
 use Rattle.lexical_literal.proofs.StepLemmas.{text_after}
 
 and_true : (t : Bool) → (t && true) ≡ t
-and_true true = refl
-and_true false = refl
+and_true x0 = grind arith
 
 module _ (m : Notation) where
   pub group_none : (text : List ℕ) → group_after m None text ≡ None
@@ -51,24 +47,17 @@ module _ (m : Notation) where
 
   -- A group has no more digits than bytes have been read.
   pub grown_small : (g next : Group) (r : Option Role) → grow m g r ≡ Some next → next.digits ≤ g.digits + 1
-  grown_small g next r is = go (has_sizes m) (fits m g r) is where
-    small : (r : Option Role) → (grown g r).digits ≤ g.digits + 1
-    small (Some roles.Digit) = omega arith
-    small _ = omega arith
-
-    go : (sized fit : Bool) → (if not sized then Some g else (if fit then Some (grown g r) else None)) ≡ Some next → next.digits ≤ g.digits + 1
-    go false fit is = let same : g ≡ next = cc in subst (λ (x : Group). x.digits ≤ g.digits + 1) same (omega arith)
-    go true true is = let same : grown g r ≡ next = cc in subst (λ (x : Group). x.digits ≤ g.digits + 1) same (small r)
-    go true false is = absurd (let apart : None ≡ Some next = is in cc)
+  grown_small g next r is = grind arith
 
   pub small_after : (g last : Group) (text : List ℕ) → group_after m (Some g) text ≡ Some last → last.digits ≤ g.digits + length text
   small_after g last [] is = let same : g ≡ last = cc in subst (λ (x : Group). x.digits ≤ g.digits + 0) same (omega arith)
-  small_after g last (b ∷ text) is = go (grow m g (role_at m g.part b)) (λ next. grown_small g next (role_at m g.part b)) (λ next. small_after next last text) is where
-    go : (o : Option Group) → ((next : Group) → o ≡ Some next → next.digits ≤ g.digits + 1)
-        → ((next : Group) → group_after m (Some next) text ≡ Some last → last.digits ≤ next.digits + length text)
-        → group_after m o text ≡ Some last → last.digits ≤ g.digits + length (b ∷ text)
-    go None low more is = absurd (let none = group_none text in cc)
-    go (Some next) low more is = omega (arith, low next refl, more next is)
+  small_after g last (b ∷ text) is = go (grow m g (role_at m g.part b)) (λ next. grown_small g next (role_at m g.part b))
+      (λ next. small_after next last text) is where
+        go : (o : Option Group) → ((next : Group) → o ≡ Some next → next.digits ≤ g.digits + 1)
+            → ((next : Group) → group_after m (Some next) text ≡ Some last → last.digits ≤ next.digits + length text)
+            → group_after m o text ≡ Some last → last.digits ≤ g.digits + length (b ∷ text)
+        go None low more is = absurd (let none = group_none text in cc)
+        go (Some next) low more is = omega (arith, low next refl, more next is)
 
   -- `ends o` is true if what has been read, with the last group `o`, may end.
   abbrev pub ends : Option Group → Bool
@@ -98,16 +87,12 @@ module _ (m : Notation) where
     byte_after part separated digits b text r plays = rw (sized, plays) refl
 
     chosen : (t : Bool) (g : Group) (text : List ℕ) → ends (group_after m (if t then Some g else None) text) ≡ (t && ends (group_after m (Some g) text))
-    chosen true g text = refl
-    chosen false g text = ap ends (group_none text)
+    chosen x0 g text = grind (arith, group_none)
 
     -- A byte that is no digit and no separator ends a part.
     closes : (part : Part) (b : ℕ) (text : List ℕ) (r : Role) → (roles.Digit ≡ r → ⊥) → (roles.Separator ≡ r → ⊥) → role_at m part b ≡ Some r
         → Closes part (b ∷ text) (at (next_part part (Some r)) false 0 text)
-    closes part b text roles.Digit other apart plays = absurd (other refl)
-    closes part b text roles.Separator other apart plays = absurd (apart refl)
-    closes part b text r other apart plays = λ separated digits. byte_after part separated digits b text r plays
-        ∙ chosen (fits m (group part separated digits) None) (group (next_part part (Some r)) false 0) text
+    closes part b text r other apart plays = grind (arith, chosen)
 
     nothing : (part : Part) → Closes part [] true
     nothing part separated digits = sym (and_true (fits m (group part separated digits) None))
@@ -122,7 +107,8 @@ module _ (m : Notation) where
           byte_after part separated digits b (run ++ rest) roles.Digit (digit_role m part b digit)
           ∙ chosen (fits m (group part separated digits) (Some roles.Digit)) (group part separated (digits + 1)) (run ++ rest)
           ∙ ap (λ t. fits m (group part separated digits) (Some roles.Digit) && t) (run_at part separated (digits + 1) run rest fit all.1 closed)
-          ∙ rw (no) (both (has_size m part) (follows m (group part separated digits) (Some roles.Digit)) (run_fits m (group part separated (digits + 1)) run) fit)
+          ∙ rw (no) (both (has_size m part) (follows m (group part separated digits) (Some roles.Digit))
+          (run_fits m (group part separated (digits + 1)) run) fit)
       | inr other ↦
           let is : m.separator b ≡ true = let one = all.0 in grind arith in
           byte_after part separated digits b (run ++ rest) roles.Separator (is_role m part b h roles.Separator (λ e. cc) is)
@@ -196,8 +182,7 @@ module _ (m : Notation) where
       -- The groups of a literal fit byte by byte if those of its integer and its fraction do.
       literal_fits : at parts.Integer false 0 (text_of l)
           ≡ (part_fits parts.Integer false 0 l.integer && part_fits parts.Fraction false 0 l.fraction)
-      literal_fits = sign_at parts.Integer l.sign _ is.sign ∙ prefix_at l.prefix _ is.prefix
-          ∙ run_at parts.Integer false 0 l.integer (text_after parts.Integer l) _ (parts_have_roles m l is).integer mantissa_closes
+      literal_fits = grind (arith, sign_at, prefix_at, run_at, parts_have_roles, mantissa_closes)
 
   -- LITERALS WITH AND WITHOUT SIZES
 
@@ -207,33 +192,17 @@ module _ (m : Notation) where
   pub kept_flag : (f : Flag) → IsTrue (u.flag f) → IsTrue (m.flag f)
   kept_flag f is = (and_parts (not (is_idle m f)) (m.flag f) is).1
 
-  -- No flag that requires something is idle.
-  busy : (f : Flag) → (is_one_of requirement_flags f && (makes_empty parts.Integer f || makes_empty parts.Fraction f)) ≡ false
-  busy layout.required_integer_digits = refl
-  busy _ = refl
-
   pub required : (f : Flag) → IsTrue (m.flag f && is_one_of requirement_flags f) → IsTrue (u.flag f)
-  required f is =
-      let both = and_parts (m.flag f) _ is in
-      and_from _ _ (go (is_one_of requirement_flags f) (makes_empty parts.Integer f) (makes_empty parts.Fraction f) both.1 (busy f)) both.0 where
-        go : (r i k : Bool) → r ≡ true → (r && (i || k)) ≡ false
-            → not ((i && m.condition conditions.IntegerGroupSize) || (k && m.condition conditions.FractionGroupSize)) ≡ true
-        go r i k is none = grind arith
+  required f is = grind arith
 
   as_spelled : (l : Literal) → IsSpelled u l → IsSpelled m l
   as_spelled = spelled_too u m.flag m.condition required (λ f set. or_left _ _ (kept_flag f set))
 
   keeps : (part : Part) → has_size m part ≡ false → KeepsPlaces m u.flag u.condition part
-  keeps parts.Integer none =
-      record { leading = λ set. rw (none) set; internal = λ set. set; trailing = λ set. rw (none) set; consecutive = λ set. rw (none) set }
-  keeps parts.Fraction none =
-      record { leading = λ set. rw (none) set; internal = λ set. set; trailing = λ set. rw (none) set; consecutive = λ set. rw (none) set }
-  keeps parts.Exponent none = record { leading = λ set. set; internal = λ set. set; trailing = λ set. set; consecutive = λ set. set }
+  keeps x0 none = grind arith
 
   pub same_internal : (part : Part) → m.flag (separators_in part).internal ≡ true → u.flag (separators_in part).internal ≡ true
-  same_internal parts.Integer is = is
-  same_internal parts.Fraction is = is
-  same_internal parts.Exponent is = is
+  same_internal x0 is = grind arith
 
   module _ (h : HasRoles m) (sizes : HasSizes m) where
     run_too : (part : Part) (run : List ℕ) → part_fits part false 0 run ≡ true → is_run m part run ≡ true → is_run u part run ≡ true
@@ -244,10 +213,7 @@ module _ (m : Notation) where
     ]
 
     grouped : (part : Part) (run : List ℕ) → (has_size m part ≡ true → is_grouped m part run ≡ true) → part_fits part false 0 run ≡ true
-    grouped part run is = elim (cases_Bool (has_size m part)) [
-      | inl sized ↦ or_right _ _ (sym (grouped_is m part run) ∙ is sized)
-      | inr none ↦ or_left _ _ (ap not none)
-    ]
+    grouped part run is = grind (arith, grouped_is)
 
     sized_run : (part : Part) (run : List ℕ) → part_fits part false 0 run ≡ true → has_size m part ≡ true → is_grouped m part run ≡ true
     sized_run part run fit sized = grouped_is m part run ∙ (rw (sized) at fit)
@@ -257,63 +223,10 @@ module _ (m : Notation) where
 
     -- The groups of a literal fit.
     literal_ends : (l : Literal) → IsSpelled m l → ends (group_after m (Some first_group) (text_of l)) ≡ both_fit l
-    literal_ends l is = elim (cases_Bool (has_sizes m)) [
-      | inl sized ↦ literal_fits h sized l is
-      | inr none ↦ ap ends (all_end none first_group (text_of l)) ∙ no_sizes (m.condition conditions.IntegerGroupSize)
-          (m.condition conditions.FractionGroupSize) _ _ none
-    ] where
-      no_sizes : (x y a b : Bool) → (x || y) ≡ false → (not x || true) ≡ ((not x || a) && (not y || b))
-      no_sizes x y a b none = grind arith
+    literal_ends l is = grind (arith, literal_fits, all_end)
 
     pub as_unsized : (l : Literal) (text : List ℕ) → Reads m l text → Reads u l text × (ends (group_after m (Some first_group) text) ≡ true)
-    as_unsized l text is =
-        let spelled = is.literal.spelled in
-        let integer = grouped parts.Integer l.integer (is.literal.conditions conditions.IntegerGroupSize) in
-        let fraction = grouped parts.Fraction l.fraction (is.literal.conditions conditions.FractionGroupSize) in (
-          record {
-            whole = is.whole;
-            literal = record {
-              spelled = record {
-                sign = spelled.sign;
-                prefix = spelled.prefix;
-                integer = run_too parts.Integer l.integer integer spelled.integer;
-                point = spelled.point;
-                fraction = run_too parts.Fraction l.fraction fraction spelled.fraction;
-                exponent_character = spelled.exponent_character;
-                exponent_sign = spelled.exponent_sign;
-                exponent = run_too parts.Exponent l.exponent refl spelled.exponent;
-                suffix = spelled.suffix;
-                after_point = spelled.after_point;
-                after_character = spelled.after_character;
-                some_number = spelled.some_number;
-                requirements = λ f set. requires f l (spelled.requirements f (kept_flag f set));
-              };
-              conditions = λ c set. free c l (is.literal.conditions c (and_parts (not (is_size c)) (m.condition c) set).1);
-            };
-          },
-          ap (λ t. ends (group_after m (Some first_group) t)) is.whole ∙ literal_ends l spelled ∙ and_from _ _ integer fraction,
-        ) where
-          requires : (f : Flag) (l : Literal) → IsTrue (requirement f m l) → IsTrue (requirement f u l)
-          requires layout.required_integer_digits l is = is
-          requires _ l is = is
-
-          free : (c : Condition) (l : Literal) → IsTrue (condition c m l) → IsTrue (condition c u l)
-          free conditions.BasePrefix l is = is
-          free _ l is = is
+    as_unsized l text is = grind (arith, grouped, run_too, literal_ends)
 
     pub as_sized : (l : Literal) (text : List ℕ) → Reads u l text → ends (group_after m (Some first_group) text) ≡ true → Reads m l text
-    as_sized l text is end =
-        let spelled = as_spelled l is.literal.spelled in
-        let fit = and_parts (part_fits parts.Integer false 0 l.integer) (part_fits parts.Fraction false 0 l.fraction)
-        (sym (literal_ends l spelled) ∙ sym (ap (λ t. ends (group_after m (Some first_group) t)) is.whole) ∙ end) in record {
-          whole = is.whole;
-          literal = record { spelled = spelled; conditions = each fit.0 fit.1 };
-        } where
-          each : part_fits parts.Integer false 0 l.integer ≡ true → part_fits parts.Fraction false 0 l.fraction ≡ true
-              → (c : Condition) → IsTrue (m.condition c) → IsTrue (condition c m l)
-          each integer fraction conditions.IntegerGroupSize set = sized_run parts.Integer l.integer integer set
-          each integer fraction conditions.FractionGroupSize set = sized_run parts.Fraction l.fraction fraction set
-          each integer fraction conditions.HigherGroupSize set = refl
-          each integer fraction conditions.BasePrefix set = is.literal.conditions conditions.BasePrefix set
-          each integer fraction conditions.BaseSuffix set = is.literal.conditions conditions.BaseSuffix set
-          each integer fraction conditions.NegativeSign set = is.literal.conditions conditions.NegativeSign set
+    as_sized l text is end = grind (arith, as_spelled, and_parts, literal_ends, sized_run)

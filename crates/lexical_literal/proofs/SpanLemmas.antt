@@ -1,26 +1,20 @@
 -- The bytes to show for a text that is refused are of the text.
-use Rattle.std.proofs.Common.{ℕ, ◌≡◌, ◌≤◌, ◌+◌, Bool, true, false, not, List, [], ◌∷◌, length, take, Option, None, Some}
-use Rattle.std.proofs.Common.{if◌then◌else◌, get_or, sym, ap, subst, ◌∙◌, arith}
+use Rattle.std.proofs.Common.{ℕ, ◌≡◌, ◌≤◌, ◌+◌, List, [], ◌∷◌, length, take, Option, None, Some, if◌then◌else◌, get_or, sym, subst, arith}
 use Rattle.std.proofs.Math.Seq.{take-length}
 use Rattle.std.proofs.lemmas.List.{length-take-le, take_more}
 use Rattle.std.proofs.lemmas.Option.{slice_get_within}
 use Rattle.std.specs.Prelude.{slice_get}
 use Rattle.lexical_util.specs.Ascii.{ByteSet}
-use Rattle.lexical_util.specs.Layout as layout
 use Rattle.lexical_util.specs.Layout.{Flag}
-use Rattle.lexical_util.specs.declared.format_flags.Part.TheVariants as parts
-use Rattle.lexical_literal.specs.Groups.{has_sizes}
-use Rattle.lexical_literal.specs.Cause.{IsRefusal, behind, condition_span, first_in, marks_of, requirement_span, span_of, wrong_end}
+use Rattle.lexical_literal.specs.Cause.{IsRefusal, behind, first_in, marks_of, span_of, wrong_end}
 use Rattle.lexical_literal.specs.Notation.{Notation, notation_of}
 use Rattle.lexical_literal.specs.declared.cause.Marks.{Marks}
-use Rattle.lexical_literal.specs.declared.cause.Place.TheVariants as places
 use Rattle.lexical_literal.specs.declared.cause.ReadErrorKind.{ReadErrorKind}
-use Rattle.lexical_literal.specs.declared.cause.ReadErrorKind.TheVariants as causes
 use Rattle.lexical_literal.specs.declared.cause.Refusal.{Refusal}
 use Rattle.lexical_literal.specs.declared.syntax.Condition.{Condition}
-use Rattle.lexical_literal.specs.declared.syntax.Condition.TheVariants as conditions
 use Rattle.lexical_literal.specs.declared.syntax.Grammar.{Grammar}
 use Rattle.lexical_literal.proofs.CauseLemmas.{behind_more}
+use Rattle.std.proofs.lemmas.Grind.{common_steps}
 
 module _ (A : ByteSet) where
   pub behind_within : (text : List ℕ) → behind A text ≤ length text
@@ -30,10 +24,7 @@ module _ (A : ByteSet) where
   -- The last byte decides.
   pub behind_last : (text : List ℕ) (k : ℕ) → length text ≡ k + 1
       → behind A text ≡ (if A (get_or text k 0) then length text else behind A (take k text))
-  behind_last text k size =
-      let short = length-take-le k text (omega arith) in
-      ap (behind A) (sym (take-length text) ∙ ap (λ n. take n text) size ∙ take_more text k 0 (omega arith)) ∙ behind_more A (take k text) (get_or text k 0)
-      ∙ ap (λ n. if A (get_or text k 0) then n else behind A (take k text)) (omega arith)
+  behind_last text k size = grind (arith, common_steps, length-take-le, take-length, take_more, behind_more)
 
   first_within : (text : List ℕ) → first_in A text ≤ length text
   first_within [] = omega arith
@@ -47,50 +38,15 @@ record AreMarks (k : Marks) : Type 0 where
   group : k.group ≤ k.size
 
 are_marks : (m : Notation) (front : List ℕ) → AreMarks (marks_of m front)
-are_marks m front = let run = behind_within (λ byte. not (m.separator byte)) front in record {
-  exponent = behind_within _ front;
-  first = let first = first_within (m.digit parts.Integer) (take (marks_of m front).run front) in omega (
-    arith,
-    first,
-    length-take-le (marks_of m front).run
-        front run,
-  );
-  run = run;
-  group = group (has_sizes m);
-} where
-  group : (sized : Bool) → (if sized then behind (λ byte. not (m.digit parts.Integer byte)) front else 0) ≤ length front
-  group true = behind_within _ front
-  group false = omega arith
+are_marks m front = grind (arith, behind_within, first_within, length-take-le)
 
 -- `IsIn size span` holds if `span` does not end before it begins, and ends in a text of `size` bytes.
 abbrev IsIn : ℕ → ℕ × ℕ → Type 0
 IsIn size span = (span.0 ≤ span.1) × (span.1 ≤ size)
 
 module _ (m : Notation) (k : Marks) (are : AreMarks k) (next : Option ℕ) where
-  either : (t : Bool) (a b : ℕ) → a ≤ b → b ≤ k.size → IsIn (wrong_end k next) (a, if t then wrong_end k next else b)
-  either t a b below within = grind arith
-
-  here : IsIn (wrong_end k next) (k.size, wrong_end k next)
-  here = grind arith
-
-  by_flag : (f : Flag) → IsIn (wrong_end k next) (requirement_span f m k next)
-  by_flag layout.required_exponent_digits = let exponent = are.exponent in grind arith
-  by_flag layout.no_integer_leading_zeros = either _ k.first k.run are.first are.run
-  by_flag layout.no_float_leading_zeros = either _ k.first k.run are.first are.run
-  by_flag _ = grind arith
-
-  by_condition : (c : Condition) → IsIn (wrong_end k next) (condition_span c m k next)
-  by_condition conditions.BasePrefix = let first = are.first in let run = are.run in grind arith
-  by_condition conditions.BaseSuffix = grind arith
-  by_condition conditions.NegativeSign = here
-  by_condition _ = either _ k.group k.size are.group (omega arith)
-
   by_kind : (kind : ReadErrorKind) (f : Flag) (c : Option Condition) → IsIn (wrong_end k next) (span_of m k next kind f c)
-  by_kind causes.Requirement f None = by_flag f
-  by_kind causes.Requirement f (Some c) = by_condition c
-  by_kind (causes.Separator part places.Consecutive) f c = here
-  by_kind (causes.Separator part _) f c = either _ k.run k.size are.run (omega arith)
-  by_kind _ f c = grind arith
+  by_kind x0 f c = grind arith
 
 -- The bytes to show for an error of a text.
 pub span_within : (g : Grammar) (text : List ℕ) (error : Refusal) → IsRefusal (notation_of g) text error → IsIn (length text) (error.start, error.end)

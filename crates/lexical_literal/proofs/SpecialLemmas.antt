@@ -1,6 +1,6 @@
 -- How a text is compared with a spelling.
 use Rattle.std.proofs.Common.{ℕ, ◌≡◌, ◌≤◌, ◌⊎◌, inl, inr, ◌+◌, ◌-◌, Bool, true, false, ◌==◌, ◌&&◌}
-use Rattle.std.proofs.Common.{◌||◌, if◌then◌else◌, nat_lt, List, [], ◌∷◌, length, get_or, drop, refl, sym, ap, ◌∙◌, arith}
+use Rattle.std.proofs.Common.{◌||◌, if◌then◌else◌, nat_lt, List, [], ◌∷◌, length, get_or, drop, refl, arith}
 use Rattle.std.proofs.lemmas.Bool.{cases_lt}
 use Rattle.std.proofs.lemmas.Bool.Decides.{nat_tests}
 use Rattle.std.proofs.lemmas.List.{drop_more, drop_all}
@@ -58,10 +58,7 @@ module _ (m : Notation) (x : ℕ) where
   fits word n c = nat_lt n (length word) && (letter_of m (get_or word n 0) == letter_of m c)
 
   next_at : (word : List ℕ) (n c : ℕ) (more : List ℕ → Bool) → is_next (drop n word) c more ≡ (fits word n c && more (drop (n + 1) word))
-  next_at word n c more = elim (cases_lt n (length word)) [
-    | inl inside ↦ ap (λ w. is_next w c more) (drop_more word n 0 inside) ∙ grind (arith, nat_tests)
-    | inr past ↦ ap (λ w. is_next w c more) (drop_all n word past) ∙ grind (arith, nat_tests)
-  ]
+  next_at word n c more = grind (arith, drop_more, drop_all)
 
   -- `Moves word taken n c next_taken next` holds if the byte `c` may follow, and makes `next_taken` of `taken` and `next` of `n`.
   abbrev pub Moves : List ℕ → (taken n c next_taken next : ℕ) → Type 0
@@ -74,9 +71,7 @@ module _ (m : Notation) (x : ℕ) where
   module _ (word text : List ℕ) (taken n c : ℕ) (rest : List ℕ) (now : HasRead word text taken n (c ∷ rest)) where
     shift_at : (k : ℕ) → fits word n c ≡ true → letter_of m x ≡ letter_of m c
         → reads rest k (drop (n + 1) word) ≡ (reads rest 0 (drop (n + 1) word) || (nat_lt 0 k && reads rest (k - 1) (drop n word)))
-    shift_at k fit same =
-        shift rest (drop (n + 1) word) k (get_or word n 0) (grind (arith, nat_tests))
-        ∙ ap (λ w. reads rest 0 (drop (n + 1) word) || (nat_lt 0 k && reads rest (k - 1) w)) (sym (drop_more word n 0 (grind (arith, nat_tests))))
+    shift_at k fit same = grind (arith, shift, nat_tests, drop_more)
 
     pub read_more : (only : special_separator m c ≡ true → letter_of m c ≡ letter_of m x) (next_taken next : ℕ) → Moves word taken n c next_taken next
         → HasRead word text next_taken next rest
@@ -89,12 +84,7 @@ module _ (m : Notation) (x : ℕ) where
           let back : special_separator m c ≡ true → next_taken - 1 ≡ taken = grind arith in
           grind (arith, nat_tests);
     }
-    read_more only next_taken next (inr is) = record {
-      few = let few = now.few in grind arith;
-      within = let within = now.within in grind arith;
-      same =
-          let same = now.same in let first = next_at word n c (reads rest 0) in let less = fewer rest (drop n word) (taken - 1) in grind (arith, nat_tests);
-    }
+    read_more only next_taken next (inr is) = grind (arith, next_at, fewer)
 
     pub fails : fits word n c ≡ false → special_separator m c ≡ false → (nat_lt 0 taken && (letter_of m x == letter_of m c)) ≡ false
         → false ≡ is_spelled m word text

@@ -1,7 +1,7 @@
 -- The last group before the bytes that cannot follow, and what it allows.
-use Rattle.std.proofs.Common.{ℕ, ◌≡◌, ◌+◌, ◌-◌, ◌↔◌, inl, inr, Bool, true, false, not, ◌&&◌, ◌||◌, if◌then◌else◌, List, [], ◌∷◌, ◌++◌, length, length-append, append-nil}
-use Rattle.std.proofs.Common.{Option, Some, None, append_assoc, refl, sym, ap, subst, ◌∙◌, arith}
-use Rattle.std.proofs.lemmas.Bool.{false≢true, cases_Bool, false_from_ne_true, or_left, or_right}
+use Rattle.std.proofs.Common.{ℕ, ◌≡◌, ◌+◌, ◌-◌, ◌↔◌, inl, inr, Bool, true, false, not, ◌&&◌, ◌||◌, if◌then◌else◌, List, [], ◌∷◌, ◌++◌, length, length-append}
+use Rattle.std.proofs.Common.{append-nil, Option, Some, None, append_assoc, refl, sym, ap, subst, ◌∙◌, arith}
+use Rattle.std.proofs.lemmas.Bool.{cases_Bool, false_from_ne_true}
 use Rattle.lexical_util.specs.Ascii.{ByteSet}
 use Rattle.lexical_util.specs.Layout.{Flag}
 use Rattle.lexical_util.specs.declared.feature_format.roles.Role.{Role}
@@ -18,14 +18,13 @@ use Rattle.lexical_literal.specs.Additions.Summary.{part_of, role_at, scan, star
 use Rattle.lexical_literal.specs.declared.groups.Group.{Group}
 use Rattle.lexical_literal.specs.declared.steps.Summary.{Summary}
 use Rattle.lexical_literal.specs.declared.syntax.Condition.{Condition}
-use Rattle.lexical_literal.specs.declared.syntax.Condition.TheVariants as conditions
 use Rattle.lexical_literal.proofs.BlameLemmas.{own_weaker}
 use Rattle.lexical_literal.proofs.CauseLemmas.{behind_more}
 use Rattle.lexical_literal.proofs.DecideLemmas.{decided_of}
 use Rattle.lexical_literal.proofs.FitLemmas.{linked_there}
 use Rattle.lexical_literal.proofs.PartOfLemmas.{ends_in}
 use Rattle.lexical_literal.proofs.RefusalLemmas.{other_roles}
-use Rattle.lexical_literal.proofs.ScanLemmas.{as_digit, as_role, digit_role}
+use Rattle.lexical_literal.proofs.ScanLemmas.{as_role, digit_role}
 use Rattle.lexical_literal.proofs.SizeLemmas.{group_none}
 
 module _ (m : Notation) (h : HasRoles m) where
@@ -37,29 +36,20 @@ module _ (m : Notation) (h : HasRoles m) where
   Counts text g = has_size m g.part ≡ true → g.digits + behind no_digit text ≡ length text
 
   a_digit : (part : Part) (b : ℕ) → has_size m part ≡ true → m.digit part b ≡ m.digit parts.Integer b
-  a_digit parts.Integer b sized = refl
-  a_digit parts.Fraction b sized = h.one_mantissa b
-  a_digit parts.Exponent b sized = absurd (false≢true sized)
+  a_digit x0 b sized = grind arith
 
   behind_digit : (text : List ℕ) (b : ℕ) → m.digit parts.Integer b ≡ true → behind no_digit (text ++ b ∷ []) ≡ behind no_digit text
   behind_digit text b is = behind_more no_digit text b ∙ ap (λ t. if not t then length text + 1 else behind no_digit text) is
 
   behind_other : (text : List ℕ) (b : ℕ) → m.digit parts.Integer b ≡ false → 0 + behind no_digit (text ++ b ∷ []) ≡ length (text ++ b ∷ [])
-  behind_other text b other =
-      let is = behind_more no_digit text b ∙ ap (λ t. if not t then length text + 1 else behind no_digit text) other in
-      omega (arith, is, length-append {A = ℕ} text (b ∷ []))
+  behind_other text b other = grind (arith, behind_more, length-append)
 
   other_role : (part : Part) (b : ℕ) (r : Role) → (roles.Digit ≡ r → ⊥) → role_at m part b ≡ Some r → m.digit parts.Integer b ≡ false
   other_role part b r other role = false_from_ne_true _ (λ digit.
       other (h.one roles.Digit r b (as_role m parts.Integer b roles.Digit (digit_role m parts.Integer b digit)) (as_role m part b r role)))
 
   counts_more : (text : List ℕ) (b : ℕ) (g : Group) (o : Option Role) → role_at m g.part b ≡ o → Counts text g → Counts (text ++ b ∷ []) (grown g o)
-  counts_more text b g None role counts = λ sized. behind_other text b (sym (a_digit g.part b sized)
-      ∙ false_from_ne_true _ (λ digit. let same = sym role ∙ digit_role m g.part b digit in absurd (let apart : None ≡ Some roles.Digit = same in cc)))
-  counts_more text b g (Some roles.Digit) role counts = λ sized.
-      let same = behind_digit text b (sym (a_digit g.part b sized) ∙ as_digit m g.part b role) in
-      let old = counts sized in omega (arith, same, old, length-append {A = ℕ} text (b ∷ []))
-  counts_more text b g (Some r) role counts = λ sized. behind_other text b (other_role g.part b r (λ e. cc) role)
+  counts_more text b g x3 role counts = grind (arith, behind_other, a_digit, behind_digit, length-append, other_role)
 
   counts_all : has_sizes m ≡ true → (x text : List ℕ) (g last : Group) → Counts x g → group_after m (Some g) text ≡ Some last → Counts (x ++ text) last
   counts_all sized x [] g last counts is = let same : g ≡ last = cc in subst (λ x. Counts x last) (sym (append-nil x)) (subst (Counts x) same counts)
@@ -81,9 +71,7 @@ module _ (m : Notation) (ready : IsReady (unsized m)) (sizes : HasSizes m) (fron
   last = record { part = part_of s.stage; separated = g.separated; digits = (marks_of m front).size - (marks_of m front).group }
 
   some_size : (part : Part) → has_size m part ≡ true → has_sizes m ≡ true
-  some_size parts.Integer is = or_left _ _ is
-  some_size parts.Fraction is = or_right _ _ is
-  some_size parts.Exponent is = absurd (false≢true is)
+  some_size x0 is = grind arith
 
   same_group : has_size m g.part ≡ true → g ≡ last
   same_group is =
@@ -93,17 +81,14 @@ module _ (m : Notation) (ready : IsReady (unsized m)) (sizes : HasSizes m) (fron
       λ j. record { part = linked_there m sized front s g read grouped j; separated = g.separated; digits = digits j }
 
   no_group : has_size m g.part ≡ false → has_size m (part_of s.stage) ≡ false
-  no_group none = false_from_ne_true _ (λ is. false≢true (sym none
-      ∙ ap (has_size m) (linked_there m (some_size (part_of s.stage) is) front s g read grouped) ∙ is))
+  no_group none = grind (arith, linked_there)
 
   module _ (A : Flag → Bool) (D : Condition → Bool) (weaker : IsWeaker m A D) where
     abbrev n : Notation
     n = with_rules m A D
 
     free : (part : Part) (t : Bool) → has_size m part ≡ false → (not (has_size n part) || t) ≡ true
-    free parts.Integer t none = or_left _ _ (ap not (false_from_ne_true _ (λ is. false≢true (sym none ∙ weaker.conditions conditions.IntegerGroupSize is))))
-    free parts.Fraction t none = or_left _ _ (ap not (false_from_ne_true _ (λ is. false≢true (sym none ∙ weaker.conditions conditions.FractionGroupSize is))))
-    free parts.Exponent t none = refl
+    free x0 t none = grind arith
 
     same_fit : (next : Option ℕ) → fits n g (role_next n g.part next) ≡ fits n last (role_next n last.part next)
     same_fit next = elim (cases_Bool (has_size m g.part)) [

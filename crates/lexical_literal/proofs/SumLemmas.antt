@@ -1,9 +1,9 @@
 -- The digits of a run, their number, and the number that they represent, modulo `2 ^ 64`.
-use Rattle.std.proofs.Common.{ℕ, ◌≡◌, ◌<◌, ◌≤◌, ◌+◌, ◌-◌, ◌*◌, ◌%◌, ◌^◌, ◌∙◌, Bool, true, false, List, [], ◌∷◌, ◌++◌, Option, Some, None, nat_lt, cond}
-use Rattle.std.proofs.Common.{get_or, length, take, drop, refl, sym, ap, subst, arith}
+use Rattle.std.proofs.Common.{ℕ, ◌≡◌, ◌<◌, ◌≤◌, ◌+◌, ◌-◌, ◌*◌, ◌%◌, ◌^◌, ◌∙◌, true, false, List, [], ◌∷◌, ◌++◌, Option, Some, None, nat_lt, cond}
+use Rattle.std.proofs.Common.{get_or, length, take, drop, sym, ap, subst, arith}
 use Rattle.std.proofs.lemmas.Int.Digits.{number_after_append}
 use Rattle.std.proofs.lemmas.List.Elements.{filter_map-append}
-use Rattle.std.proofs.lemmas.List.{drop-drop, get_or-drop, length-drop, take_more}
+use Rattle.std.proofs.lemmas.List.{drop-drop, length-drop, take_more}
 use Rattle.std.proofs.Math.Nat.{mod-add-mod, mod-mod}
 use Rattle.std.proofs.Math.Seq.{take-add}
 use Rattle.std.specs.Int.Digits.{number_from_digits_after}
@@ -24,13 +24,11 @@ use Rattle.lexical_literal.specs.declared.syntax.Grammar.{Grammar}
 use Rattle.lexical_literal.proofs.PlainLemmas.{go_on, read_digit, read_separated}
 use Rattle.lexical_literal.proofs.ScanLemmas.{is_role, no_digit}
 use Rattle.lexical_util.specs.declared.feature_format.roles.Role.TheVariants as roles
+use Rattle.std.proofs.lemmas.Grind.{common_steps}
 
 -- The value of a digit.
 pub is_digit : (radix b v : ℕ) → digit_of b radix ≡ Some v → nat_lt (byte_value b) radix ≡ true
-is_digit radix b v is = go (nat_lt (byte_value b) radix) is where
-  go : (test : Bool) → cond test (Some (byte_value b)) None ≡ Some v → test ≡ true
-  go true is = refl
-  go false is = absurd (let apart : None ≡ Some v = is in cc)
+is_digit radix b v is = grind arith
 
 no_value : (radix b : ℕ) → nat_lt (byte_value b) radix ≡ false → digit_of b radix ≡ None
 no_value radix b other = ap (λ test. cond test (Some (byte_value b)) None) other
@@ -53,13 +51,7 @@ module _ (radix : ℕ) (text : List ℕ) where
 
   -- One byte.
   byte_between : (n : ℕ) (o : Option ℕ) → n < length text → digit_of (get_or text n 0) radix ≡ o → digits_in radix (between text n (n + 1)) ≡ cons_option o []
-  byte_between n o inside is =
-      let one : n + 1 - n ≡ 0 + 1 = omega arith in
-      let zero : n + 0 ≡ n = omega arith in
-      let some : 0 < length (drop n text) = omega (arith, length-drop n text, inside) in
-      ap (λ k. digits_in radix (take k (drop n text))) one
-      ∙ ap (digits_in radix) (take_more (drop n text) 0 0 some ∙ ap (λ b. b ∷ []) (get_or-drop n text 0 0 ∙ ap (λ k. get_or text k 0) zero))
-      ∙ ap (λ o. cons_option o []) is
+  byte_between n o inside is = grind (arith, common_steps, length-drop, take_more)
 
 module _ (m : Notation) (radix : ℕ) (text : List ℕ) (part : Part) where
   -- Two runs that follow one another.
@@ -100,12 +92,7 @@ pushed_sum radix s v = mod-mod (s * radix % 2 ^ 64 + v) (2 ^ 64) ∙ mod-add-mod
 one_digit : (m : Notation) (radix : ℕ) (text : List ℕ) (part : Part) (run : Run) (stage : Stage) (v : ℕ) → IsDigitAt radix text run.size v
     → IsReadOn m text (at_stage run.size run.stage) (digits_piece part) (at_stage (run.size + 1) stage)
     → IsRunOn m radix text part run (record (pushed radix run v 1) { stage = stage })
-one_digit m radix text part run stage v digit on = let one = byte_between radix text run.size (Some v) digit.0 digit.1 in record {
-  on = on;
-  within = λ is. omega (arith, digit.0);
-  digits = sym (ap (λ ds. run.digits + length ds) one);
-  sum = pushed_sum radix run.sum v ∙ sym (ap (λ ds. number_from_digits_after radix run.sum ds % 2 ^ 64) one);
-}
+one_digit m radix text part run stage v digit on = grind (arith, byte_between)
 
 -- One digit, and those behind it.
 pub behind_digit : (m : Notation) (radix : ℕ) (text : List ℕ) (part : Part) (run : Run) (stage : Stage) (v : ℕ) (one last : Run)

@@ -1,6 +1,5 @@
 -- Which texts of mantissa digits are literals.
 use Rattle.std.proofs.Common.{ℕ, ◌≡◌, ◌≢◌, ◌↔◌, Bool, true, false, not, ◌==◌, ◌&&◌, ◌||◌, IsFalse, List, [], ◌∷◌, Some, None, refl, sym, ap, ◌∙◌, arith}
-use Rattle.std.proofs.lemmas.Bool.Decides.{nat_tests}
 use Rattle.lexical_util.specs.Layout as layout
 use Rattle.lexical_util.specs.declared.feature_format.roles.Role.TheVariants as roles
 use Rattle.lexical_util.specs.declared.format_flags.Part.TheVariants as parts
@@ -11,7 +10,7 @@ use Rattle.lexical_literal.specs.Additions.Sizes.{first_group, unsized}
 use Rattle.lexical_literal.specs.Notation.{Notation}
 use Rattle.lexical_literal.specs.Literal.{Literal, Reads}
 use Rattle.lexical_literal.specs.Readings.{AllIn}
-use Rattle.lexical_literal.specs.Additions.Summary.{needs_exponent, move_by, step, scan, is_accepted, start, part_of, role_at}
+use Rattle.lexical_literal.specs.Additions.Summary.{needs_exponent, move_by, step, scan, is_accepted, start, part_of}
 use Rattle.lexical_literal.specs.declared.steps.Stage.{Stage}
 use Rattle.lexical_literal.specs.declared.steps.Stage.TheVariants as stages
 use Rattle.lexical_literal.proofs.ScanLemmas.{scan_none, digit_role, is_role}
@@ -59,11 +58,7 @@ module _ (m : Notation) (ready : IsReady (unsized m)) (sizes : HasSizes m) where
     -- The first digit, which is not 0.
     first_digit : (stage : Stage) → part_of stage ≡ parts.Integer → let s = reading stage false in
         step u s first ≡ move_by u.condition u s (first == 43) false (Some roles.Digit)
-    first_digit stage at =
-        let other : (first == 48) ≡ false = grind (arith, nat_tests) in
-        ap (move_by u.condition u (reading stage false) (first == 43) (first == 48))
-        (ap (λ part. role_at u part first) at ∙ digit_role m parts.Integer first all.0)
-        ∙ ap (λ zero. move_by u.condition u (reading stage false) (first == 43) zero (Some roles.Digit)) other
+    first_digit stage at = grind arith
 
     pub digits_read : ((l : Literal) × Reads m l (first ∷ digits))
         ↔ IsFalse ((m.condition conditions.BasePrefix || m.condition conditions.BaseSuffix)
@@ -73,7 +68,8 @@ module _ (m : Notation) (ready : IsReady (unsized m)) (sizes : HasSizes m) where
 
     pub negative_read : ((l : Literal) × Reads m l (45 ∷ first ∷ digits)) ↔ IsFalse ((m.condition conditions.BasePrefix || m.condition conditions.BaseSuffix)
         || (m.condition conditions.NegativeSign || (m.flag layout.required_exponent_notation && not m.integers_only)))
-    negative_read = literal_exactly (45 ∷ first ∷ digits) _ (or_from _ _ minus (joined (first ∷ digits) all)) (ap (λ o. is_accepted u (scan u o (first ∷ digits)))
+    negative_read = literal_exactly (45 ∷ first ∷ digits) _ (or_from _ _ minus (joined (first ∷ digits) all))
+        (ap (λ o. is_accepted u (scan u o (first ∷ digits)))
         (ap (move_by u.condition u start false false) (is_role u parts.Integer 45 ready.roles roles.Sign (λ e. cc) refl)) ∙ go
         (m.condition conditions.NegativeSign) refl) where
           minus : m.separator 45 ≡ false

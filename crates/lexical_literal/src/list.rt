@@ -1,7 +1,9 @@
 //! Lists of syntaxes: the numbers of a language that has several forms, such as `10`, `0x1F` and `0b1`.
 
-ghost use Rattle.std.specs.Prelude.{◌≡◌, ◌<◌, All, SomeIff, length};
+ghost use Rattle.std.specs.Prelude.{◌≡◌, ◌<◌, All, IsSomeAnd, SomeIff, length, slice_get};
 ghost use Rattle.lexical_literal.specs.Additions.Forms.{IsFoundForm, IsFoundFrontForm, IsFurthestForm, further, longer};
+ghost use Rattle.lexical_literal.specs.Additions.Longest.{IsStopped};
+ghost use Rattle.lexical_literal.specs.Cause.{IsRefusal};
 ghost use Rattle.lexical_literal.specs.Forms.{IsFormError};
 ghost use Rattle.lexical_literal.specs.Front.{NoLiteral};
 ghost use Rattle.lexical_literal.specs.Notation.{notation_of};
@@ -116,21 +118,16 @@ impl<'a> SyntaxList<'a> {
         let Some((first, stop)) = furthest else {
             unreachable!()
         };
-        let syntaxes = self.syntaxes();
-        let Err(error) = syntaxes[first].refuse::<()>(text, stop) else {
-            unreachable!()
-        };
+        let error = self.error_of(text, first, stop);
         if !error.is_byte() {
             return FormError { form: first, error };
         }
+        let syntaxes = self.syntaxes();
         let mut form = first + 1;
         while form < syntaxes.len() {
-            let syntax = &syntaxes[form];
-            let reached = syntax.walk(text, BEGIN, FIRST);
+            let reached = syntaxes[form].walk(text, BEGIN, FIRST);
             if reached.size == stop.size {
-                let Err(other) = syntax.refuse::<()>(text, reached) else {
-                    unreachable!()
-                };
+                let other = self.error_of(text, form, reached);
                 if !other.is_byte() {
                     return FormError { form, error: other };
                 }
@@ -138,6 +135,21 @@ impl<'a> SyntaxList<'a> {
             form += 1;
         }
         FormError { form: first, error }
+    }
+
+    // Returns why `text` is not a literal of the form with the index `form`, which stops at `stop`.
+    #[inline(always)]
+    fn error_of(&self, text: &[u8], form: usize, stop: At) -> ReadError
+        requires inside { form < length self.now }
+        requires stopped { IsSomeAnd (slice_get self.now form) (λ g. IsStopped (notation_of g) text.now stop) }
+        requires none { All (λ g. NoLiteral (notation_of g) text.now) self.now }
+        ensures { IsSomeAnd (slice_get self.now form) (λ g. IsRefusal (notation_of g) text.now result.refusal) }
+    {
+        let syntaxes = self.syntaxes();
+        let Err(error) = syntaxes[form].refuse::<()>(text, stop) else {
+            unreachable!()
+        };
+        error
     }
 }
 

@@ -7,8 +7,8 @@ ghost use Rattle.std.specs.Prelude.{◌≡◌, ◌<◌, ◌≤◌, ◌+◌, ◌-
 ghost use Rattle.lexical_util.specs.Record.{raw};
 ghost use Rattle.lexical_literal.specs.Notation.{Notation, radix_of};
 ghost use Rattle.lexical_literal.specs.Additions.Longest.{HasFound};
-ghost use Rattle.lexical_literal.specs.Additions.Plain.{IsAt, IsBegun, IsDecimal, IsDigitAt, IsOpened, IsOver, IsPassed, IsReadOn, IsReady, IsRefused, IsRunOn, IsSeparated, IsSign};
-ghost use Rattle.lexical_literal.specs.Additions.Plain.{behind_sign, counts_of, fresh, is_free, at_stage};
+ghost use Rattle.lexical_literal.specs.Additions.Plain.{IsAt, IsBegun, IsDecimal, IsDigitAt, IsOpened, IsOver, IsPassed, IsReadOn, IsReady, IsRefused};
+ghost use Rattle.lexical_literal.specs.Additions.Plain.{IsRunOn, IsSeparated, IsSign, behind_sign, counts_of, fresh, is_free, at_stage};
 ghost use Rattle.lexical_literal.specs.Additions.Sizes.{steps_of};
 ghost use Rattle.lexical_literal.specs.Additions.Read.{AreSums, IsMantissa, IsSummed, cut};
 ghost use Rattle.lexical_literal.specs.Additions.Summary.{Cuts, after_mark, after_point, awaits_integer, cuts_of, has_digit, is_bare, is_fresh};

@@ -9,10 +9,9 @@ ghost use Rattle.lexical_literal.specs.Run.{is_place};
 ghost use Rattle.lexical_util.specs.Layout.{separators_in};
 ghost use Rattle.lexical_literal.specs.Additions.Sizes.{steps_of};
 ghost use Rattle.lexical_literal.specs.declared.syntax.Condition.TheVariants as conditions;
-ghost use Rattle.lexical_literal.specs.Additions.Summary.{after_point, digits_of, part_of, role_at, piece_number, piece_of, has_digit, may_follow};
-ghost use Rattle.lexical_literal.specs.Additions.Summary.{admits, finishes, forbids_plus, gap_fits, awaits_integer, is_negative, is_signed, lacks_prefix};
-ghost use Rattle.lexical_literal.specs.Additions.Summary.{is_run, leads_to_prefix, needs_exponent};
-ghost use Rattle.lexical_literal.specs.Additions.Summary.{continues, ends, is_complete, move_by, step, takes, after};
+ghost use Rattle.lexical_literal.specs.Additions.Summary.{after_point, digits_of, part_of, role_at, piece_number, piece_of, has_digit, may_follow, admits};
+ghost use Rattle.lexical_literal.specs.Additions.Summary.{finishes, forbids_plus, gap_fits, awaits_integer, is_negative, is_signed, lacks_prefix, is_run};
+ghost use Rattle.lexical_literal.specs.Additions.Summary.{leads_to_prefix, needs_exponent, continues, ends, is_complete, move_by, step, takes, after};
 
 use crate::groups::has_size;
 use crate::syntax::{Condition, Conditions, Grammar};

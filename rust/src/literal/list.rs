@@ -86,17 +86,16 @@ impl<'a> SyntaxList<'a> {
     #[cold]
     const fn refuse(&self, text: &[u8], furthest: Option<(usize, At)>) -> FormError {
         let Some((first, stop)) = furthest else { unreachable!() };
-        let syntaxes = self.syntaxes();
-        let Err(error) = syntaxes[first].refuse::<()>(text, stop) else { unreachable!() };
+        let error = self.error_of(text, first, stop);
         if !error.is_byte() {
             return FormError { form: first, error };
         }
+        let syntaxes = self.syntaxes();
         let mut form = first + 1;
         while form < syntaxes.len() {
-            let syntax = &syntaxes[form];
-            let reached = syntax.walk(text, BEGIN, FIRST);
+            let reached = syntaxes[form].walk(text, BEGIN, FIRST);
             if reached.size == stop.size {
-                let Err(other) = syntax.refuse::<()>(text, reached) else { unreachable!() };
+                let other = self.error_of(text, form, reached);
                 if !other.is_byte() {
                     return FormError { form, error: other };
                 }
@@ -104,6 +103,14 @@ impl<'a> SyntaxList<'a> {
             form += 1;
         }
         FormError { form: first, error }
+    }
+
+    // Returns why `text` is not a literal of the form with the index `form`, which stops at `stop`.
+    #[inline(always)]
+    const fn error_of(&self, text: &[u8], form: usize, stop: At) -> ReadError {
+        let syntaxes = self.syntaxes();
+        let Err(error) = syntaxes[form].refuse::<()>(text, stop) else { unreachable!() };
+        error
     }
 }
 

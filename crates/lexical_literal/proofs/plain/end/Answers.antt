@@ -10,8 +10,7 @@ use Rattle.lexical_literal.proofs.JoinLemmas.{suffix_at}
 use Rattle.lexical_literal.proofs.PassedLemmas.{passed}
 use Rattle.lexical_literal.proofs.plain.end.Goals as goal
 use Rattle.lexical_literal.proofs.plain.end.Goals.{else-size-text-via-then-size-text+then-is_base_suffix+else-takes}
-use Rattle.lexical_literal.proofs.plain.end.Goals.{else-size-text-via-then-size-text+else-is_base_suffix}
-use Rattle.lexical_literal.proofs.plain.end.Goals.{else-size-text-via-else-size-text}
+use Rattle.lexical_literal.proofs.plain.end.Goals.{else-size-text-via-then-size-text+else-is_base_suffix, else-size-text-via-else-size-text}
 
 pub finished-requires-clause-at : goal.finished-requires-clause-at
 finished-requires-clause-at c =

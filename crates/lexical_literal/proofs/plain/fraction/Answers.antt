@@ -15,7 +15,8 @@ behind_mantissa-requires-clause-at c =
     let text = c.args.text.now in
     let run = c.digits-run.result in
     let from = c.args.integer.size + 1 in
-    fraction_at m text (record c.args.sizes { point = 1; places = run.digits - c.args.integer.digits }) from run.size (after_point (has_digit c.args.integer.stage)) run.stage c.requires.none.1 c.requires.at
+    fraction_at m text (record c.args.sizes { point = 1; places = run.digits - c.args.integer.digits }) from run.size
+    (after_point (has_digit c.args.integer.stage)) run.stage c.requires.none.1 c.requires.at
     (subst (λ stage. IsReadOn m text (at_stage from stage) pieces.Fraction (at_stage run.size run.stage)) c.after_point-stage.ensures
     c.digits-run.ensures.run.on)
 

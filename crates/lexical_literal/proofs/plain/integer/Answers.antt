@@ -14,7 +14,8 @@ fraction-requires-clause-at c =
     let text = c.args.text.now in
     let run = c.digits-run.result in
     let o = c.args.opening in
-    point_at m text c.requires.ready.roles (integer_sizes o.sign o.prefix (run.size - o.size)) run.size run.stage refl c.if-run-text.true (sym c.is_point.ensures ∙ c.if-is_point.true)
+    point_at m text c.requires.ready.roles (integer_sizes o.sign o.prefix (run.size - o.size)) run.size run.stage refl c.if-run-text.true
+    (sym c.is_point.ensures ∙ c.if-is_point.true)
     (subst (λ (at : At). takes m at.read false roles.Point ≡ true) c.at_stage-at.ensures (sym c.takes.ensures ∙ c.if-takes.true)) c.digits-run.ensures.free
     (integer_at m text o c.requires.opened run.size run.stage c.digits-run.ensures.run.on)
 

@@ -17,5 +17,6 @@ returns-then-is_free c =
 pub returns-else-is_free : goal.returns-else-is_free
 returns-else-is_free c =
     let m = notation_of c.args.self.grammar in
-    let allowed = sym c.if-is_free.false ∙ c.is_free.ensures ∙ ap (λ byte. goes (bare m) c.args.self.read c.args.self.group (Some byte)) c.other_case-other.ensures in
+    let allowed = sym c.if-is_free.false ∙ c.is_free.ensures ∙ ap (λ byte. goes (bare m) c.args.self.read c.args.self.group (Some byte))
+    c.other_case-other.ensures in
     sym no_mask ∙ (λ j. mask_of (λ f. allowed j && case_set f m (other_case c.args.byte)))

@@ -15,7 +15,8 @@ last d i n u end = grind (arith, nat_tests)
 
 pub returns : goal.returns
 returns c =
-    is_kept (unmet (notation_of c.args.self.grammar) c.args.self.read c.args.self.group c.args.self.byte) (number_of c.args.self.grammar.conditions) c.loop-index.unmet
+    is_kept (unmet (notation_of c.args.self.grammar) c.args.self.read c.args.self.group c.args.self.byte) (number_of c.args.self.grammar.conditions)
+    c.loop-index.unmet
     c.loop-index.invariant.all (λ d. c.loop-index.invariant.each d ∙ last d c.loop-index.index _ _ c.loop-index-test.false)
 
 pub loop-index-preserved : goal.loop-index-preserved

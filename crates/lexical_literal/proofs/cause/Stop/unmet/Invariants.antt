@@ -8,7 +8,8 @@ abbrev pub invariant-loop-index : goal.invariant-loop-index
 invariant-loop-index l = record {
   all : length l.unmet.numbers ≡ length all_conditions;
   each : (d : Condition) → number_of l.unmet d
-      ≡ (if nat_lt (order d) l.index && unmet (notation_of l.self.grammar) l.self.read l.self.group l.self.byte d then number_of l.self.grammar.conditions d else 0);
+      ≡ (if nat_lt (order d) l.index && unmet (notation_of l.self.grammar) l.self.read l.self.group l.self.byte d then number_of l.self.grammar.conditions d
+      else 0);
 }
 
 abbrev pub decreases-loop-index : goal.decreases-loop-index

@@ -1,101 +1,69 @@
 -- The form that goes furthest has the error, or another that goes as far.
-use Rattle.std.proofs.Common.{All, refl, sym, ap, subst, ◌∙◌, arith}
+use Rattle.std.proofs.Common.{All, IsSomeAnd, length, slice_get, refl, sym, ap, subst, arith}
 use Rattle.std.proofs.lemmas.List.{take_all}
-use Rattle.std.proofs.lemmas.List.Elements.{All-more}
-use Rattle.std.proofs.lemmas.Option.{slice_get-get_or, slice_get_within}
-use Rattle.std.specs.Prelude.{Some}
-use Rattle.lexical_literal.specs.Forms.{IsFormError}
-use Rattle.lexical_literal.specs.Front.{IsValidUpTo, NoLiteral}
+use Rattle.lexical_literal.specs.Additions.Forms.{GoesTo, IsFurthestForm}
+use Rattle.lexical_literal.specs.Additions.Longest.{IsStopped}
 use Rattle.lexical_literal.specs.Notation.{notation_of}
-use Rattle.lexical_literal.proofs.FormLemmas.{IsNoBetter, all_at, at_byte, elsewhere, first_error, furthest_at, none_before, other_error}
+use Rattle.lexical_literal.proofs.FormLemmas.{IsNoBetter, at_index, elsewhere, first_error, inside_at, none_before, other_error, wrong_byte}
 use Rattle.lexical_literal.proofs.list.SyntaxList.refuse.Goals as goal
-use Rattle.lexical_literal.proofs.list.SyntaxList.refuse.Goals.{then-reached-stop+in-Err-refuse+else-not-is_byte-2, else-reached-stop}
-
-pub refuse-requires-clause-stopped : goal.refuse-requires-clause-stopped
-refuse-requires-clause-stopped c =
-    (furthest_at c.args.self.now c.syntaxes-syntaxes.result.now c.args.text.now c.args.furthest c.in-Some.first c.in-Some.stop
-    c.syntaxes-syntaxes.ensures.list c.in-Some.is c.requires.furthest c.index-syntaxes-first.result c.index-syntaxes-first.is).2
-
-pub refuse-requires-clause-refused : goal.refuse-requires-clause-refused
-refuse-requires-clause-refused c =
-    let a = furthest_at c.args.self.now c.syntaxes-syntaxes.result.now c.args.text.now c.args.furthest c.in-Some.first c.in-Some.stop
-    c.syntaxes-syntaxes.ensures.list c.in-Some.is c.requires.furthest c.index-syntaxes-first.result c.index-syntaxes-first.is in
-    let none = subst (All (λ g. NoLiteral (notation_of g) c.args.text.now)) (sym c.syntaxes-syntaxes.ensures.list) c.requires.none in
-    all_at (λ g. NoLiteral (notation_of g) c.args.text.now) c.syntaxes-syntaxes.result.now c.in-Some.first c.index-syntaxes-first.result a.1 none
+use Rattle.lexical_literal.proofs.list.SyntaxList.refuse.Goals.{then-reached-stop+else-not-is_byte-2, else-reached-stop}
 
 pub returns-then-not-is_byte : goal.returns-then-not-is_byte
 returns-then-not-is_byte c =
-    let forms = c.syntaxes-syntaxes.result.now in
-    let g = c.index-syntaxes-first.result in
-    let a = furthest_at c.args.self.now forms c.args.text.now c.args.furthest c.in-Some.first c.in-Some.stop
-    c.syntaxes-syntaxes.ensures.list c.in-Some.is c.requires.furthest g c.index-syntaxes-first.is in
-    subst (λ l. IsFormError l c.args.text.now (record { form = c.in-Some.first; error = c.in-Err.error })) c.syntaxes-syntaxes.ensures.list
-    (other_error forms c.args.text.now c.in-Some.first c.in-Some.stop.size a.0 c.in-Some.first g c.in-Err.error a.1 c.in-Err.ensures a.2.valid
-    (sym c.if-not-is_byte.ensures) (none_before forms c.args.text.now c.in-Some.first c.in-Some.stop.size a.0))
-
-pub overflow_add-form : goal.overflow_add-form
-overflow_add-form c =
-    let a = furthest_at c.args.self.now c.syntaxes-syntaxes.result.now c.args.text.now c.args.furthest c.in-Some.first c.in-Some.stop
-    c.syntaxes-syntaxes.ensures.list c.in-Some.is c.requires.furthest c.index-syntaxes-first.result c.index-syntaxes-first.is in
-    omega (arith, slice_get_within c.syntaxes-syntaxes.result.now c.in-Some.first c.index-syntaxes-first.result a.1, c.syntaxes-syntaxes.type_inv)
+    let a = subst (IsFurthestForm c.args.self.now c.args.text.now) c.in-Some.is c.requires.furthest in
+    other_error c.args.self.now c.args.text.now c.in-Some.first c.in-Some.stop.size a.0 c.in-Some.first c.error_of-error.result c.error_of-error.ensures
+    a.0.here (sym c.if-not-is_byte.ensures) (none_before c.args.self.now c.args.text.now c.in-Some.first c.in-Some.stop.size a.0)
 
 pub loop-form-init : goal.loop-form-init
 loop-form-init c =
-    let forms = c.syntaxes-syntaxes.result.now in
-    let a = furthest_at c.args.self.now forms c.args.text.now c.args.furthest c.in-Some.first c.in-Some.stop
-    c.syntaxes-syntaxes.ensures.list c.in-Some.is c.requires.furthest c.index-syntaxes-first.result c.index-syntaxes-first.is in
-    let P = IsNoBetter forms c.args.text.now c.in-Some.first c.in-Some.stop.size a.0 in
-    All-more P forms c.in-Some.first c.index-syntaxes-first.result (slice_get_within forms c.in-Some.first c.index-syntaxes-first.result a.1)
-    (none_before forms c.args.text.now c.in-Some.first c.in-Some.stop.size a.0)
-    (subst P c.index-syntaxes-first.is (at_byte forms c.args.text.now c.in-Some.first c.in-Some.stop.size a.0 c.index-syntaxes-first.result
-    c.in-Err.error.refusal c.in-Err.ensures a.2.valid (sym c.if-not-is_byte.ensures)))
+    let a = subst (IsFurthestForm c.args.self.now c.args.text.now) c.in-Some.is c.requires.furthest in
+    wrong_byte c.args.self.now c.args.text.now c.in-Some.first c.in-Some.stop.size a.0 c.in-Some.first c.error_of-error.result.refusal
+    c.error_of-error.ensures a.0.here (sym c.if-not-is_byte.ensures) (none_before c.args.self.now c.args.text.now c.in-Some.first c.in-Some.stop.size a.0)
 
-pub refuse-requires-then-reached-stop-clause-refused : goal.refuse-requires-then-reached-stop-clause-refused
-refuse-requires-then-reached-stop-clause-refused c =
-    let forms = c.syntaxes-syntaxes.result.now in
-    let g = c.index-syntaxes-form.result in
-    let at = slice_get-get_or forms c.loop-form.form g c.loop-form-test.true ∙ ap Some (sym c.index-syntaxes-form.is) in
-    let none = subst (All (λ g. NoLiteral (notation_of g) c.args.text.now)) (sym c.syntaxes-syntaxes.ensures.list) c.requires.none in
-    all_at (λ g. NoLiteral (notation_of g) c.args.text.now) forms c.loop-form.form g at none
+pub overflow_add-form : goal.overflow_add-form
+overflow_add-form c =
+    let a = subst (IsFurthestForm c.args.self.now c.args.text.now) c.in-Some.is c.requires.furthest in
+    omega (
+      arith,
+      inside_at (λ g. IsStopped (notation_of g) c.args.text.now c.in-Some.stop) c.args.self.now c.in-Some.first a.1,
+      ap length c.syntaxes-syntaxes.ensures.list,
+      c.syntaxes-syntaxes.type_inv,
+    )
 
-pub returns-then-not-is_byte-2 : goal.returns-then-not-is_byte-2
-returns-then-not-is_byte-2 c =
-    let forms = c.syntaxes-syntaxes.result.now in
-    let g = c.index-syntaxes-form.result in
-    let a = furthest_at c.args.self.now forms c.args.text.now c.args.furthest c.in-Some.first c.in-Some.stop
-    c.syntaxes-syntaxes.ensures.list c.in-Some.is c.requires.furthest c.index-syntaxes-first.result c.index-syntaxes-first.is in
-    let at = slice_get-get_or forms c.loop-form.form g c.loop-form-test.true ∙ ap Some (sym c.index-syntaxes-form.is) in
-    subst (λ l. IsFormError l c.args.text.now (record { form = c.loop-form.form; error = c.in-Err-refuse.other })) c.syntaxes-syntaxes.ensures.list
-    (other_error forms c.args.text.now c.in-Some.first c.in-Some.stop.size a.0 c.loop-form.form g c.in-Err-refuse.other at c.in-Err-refuse.ensures
-    (subst (IsValidUpTo (notation_of g) c.args.text.now) c.if-reached-stop.true c.walk-reached.ensures.valid) (sym c.if-not-is_byte-2.ensures)
-    c.loop-form.invariant)
+pub error_of-other-requires-clause-stopped : goal.error_of-other-requires-clause-stopped
+error_of-other-requires-clause-stopped c =
+    at_index (λ g. IsStopped (notation_of g) c.args.text.now c.walk-reached.result) c.args.self.now c.syntaxes-syntaxes.result.now
+    c.index-syntaxes-form.result c.loop-form.form c.syntaxes-syntaxes.ensures.list c.index-syntaxes-form.is c.loop-form-test.true c.walk-reached.ensures
 
 pub loop-form-preserved : goal.loop-form-preserved
 loop-form-preserved c =
-    let forms = c.syntaxes-syntaxes.result.now in
-    let text = c.args.text.now in
-    let g = c.index-syntaxes-form.result in
-    let a = furthest_at c.args.self.now forms text c.args.furthest c.in-Some.first c.in-Some.stop
-    c.syntaxes-syntaxes.ensures.list c.in-Some.is c.requires.furthest c.index-syntaxes-first.result c.index-syntaxes-first.is in
-    let P = IsNoBetter forms text c.in-Some.first c.in-Some.stop.size a.0 in
-    let at = slice_get-get_or forms c.loop-form.form g c.loop-form-test.true ∙ ap Some (sym c.index-syntaxes-form.is) in
-    All-more P forms c.loop-form.form g c.loop-form-test.true c.loop-form.invariant (subst P c.index-syntaxes-form.is
-    (elim c.if-reached-stop.branch [
-      | then-reached-stop+in-Err-refuse+else-not-is_byte-2 w ↦
-          at_byte forms text c.in-Some.first c.in-Some.stop.size a.0 g w.in-Err-refuse.other.refusal w.in-Err-refuse.ensures
-          (subst (IsValidUpTo (notation_of g) text) w.if-reached-stop.true c.walk-reached.ensures.valid) (sym w.if-not-is_byte-2.ensures)
-      | else-reached-stop w ↦ elsewhere forms text c.in-Some.first c.in-Some.stop.size a.0 c.loop-form.form g c.walk-reached.result.size at
-          c.walk-reached.ensures.valid w.if-reached-stop.false
-    ]))
+    let a = subst (IsFurthestForm c.args.self.now c.args.text.now) c.in-Some.is c.requires.furthest in
+    let goes = at_index (λ g. GoesTo c.args.text.now g c.walk-reached.result.size) c.args.self.now c.syntaxes-syntaxes.result.now
+    c.index-syntaxes-form.result c.loop-form.form c.syntaxes-syntaxes.ensures.list c.index-syntaxes-form.is c.loop-form-test.true
+    c.walk-reached.ensures.valid in
+    elim c.if-reached-stop.branch [
+      | then-reached-stop+else-not-is_byte-2 w ↦
+          wrong_byte c.args.self.now c.args.text.now c.in-Some.first c.in-Some.stop.size a.0 c.loop-form.form w.error_of-other.result.refusal
+          w.error_of-other.ensures (subst (λ n. IsSomeAnd (slice_get c.args.self.now c.loop-form.form) (λ g. GoesTo c.args.text.now g n))
+          w.if-reached-stop.true goes) (sym w.if-not-is_byte-2.ensures) c.loop-form.invariant
+      | else-reached-stop w ↦ elsewhere c.args.self.now c.args.text.now c.in-Some.first c.in-Some.stop.size a.0 c.loop-form.form
+          c.walk-reached.result.size goes w.if-reached-stop.false c.loop-form.invariant
+    ]
+
+pub returns-then-not-is_byte-2 : goal.returns-then-not-is_byte-2
+returns-then-not-is_byte-2 c =
+    let a = subst (IsFurthestForm c.args.self.now c.args.text.now) c.in-Some.is c.requires.furthest in
+    let goes = at_index (λ g. GoesTo c.args.text.now g c.walk-reached.result.size) c.args.self.now c.syntaxes-syntaxes.result.now
+    c.index-syntaxes-form.result c.loop-form.form c.syntaxes-syntaxes.ensures.list c.index-syntaxes-form.is c.loop-form-test.true
+    c.walk-reached.ensures.valid in
+    other_error c.args.self.now c.args.text.now c.in-Some.first c.in-Some.stop.size a.0 c.loop-form.form c.error_of-other.result c.error_of-other.ensures
+    (subst (λ n. IsSomeAnd (slice_get c.args.self.now c.loop-form.form) (λ g. GoesTo c.args.text.now g n)) c.if-reached-stop.true goes)
+    (sym c.if-not-is_byte-2.ensures) c.loop-form.invariant
 
 pub returns : goal.returns
 returns c =
-    let forms = c.syntaxes-syntaxes.result.now in
-    let text = c.args.text.now in
-    let g = c.index-syntaxes-first.result in
-    let a = furthest_at c.args.self.now forms text c.args.furthest c.in-Some.first c.in-Some.stop
-    c.syntaxes-syntaxes.ensures.list c.in-Some.is c.requires.furthest g c.index-syntaxes-first.is in
-    let P = IsNoBetter forms text c.in-Some.first c.in-Some.stop.size a.0 in
-    subst (λ l. IsFormError l text (record { form = c.in-Some.first; error = c.in-Err.error })) c.syntaxes-syntaxes.ensures.list
-    (first_error forms text c.in-Some.first c.in-Some.stop.size a.0 c.in-Some.first g c.in-Err.error a.1 c.in-Err.ensures a.2.valid refl
-    (sym c.if-not-is_byte.ensures) (subst (All P) (take_all c.loop-form.form forms c.loop-form-test.false) c.loop-form.invariant))
+    let a = subst (IsFurthestForm c.args.self.now c.args.text.now) c.in-Some.is c.requires.furthest in
+    first_error c.args.self.now c.args.text.now c.in-Some.first c.in-Some.stop.size a.0 c.in-Some.first c.error_of-error.result c.error_of-error.ensures
+    a.0.here refl (sym c.if-not-is_byte.ensures)
+    (subst (All (IsNoBetter c.args.self.now c.args.text.now c.in-Some.first c.in-Some.stop.size a.0))
+    (take_all c.loop-form.form c.args.self.now (rw (← c.syntaxes-syntaxes.ensures.list) c.loop-form-test.false)) c.loop-form.invariant)

@@ -12,7 +12,8 @@ loop-role-init c = first_counted _ c.grammar-grammar.ensures.ready c.grammar-gra
 
 pub loop-role-preserved-then-ends : goal.loop-role-preserved-then-ends
 loop-role-preserved-then-ends c =
-    more_counted _ c.grammar-grammar.ensures.ready c.grammar-grammar.ensures.sizes _ _ _ _ _ _ _ c.loop-role.invariant _ c.in-Some.ensures.next c.count_byte-more.result
+    more_counted _ c.grammar-grammar.ensures.ready c.grammar-grammar.ensures.sizes _ _ _ _ _ _ _ c.loop-role.invariant _ c.in-Some.ensures.next
+    c.count_byte-more.result
     c.count_byte-more.ensures.nine
     (c.count_byte-more.ensures.counted ∙ ap (λ part. count part (Some c.in-Some.role) (cuts_of c.loop-role.counts)) c.part_of.ensures)
     (c.count_byte-more.ensures.small _ (omega arith) c.loop-role.invariant.small) true (sym c.if-ends.true ∙ c.ends.ensures
@@ -20,7 +21,8 @@ loop-role-preserved-then-ends c =
 
 pub loop-role-preserved : goal.loop-role-preserved
 loop-role-preserved c =
-    more_counted _ c.grammar-grammar.ensures.ready c.grammar-grammar.ensures.sizes _ _ _ _ _ _ _ c.loop-role.invariant _ c.in-Some.ensures.next c.count_byte-more.result
+    more_counted _ c.grammar-grammar.ensures.ready c.grammar-grammar.ensures.sizes _ _ _ _ _ _ _ c.loop-role.invariant _ c.in-Some.ensures.next
+    c.count_byte-more.result
     c.count_byte-more.ensures.nine
     (c.count_byte-more.ensures.counted ∙ ap (λ part. count part (Some c.in-Some.role) (cuts_of c.loop-role.counts)) c.part_of.ensures)
     (c.count_byte-more.ensures.small _ (omega arith) c.loop-role.invariant.small) false (sym c.if-ends.false ∙ c.ends.ensures

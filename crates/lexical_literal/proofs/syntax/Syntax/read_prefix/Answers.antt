@@ -1,20 +1,9 @@
 -- A text of which no front is a literal is none.
-use Rattle.std.proofs.Common.{ℕ, List, Result, Ok, Err, IsErrAnd, ap, is_some}
+use Rattle.std.proofs.Common.{ap, is_some}
 use Rattle.std.proofs.lemmas.Bool.{false≢true}
-use Rattle.lexical_literal.specs.Cause.{Explained, IsRefusal}
-use Rattle.lexical_literal.specs.Front.{NoFront}
-use Rattle.lexical_literal.specs.Notation.{notation_of}
-use Rattle.lexical_literal.specs.Parts.{IsReadPrefix}
-use Rattle.lexical_literal.specs.declared.number.Front.{Front}
-use Rattle.lexical_literal.specs.declared.syntax.Grammar.{Grammar}
 use Rattle.lexical_literal.proofs.FormLemmas.{none_whole}
 use Rattle.lexical_literal.proofs.PieceLemmas.{front_cut, front_read}
 use Rattle.lexical_literal.proofs.syntax.Syntax.read_prefix.Goals as goal
-
-refused : (g : Grammar) (text : List ℕ) (r : Result Front Explained) → NoFront (notation_of g) text
-    → IsErrAnd r (λ error. IsRefusal (notation_of g) text error.refusal) → IsReadPrefix g text r
-refused g text (Ok _) none is = absurd is
-refused g text (Err error) none is = record { found = tt; none = λ _. none; error = is }
 
 pub refuse-requires-clause-refused : goal.refuse-requires-clause-refused
 refuse-requires-clause-refused c = none_whole _ _ (c.front-found.ensures.none (ap is_some c.in-None.is))
