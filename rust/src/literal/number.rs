@@ -46,6 +46,19 @@ impl Syntax {
         }
     }
 
+    /// Returns what `then` makes of what [`read`][Self::read] returns. A decimal literal need not be in memory for it.
+    #[doc(hidden)]
+    #[inline(always)]
+    pub fn read_then<'t, R>(&self, text: &'t [u8], then: impl FnOnce(Result<Literal<'t>, ReadError>) -> R) -> R {
+        if self.is_decimal() {
+            let counted = self.begin(true, text, false);
+            if self.is_whole(text, counted) {
+                return then(Ok(self.literal(text, counted.counts, counted.sums)));
+            }
+        }
+        then(self.read_generally(text))
+    }
+
     // Returns the same for any syntax.
     #[inline(never)]
     pub(crate) const fn read_generally<'t>(&self, text: &'t [u8]) -> Result<Literal<'t>, ReadError> {
