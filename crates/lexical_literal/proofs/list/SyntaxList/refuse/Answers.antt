@@ -1,9 +1,7 @@
 -- The form that goes furthest has the error, or another that goes as far.
-use Rattle.std.proofs.Common.{All, IsSomeAnd, length, slice_get, refl, sym, ap, subst, arith}
+use Rattle.std.proofs.Common.{All, IsSomeAnd, slice_get, refl, sym, subst, arith}
 use Rattle.std.proofs.lemmas.List.{take_all}
 use Rattle.lexical_literal.specs.Additions.Forms.{GoesTo, IsFurthestForm}
-use Rattle.lexical_literal.specs.Additions.Longest.{IsStopped}
-use Rattle.lexical_literal.specs.Notation.{notation_of}
 use Rattle.lexical_literal.proofs.FormLemmas.{IsNoBetter, at_index, elsewhere, first_error, inside_at, none_before, other_error, wrong_byte}
 use Rattle.lexical_literal.proofs.list.SyntaxList.refuse.Goals as goal
 use Rattle.lexical_literal.proofs.list.SyntaxList.refuse.Goals.{then-reached-stop+else-not-is_byte-2, else-reached-stop}
@@ -21,19 +19,10 @@ loop-form-init c =
     c.error_of-error.ensures a.0.here (sym c.if-not-is_byte.ensures) (none_before c.args.self.now c.args.text.now c.in-Some.first c.in-Some.stop.size a.0)
 
 pub overflow_add-form : goal.overflow_add-form
-overflow_add-form c =
-    let a = subst (IsFurthestForm c.args.self.now c.args.text.now) c.in-Some.is c.requires.furthest in
-    omega (
-      arith,
-      inside_at (λ g. IsStopped (notation_of g) c.args.text.now c.in-Some.stop) c.args.self.now c.in-Some.first a.1,
-      ap length c.syntaxes-syntaxes.ensures.list,
-      c.syntaxes-syntaxes.type_inv,
-    )
+overflow_add-form c = grind (arith, inside_at)
 
 pub error_of-other-requires-clause-stopped : goal.error_of-other-requires-clause-stopped
-error_of-other-requires-clause-stopped c =
-    at_index (λ g. IsStopped (notation_of g) c.args.text.now c.walk-reached.result) c.args.self.now c.syntaxes-syntaxes.result.now
-    c.index-syntaxes-form.result c.loop-form.form c.syntaxes-syntaxes.ensures.list c.index-syntaxes-form.is c.loop-form-test.true c.walk-reached.ensures
+error_of-other-requires-clause-stopped c = grind (arith, at_index)
 
 pub loop-form-preserved : goal.loop-form-preserved
 loop-form-preserved c =
