@@ -6,7 +6,7 @@ use Rattle.lexical_util.specs.declared.format_flags.Part.{Part}
 use Rattle.lexical_literal.specs.Additions.Plain.{IsReady, HasRoles}
 use Rattle.lexical_literal.specs.Notation.{Notation}
 use Rattle.lexical_literal.specs.Run.{is_place, is_fit, are_fit}
-use Rattle.lexical_literal.specs.Literal.{Literal, IsLiteral, IsSpelled, condition}
+use Rattle.lexical_literal.specs.Literal.{Literal, IsLiteral, IsSpelled}
 use Rattle.lexical_literal.specs.Front.{IsFront}
 use Rattle.lexical_literal.specs.Cause.{is_one_of, requirement_flags, number_separator_flags, with_rules}
 use Rattle.lexical_literal.specs.Additions.Causes.{IsWeaker}

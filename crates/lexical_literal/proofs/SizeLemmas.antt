@@ -11,7 +11,7 @@ use Rattle.lexical_util.specs.declared.format_flags.Part.{Part}
 use Rattle.lexical_util.specs.declared.format_flags.Part.TheVariants as parts
 use Rattle.lexical_literal.specs.Cause.{is_one_of, requirement_flags}
 use Rattle.lexical_literal.specs.Groups.{has_size, has_sizes, is_grouped}
-use Rattle.lexical_literal.specs.Literal.{Literal, IsSpelled, Reads, condition, is_absent, is_none_or_one, is_none_or_prefix, text_of}
+use Rattle.lexical_literal.specs.Literal.{Literal, IsSpelled, Reads, is_absent, is_none_or_one, is_none_or_prefix, text_of}
 use Rattle.lexical_literal.specs.Notation.{Notation}
 use Rattle.lexical_literal.specs.Readings.{AllIn, run_byte}
 use Rattle.lexical_literal.specs.Run.{is_run}

@@ -118,7 +118,7 @@ impl<'a> SyntaxList<'a> {
         let Some((first, stop)) = furthest else {
             unreachable!()
         };
-        let error = self.error_of(text, first, stop);
+        let error = self.error_at(text, first, stop);
         if !error.is_byte() {
             return FormError { form: first, error };
         }
@@ -127,7 +127,7 @@ impl<'a> SyntaxList<'a> {
         while form < syntaxes.len() {
             let reached = syntaxes[form].walk(text, BEGIN, FIRST);
             if reached.size == stop.size {
-                let other = self.error_of(text, form, reached);
+                let other = self.error_at(text, form, reached);
                 if !other.is_byte() {
                     return FormError { form, error: other };
                 }
@@ -139,7 +139,7 @@ impl<'a> SyntaxList<'a> {
 
     // Returns why `text` is not a literal of the form with the index `form`, which stops at `stop`.
     #[inline(always)]
-    fn error_of(&self, text: &[u8], form: usize, stop: At) -> ReadError
+    fn error_at(&self, text: &[u8], form: usize, stop: At) -> ReadError
         requires inside { form < length self.now }
         requires stopped { IsSomeAnd (slice_get self.now form) (λ g. IsStopped (notation_of g) text.now stop) }
         requires none { All (λ g. NoLiteral (notation_of g) text.now) self.now }

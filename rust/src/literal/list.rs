@@ -86,7 +86,7 @@ impl<'a> SyntaxList<'a> {
     #[cold]
     const fn refuse(&self, text: &[u8], furthest: Option<(usize, At)>) -> FormError {
         let Some((first, stop)) = furthest else { unreachable!() };
-        let error = self.error_of(text, first, stop);
+        let error = self.error_at(text, first, stop);
         if !error.is_byte() {
             return FormError { form: first, error };
         }
@@ -95,7 +95,7 @@ impl<'a> SyntaxList<'a> {
         while form < syntaxes.len() {
             let reached = syntaxes[form].walk(text, BEGIN, FIRST);
             if reached.size == stop.size {
-                let other = self.error_of(text, form, reached);
+                let other = self.error_at(text, form, reached);
                 if !other.is_byte() {
                     return FormError { form, error: other };
                 }
@@ -107,7 +107,7 @@ impl<'a> SyntaxList<'a> {
 
     // Returns why `text` is not a literal of the form with the index `form`, which stops at `stop`.
     #[inline(always)]
-    const fn error_of(&self, text: &[u8], form: usize, stop: At) -> ReadError {
+    const fn error_at(&self, text: &[u8], form: usize, stop: At) -> ReadError {
         let syntaxes = self.syntaxes();
         let Err(error) = syntaxes[form].refuse::<()>(text, stop) else { unreachable!() };
         error

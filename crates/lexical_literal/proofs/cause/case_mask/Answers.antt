@@ -1,12 +1,11 @@
 -- Each flag of the mask is that of a role.
-use Rattle.std.proofs.Common.{ℕ, ◌≡◌, ◌^◌, Bool, true, false, if◌then◌else◌, bit_or, refl, ap, ◌∙◌}
+use Rattle.std.proofs.Common.{arith, ℕ, ◌≡◌, ◌^◌, Bool, true, false, if◌then◌else◌, bit_or, refl}
 use Rattle.lexical_util.specs.Layout as layout
 use Rattle.lexical_util.specs.Layout.{Flag}
-use Rattle.lexical_util.specs.Record.{raw, word_of}
-use Rattle.lexical_util.specs.Roles as sets
+use Rattle.lexical_util.specs.Record.{word_of}
 use Rattle.lexical_literal.specs.Additions.Explained.{mask_of}
 use Rattle.lexical_literal.specs.Cause.{case_set}
-use Rattle.lexical_literal.specs.Notation.{Notation, notation_of}
+use Rattle.lexical_literal.specs.Notation.{Notation}
 use Rattle.lexical_literal.proofs.CauseLemmas.{same_mask}
 use Rattle.lexical_literal.proofs.cause.case_mask.Goals as goal
 
@@ -32,12 +31,4 @@ each m byte layout.required_integer_digits = refl
 each m byte _ = refl
 
 pub returns : goal.returns
-returns c =
-    let m = notation_of c.args.grammar in
-    let exponent = c.flag_if.ensures ∙ ap (λ t. if t then 2 ^ 15 else 0) c.is_exponent_character.ensures in
-    let prefix = c.flag_if-2.ensures
-    ∙ ap (λ t. if t then 2 ^ 16 else 0) (c.is_base_prefix.ensures ∙ ap (λ w. sets.prefix (raw w) c.args.byte) c.view.ensures) in
-    let suffix = c.flag_if-3.ensures
-    ∙ ap (λ t. if t then 2 ^ 17 else 0) (c.is_base_suffix.ensures ∙ ap (λ w. sets.suffix (raw w) c.args.byte) c.view-2.ensures) in
-    (λ j. bit_or (bit_or (exponent j) (prefix j)) (suffix j)) ∙ three (m.exponent_character c.args.byte) (m.prefix c.args.byte) (m.suffix c.args.byte)
-    ∙ same_mask _ _ (each m c.args.byte)
+returns c = grind (arith, three, same_mask, each)

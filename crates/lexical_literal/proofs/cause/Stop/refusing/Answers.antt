@@ -1,5 +1,5 @@
 -- One flag is asked after the other.
-use Rattle.std.proofs.Common.{ℕ, ◌≡◌, bit_and, ◌<◌, ◌+◌, ◌==◌, ◌&&◌, Bool, nat_lt, if◌then◌else◌, not, true, false, sym, ap, ◌∙◌, arith}
+use Rattle.std.proofs.Common.{ℕ, ◌≡◌, bit_and, ◌+◌, ◌==◌, ◌&&◌, Bool, nat_lt, if◌then◌else◌, not, true, false, sym, ap, ◌∙◌, arith}
 use Rattle.std.proofs.lemmas.Bool.Decides.{nat_tests}
 use Rattle.std.proofs.lemmas.Nat.{one_shl}
 use Rattle.lexical_util.specs.Layout.{bit, part}
@@ -30,6 +30,4 @@ loop-number-preserved c f =
     ])
 
 pub returns : goal.returns
-returns c = masked c.loop-number.mask _ (λ f. c.loop-number.invariant f ∙ last _ _ (bit f) c.loop-number.number (omega (arith, bit_below f))) where
-  last : (l p : Bool) (i k : ℕ) → i < k → (l && (if nat_lt i k then p else true)) ≡ (l && p)
-  last l p i k below = grind (arith, nat_tests)
+returns c = grind (arith, masked, bit_below, nat_tests)

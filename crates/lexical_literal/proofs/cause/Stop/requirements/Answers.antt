@@ -1,5 +1,5 @@
 -- Flags that refuse alone, or those on leading zeros.
-use Rattle.std.proofs.Common.{ℕ, ◌≡◌, ◌==◌, ◌&&◌, Bool, true, false, not, if◌then◌else◌, sym, ap, ◌∙◌, arith}
+use Rattle.std.proofs.Common.{ℕ, ◌≡◌, ◌==◌, ◌&&◌, Bool, true, false, not, if◌then◌else◌, ap, ◌∙◌, arith}
 use Rattle.std.proofs.lemmas.Bool.Decides.{nat_tests}
 use Rattle.std.specs.List.{list_any}
 use Rattle.lexical_literal.specs.Notation.{all_conditions, has, kept, notation_of, number_of}
@@ -10,7 +10,6 @@ use Rattle.lexical_literal.specs.declared.cause.Stop.{Stop}
 use Rattle.lexical_literal.specs.declared.syntax.Conditions.{Conditions}
 use Rattle.lexical_literal.proofs.NumberLemmas.{has_kept}
 use Rattle.lexical_literal.proofs.cause.Stop.requirements.Goals as goal
-use Rattle.lexical_literal.proofs.cause.Stop.requirements.Goals.{else-alone-eq0-via-then-alone-eq0+else-is_none, else-alone-eq0-via-else-alone-eq0}
 
 -- No condition is to blame if none is kept.
 none_is : (t : Stop) (k : Conditions) (is : Bool) → let m = notation_of t.grammar in k ≡ kept (unmet m t.read t.group t.byte) (number_of t.grammar.conditions)
@@ -27,13 +26,7 @@ some_alone : (a z : ℕ) (n : Bool) → ((a == 0) && n) ≡ false → a ≡ (if 
 some_alone a z n some = grind (arith, nat_tests)
 
 pub returns-then-is_none : goal.returns-then-is_none
-returns-then-is_none c = c.zeros.ensures ∙ none_alone _ _ _ (sym c.alone-alone.ensures ∙ c.if-alone-eq0.true)
-    (sym (none_is c.args.self _ _ c.unmet.ensures c.is_none.ensures) ∙ c.if-is_none.true)
+returns-then-is_none c = grind (arith, none_alone, none_is)
 
 pub returns-else-alone-eq0 : goal.returns-else-alone-eq0
-returns-else-alone-eq0 c = c.alone-alone.ensures ∙ some_alone _ _ _ (elim c.else-alone-eq0.branch [
-  | else-alone-eq0-via-then-alone-eq0+else-is_none w ↦
-      let none = sym (none_is c.args.self _ _ w.unmet.ensures w.is_none.ensures) ∙ w.if-is_none.false in grind arith
-  | else-alone-eq0-via-else-alone-eq0 w ↦
-      let some = w.if-alone-eq0.false in let is = c.alone-alone.ensures in grind (arith, nat_tests)
-])
+returns-else-alone-eq0 c = grind (arith, some_alone, none_is, nat_tests)

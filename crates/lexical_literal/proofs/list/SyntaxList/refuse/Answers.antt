@@ -1,9 +1,7 @@
 -- The form that goes furthest has the error, or another that goes as far.
-use Rattle.std.proofs.Common.{All, IsSomeAnd, length, slice_get, refl, sym, ap, subst, arith}
+use Rattle.std.proofs.Common.{All, IsSomeAnd, slice_get, refl, sym, subst, arith}
 use Rattle.std.proofs.lemmas.List.{take_all}
 use Rattle.lexical_literal.specs.Additions.Forms.{GoesTo, IsFurthestForm}
-use Rattle.lexical_literal.specs.Additions.Longest.{IsStopped}
-use Rattle.lexical_literal.specs.Notation.{notation_of}
 use Rattle.lexical_literal.proofs.FormLemmas.{IsNoBetter, at_index, elsewhere, first_error, inside_at, none_before, other_error, wrong_byte}
 use Rattle.lexical_literal.proofs.list.SyntaxList.refuse.Goals as goal
 use Rattle.lexical_literal.proofs.list.SyntaxList.refuse.Goals.{then-reached-stop+else-not-is_byte-2, else-reached-stop}
@@ -11,29 +9,20 @@ use Rattle.lexical_literal.proofs.list.SyntaxList.refuse.Goals.{then-reached-sto
 pub returns-then-not-is_byte : goal.returns-then-not-is_byte
 returns-then-not-is_byte c =
     let a = subst (IsFurthestForm c.args.self.now c.args.text.now) c.in-Some.is c.requires.furthest in
-    other_error c.args.self.now c.args.text.now c.in-Some.first c.in-Some.stop.size a.0 c.in-Some.first c.error_of-error.result c.error_of-error.ensures
+    other_error c.args.self.now c.args.text.now c.in-Some.first c.in-Some.stop.size a.0 c.in-Some.first c.error_at-error.result c.error_at-error.ensures
     a.0.here (sym c.if-not-is_byte.ensures) (none_before c.args.self.now c.args.text.now c.in-Some.first c.in-Some.stop.size a.0)
 
 pub loop-form-init : goal.loop-form-init
 loop-form-init c =
     let a = subst (IsFurthestForm c.args.self.now c.args.text.now) c.in-Some.is c.requires.furthest in
-    wrong_byte c.args.self.now c.args.text.now c.in-Some.first c.in-Some.stop.size a.0 c.in-Some.first c.error_of-error.result.refusal
-    c.error_of-error.ensures a.0.here (sym c.if-not-is_byte.ensures) (none_before c.args.self.now c.args.text.now c.in-Some.first c.in-Some.stop.size a.0)
+    wrong_byte c.args.self.now c.args.text.now c.in-Some.first c.in-Some.stop.size a.0 c.in-Some.first c.error_at-error.result.refusal
+    c.error_at-error.ensures a.0.here (sym c.if-not-is_byte.ensures) (none_before c.args.self.now c.args.text.now c.in-Some.first c.in-Some.stop.size a.0)
 
 pub overflow_add-form : goal.overflow_add-form
-overflow_add-form c =
-    let a = subst (IsFurthestForm c.args.self.now c.args.text.now) c.in-Some.is c.requires.furthest in
-    omega (
-      arith,
-      inside_at (λ g. IsStopped (notation_of g) c.args.text.now c.in-Some.stop) c.args.self.now c.in-Some.first a.1,
-      ap length c.syntaxes-syntaxes.ensures.list,
-      c.syntaxes-syntaxes.type_inv,
-    )
+overflow_add-form c = grind (arith, inside_at)
 
-pub error_of-other-requires-clause-stopped : goal.error_of-other-requires-clause-stopped
-error_of-other-requires-clause-stopped c =
-    at_index (λ g. IsStopped (notation_of g) c.args.text.now c.walk-reached.result) c.args.self.now c.syntaxes-syntaxes.result.now
-    c.index-syntaxes-form.result c.loop-form.form c.syntaxes-syntaxes.ensures.list c.index-syntaxes-form.is c.loop-form-test.true c.walk-reached.ensures
+pub error_at-other-requires-clause-stopped : goal.error_at-other-requires-clause-stopped
+error_at-other-requires-clause-stopped c = grind (arith, at_index)
 
 pub loop-form-preserved : goal.loop-form-preserved
 loop-form-preserved c =
@@ -43,8 +32,8 @@ loop-form-preserved c =
     c.walk-reached.ensures.valid in
     elim c.if-reached-stop.branch [
       | then-reached-stop+else-not-is_byte-2 w ↦
-          wrong_byte c.args.self.now c.args.text.now c.in-Some.first c.in-Some.stop.size a.0 c.loop-form.form w.error_of-other.result.refusal
-          w.error_of-other.ensures (subst (λ n. IsSomeAnd (slice_get c.args.self.now c.loop-form.form) (λ g. GoesTo c.args.text.now g n))
+          wrong_byte c.args.self.now c.args.text.now c.in-Some.first c.in-Some.stop.size a.0 c.loop-form.form w.error_at-other.result.refusal
+          w.error_at-other.ensures (subst (λ n. IsSomeAnd (slice_get c.args.self.now c.loop-form.form) (λ g. GoesTo c.args.text.now g n))
           w.if-reached-stop.true goes) (sym w.if-not-is_byte-2.ensures) c.loop-form.invariant
       | else-reached-stop w ↦ elsewhere c.args.self.now c.args.text.now c.in-Some.first c.in-Some.stop.size a.0 c.loop-form.form
           c.walk-reached.result.size goes w.if-reached-stop.false c.loop-form.invariant
@@ -56,14 +45,14 @@ returns-then-not-is_byte-2 c =
     let goes = at_index (λ g. GoesTo c.args.text.now g c.walk-reached.result.size) c.args.self.now c.syntaxes-syntaxes.result.now
     c.index-syntaxes-form.result c.loop-form.form c.syntaxes-syntaxes.ensures.list c.index-syntaxes-form.is c.loop-form-test.true
     c.walk-reached.ensures.valid in
-    other_error c.args.self.now c.args.text.now c.in-Some.first c.in-Some.stop.size a.0 c.loop-form.form c.error_of-other.result c.error_of-other.ensures
+    other_error c.args.self.now c.args.text.now c.in-Some.first c.in-Some.stop.size a.0 c.loop-form.form c.error_at-other.result c.error_at-other.ensures
     (subst (λ n. IsSomeAnd (slice_get c.args.self.now c.loop-form.form) (λ g. GoesTo c.args.text.now g n)) c.if-reached-stop.true goes)
     (sym c.if-not-is_byte-2.ensures) c.loop-form.invariant
 
 pub returns : goal.returns
 returns c =
     let a = subst (IsFurthestForm c.args.self.now c.args.text.now) c.in-Some.is c.requires.furthest in
-    first_error c.args.self.now c.args.text.now c.in-Some.first c.in-Some.stop.size a.0 c.in-Some.first c.error_of-error.result c.error_of-error.ensures
+    first_error c.args.self.now c.args.text.now c.in-Some.first c.in-Some.stop.size a.0 c.in-Some.first c.error_at-error.result c.error_at-error.ensures
     a.0.here refl (sym c.if-not-is_byte.ensures)
     (subst (All (IsNoBetter c.args.self.now c.args.text.now c.in-Some.first c.in-Some.stop.size a.0))
     (take_all c.loop-form.form c.args.self.now (rw (← c.syntaxes-syntaxes.ensures.list) c.loop-form-test.false)) c.loop-form.invariant)
