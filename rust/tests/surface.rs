@@ -570,7 +570,6 @@ const _: () = { fn call(it: &'static Syntax) -> impl Display { <Syntax>::sentenc
 const _: () = { fn call(it: &'static Syntax, literal: &'static Literal<'static>, style: Style) -> Result<Written<'static>, WriteError> { <Syntax>::format_literal(it, literal, style) } };
 const _: () = { fn call(it: &'static Syntax, text: &'static (impl AsRef<[u8]> + ?Sized)) -> Result<(Literal<'static>, &'static [u8]), ReadError> { <Syntax>::read_prefix(it, text) } };
 const _: () = { fn call(it: &'static Syntax, text: &'static (impl AsRef<[u8]> + ?Sized)) -> Result<Literal<'static>, ReadError> { <Syntax>::read(it, text) } };
-const _: () = { fn call(it: &'static Written<'static>) -> Option<&'static str> { <Written<'static>>::as_str(it) } };
 const _: () = { fn call(it: &'static Written<'static>, buffer: &'static mut [u8]) -> Result<&'static str, WriteError> { <Written<'static>>::write_into(it, buffer) } };
 const _: () = { fn call(it: &'static mut Settings, text: impl AsRef<[u8]>) -> Result<(), LineError> { <Settings>::add(it, text) } };
 const _: () = { fn call(it: Literal<'static>) -> Result<f32, ValueError> { <Literal<'static>>::to_f32(it) } };

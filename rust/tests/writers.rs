@@ -164,7 +164,7 @@ fn texts_of_each_length_are_printed_and_written() {
         let wanted = &*(Vec::from_iter(groups).join("_") + &String::from_iter(suffix));
         let (length, literal) = (wanted.len(), syntax.read(wanted).unwrap());
         for text in [syntax.format_integer(value, style), syntax.format_literal(&literal, style)].map(Result::unwrap) {
-            assert_eq!((text.as_str(), &*text.to_string()), ((length <= 64).then_some(wanted), wanted));
+            assert_eq!(text.to_string(), wanted);
             assert_eq!(format!("{text:?} {text:>200}"), format!("{wanted:?} {wanted:>200}"));
             assert_eq!(text.write_into(&mut [0; 256][..length]), Ok(wanted));
             assert_eq!(text.write_into(&mut [0; 256][..length - 1]), Err(WriteError::Buffer(length)));

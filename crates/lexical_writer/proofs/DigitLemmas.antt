@@ -2,8 +2,9 @@
 use Rattle.std.proofs.Common.{ℕ, ◌≡◌, ◌+◌, ◌*◌, ◌<◌, ◌≤◌, ◌||◌, Bool, true, false, cond, nat_lt, List, [], ◌∷◌, ◌++◌, length, drop, get_or}
 use Rattle.std.proofs.Common.{◌-◌, ◌/◌, ◌%◌, map, set, slice_get, option_to_list, Some, None, refl, sym, ap, ◌∙◌, arith, suc, drop-cons}
 use Rattle.std.proofs.lemmas.Int.Digits.{all_below_base_digits_of, digits_of_step, first_digits_of}
-use Rattle.std.proofs.lemmas.List.{append_assoc, drop-set, map_push}
+use Rattle.std.proofs.lemmas.List.{append_assoc, drop-set, length-set, map_push}
 use Rattle.std.proofs.lemmas.Bool.Decides.{nat_tests}
+use Rattle.std.proofs.Math.Nat.{div-div-eq-div-mul}
 use Rattle.std.proofs.lemmas.Nat.{div-mul-add, mod-mul-add}
 use Rattle.std.proofs.lemmas.Option.{get_or_from_slice_get}
 use Rattle.std.specs.Int.Digits.{AllBelowBase, digits_of, number_from_digits, number_from_digits_after}
@@ -101,6 +102,20 @@ one_more radix n start c buffer two some room inside is =
     ap (map character) (digits_of_step radix n two some) ∙ map_push character (digits_of radix (n / radix)) (n % radix)
     ∙ ap (λ b. map character (digits_of radix (n / radix)) ++ b ∷ []) (get_or_from_slice_get digit_characters (n % radix) c 0 is) in
     rw (drop-set buffer (start - 1) c (omega arith), text, append_assoc) (ap (λ k. map character (digits_of radix (n / radix)) ++ c ∷ drop k buffer) (sym same))
+
+-- The last two digits, of which the last is written first.
+pub two_more : (n start a b : ℕ) (buffer : List ℕ) → 10 ≤ n → 2 ≤ start → start ≤ length buffer
+    → slice_get digit_characters (n % 100 / 10) ≡ Some a → slice_get digit_characters (n % 100 % 10) ≡ Some b
+    → map character (digits_of 10 (n / 100)) ++ drop (start - 2) (set (set buffer (start - 1) b) (start - 2) a) ≡ map character (digits_of 10 n) ++ drop start buffer
+two_more n start a b buffer two room inside first second =
+    let front : n / 10 / 10 ≡ n / 100 = div-div-eq-div-mul n 10 10 in
+    let place : start - 1 - 1 ≡ start - 2 = omega arith in
+    let high : n / 10 % 10 ≡ n % 100 / 10 = omega (arith, two) in
+    let low : n % 10 ≡ n % 100 % 10 = omega (arith, two) in
+    let before = one_more 10 (n / 10) (start - 1) a (set buffer (start - 1) b) (omega arith) (omega (arith, two)) (omega (arith, room))
+    (omega (arith, inside, length-set buffer (start - 1) b)) (ap (slice_get digit_characters) high ∙ first) in
+    sym (λ i. map character (digits_of 10 (front i)) ++ drop (place i) (set (set buffer (start - 1) b) (place i) a)) ∙ before
+    ∙ one_more 10 n start b buffer (omega arith) (omega (arith, two)) (omega (arith, room)) inside (ap (slice_get digit_characters) low ∙ second)
 
 -- Whether grouped digits are present.
 pub grouped_present : (separator : ℕ) (group : Groups) (none : Bool) (digits : List ℕ)

@@ -8,7 +8,7 @@ ghost use Rattle.lexical_writer.specs.Digits.{character, ends_group, grouped, on
 
 use crate::run::{Groups, Run, Source};
 use crate::sink::Sink;
-use lexical_base::digit::{char_to_digit, digit_to_char};
+use lexical_base::digit::{char_to_digit, digit_to_char, digit_to_char_const};
 use lexical_number::parts::count;
 
 // Returns what follows the zeros that the digits among bytes begin with.
@@ -38,10 +38,6 @@ fn split_last(number: u128, radix: u32) -> (u128, u32)
         return (number / base, (number % base) as u32);
     }
     let short = number as u64;
-    // A radix that is known when this is compiled takes less time.
-    if radix == 10 {
-        return ((short / 10) as u128, (short % 10) as u32);
-    }
     (
         (short / radix as u64) as u128,
         (short % radix as u64) as u32,
@@ -49,7 +45,6 @@ fn split_last(number: u128, radix: u32) -> (u128, u32)
 }
 
 // Writes the digits of a number to the end of a buffer, and returns them.
-#[inline(always)]
 fn characters(buffer: &mut [u8; 128], number: u128, radix: u32) -> &[u8]
     requires { IsRadix radix }
     ensures { result.now ≡ map character (digits_of radix number) }
@@ -61,6 +56,27 @@ fn characters(buffer: &mut [u8; 128], number: u128, radix: u32) -> &[u8]
         start -= 1;
         buffer[start] = digit_to_char(digit);
         left = rest;
+    }
+    &buffer[start..]
+}
+
+// Writes the decimal digits of a number to the end of a buffer, and returns them. Two at a time take less time.
+#[inline(always)]
+fn decimals(buffer: &mut [u8; 20], number: u64) -> &[u8]
+    ensures { result.now ≡ map character (digits_of 10 number) }
+{
+    let mut left = number;
+    let mut start = 20;
+    while left >= 10 {
+        let pair = (left % 100) as u32;
+        buffer[start - 1] = digit_to_char_const(pair % 10, 10);
+        buffer[start - 2] = digit_to_char_const(pair / 10, 10);
+        start -= 2;
+        left /= 100;
+    }
+    if left > 0 {
+        start -= 1;
+        buffer[start] = digit_to_char_const(left as u32, 10);
     }
     &buffer[start..]
 }
@@ -134,13 +150,12 @@ fn put_or_zero<S: Sink>(sink: &mut S, bytes: &[u8], run: &Run)
     }
 }
 
-// Writes the digits of a number in groups or, if it is 0, a 0 if the run has one.
-fn put_number<S: Sink>(sink: &mut S, number: u128, run: &Run)
+// Writes the digits of a number, which are `bytes`, in groups or, if it is 0, a 0 if the run has one.
+fn put_characters<S: Sink>(sink: &mut S, bytes: &[u8], number: u128, run: &Run)
+    requires { bytes.now ≡ map character (digits_of run.now.radix number) }
     ensures { (start : S) → (text : List ℕ) → S.has start sink.old text
         → S.has start sink.new (text ++ grouped run.now.separator run.now.groups (or_zero run.now.zero (digits_of run.now.radix number))) }
 {
-    let mut buffer = [0; 128];
-    let bytes = characters(&mut buffer, number, run.radix);
     if run.groups.higher == 0 && number > 0 {
         sink.put_all(bytes);
     } else {
@@ -148,8 +163,25 @@ fn put_number<S: Sink>(sink: &mut S, number: u128, run: &Run)
     }
 }
 
+// Writes the digits of a number in groups or, if it is 0, a 0 if the run has one.
+fn put_number<S: Sink>(sink: &mut S, number: u128, run: &Run)
+    ensures { (start : S) → (text : List ℕ) → S.has start sink.old text
+        → S.has start sink.new (text ++ grouped run.now.separator run.now.groups (or_zero run.now.zero (digits_of run.now.radix number))) }
+{
+    if run.radix == 10 && number <= u64::MAX as u128 {
+        let mut buffer = [0; 20];
+        let bytes = decimals(&mut buffer, number as u64);
+        put_characters(sink, bytes, number, run);
+    } else {
+        let mut buffer = [0; 128];
+        let bytes = characters(&mut buffer, number, run.radix);
+        put_characters(sink, bytes, number, run);
+    }
+}
+
 impl Run<'_> {
     // Writes the digits, or a 0 for absent ones.
+    #[inline(always)]
     pub(crate) fn put<S: Sink>(&self, sink: &mut S)
         ensures { (start : S) → (text : List ℕ) → S.has start sink.old text
             → S.has start sink.new (text ++ run_text self.now) }

@@ -18,6 +18,7 @@ use lexical_number::integer::Integer;
 ///
 /// [`WriteError::Float`] if each literal of `syntax` has an exponent, and otherwise [`WriteError::Negative`] if the
 /// value is below 0 and no literal has the sign `-`.
+#[inline(always)]
 pub fn format_integer<T: Integer>(
     syntax: &Syntax,
     value: T,

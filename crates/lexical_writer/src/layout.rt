@@ -150,6 +150,7 @@ const fn base_byte(condition: bool, byte: u8) -> Option<u8>
 }
 
 // Returns a run without groups.
+#[inline]
 const fn plain_run<'a>(source: Source<'a>, radix: u32, zero: bool) -> Run<'a>
     requires { IsRadix radix }
     ensures { run_text result ≡ grouped 0 no_groups (or_zero zero (values_of radix source.entry)) }
@@ -164,6 +165,7 @@ const fn plain_run<'a>(source: Source<'a>, radix: u32, zero: bool) -> Run<'a>
 }
 
 // Returns the digits of a source without the zeros that they begin with.
+#[inline]
 fn lean<'a>(source: Source<'a>, radix: u32) -> Source<'a>
     requires { IsRadix radix }
     ensures { values_of radix result ≡ digits_of radix (size_of radix source.entry) }
@@ -175,6 +177,7 @@ fn lean<'a>(source: Source<'a>, radix: u32) -> Source<'a>
 }
 
 // Returns whether a source has digits.
+#[inline]
 fn has_digits(source: Source, radix: u32) -> bool
     requires { IsRadix radix }
     ensures { result ≡ is_present (values_of radix source.entry) }
@@ -254,6 +257,7 @@ impl<'a> Amount<'a> {
     }
 
     // Returns why the number cannot be written, if it cannot.
+    #[inline]
     fn refusal(&self, syntax: &Syntax) -> Option<WriteError>
         ensures { result ≡ refusal syntax.now self.now }
     {
@@ -267,6 +271,7 @@ impl<'a> Amount<'a> {
     }
 
     // Returns whether a 0 stands for absent integer digits.
+    #[inline]
     fn has_zero(&self, format: NumberFormat) -> bool
         requires { Lawful format }
         ensures { result ≡ has_zero (raw format) self.now }
@@ -278,6 +283,7 @@ impl<'a> Amount<'a> {
     }
 
     // Returns the fraction digits, if there are any.
+    #[inline]
     fn fraction(&self) -> Source<'a>
         ensures { result ≡ given_fraction self.now }
     {
@@ -289,6 +295,7 @@ impl<'a> Amount<'a> {
 }
 
 // Returns whether each literal has an exponent.
+#[inline]
 pub(crate) fn needs_exponent(syntax: &Syntax) -> bool
     ensures { result ≡ needs_exponent syntax.now }
 {
@@ -311,6 +318,7 @@ const fn first_error(sign: bool, fraction: bool, exponent: bool) -> Option<Write
 }
 
 // Returns the groups of an integer.
+#[inline]
 const fn groups_of(format: NumberFormat, conditions: Conditions, style: Style) -> Groups
     ensures { result ≡ groups_of (raw format) conditions style }
 {

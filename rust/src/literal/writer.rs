@@ -20,9 +20,6 @@ pub use layout::{Style, WriteError};
 use layout::Layout;
 use sink::Sink;
 
-/// The number of bytes that [`Written::as_str`] can return.
-const CAPACITY: usize = 64;
-
 /// A type that can be [written][Syntax::format_integer]: each integer type of Rust.
 pub trait WriteInteger: Integer {}
 
@@ -75,8 +72,9 @@ impl Syntax {
     ///
     /// [`WriteError::Float`] if each literal has an exponent, and [`WriteError::Negative`] if the value is below 0 and the
     /// syntax forbids `-`.
+    #[inline(always)]
     pub fn format_integer<T: WriteInteger>(&self, value: T, style: Style) -> Result<Written<'static>, WriteError> {
-        integer::format_integer(self, value, style).map(Written::new)
+        integer::format_integer(self, value, style).map(|layout| Written { layout })
     }
 
     /// Returns a literal, which may be of another syntax, as a literal of this syntax with the same value.
@@ -100,7 +98,7 @@ impl Syntax {
     /// If the literal cannot be written, returns why. The digits of a literal with an exponent are not moved, even where no
     /// exponent is allowed.
     pub fn format_literal<'a>(&self, literal: &Literal<'a>, style: Style) -> Result<Written<'a>, WriteError> {
-        literal::format_literal(literal, self, style).map(Written::new)
+        literal::format_literal(literal, self, style).map(|layout| Written { layout })
     }
 }
 
@@ -108,23 +106,9 @@ impl Syntax {
 #[derive(Clone, Copy)]
 pub struct Written<'a> {
     layout: Layout<'a>,
-    text: [u8; CAPACITY],
-    length: usize,
 }
 
-impl<'a> Written<'a> {
-    fn new(layout: Layout<'a>) -> Self {
-        let mut text = [0; CAPACITY];
-        let length = layout.write(&mut text);
-        Written { layout, text, length }
-    }
-
-    /// Returns the text, or `None` if it has more than 64 bytes.
-    #[must_use]
-    pub fn as_str(&self) -> Option<&str> {
-        str::from_utf8(self.text.get(..self.length)?).ok()
-    }
-
+impl Written<'_> {
     /// Writes the text to the beginning of a buffer, and returns it.
     ///
     /// ```
@@ -151,14 +135,20 @@ impl<'a> Written<'a> {
 /// Prints the text, with the width and the fill of the formatter. A precision is ignored.
 impl fmt::Display for Written<'_> {
     fn fmt(&self, f: &mut fmt::Formatter<'_>) -> fmt::Result {
-        pad(f, self.length, |f| match self.as_str() {
-            Some(text) => f.write_str(text),
+        let mut text = [0; 40];
+        let length = self.layout.write(&mut text);
+        let print = |f: &mut fmt::Formatter<'_>| match text.get(..length) {
+            Some(text) => f.write_str(str::from_utf8(text).unwrap_or_default()),
             None => {
                 let mut printer = Printer { f, result: Ok(()) };
                 self.layout.put(&mut printer);
                 printer.result
             }
-        })
+        };
+        match f.width() {
+            Some(_) => pad(f, length, print),
+            None => print(f),
+        }
     }
 }
 
@@ -183,7 +173,7 @@ impl Write for Escaper<'_, '_> {
     }
 }
 
-/// A formatter that takes a text byte by byte.
+/// A formatter that takes a long text byte by byte.
 struct Printer<'a, 'b> {
     f: &'a mut fmt::Formatter<'b>,
     result: fmt::Result,

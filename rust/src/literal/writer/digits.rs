@@ -2,7 +2,7 @@
 
 //! Runs of digits are written.
 
-use crate::digit::{char_to_digit, digit_to_char};
+use crate::digit::{char_to_digit, digit_to_char, digit_to_char_const};
 use crate::literal::writer::run::{Groups, Run, Source};
 use crate::literal::writer::sink::Sink;
 use crate::number::parts::count;
@@ -27,15 +27,10 @@ fn split_last(number: u128, radix: u32) -> (u128, u32) {
         return (number / base, (number % base) as u32);
     }
     let short = number as u64;
-    // A radix that is known when this is compiled takes less time.
-    if radix == 10 {
-        return ((short / 10) as u128, (short % 10) as u32);
-    }
     ((short / radix as u64) as u128, (short % radix as u64) as u32)
 }
 
 // Writes the digits of a number to the end of a buffer, and returns them.
-#[inline(always)]
 fn characters(buffer: &mut [u8; 128], number: u128, radix: u32) -> &[u8] {
     let mut left = number;
     let mut start = 128;
@@ -44,6 +39,25 @@ fn characters(buffer: &mut [u8; 128], number: u128, radix: u32) -> &[u8] {
         start -= 1;
         buffer[start] = digit_to_char(digit);
         left = rest;
+    }
+    &buffer[start..]
+}
+
+// Writes the decimal digits of a number to the end of a buffer, and returns them. Two at a time take less time.
+#[inline(always)]
+fn decimals(buffer: &mut [u8; 20], number: u64) -> &[u8] {
+    let mut left = number;
+    let mut start = 20;
+    while left >= 10 {
+        let pair = (left % 100) as u32;
+        buffer[start - 1] = digit_to_char_const(pair % 10, 10);
+        buffer[start - 2] = digit_to_char_const(pair / 10, 10);
+        start -= 2;
+        left /= 100;
+    }
+    if left > 0 {
+        start -= 1;
+        buffer[start] = digit_to_char_const(left as u32, 10);
     }
     &buffer[start..]
 }
@@ -103,10 +117,8 @@ fn put_or_zero<S: Sink>(sink: &mut S, bytes: &[u8], run: &Run) {
     }
 }
 
-// Writes the digits of a number in groups or, if it is 0, a 0 if the run has one.
-fn put_number<S: Sink>(sink: &mut S, number: u128, run: &Run) {
-    let mut buffer = [0; 128];
-    let bytes = characters(&mut buffer, number, run.radix);
+// Writes the digits of a number, which are `bytes`, in groups or, if it is 0, a 0 if the run has one.
+fn put_characters<S: Sink>(sink: &mut S, bytes: &[u8], number: u128, run: &Run) {
     if run.groups.higher == 0 && number > 0 {
         sink.put_all(bytes);
     } else {
@@ -114,8 +126,22 @@ fn put_number<S: Sink>(sink: &mut S, number: u128, run: &Run) {
     }
 }
 
+// Writes the digits of a number in groups or, if it is 0, a 0 if the run has one.
+fn put_number<S: Sink>(sink: &mut S, number: u128, run: &Run) {
+    if run.radix == 10 && number <= u64::MAX as u128 {
+        let mut buffer = [0; 20];
+        let bytes = decimals(&mut buffer, number as u64);
+        put_characters(sink, bytes, number, run);
+    } else {
+        let mut buffer = [0; 128];
+        let bytes = characters(&mut buffer, number, run.radix);
+        put_characters(sink, bytes, number, run);
+    }
+}
+
 impl Run<'_> {
     // Writes the digits, or a 0 for absent ones.
+    #[inline(always)]
     pub(crate) fn put<S: Sink>(&self, sink: &mut S) {
         match self.source {
             Source::Number(0) if !self.zero => (),

@@ -13,6 +13,7 @@ use crate::number::integer::Integer;
 ///
 /// [`WriteError::Float`] if each literal of `syntax` has an exponent, and otherwise [`WriteError::Negative`] if the
 /// value is below 0 and no literal has the sign `-`.
+#[inline(always)]
 pub fn format_integer<T: Integer>(syntax: &Syntax, value: T, style: Style) -> Result<Layout<'static>, WriteError> {
     if needs_exponent(syntax) {
         return Err(WriteError::Float);

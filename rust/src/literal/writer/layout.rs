@@ -125,11 +125,13 @@ const fn base_byte(condition: bool, byte: u8) -> Option<u8> {
 }
 
 // Returns a run without groups.
+#[inline]
 const fn plain_run<'a>(source: Source<'a>, radix: u32, zero: bool) -> Run<'a> {
     Run { source, radix, zero, groups: NO_GROUPS, separator: 0 }
 }
 
 // Returns the digits of a source without the zeros that they begin with.
+#[inline]
 fn lean<'a>(source: Source<'a>, radix: u32) -> Source<'a> {
     match source {
         Source::Bytes(bytes) => Source::Bytes(without_zeros(bytes, radix)),
@@ -138,6 +140,7 @@ fn lean<'a>(source: Source<'a>, radix: u32) -> Source<'a> {
 }
 
 // Returns whether a source has digits.
+#[inline]
 fn has_digits(source: Source, radix: u32) -> bool {
     match source {
         Source::Bytes(bytes) => count(bytes, radix) > 0,
@@ -189,6 +192,7 @@ impl<'a> Amount<'a> {
     }
 
     // Returns why the number cannot be written, if it cannot.
+    #[inline]
     fn refusal(&self, syntax: &Syntax) -> Option<WriteError> {
         let integers = syntax.options().is_none();
         let no_exponent = integers | syntax.format().view().no_exponent_notation();
@@ -200,12 +204,14 @@ impl<'a> Amount<'a> {
     }
 
     // Returns whether a 0 stands for absent integer digits.
+    #[inline]
     fn has_zero(&self, format: FormatView) -> bool {
         let radix = format.mantissa_radix();
         format.required_integer_digits() || has_digits(self.integer, radix) || !has_digits(self.fraction(), radix)
     }
 
     // Returns the fraction digits, if there are any.
+    #[inline]
     fn fraction(&self) -> Source<'a> {
         match self.fraction {
             Some(bytes) => Source::Bytes(bytes),
@@ -215,6 +221,7 @@ impl<'a> Amount<'a> {
 }
 
 // Returns whether each literal has an exponent.
+#[inline]
 pub(crate) fn needs_exponent(syntax: &Syntax) -> bool {
     syntax.format().view().required_exponent_notation() && syntax.options().is_some()
 }
@@ -233,6 +240,7 @@ const fn first_error(sign: bool, fraction: bool, exponent: bool) -> Option<Write
 }
 
 // Returns the groups of an integer.
+#[inline]
 const fn groups_of(format: FormatView, conditions: Conditions, style: Style) -> Groups {
     if style.group == 0 || !format.integer_internal_digit_separator() || digit_separator(format.word()) == 0 {
         return NO_GROUPS;
