@@ -41,12 +41,15 @@ fn rows() -> impl Iterator<Item = (Language, &'static str)> {
     })
 }
 
-/// Returns the digits of a literal without zeros at both ends, the place of the last one, the exponent and the sign. The
-/// exponent of the tests is short.
-fn value(literal: &Literal) -> (Vec<u8>, isize, i128, bool) {
+/// The digits of a mantissa without zeros at both ends, the primes whose powers it is multiplied by, and whether it is
+/// negative. Two literals of the same radix have the same value if these are the same.
+type Value = (Vec<u8>, BTreeMap<u32, i128>, bool);
+
+/// Returns the value of a literal of a syntax, whose exponent is short in the tests.
+fn value(literal: &Literal, syntax: &Syntax) -> Value {
     let mut digits = Vec::from_iter(literal.digits(Part::Integer).skip_while(|digit| *digit == 0));
     digits.extend(literal.digits(Part::Fraction));
-    let mut place = -(literal.digits(Part::Fraction).count() as isize);
+    let mut place = -(literal.digits(Part::Fraction).count() as i128);
     while digits.last() == Some(&0) {
         digits.pop();
         place += 1;
@@ -55,8 +58,19 @@ fn value(literal: &Literal) -> (Vec<u8>, isize, i128, bool) {
     digits.drain(..zeros);
     let radix = i128::from(literal.radix(Part::Exponent));
     let size = literal.digits(Part::Exponent).fold(0, |size, digit| size * radix + i128::from(digit));
-    let place = if digits.is_empty() { 0 } else { place };
-    (digits, place, if literal.exponent_sign() == b"-" { -size } else { size }, literal.is_negative())
+    let exponent = if literal.exponent_sign() == b"-" { -size } else { size };
+    let (radix, base) = (syntax.format().mantissa_radix(), syntax.format().exponent_base());
+    let mut powers = BTreeMap::new();
+    for (mut factor, count) in [(radix, place), (base, exponent)] {
+        for prime in 2..=factor {
+            while factor % prime == 0 {
+                *powers.entry(prime).or_insert(0) += count;
+                factor /= prime;
+            }
+        }
+    }
+    powers.retain(|_, count| *count != 0 && !digits.is_empty());
+    (digits, powers, literal.is_negative())
 }
 
 /// Returns whether an error is why a literal of `source` cannot be written in `target`.
@@ -64,10 +78,10 @@ fn is_reason(error: WriteError, literal: &Literal, source: &Syntax, target: &Syn
     let (from, to) = (source.format(), target.format());
     let has_exponent = !literal.exponent_character().is_empty();
     match error {
-        WriteError::Radix => from.radix() != to.radix() || has_exponent && from.exponent_base() != to.exponent_base(),
+        WriteError::Radix => from.radix() != to.radix(),
         WriteError::Negative => literal.is_negative() && target.conditions().has(Condition::NegativeSign),
-        WriteError::Fraction => !literal.point().is_empty() && target.point().is_none(),
-        WriteError::Exponent => has_exponent && (target.exponent().is_none() || to.no_exponent_notation()),
+        WriteError::Fraction => target.point().is_none() && value(literal, source).1.values().any(|count| *count < 0),
+        WriteError::Exponent => has_exponent && from.exponent_base() != from.radix(),
         _ => false,
     }
 }
@@ -88,7 +102,8 @@ fn literals_are_written_in_other_languages() {
                         let read = form.syntax.read(&back).unwrap_or_else(|error| {
                             panic!("{language} {text:?} in {target} {}: {back:?}: {error}", form.name)
                         });
-                        assert_eq!(value(&read), value(&literal), "{language} {text:?} in {target}: {back:?}");
+                        let same = value(&read, &form.syntax) == value(&literal, &source);
+                        assert!(same, "{language} {text:?} in {target}: {back:?}");
                         "written".to_string()
                     }
                     Err(error) => {
@@ -129,14 +144,62 @@ fn flags_add_what_they_require() {
         ("+5e+06", none.required_mantissa_sign(true), Ok("+5e6")),
         ("-0e-6", none.required_exponent_sign(true), Ok("-0e-6")),
         ("5e6", none.required_exponent_sign(true), Ok("5e+6")),
-        ("5e6", none.no_exponent_notation(true), Err(WriteError::Exponent)),
+        ("1.50", none.no_exponent_notation(true), Ok("1.50")),
         ("5", none.mantissa_radix(8), Err(WriteError::Radix)),
         ("5e6", none.exponent_radix(binary), Ok("5e110")),
-        ("5e6", none.exponent_base(binary), Err(WriteError::Radix)),
+        ("5e6", none.exponent_base(binary), Ok("5000000")),
         (&long, none, Ok(&long)),
-        (&long, none.exponent_radix(binary), Err(WriteError::Exponent)),
+        (&long, none.exponent_radix(binary), Err(WriteError::Radix)),
     ] {
         assert_eq!(convert(text, target), wanted.map(String::from), "{text}");
+    }
+}
+
+#[test]
+fn the_point_moves_where_no_exponent_is_allowed() {
+    let builder = NumberFormatBuilder::new().required_digits(false);
+    let source = Syntax::new_or_panic(builder.build_format_or_panic(), b'e', b'.');
+    let target = Syntax::new_or_panic(builder.no_exponent_notation(true).build_format_or_panic(), b'e', b'.');
+    let integers = Syntax::integers(target.format());
+    let (large, small) = (format!("1{}", "0".repeat(799)), format!("0.{}1", "0".repeat(797)));
+    let tiny = format!("1e-{}", "9".repeat(40));
+    let (far, near) = (format!("1e{}", "9".repeat(40)), format!("0.{}1e1000", "0".repeat(999)));
+    let (fraction, long) = (Err(WriteError::Fraction), Err(WriteError::Long));
+    for (text, wanted, whole) in [
+        ("1.2e3", Ok("1200"), Ok("1200")),
+        ("12.50e1", Ok("125"), Ok("125")),
+        ("12.50e+0", Ok("12.5"), fraction),
+        ("1e-7", Ok("0.0000001"), fraction),
+        ("-12345e-2", Ok("-123.45"), fraction),
+        (".5e0", Ok("0.5"), fraction),
+        ("1.50", Ok("1.50"), fraction),
+        ("1.0", Ok("1.0"), Ok("1")),
+        ("-.", Ok("-0."), Ok("-0")),
+        ("0e5", Ok("0"), Ok("0")),
+        ("0.00e-5", Ok("0"), Ok("0")),
+        ("1e799", Ok(&*large), Ok(&*large)),
+        ("1e800", long, long),
+        ("1e-798", Ok(&*small), fraction),
+        ("1e-799", long, fraction),
+        (&*near, Ok("1"), Ok("1")),
+        (&*far, long, long),
+        (&*tiny, long, fraction),
+    ] {
+        let literal = source.read(text).unwrap();
+        let written = |syntax: Syntax| syntax.format_literal(&literal, Style::PLAIN).map(|text| text.to_string());
+        assert_eq!(written(target), wanted.map(String::from), "{text}");
+        assert_eq!(written(integers), whole.map(String::from), "{text}");
+    }
+    // A radix that is a power of the exponent base: the point moves by whole digits.
+    let hexadecimal = builder.mantissa_radix(16).exponent_base(NonZeroU8::new(2)).exponent_radix(NonZeroU8::new(10));
+    let source = Syntax::new_or_panic(hexadecimal.build_format_or_panic(), b'p', b'.');
+    let integers = Syntax::integers(source.format());
+    for (text, wanted) in
+        [("1.8p4", Ok("18")), ("1.8p8", Ok("180")), ("8p-4", fraction), ("1p3", Err(WriteError::Exponent))]
+    {
+        let literal = source.read(text).unwrap();
+        let written = integers.format_literal(&literal, Style::PLAIN).map(|text| text.to_string());
+        assert_eq!(written, wanted.map(String::from), "{text}");
     }
 }
 

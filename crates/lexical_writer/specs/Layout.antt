@@ -1,6 +1,6 @@
 -- How a number is laid out as a literal.
 use Rattle.std.specs.Prelude.{ℕ, ◌≡◌, suc, ℤ, pos, negsuc, ◌==◌, ◌&&◌, ◌||◌, not, Bool, false, true, if◌then◌else◌, List, ◌++◌, Option, Some, None}
-use Rattle.std.specs.Prelude.{Result, Ok, Err, is_some, option_map, option_to_list, unwrap_or}
+use Rattle.std.specs.Prelude.{Result, Ok, Err, is_some, option_to_list, unwrap_or}
 use Rattle.std.specs.Int.Digits.{digits_of}
 use Rattle.lexical_util.specs.Layout as layout
 use Rattle.lexical_util.specs.Record.{Record, raw, effective_exponent_radix}
@@ -55,7 +55,7 @@ options_of g = unwrap_or g.options (record { exponent = 0; point = 0 })
 
 -- `given_fraction amount` has the fraction digits of `amount`, or none if it has no fraction.
 abbrev pub given_fraction : Amount → Source
-given_fraction amount = unwrap_or (option_map sources.Bytes amount.fraction) (sources.Number 0)
+given_fraction amount = unwrap_or amount.fraction (sources.Number 0)
 
 -- `given_power amount` is the exponent of `amount`, or one without digits if it has none.
 abbrev pub given_power : Amount → Power
@@ -145,12 +145,12 @@ abbrev pub whole : ℤ → Amount
 whole (pos n) = record { negative = false; integer = sources.Number n; fraction = None; exponent = None }
 whole (negsuc n) = record { negative = true; integer = sources.Number (suc n); fraction = None; exponent = None }
 
--- `whole_refusal g z` is why the integer `z` cannot be written as a literal of `g`, or `None` if it can: each literal has an exponent,
--- or else `z` is below 0 and no literal is.
+-- `whole_refusal g z` is why the integer `z` cannot be written as a literal of `g`, or `None` if it can: `z` is below 0 and no literal
+-- is, or else each literal has an exponent.
 abbrev pub whole_refusal : Grammar → ℤ → Option WriteError
 whole_refusal g z =
-    if needs_exponent g then Some errors.Float
-    else (if (whole z).negative && has g.conditions conditions.NegativeSign then Some errors.Negative else None)
+    if (whole z).negative && has g.conditions conditions.NegativeSign then Some errors.Negative
+    else (if needs_exponent g then Some errors.Float else None)
 
 -- `IsWhole g style z l` holds if `l` is what is written for the integer `z`.
 abbrev pub IsWhole : Grammar → Style → ℤ → Literal → Type 0

@@ -1,6 +1,6 @@
 //! Numbers are laid out as literals.
 
-ghost use Rattle.std.specs.Prelude.{◌≡◌, ◌++◌, ◌&&◌, not, [], ℕ, IfOk, List, option_to_list};
+ghost use Rattle.std.specs.Prelude.{◌≡◌, ◌++◌, ◌&&◌, not, nat_lt, [], ℕ, IfOk, List, length, option_to_list};
 ghost use Rattle.std.specs.Int.Digits.{digits_of};
 ghost use Rattle.lexical_util.specs.Record.{raw};
 ghost use Rattle.lexical_util.specs.Rules.{IsRadix, Lawful};
@@ -38,18 +38,20 @@ pub struct Style {
 /// Why a number cannot be written as a literal of a syntax.
 #[derive(Debug, Clone, Copy, PartialEq, Eq, Hash)]
 pub enum WriteError {
-    /// The mantissa radixes differ or, for a number with an exponent, the exponent bases.
+    /// The mantissa radixes differ, or the exponent has another radix and more than 128 bits.
     Radix,
     /// The number is below 0, or -0, and no literal has the sign `-`.
     Negative,
-    /// The number has a fraction, and the literals of the syntax are integers.
+    /// The number is not whole, and the literals of the syntax are integers.
     Fraction,
-    /// The number has an exponent, and no literal has one, or its exponent digits have another radix and are too many.
+    /// No literal has the exponent of the number, which does not move the point by whole digits.
     Exponent,
     /// The number is an integer of Rust, and each literal has an exponent.
     Float,
     /// The number is NaN or infinity, which no literal is.
     Special,
+    /// No literal has the exponent of the number, and if the point moves, the text has more than 800 bytes.
+    Long,
     /// The buffer is too short for the text, which has this number of bytes.
     Buffer(usize),
 }
@@ -70,8 +72,8 @@ pub struct Amount<'a> {
     pub negative: bool,
     /// The integer digits, in the mantissa radix of the syntax.
     pub integer: Source<'a>,
-    /// The bytes with the fraction digits, or `None` for a number without a decimal point.
-    pub fraction: Option<&'a [u8]>,
+    /// The fraction digits, or `None` for a number without a decimal point.
+    pub fraction: Option<Source<'a>>,
     /// The exponent, or `None` for a number without one.
     pub exponent: Option<Power<'a>>,
 }
@@ -111,6 +113,14 @@ impl Layout<'_> {
             × IsTaken (text_of (literal_of self.now)) window.old.bytes.now window.new.bytes.now window.new.length }
     {
         self.put(window);
+    }
+
+    // Returns whether the text has more than 800 bytes.
+    pub(crate) fn is_long(&self) -> bool
+        ensures { result ≡ nat_lt 800 (length (text_of (literal_of self.now))) }
+    {
+        // There can be more zeros than there is time to write.
+        self.integer.count() > 800 || self.fraction.count() > 800 || self.write(&mut []) > 800
     }
 
     // Writes the text.
@@ -173,6 +183,7 @@ fn lean<'a>(source: Source<'a>, radix: u32) -> Source<'a>
     match source {
         Source::Bytes(bytes) => Source::Bytes(without_zeros(bytes, radix)),
         Source::Number(number) => Source::Number(number),
+        Source::Padded(padded) => Source::Padded(padded.lean(radix)),
     }
 }
 
@@ -185,6 +196,7 @@ fn has_digits(source: Source, radix: u32) -> bool
     match source {
         Source::Bytes(bytes) => count(bytes, radix) > 0,
         Source::Number(number) => number > 0,
+        Source::Padded(padded) => padded.count(radix) > 0,
     }
 }
 
@@ -288,7 +300,7 @@ impl<'a> Amount<'a> {
         ensures { result ≡ given_fraction self.now }
     {
         match self.fraction {
-            Some(bytes) => Source::Bytes(bytes),
+            Some(source) => source,
             None => Source::Number(0),
         }
     }

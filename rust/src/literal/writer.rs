@@ -12,6 +12,7 @@ mod integer;
 mod layout;
 #[allow(clippy::module_inception, clippy::needless_lifetimes, reason = "as it is proved")]
 mod literal;
+mod moved;
 mod run;
 mod sink;
 
@@ -70,8 +71,8 @@ impl Syntax {
     ///
     /// # Errors
     ///
-    /// [`WriteError::Float`] if each literal has an exponent, and [`WriteError::Negative`] if the value is below 0 and the
-    /// syntax forbids `-`.
+    /// [`WriteError::Negative`] if the value is below 0 and the syntax forbids `-`, and [`WriteError::Float`] if each literal
+    /// has an exponent.
     #[inline(always)]
     pub fn format_integer<T: WriteInteger>(&self, value: T, style: Style) -> Result<Written<'static>, WriteError> {
         integer::format_integer(self, value, style).map(|layout| Written { layout })
@@ -81,6 +82,8 @@ impl Syntax {
     ///
     /// Separators and leading zeros are left out, and groups are those of `style`. Where the format requires digits or an
     /// exponent that the literal does not have, `0` and `e0` are added. Trailing zeros are kept, and so is the sign of `-0`.
+    /// Where no exponent is allowed, the point moves in its place, and trailing zeros of the fraction are left out: `1.2e3`
+    /// is `1200`. So they are in a syntax of integers alone, in which `1.0` is `1`.
     ///
     /// ```
     /// use peltzivar::literal::{Style, Syntax};
@@ -95,8 +98,7 @@ impl Syntax {
     ///
     /// # Errors
     ///
-    /// If the literal cannot be written, returns why. The digits of a literal with an exponent are not moved, even where no
-    /// exponent is allowed.
+    /// If the literal cannot be written, returns why.
     pub fn format_literal<'a>(&self, literal: &Literal<'a>, style: Style) -> Result<Written<'a>, WriteError> {
         literal::format_literal(literal, self, style).map(|layout| Written { layout })
     }
@@ -197,10 +199,11 @@ impl fmt::Display for WriteError {
         f.pad(match self {
             WriteError::Radix => "the digits or the exponent have another radix or base",
             WriteError::Negative => "no literal has the sign '-'",
-            WriteError::Fraction => "literals are integers, and the number has a decimal point",
-            WriteError::Exponent => "no literal has this exponent",
+            WriteError::Fraction => "literals are integers, and the number is not whole",
+            WriteError::Exponent => "no literal has an exponent, and this one does not move the point by whole digits",
             WriteError::Float => "each literal has an exponent, and an integer of Rust has none",
             WriteError::Special => "no literal is NaN or infinity",
+            WriteError::Long => "without an exponent, the text has more than 800 bytes",
             WriteError::Buffer(length) => return write!(f, "the text has {length} bytes"),
         })
     }

@@ -3,7 +3,7 @@
 //! Runs of digits are written.
 
 use crate::digit::{char_to_digit, digit_to_char, digit_to_char_const};
-use crate::literal::writer::run::{Groups, Run, Source};
+use crate::literal::writer::run::{Groups, Padded, Run, Source};
 use crate::literal::writer::sink::Sink;
 use crate::number::parts::count;
 
@@ -64,8 +64,13 @@ fn decimals(buffer: &mut [u8; 20], number: u64) -> &[u8] {
 
 // Returns whether a group ends where `left` digits are left.
 #[inline(always)]
-const fn ends_group(groups: Groups, left: usize) -> bool {
+const fn ends_group(groups: Groups, left: u128) -> bool {
     let Groups { last, higher } = groups;
+    if left > usize::MAX as u128 {
+        return higher > 0 && (left - last as u128) % higher as u128 == 0;
+    }
+    // Division takes less time.
+    let left = left as usize;
     left > 0 && higher > 0 && last <= left && (left - last) % higher == 0
 }
 
@@ -89,13 +94,13 @@ pub(crate) fn put_if_any<S: Sink>(sink: &mut S, byte: Option<u8>) {
 
 // Writes a digit and, where a group ends, a separator. Behind the digit, `left` more are to be written.
 #[inline(always)]
-fn put_digit<S: Sink>(sink: &mut S, digit: u32, left: usize, run: &Run) {
+fn put_digit<S: Sink>(sink: &mut S, digit: u32, left: u128, run: &Run) {
     sink.put(digit_to_char(digit));
     put_if_any(sink, only_if(ends_group(run.groups, left), run.separator));
 }
 
-// Writes the digits among bytes in groups, where `count` is the number of these digits.
-fn put_digits<S: Sink>(sink: &mut S, bytes: &[u8], count: usize, run: &Run) {
+// Writes the digits among bytes in groups, which are the first of `count` digits, and returns how many are left.
+fn put_digits<S: Sink>(sink: &mut S, bytes: &[u8], count: u128, run: &Run) -> u128 {
     let mut left = count;
     let mut index = 0;
     while index < bytes.len() {
@@ -105,16 +110,36 @@ fn put_digits<S: Sink>(sink: &mut S, bytes: &[u8], count: usize, run: &Run) {
         }
         index += 1;
     }
+    left
+}
+
+// Writes zeros in groups, which are the first of `count` digits, and returns how many are left.
+fn put_zeros<S: Sink>(sink: &mut S, zeros: usize, count: u128, run: &Run) -> u128 {
+    let mut left = count;
+    let end = count - zeros as u128;
+    while left > end {
+        left -= 1;
+        put_digit(sink, 0, left, run);
+    }
+    left
+}
+
+// Writes digits in groups or, if there are none, a 0 if the run has one.
+fn put_padded<S: Sink>(sink: &mut S, padded: &Padded, run: &Run) {
+    let count = padded.count(run.radix);
+    if count == 0 && run.zero {
+        sink.put(b'0');
+        return;
+    }
+    let left = put_zeros(sink, padded.before, count, run);
+    let left = put_digits(sink, padded.first, left, run);
+    let left = put_digits(sink, padded.second, left, run);
+    put_zeros(sink, padded.after, left, run);
 }
 
 // Writes the digits among bytes in groups or, if there are none, a 0 if the run has one.
 fn put_or_zero<S: Sink>(sink: &mut S, bytes: &[u8], run: &Run) {
-    let count = count(bytes, run.radix);
-    if count == 0 && run.zero {
-        sink.put(b'0');
-    } else {
-        put_digits(sink, bytes, count, run);
-    }
+    put_padded(sink, &Padded::of(bytes), run);
 }
 
 // Writes the digits of a number, which are `bytes`, in groups or, if it is 0, a 0 if the run has one.
@@ -139,7 +164,39 @@ fn put_number<S: Sink>(sink: &mut S, number: u128, run: &Run) {
     }
 }
 
+impl<'a> Padded<'a> {
+    // Returns the digits among bytes, without zeros around them.
+    #[inline(always)]
+    pub(crate) const fn of(bytes: &'a [u8]) -> Padded<'a> {
+        Padded { before: 0, first: bytes, second: &[], after: 0 }
+    }
+
+    // Returns the number of digits.
+    pub(crate) fn count(&self, radix: u32) -> u128 {
+        self.before as u128 + count(self.first, radix) as u128 + count(self.second, radix) as u128 + self.after as u128
+    }
+
+    // Returns the digits without the zeros that they begin with.
+    pub(crate) fn lean(&self, radix: u32) -> Padded<'a> {
+        let first = without_zeros(self.first, radix);
+        if count(first, radix) > 0 {
+            return Padded { before: 0, first, second: self.second, after: self.after };
+        }
+        let second = without_zeros(self.second, radix);
+        let some = count(second, radix) > 0;
+        Padded { before: 0, first: &[], second, after: if some { self.after } else { 0 } }
+    }
+}
+
 impl Run<'_> {
+    // Returns the number of digits if there can be zeros around them, and 0 otherwise.
+    pub(crate) fn count(&self) -> u128 {
+        match &self.source {
+            Source::Padded(padded) => padded.count(self.radix),
+            _ => 0,
+        }
+    }
+
     // Writes the digits, or a 0 for absent ones.
     #[inline(always)]
     pub(crate) fn put<S: Sink>(&self, sink: &mut S) {
@@ -147,6 +204,7 @@ impl Run<'_> {
             Source::Number(0) if !self.zero => (),
             Source::Bytes(bytes) => put_or_zero(sink, bytes, self),
             Source::Number(number) => put_number(sink, number, self),
+            Source::Padded(padded) => put_padded(sink, &padded, self),
         }
     }
 }

@@ -29,18 +29,20 @@ pub struct Style {
 #[derive(Debug, Clone, Copy, PartialEq, Eq, Hash)]
 #[non_exhaustive]
 pub enum WriteError {
-    /// The mantissa radixes differ or, for a number with an exponent, the exponent bases.
+    /// The mantissa radixes differ, or the exponent has another radix and more than 128 bits.
     Radix,
     /// The number is below 0, or -0, and no literal has the sign `-`.
     Negative,
-    /// The number has a fraction, and the literals of the syntax are integers.
+    /// The number is not whole, and the literals of the syntax are integers.
     Fraction,
-    /// The number has an exponent, and no literal has one, or its exponent digits have another radix and are too many.
+    /// No literal has the exponent of the number, which does not move the point by whole digits.
     Exponent,
     /// The number is an integer of Rust, and each literal has an exponent.
     Float,
     /// The number is NaN or infinity, which no literal is.
     Special,
+    /// No literal has the exponent of the number, and if the point moves, the text has more than 800 bytes.
+    Long,
     /// The buffer is too short for the text, which has this number of bytes.
     Buffer(usize),
 }
@@ -61,8 +63,8 @@ pub struct Amount<'a> {
     pub negative: bool,
     /// The integer digits, in the mantissa radix of the syntax.
     pub integer: Source<'a>,
-    /// The bytes with the fraction digits, or `None` for a number without a decimal point.
-    pub fraction: Option<&'a [u8]>,
+    /// The fraction digits, or `None` for a number without a decimal point.
+    pub fraction: Option<Source<'a>>,
     /// The exponent, or `None` for a number without one.
     pub exponent: Option<Power<'a>>,
 }
@@ -93,6 +95,12 @@ impl Layout<'_> {
     // Writes the text to a buffer.
     fn fill(&self, window: &mut Window) {
         self.put(window);
+    }
+
+    // Returns whether the text has more than 800 bytes.
+    pub(crate) fn is_long(&self) -> bool {
+        // There can be more zeros than there is time to write.
+        self.integer.count() > 800 || self.fraction.count() > 800 || self.write(&mut []) > 800
     }
 
     // Writes the text.
@@ -136,6 +144,7 @@ fn lean<'a>(source: Source<'a>, radix: u32) -> Source<'a> {
     match source {
         Source::Bytes(bytes) => Source::Bytes(without_zeros(bytes, radix)),
         Source::Number(number) => Source::Number(number),
+        Source::Padded(padded) => Source::Padded(padded.lean(radix)),
     }
 }
 
@@ -145,6 +154,7 @@ fn has_digits(source: Source, radix: u32) -> bool {
     match source {
         Source::Bytes(bytes) => count(bytes, radix) > 0,
         Source::Number(number) => number > 0,
+        Source::Padded(padded) => padded.count(radix) > 0,
     }
 }
 
@@ -214,7 +224,7 @@ impl<'a> Amount<'a> {
     #[inline]
     fn fraction(&self) -> Source<'a> {
         match self.fraction {
-            Some(bytes) => Source::Bytes(bytes),
+            Some(source) => source,
             None => Source::Number(0),
         }
     }

@@ -1,5 +1,5 @@
 -- Two more digits are written before those that have been written.
-use Rattle.std.proofs.Common.{◌≡◌, ◌≤◌, ◌<◌, ◌∙◌, ◌-◌, ◌/◌, ℕ, length, map, ap, ◌++◌, append-nil, arith}
+use Rattle.std.proofs.Common.{◌≤◌, ◌∙◌, ◌-◌, ◌/◌, ℕ, length, map, ap, ◌++◌, append-nil, arith}
 use Rattle.std.proofs.Math.Nat.{div-div-eq-div-mul}
 use Rattle.std.proofs.lemmas.Int.Digits.{length-digits_of-le, length-digits_of_step}
 use Rattle.std.proofs.lemmas.List.{drop_all}
