@@ -1,5 +1,6 @@
 //! Writers: what is written, and that it is read back with the same value.
 
+use peltzivar::format::FLAG_MASK;
 use peltzivar::literal::{
     Condition, Conditions, Form, FromLiteral, Language, Literal, Style, Syntax, WriteError, WriteInteger,
 };
@@ -62,7 +63,7 @@ fn value(literal: &Literal, syntax: &Syntax) -> Value {
     let (radix, base) = (syntax.format().mantissa_radix(), syntax.format().exponent_base());
     let mut powers = BTreeMap::new();
     for (mut factor, count) in [(radix, place), (base, exponent)] {
-        for prime in 2..=factor {
+        for prime in 2..=36 {
             while factor % prime == 0 {
                 *powers.entry(prime).or_insert(0) += count;
                 factor /= prime;
@@ -252,4 +253,94 @@ fn the_style_and_conditions_decide_on_prefix_suffix_and_groups() {
     let texts =
         [0xFFF, 0xFFFF, 0xF_FFFF, 0xFFF_FFFF].map(|it| indian.format_integer(it, bare.group(4)).unwrap().to_string());
     assert_eq!(texts, ["FFF", "F,FFF", "FF,FFF", "FF,FF,FFF"]);
+}
+
+/// Returns the next pseudo-random number below `bound`.
+fn below(state: &mut u64, bound: u64) -> u64 {
+    *state = state.wrapping_mul(6_364_136_223_846_793_005).wrapping_add(1_442_695_040_888_963_407);
+    (*state >> 32) % bound
+}
+
+/// Returns one of some bytes, as a number.
+fn pick(state: &mut u64, bytes: &[u8]) -> u128 {
+    bytes[below(state, bytes.len() as u64) as usize].into()
+}
+
+/// Returns a pseudo-random format with a mantissa radix, whose flags are `flags` or any others.
+fn random_format(state: &mut u64, radix: u128, flags: Option<u128>) -> Format {
+    loop {
+        let drawn = (0..45).filter(|_| below(state, 4) == 0).fold(0, |flags, bit| flags | 1 << bit) & FLAG_MASK;
+        let (separator, prefix) = (pick(state, b"\0_,"), pick(state, b"\0x"));
+        let (suffix, base) = (pick(state, b"\0h"), pick(state, &[0, 2, 10, radix as u8]));
+        let bytes = [(separator, 64), (prefix, 88), (suffix, 96), (radix, 104), (base, 112), (10, 120)];
+        let word = bytes.iter().fold(flags.unwrap_or(drawn), |word, (byte, bit)| word | byte << bit);
+        if let Ok(format) = Format::new(word) {
+            return format;
+        }
+    }
+}
+
+/// Returns a pseudo-random syntax, often with conditions.
+fn random_syntax(state: &mut u64) -> Syntax {
+    let radix = pick(state, &[10, 10, 10, 16, 16, 4, 3, 30]);
+    let format = random_format(state, radix, None);
+    let options = Syntax::new(format, b'^', b'.').ok().filter(|_| below(state, 4) > 0);
+    let syntax = options.unwrap_or(Syntax::integers(format));
+    let mut draw = || below(state, 3) == 0;
+    let conditions = Conditions::NONE.required_base_prefix(draw()).no_negative_mantissa_sign(draw());
+    let sizes = draw().then_some(2 + below(state, 3) as u8);
+    syntax.with_conditions(conditions.integer_group_size(sizes)).unwrap_or(syntax)
+}
+
+/// Returns digits of a radix, at most `most`.
+fn random_digits(state: &mut u64, radix: u128, most: u64) -> String {
+    let digit = |state: &mut u64| if below(state, 3) == 0 { 0 } else { below(state, radix as u64) as u32 };
+    (0..below(state, most + 1)).map(|_| char::from_digit(digit(state), 36).unwrap()).collect()
+}
+
+/// Returns whether a number was written with the right value, or refused for a reason.
+fn is_right(literal: &Literal, source: &Syntax, target: &Syntax, style: Style) -> bool {
+    match target.format_literal(literal, style).map(|text| text.to_string()) {
+        Ok(text) => target.read(&text).is_ok_and(|read| value(&read, target) == value(literal, source)),
+        Err(WriteError::Long) => {
+            target.exponent().is_none_or(|_| target.format().exponent_base() != source.format().exponent_base())
+                || target.format().no_exponent_notation()
+        }
+        Err(error) => is_reason(error, literal, source, target),
+    }
+}
+
+#[test]
+fn numbers_are_read_back_or_refused_in_any_syntax() {
+    let state = &mut 20_261_127;
+    for _ in 0..500 {
+        let target = random_syntax(state);
+        let styles = [Style::PLAIN, Style::PLAIN.without_base(), Style::PLAIN.group(1 + below(state, 4) as usize)];
+        for index in 0..400 {
+            let value = (u64::from(below(state, 1 << 32) as u32) << 32) as i64 >> below(state, 64);
+            match target.format_integer(value, styles[index % 3]).map(|text| text.to_string()) {
+                Ok(text) => assert_eq!(target.parse::<i64>(&text), Ok(value), "{text} in {target}"),
+                Err(WriteError::Negative) => assert!(value < 0 && target.conditions().has(Condition::NegativeSign)),
+                Err(error) => {
+                    assert_eq!((error, target.format().required_exponent_notation()), (WriteError::Float, true))
+                }
+            }
+        }
+        for index in 0..100 {
+            let radix = if below(state, 8) == 0 { 10 } else { u128::from(target.format().mantissa_radix()) };
+            // No digits are required.
+            let source = Syntax::new(random_format(state, radix, Some(0)), b'^', b'.').unwrap();
+            let [integer, fraction] = [(); 2].map(|()| random_digits(state, radix, 6));
+            let exponent = random_digits(state, 10, 3);
+            let (sign, power) = (["", "-"][index % 2], ["^", "^-"][index / 2 % 2]);
+            let point = if fraction.is_empty() { "" } else { "." };
+            let power = if exponent.is_empty() { "" } else { power };
+            let text = format!("{sign}{integer}{point}{fraction}{power}{exponent}");
+            if let Ok(literal) = source.read(&text) {
+                for style in styles {
+                    assert!(is_right(&literal, &source, &target, style), "{text} of {source} in {target}");
+                }
+            }
+        }
+    }
 }

@@ -12,6 +12,7 @@ mod integer;
 mod layout;
 #[allow(clippy::module_inception, clippy::needless_lifetimes, reason = "as it is proved")]
 mod literal;
+#[allow(clippy::needless_lifetimes, reason = "as it is proved")]
 mod moved;
 mod run;
 mod sink;
