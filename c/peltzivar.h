@@ -370,9 +370,9 @@ PELTZIVAR_MUST_USE bool peltzivar_form_syntax(const peltzivar_forms *forms, size
  * Reading the text returns the same value. */
 
 /* How numbers are written where a syntax leaves a choice: the number of integer digits in a group, if the format allows
- * separators between them, or 0 for no groups, and whether the base prefix and the base suffix are left out. Conditions
- * come first: the sizes of a syntax replace any group but 0, and a required prefix or suffix is written. A null pointer
- * is the same as zeros. */
+ * separators between them, or 0 for groups only where the syntax has sizes, and whether the base prefix and the base
+ * suffix are left out. Conditions come first: the sizes of a syntax replace any group, and a required prefix or suffix is
+ * written. A null pointer is the same as zeros. */
 typedef struct {
     uint8_t group;
     bool without_base;

@@ -271,7 +271,7 @@ static void test_writing(void) {
     CHECK(peltzivar_format_f64(&english, 5e-324, NULL, NULL, 0, &needed) == PELTZIVAR_WRITE_BUFFER && needed == 327);
     CHECK(make_syntax("exponent=none\npoint=none", &other) && peltzivar_format_f64(&other, 1e-7, NULL, text, 1, NULL) == PELTZIVAR_WRITE_FRACTION);
     CHECK(!peltzivar_format_f64(&other, 1e16, NULL, text, sizeof text, NULL) && !strcmp(text, "10000000000000000"));
-    CHECK(peltzivar_read(&json, "1.2E3", 5, &literal, NULL) && !peltzivar_format_literal(&english, &literal, NULL, text, sizeof text, NULL) && !strcmp(text, "1200"));
+    CHECK(peltzivar_read(&json, "1.2E3", 5, &literal, NULL) && !peltzivar_format_literal(&english, &literal, NULL, text, sizeof text, NULL) && !strcmp(text, "1,200"));
     CHECK(peltzivar_read(&json, "1E-7", 4, &literal, NULL) && !peltzivar_format_literal(&english, &literal, NULL, text, sizeof text, NULL) && !strcmp(text, "0.0000001"));
     CHECK(peltzivar_read(&json, "1E800", 5, &literal, NULL) && peltzivar_format_literal(&english, &literal, NULL, text, sizeof text, NULL) == PELTZIVAR_WRITE_LONG);
     memset(&literal, 0, sizeof literal);

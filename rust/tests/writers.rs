@@ -122,9 +122,10 @@ fn literals_are_written_in_other_languages() {
     println!("{counts:?}");
 }
 
-/// Converts a text of the standard format to one with `.` and `e`.
+/// Converts a text of a format that requires no digits to one with `.` and `e`.
 fn convert(text: &str, target: NumberFormatBuilder) -> Result<String, WriteError> {
-    let literal = Syntax::new_or_panic(Format::default(), b'e', b'.').read(text).unwrap();
+    let source = NumberFormatBuilder::new().required_digits(false).build_format_or_panic();
+    let literal = Syntax::new_or_panic(source, b'e', b'.').read(text).unwrap();
     let target = Syntax::new_or_panic(target.build_format_or_panic(), b'e', b'.');
     target.format_literal(&literal, Style::PLAIN).map(|text| text.to_string())
 }
@@ -132,6 +133,7 @@ fn convert(text: &str, target: NumberFormatBuilder) -> Result<String, WriteError
 #[test]
 fn flags_add_what_they_require() {
     let none = NumberFormatBuilder::new().required_digits(false);
+    let signs = none.required_mantissa_sign(true).required_exponent_sign(true);
     let binary = NonZeroU8::new(2);
     let long = format!("5e{}", "9".repeat(40));
     for (text, target, wanted) in [
@@ -142,6 +144,17 @@ fn flags_add_what_they_require() {
         ("1e5", none.no_exponent_without_fraction(true).required_fraction_digits(true), Ok("1.0e5")),
         ("1.", none.required_fraction_digits(true), Ok("1.0")),
         ("5", none.required_exponent_notation(true), Ok("5e0")),
+        ("5", signs.required_exponent_notation(true), Ok("+5e+0")),
+        (
+            "5",
+            none.required_digits(true).required_exponent_notation(true).no_exponent_without_fraction(true),
+            Ok("5.0e0"),
+        ),
+        (".", none, Ok("0.")),
+        ("5.", none, Ok("5.")),
+        ("1e", none, Ok("1e0")),
+        ("007", none, Ok("7")),
+        ("1.50", none, Ok("1.50")),
         ("+5e+06", none.required_mantissa_sign(true), Ok("+5e6")),
         ("-0e-6", none.required_exponent_sign(true), Ok("-0e-6")),
         ("5e6", none.required_exponent_sign(true), Ok("5e+6")),
@@ -246,7 +259,8 @@ fn the_style_and_conditions_decide_on_prefix_suffix_and_groups() {
     assert_eq!((text(syntax, Style::PLAIN).as_str(), text(syntax, bare.group(2)).as_str()), ("0xFFFF", "FF,FF"));
     let conditions = Conditions::NONE.required_base_prefix(true).no_negative_mantissa_sign(true);
     let strict = syntax.with_conditions(conditions.integer_group_size(Some(3))).unwrap();
-    assert_eq!((text(strict, bare).as_str(), text(strict, bare.group(2)).as_str()), ("0xFFFF", "0xF,FFF"));
+    let texts = [bare, bare.group(2), bare.group(0)].map(|style| text(strict, style));
+    assert_eq!(texts, ["0xF,FFF", "0xF,FFF", "0xFFFF"]);
     assert_eq!(strict.format_integer(-1, bare).unwrap_err(), WriteError::Negative);
     let indian =
         syntax.with_conditions(Conditions::NONE.integer_group_size(Some(3)).higher_group_size(Some(2))).unwrap();

@@ -14,7 +14,7 @@ use lexical_value::float::to_float;
 use lexical_value::integer::ValueErrorKind;
 use lexical_value::parse::{ParseError, parse_float, parse_integer};
 use lexical_writer::integer::format_integer;
-use lexical_writer::layout::{Style, WriteError};
+use lexical_writer::layout::{Grouping, Style, WriteError};
 use lexical_writer::literal::format_literal;
 use std::test::Fail;
 
@@ -258,7 +258,7 @@ fn a_tie_of_770_digits_is_even_unless_a_digit_follows(rt: HostRuntime) {
 }
 
 const PLAIN: Style = Style {
-    group: 0,
+    group: Grouping::AsSyntax,
     prefix: true,
     suffix: true,
 };

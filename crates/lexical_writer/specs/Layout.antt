@@ -14,6 +14,8 @@ use Rattle.lexical_number.specs.Number.{digits_in, number}
 use Rattle.lexical_value.specs.Value.{is_minus}
 use Rattle.lexical_writer.specs.Digits.{grouped, no_groups, only_if, or_zero, run_text, size_of, values_of}
 use Rattle.lexical_writer.specs.declared.layout.Amount.{Amount}
+use Rattle.lexical_writer.specs.declared.layout.Grouping.{Grouping}
+use Rattle.lexical_writer.specs.declared.layout.Grouping.TheVariants as groupings
 use Rattle.lexical_writer.specs.declared.layout.Layout.{Layout}
 use Rattle.lexical_writer.specs.declared.layout.Power.{Power}
 use Rattle.lexical_writer.specs.declared.layout.Style.{Style}
@@ -65,12 +67,18 @@ given_power amount = unwrap_or amount.exponent (record { negative = false; sourc
 abbrev pub either : ℕ → ℕ → ℕ
 either size other = if size == 0 then other else size
 
+-- `group_size size group` is the number of digits of a group where a condition requires `size`, or 0 if there are no groups.
+abbrev pub group_size : ℕ → Grouping → ℕ
+group_size size groupings.AsSyntax = size
+group_size size groupings.None = 0
+group_size size (groupings.Of other) = if other == 0 then 0 else either size other
+
 -- `groups_of r c style` are the groups of an integer. They have the sizes that the conditions `c` require, or that of `style`. There
 -- are none if `style` has none, and where the format `r` does not allow a separator between digits, or has none.
 abbrev pub groups_of : Record → Conditions → Style → Groups
 groups_of r c style =
-    let last = either (number_of c conditions.IntegerGroupSize) style.group in
-    if style.group == 0 || not (r.flag layout.integer_internal_digit_separator) || r.byte layout.digit_separator == 0 then no_groups
+    let last = group_size (number_of c conditions.IntegerGroupSize) style.group in
+    if last == 0 || not (r.flag layout.integer_internal_digit_separator) || r.byte layout.digit_separator == 0 then no_groups
     else record { last = last; higher = either (number_of c conditions.HigherGroupSize) last }
 
 -- `needs_exponent g` is true if each literal of `g` has an exponent.

@@ -8,7 +8,7 @@ ghost use Rattle.lexical_literal.specs.Literal.{Reads, is_present, text_of};
 ghost use Rattle.lexical_literal.specs.Notation.{notation_of};
 ghost use Rattle.lexical_literal.specs.Syntax.{IsSyntax};
 ghost use Rattle.lexical_writer.specs.Digits.{grouped, no_groups, only_if, or_zero, run_text, size_of, values_of};
-ghost use Rattle.lexical_writer.specs.Layout.{base_byte, either, first_error, given_fraction, groups_of, has_zero};
+ghost use Rattle.lexical_writer.specs.Layout.{base_byte, either, first_error, given_fraction, group_size, groups_of, has_zero};
 ghost use Rattle.lexical_writer.specs.Layout.{HasNumber, IsLaidOut, literal_of, needs_exponent, refusal, sign_of};
 ghost use Rattle.lexical_writer.specs.Buffer.{IsTaken};
 
@@ -23,12 +23,22 @@ use lexical_util::laws::byte_facts;
 // Digits without groups.
 const NO_GROUPS: Groups = Groups { last: 0, higher: 0 };
 
+/// How many digits a group of the integer has. Where the format does not allow separators between them, there are none.
+#[derive(Debug, Clone, Copy, PartialEq, Eq, Hash)]
+pub enum Grouping {
+    /// As many as a condition of the syntax says. Without such a condition, there are no groups.
+    AsSyntax,
+    /// There are no groups.
+    None,
+    /// As many as this number, or as a condition of the syntax says, if it has one. For 0, there are no groups.
+    Of(usize),
+}
+
 /// How numbers are written where a syntax leaves a choice.
 #[derive(Debug, Clone, Copy, PartialEq, Eq, Hash)]
 pub struct Style {
-    /// The number of integer digits of a group, or 0 for digits without groups. Where the format does not allow
-    /// separators between integer digits, there are no groups. Where the syntax requires sizes, groups have these sizes.
-    pub group: usize,
+    /// How many digits a group of the integer has.
+    pub group: Grouping,
     /// Whether the base prefix is written, if the format has one.
     pub prefix: bool,
     /// Whether the base suffix is written, if the format has one.
@@ -334,15 +344,26 @@ const fn first_error(sign: bool, fraction: bool, exponent: bool) -> Option<Write
 const fn groups_of(format: NumberFormat, conditions: Conditions, style: Style) -> Groups
     ensures { result ≡ groups_of (raw format) conditions style }
 {
-    if style.group == 0
+    let last = group_size(conditions.number(Condition::IntegerGroupSize), style.group);
+    if last == 0
         || !format.integer_internal_digit_separator()
         || digit_separator(format.word()) == 0
     {
         return NO_GROUPS;
     }
-    let last = either(conditions.number(Condition::IntegerGroupSize), style.group);
     let higher = either(conditions.number(Condition::HigherGroupSize), last);
     Groups { last, higher }
+}
+
+// Returns how many digits a group has, where a condition requires `size` digits, or 0 for digits without groups.
+const fn group_size(size: u8, group: Grouping) -> usize
+    ensures { result ≡ group_size size group }
+{
+    match group {
+        Grouping::AsSyntax => size as usize,
+        Grouping::None | Grouping::Of(0) => 0,
+        Grouping::Of(other) => either(size, other),
+    }
 }
 
 // Returns the size that a condition requires, or `other` if it requires none.

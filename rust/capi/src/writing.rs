@@ -30,7 +30,7 @@ texts! {
     };
 }
 
-/// How numbers are written where a syntax leaves a choice. With zeros, they have a base, and no groups.
+/// How numbers are written where a syntax leaves a choice. With zeros, they have a base, and the groups of the syntax.
 #[repr(C)]
 pub struct Style {
     group: u8,
@@ -74,7 +74,11 @@ fn given(syntax: Option<&Syntax>, style: Option<&Style>) -> Option<(literal::Syn
         syntax,
         style.map_or(plain, |style| {
             let plain = if style.without_base != 0 { plain.without_base() } else { plain };
-            plain.group(style.group.into())
+            if style.group == 0 {
+                plain
+            } else {
+                plain.group(style.group.into())
+            }
         }),
     ))
 }

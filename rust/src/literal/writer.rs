@@ -17,7 +17,7 @@ mod moved;
 mod run;
 mod sink;
 
-pub use layout::{Style, WriteError};
+pub use layout::{Grouping, Style, WriteError};
 
 use layout::Layout;
 use sink::Sink;
@@ -28,14 +28,15 @@ pub trait WriteInteger: Integer {}
 impl<T: Integer> WriteInteger for T {}
 
 impl Style {
-    /// The digits without groups, with the base prefix and the base suffix if the format has them.
-    pub const PLAIN: Style = Style { group: 0, prefix: true, suffix: true };
+    /// The integer digits in groups where a condition of the syntax has a size, with the base prefix and the base suffix if
+    /// the format has them.
+    pub const PLAIN: Style = Style { group: Grouping::AsSyntax, prefix: true, suffix: true };
 
     /// Writes the integer digits in groups of `size` digits, counted from the right, where the format allows separators
-    /// between them. For `0`, there are no groups. Where the syntax requires sizes, the groups have these.
+    /// between them. For `0`, there are no groups. Where a condition of the syntax has a size, the groups have this.
     #[must_use]
     pub const fn group(mut self, size: usize) -> Style {
-        self.group = size;
+        self.group = Grouping::Of(size);
         self
     }
 

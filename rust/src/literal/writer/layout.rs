@@ -12,13 +12,24 @@ use crate::word::{base_prefix, base_suffix, digit_separator, FormatView};
 // Digits without groups.
 const NO_GROUPS: Groups = Groups { last: 0, higher: 0 };
 
+/// How many digits a group of the integer has. Where the format does not allow separators between them, there are none.
+#[derive(Debug, Clone, Copy, PartialEq, Eq, Hash)]
+#[non_exhaustive]
+pub enum Grouping {
+    /// As many as a condition of the syntax says. Without such a condition, there are no groups.
+    AsSyntax,
+    /// There are no groups.
+    None,
+    /// As many as this number, or as a condition of the syntax says, if it has one. For 0, there are no groups.
+    Of(usize),
+}
+
 /// How numbers are written where a syntax leaves a choice.
 #[derive(Debug, Clone, Copy, PartialEq, Eq, Hash)]
 #[non_exhaustive]
 pub struct Style {
-    /// The number of integer digits of a group, or 0 for digits without groups. Where the format does not allow
-    /// separators between integer digits, there are no groups. Where the syntax requires sizes, groups have these sizes.
-    pub group: usize,
+    /// How many digits a group of the integer has.
+    pub group: Grouping,
     /// Whether the base prefix is written, if the format has one.
     pub prefix: bool,
     /// Whether the base suffix is written, if the format has one.
@@ -252,12 +263,21 @@ const fn first_error(sign: bool, fraction: bool, exponent: bool) -> Option<Write
 // Returns the groups of an integer.
 #[inline]
 const fn groups_of(format: FormatView, conditions: Conditions, style: Style) -> Groups {
-    if style.group == 0 || !format.integer_internal_digit_separator() || digit_separator(format.word()) == 0 {
+    let last = group_size(conditions.number(Condition::IntegerGroupSize), style.group);
+    if last == 0 || !format.integer_internal_digit_separator() || digit_separator(format.word()) == 0 {
         return NO_GROUPS;
     }
-    let last = either(conditions.number(Condition::IntegerGroupSize), style.group);
     let higher = either(conditions.number(Condition::HigherGroupSize), last);
     Groups { last, higher }
+}
+
+// Returns how many digits a group has, where a condition requires `size` digits, or 0 for digits without groups.
+const fn group_size(size: u8, group: Grouping) -> usize {
+    match group {
+        Grouping::AsSyntax => size as usize,
+        Grouping::None | Grouping::Of(0) => 0,
+        Grouping::Of(other) => either(size, other),
+    }
 }
 
 // Returns the size that a condition requires, or `other` if it requires none.
