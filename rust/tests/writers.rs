@@ -222,7 +222,18 @@ fn texts_are_printed() {
     let toml = Language::TOML.forms()[0].syntax;
     let text = toml.format_integer(-1_234_567, Style::PLAIN.group(3)).unwrap();
     let printed = format!("{text:>12}|{text:*^14.2}|{text:11}|{text:?}");
-    assert_eq!(printed, "  -1_234_567|**-1_234_567**|-1_234_567 |\"-1_234_567\"");
+    assert_eq!(printed, "  -1_234_567|**-1_234_567**| -1_234_567|\"-1_234_567\"");
+    let hexadecimal = Language::C.forms().iter().find(|form| form.name == "hexadecimal").unwrap().syntax;
+    let (short, long) = (hexadecimal.format_integer(255, Style::PLAIN).unwrap(), "7".repeat(60));
+    let literal = toml.read(&long).unwrap();
+    let long = toml.format_literal(&literal, Style::PLAIN).unwrap();
+    // As std's numbers: zeros and the sign come before the digits.
+    assert_eq!(
+        format!("{short:08}|{short:+}|{short:+8}|{short:<6}|"),
+        format!("{:#08X}|{:+}|{:>8}|0xFF  |", 255, "+0xFF", "+0xFF")
+    );
+    assert_eq!(format!("{text:012}|{text:+}|{long:063}"), format!("-001_234_567|-1_234_567|000{long}"));
+    assert_eq!(format!("{long:+}{long:_^62}"), format!("+{long}_{long}_"));
 }
 
 /// Integers of each number of binary digits, in groups and without, and the literals that are read from them. Each byte

@@ -3,7 +3,6 @@
 use core::fmt::{self, Write};
 use core::str;
 
-use crate::literal::number::pad;
 use crate::literal::{Literal, Syntax};
 use crate::number::integer::Integer;
 
@@ -136,23 +135,45 @@ impl Written<'_> {
     }
 }
 
-/// Prints the text, with the width and the fill of the formatter. A precision is ignored.
+/// Prints the text as std prints numbers: with the width and the fill of the formatter, to the right if it has no alignment,
+/// for `+` with a sign, and for `0` with zeros behind the sign and the prefix. With these two, it may not be a literal. A
+/// precision is ignored.
 impl fmt::Display for Written<'_> {
     fn fmt(&self, f: &mut fmt::Formatter<'_>) -> fmt::Result {
         let mut text = [0; 40];
         let length = self.layout.write(&mut text);
-        let print = |f: &mut fmt::Formatter<'_>| match text.get(..length) {
-            Some(text) => f.write_str(str::from_utf8(text).unwrap_or_default()),
-            None => {
-                let mut printer = Printer { f, result: Ok(()) };
-                self.layout.put(&mut printer);
-                printer.result
-            }
-        };
-        match f.width() {
-            Some(_) => pad(f, length, print),
-            None => print(f),
+        let text = text.get(..length).and_then(|text| str::from_utf8(text).ok());
+        match text {
+            Some(text) if f.width().is_none() && !f.sign_plus() => f.write_str(text),
+            _ => self.pad(f, length),
         }
+    }
+}
+
+impl Written<'_> {
+    /// Prints the text, of which the length is known, with what the formatter adds.
+    #[cold]
+    fn pad(&self, f: &mut fmt::Formatter<'_>, length: usize) -> fmt::Result {
+        let (sign, prefix) = (self.layout.sign, self.layout.prefix);
+        let sign = sign.or(if f.sign_plus() { Some(b'+') } else { None });
+        let front = usize::from(self.layout.sign.is_some()) + 2 * usize::from(prefix.is_some());
+        let added = usize::from(sign != self.layout.sign);
+        let missing = f.width().unwrap_or(0).saturating_sub(length.saturating_add(added));
+        let (before, zeros) = match f.align() {
+            _ if f.sign_aware_zero_pad() => (0, missing),
+            Some(fmt::Alignment::Left) => (0, 0),
+            Some(fmt::Alignment::Center) => (missing / 2, 0),
+            _ => (missing, 0),
+        };
+        let fill = f.fill();
+        (0..before).try_for_each(|_| f.write_char(fill))?;
+        let bytes = [sign, prefix.map(|_| b'0'), prefix];
+        bytes.into_iter().flatten().try_for_each(|byte| f.write_char(byte.into()))?;
+        (0..zeros).try_for_each(|_| f.write_char('0'))?;
+        let mut printer = Printer { f, skip: front, result: Ok(()) };
+        self.layout.put(&mut printer);
+        printer.result?;
+        (before + zeros..missing).try_for_each(|_| f.write_char(fill))
     }
 }
 
@@ -177,15 +198,18 @@ impl Write for Escaper<'_, '_> {
     }
 }
 
-/// A formatter that takes a long text byte by byte.
+/// A formatter that takes a text byte by byte, without the first ones.
 struct Printer<'a, 'b> {
     f: &'a mut fmt::Formatter<'b>,
+    skip: usize,
     result: fmt::Result,
 }
 
 impl Sink for Printer<'_, '_> {
     fn put(&mut self, byte: u8) {
-        if self.result.is_ok() {
+        if self.skip > 0 {
+            self.skip -= 1;
+        } else if self.result.is_ok() {
             self.result = self.f.write_char(byte.into());
         }
     }
