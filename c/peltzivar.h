@@ -433,10 +433,10 @@ PELTZIVAR_MUST_USE size_t peltzivar_parse_f32_column(const peltzivar_forms *form
  * PELTZIVAR_WRITE_BUFFER. If the number cannot be written, it leaves the buffer and *needed unchanged and returns why.
  * Reading the text returns the same value. */
 
-/* How numbers are written where a syntax leaves a choice: the number of integer digits in a group, if the format
- * allows separators between them, or 0 for no groups, and whether the base prefix and the base suffix are left out. If
- * the syntax has sizes of groups, any group but 0 means these. A prefix or suffix that it requires is written. A null
- * pointer is the same as zeros. */
+/* How numbers are written where a syntax leaves a choice: the number of integer digits in a group, if the format allows
+ * separators between them, or 0 for groups only where the syntax has sizes, and whether the base prefix and the base
+ * suffix are left out. Conditions come first: the sizes of a syntax replace any group, and a required prefix or suffix is
+ * written. A null pointer is the same as zeros. */
 typedef struct {
     uint8_t group;
     bool without_base;
@@ -446,14 +446,15 @@ typedef struct {
 typedef uint8_t peltzivar_write_status;
 enum {
     PELTZIVAR_WRITE_OK = 0,
-    PELTZIVAR_WRITE_RADIX = 1, /* The mantissa radixes differ or, for a double or an exponent, the exponent bases. */
+    PELTZIVAR_WRITE_RADIX = 1, /* The radixes differ or, for a double, the exponent bases, or an exponent is too long. */
     PELTZIVAR_WRITE_NEGATIVE = 2, /* No literal has the sign `-`. */
-    PELTZIVAR_WRITE_FRACTION = 3, /* Literals are integers, and the number is a float, even if it is whole. */
-    PELTZIVAR_WRITE_EXPONENT = 4, /* No literal has an exponent, or one of so many digits. */
+    PELTZIVAR_WRITE_FRACTION = 3, /* Literals are integers, and the number is not whole. */
+    PELTZIVAR_WRITE_EXPONENT = 4, /* No literal has the exponent, which does not move the point by whole digits. */
     PELTZIVAR_WRITE_FLOAT = 5, /* Each literal has an exponent, and the number is of an integer type. */
     PELTZIVAR_WRITE_SPECIAL = 6, /* The number is NaN or infinity. */
     PELTZIVAR_WRITE_BUFFER = 7, /* The buffer is too short. */
-    PELTZIVAR_WRITE_ARGUMENT = 8 /* The syntax is null or refused, or no call has made the literal. */
+    PELTZIVAR_WRITE_ARGUMENT = 8, /* The syntax is null or refused, or no call has made the literal. */
+    PELTZIVAR_WRITE_LONG = 9 /* Without an exponent, which no literal has, the text has more than 800 bytes. */
 };
 
 /* The sizes of buffers for any integer of the next three calls, and for any float of peltzivar_format_f64. */
@@ -473,11 +474,12 @@ PELTZIVAR_MUST_USE peltzivar_write_status peltzivar_format_i128(const peltzivar_
 PELTZIVAR_MUST_USE peltzivar_write_status peltzivar_format_f64(const peltzivar_syntax *syntax, double value,
     const peltzivar_style *style, char *text, size_t len, size_t *needed);
 
-/* Writes a literal, which may be of another syntax, with the same value and without leading zeros. */
+/* Writes a literal, which may be of another syntax, with the same value and without leading zeros. Where no exponent is
+ * allowed, the point moves: 1.2e3 is 1200. */
 PELTZIVAR_MUST_USE peltzivar_write_status peltzivar_format_literal(const peltzivar_syntax *syntax,
     const peltzivar_literal *literal, const peltzivar_style *style, char *text, size_t len, size_t *needed);
 
-/* Returns what a status means, such as "no literal has this exponent". PELTZIVAR_WRITE_OK has an empty string. */
+/* Returns what a status means, such as "no literal has the sign '-'". PELTZIVAR_WRITE_OK has an empty string. */
 const char *peltzivar_write_description(peltzivar_write_status status);
 
 /* WORDS */

@@ -1874,13 +1874,14 @@ class Syntax(_Forms):
 
         Takes an int, a float, a Decimal, a `Literal`, or an object with `__index__` or `__float__`, as those of numpy,
         but no bool. Of a float, the digits are those of `repr`. `group` is the number of integer digits in a group, if
-        the format allows separators between them, or 0 for no groups. If the syntax has an `integer_group_size`, its
-        sizes replace any `group` but 0. `without_base` leaves out the base prefix and the base suffix, unless conditions
-        require them. Raises ValueError for NaN and infinity, for a sign `-`, a decimal point or an exponent if no
-        literal has one, for an int if each literal has an exponent, for an int of more than 4300 digits in radix 10, as
-        `str` does, for another mantissa radix than that of the syntax, which is 10 for a float and a Decimal, and, of a
-        float or an exponent, for another exponent base. A `Literal` keeps its exponent, and a Decimal has one from
-        1E+401 on and below 1E-400.
+        the format allows separators between them. If the syntax has an `integer_group_size`, its sizes replace any
+        `group`, also 0, for which there are no groups otherwise. `without_base` leaves out the base prefix and the base
+        suffix, unless conditions require them. Raises ValueError for NaN and infinity, for a sign `-` if no literal has one, for a number that is
+        not whole if literals are integers, for an int if each literal has an exponent, for an int of more than 4300
+        digits in radix 10, as `str` does, for another mantissa radix than that of the syntax, which is 10 for a float
+        and a Decimal, and, of a float, for another exponent base. A `Literal` keeps its exponent, and a Decimal has one
+        from 1E+401 on and below 1E-400. Where no exponent is allowed, the point moves, and the text has at most 800
+        bytes.
         """
         style, needed = _Style(_number("group", group), _typed("without_base", without_base, bool)), c_size_t(64)
         call, number, _literal = _writing(value, self._fields.mantissa_radix)

@@ -308,7 +308,12 @@ static void test_writing(void) {
     CHECK(!peltzivar_format_u64(&hexadecimal, UINT64_MAX, NULL, text, sizeof text, NULL) && !strcmp(text, "0xFFFFFFFFFFFFFFFF"));
     CHECK(!peltzivar_format_u64(&hexadecimal, 31, &bare, text, 3, &needed) && !strcmp(text, "1F") && needed == 3);
     CHECK(peltzivar_format_f64(&english, 5e-324, NULL, NULL, 0, &needed) == PELTZIVAR_WRITE_BUFFER && needed == 327);
-    CHECK(make_syntax("exponent=none\npoint=none", &other) && peltzivar_format_f64(&other, 1e16, NULL, text, 1, NULL) == PELTZIVAR_WRITE_FRACTION);
+    CHECK(make_syntax("exponent=none\npoint=none", &other) && peltzivar_format_f64(&other, 1e-7, NULL, text, 1, NULL) == PELTZIVAR_WRITE_FRACTION);
+    CHECK(!peltzivar_format_f64(&other, 1e16, NULL, text, sizeof text, NULL) && !strcmp(text, "10000000000000000"));
+    CHECK(peltzivar_read(&json, "1.2E3", 5, &literal, NULL) && !peltzivar_format_literal(&english, &literal, NULL, text, sizeof text, NULL) && !strcmp(text, "1,200"));
+    CHECK(peltzivar_read(&json, "1E-7", 4, &literal, NULL) && !peltzivar_format_literal(&english, &literal, NULL, text, sizeof text, NULL) && !strcmp(text, "0.0000001"));
+    CHECK(peltzivar_read(&json, "1E800", 5, &literal, NULL) && peltzivar_format_literal(&english, &literal, NULL, text, sizeof text, NULL) == PELTZIVAR_WRITE_LONG);
+    memset(&literal, 0, sizeof literal);
     CHECK(peltzivar_format_f64(&json, HUGE_VAL, NULL, text, sizeof text, &needed) == PELTZIVAR_WRITE_SPECIAL && needed == 327);
     CHECK(peltzivar_format_f64(&hexadecimal, 0.5, NULL, text, sizeof text, NULL) == PELTZIVAR_WRITE_RADIX);
     CHECK(peltzivar_format_i64(&c, -1, NULL, text, sizeof text, NULL) == PELTZIVAR_WRITE_NEGATIVE);

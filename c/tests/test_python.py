@@ -288,9 +288,12 @@ class Literals(unittest.TestCase):
             self.assertEqual(german.format_number(value, group=3), text)
             if not isinstance(value, (peltzivar.Literal, FormatView)):
                 self.assertEqual(german.read(text).decimal(), Decimal(repr(value)) if isinstance(value, float) else value)
+        for text, value in [("1.2E3", "1,200"), ("12.50E1", "125"), ("0E5", "0"), ("1.50", "1.50"), ("1E-7", "0.0000001")]:
+            self.assertEqual(Language.CSV_EN.forms["decimal"].format_number(Language.JSON.read(text)), value)
+        self.assertEqual(Syntax.integers(Format()).format_number(Decimal("1.0")), "1")
         self.assertEqual([hexadecimal.format_number(2**128 // 3), hexadecimal.format_number(31, without_base=True)], ["0x" + "5" * 32, "1F"])
         wrong = [(german, math.inf, "NaN or infinity"), (german, Decimal("NaN"), "NaN or infinity"), (hexadecimal, 1.5, "radix")]
-        for syntax, value, sentence in [*wrong, (Syntax.integers(Format()), 1.5, "decimal point"), (Language.C.forms["octal"], -1, "'-'")]:
+        for syntax, value, sentence in [*wrong, (Syntax.integers(Format()), 1.5, "not whole"), (Language.C.forms["octal"], -1, "'-'")]:
             self.assertRaisesRegex(ValueError, sentence, syntax.format_number, value)
 
     def test_a_locale_plays_no_role(self):

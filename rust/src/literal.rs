@@ -38,7 +38,7 @@
 //! let python = Language::PYTHON.forms()[0].syntax;
 //! let text = python.format_literal(&number.literal().unwrap(), Style::PLAIN.group(3))?;
 //! assert_eq!(text.to_string(), "1_000.5e3");
-//! assert_eq!(python.format_integer(1_234_567, Style::PLAIN)?.as_str(), Some("1234567"));
+//! assert_eq!(python.format_integer(1_234_567, Style::PLAIN)?.to_string(), "1234567");
 //! // In Python, the `-` of `-1` is an operator.
 //! assert_eq!(python.format_integer(-1, Style::PLAIN).unwrap_err(), WriteError::Negative);
 //!
@@ -111,4 +111,4 @@ pub use readers::{Number, Readers};
 pub use specials::{Sign, Special, Specials, Spelling};
 pub use syntax::{Condition, Conditions, ConditionsError, ConditionsErrorKind, Syntax};
 pub use value::{FromLiteral, ParseError, ValueError, ValueErrorKind};
-pub use writer::{Style, WriteError, WriteInteger, Written};
+pub use writer::{Grouping, Style, WriteError, WriteInteger, Written};

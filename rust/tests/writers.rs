@@ -1,5 +1,6 @@
 //! Writers: what is written, and that it is read back with the same value.
 
+use peltzivar::format::FLAG_MASK;
 use peltzivar::literal::{
     Condition, Conditions, Form, FromLiteral, Language, Literal, Style, Syntax, WriteError, WriteInteger,
 };
@@ -41,12 +42,15 @@ fn rows() -> impl Iterator<Item = (Language, &'static str)> {
     })
 }
 
-/// Returns the digits of a literal without zeros at both ends, the place of the last one, the exponent and the sign. The
-/// exponent of the tests is short.
-fn value(literal: &Literal) -> (Vec<u8>, isize, i128, bool) {
+/// The digits of a mantissa without zeros at both ends, the primes whose powers it is multiplied by, and whether it is
+/// negative. Two literals of the same radix have the same value if these are the same.
+type Value = (Vec<u8>, BTreeMap<u32, i128>, bool);
+
+/// Returns the value of a literal of a syntax, whose exponent is short in the tests.
+fn value(literal: &Literal, syntax: &Syntax) -> Value {
     let mut digits = Vec::from_iter(literal.digits(Part::Integer).skip_while(|digit| *digit == 0));
     digits.extend(literal.digits(Part::Fraction));
-    let mut place = -(literal.digits(Part::Fraction).count() as isize);
+    let mut place = -(literal.digits(Part::Fraction).count() as i128);
     while digits.last() == Some(&0) {
         digits.pop();
         place += 1;
@@ -55,8 +59,19 @@ fn value(literal: &Literal) -> (Vec<u8>, isize, i128, bool) {
     digits.drain(..zeros);
     let radix = i128::from(literal.radix(Part::Exponent));
     let size = literal.digits(Part::Exponent).fold(0, |size, digit| size * radix + i128::from(digit));
-    let place = if digits.is_empty() { 0 } else { place };
-    (digits, place, if literal.exponent_sign() == b"-" { -size } else { size }, literal.is_negative())
+    let exponent = if literal.exponent_sign() == b"-" { -size } else { size };
+    let (radix, base) = (syntax.format().mantissa_radix(), syntax.format().exponent_base());
+    let mut powers = BTreeMap::new();
+    for (mut factor, count) in [(radix, place), (base, exponent)] {
+        for prime in 2..=36 {
+            while factor % prime == 0 {
+                *powers.entry(prime).or_insert(0) += count;
+                factor /= prime;
+            }
+        }
+    }
+    powers.retain(|_, count| *count != 0 && !digits.is_empty());
+    (digits, powers, literal.is_negative())
 }
 
 /// Returns whether an error is why a literal of `source` cannot be written in `target`.
@@ -64,10 +79,10 @@ fn is_reason(error: WriteError, literal: &Literal, source: &Syntax, target: &Syn
     let (from, to) = (source.format(), target.format());
     let has_exponent = !literal.exponent_character().is_empty();
     match error {
-        WriteError::Radix => from.radix() != to.radix() || has_exponent && from.exponent_base() != to.exponent_base(),
+        WriteError::Radix => from.radix() != to.radix(),
         WriteError::Negative => literal.is_negative() && target.conditions().has(Condition::NegativeSign),
-        WriteError::Fraction => !literal.point().is_empty() && target.point().is_none(),
-        WriteError::Exponent => has_exponent && (target.exponent().is_none() || to.no_exponent_notation()),
+        WriteError::Fraction => target.point().is_none() && value(literal, source).1.values().any(|count| *count < 0),
+        WriteError::Exponent => has_exponent && from.exponent_base() != from.radix(),
         _ => false,
     }
 }
@@ -88,7 +103,8 @@ fn literals_are_written_in_other_languages() {
                         let read = form.syntax.read(&back).unwrap_or_else(|error| {
                             panic!("{language} {text:?} in {target} {}: {back:?}: {error}", form.name)
                         });
-                        assert_eq!(value(&read), value(&literal), "{language} {text:?} in {target}: {back:?}");
+                        let same = value(&read, &form.syntax) == value(&literal, &source);
+                        assert!(same, "{language} {text:?} in {target}: {back:?}");
                         "written".to_string()
                     }
                     Err(error) => {
@@ -106,9 +122,10 @@ fn literals_are_written_in_other_languages() {
     println!("{counts:?}");
 }
 
-/// Converts a text of the standard format to one with `.` and `e`.
+/// Converts a text of a format that requires no digits to one with `.` and `e`.
 fn convert(text: &str, target: NumberFormatBuilder) -> Result<String, WriteError> {
-    let literal = Syntax::new_or_panic(Format::default(), b'e', b'.').read(text).unwrap();
+    let source = NumberFormatBuilder::new().required_digits(false).build_format_or_panic();
+    let literal = Syntax::new_or_panic(source, b'e', b'.').read(text).unwrap();
     let target = Syntax::new_or_panic(target.build_format_or_panic(), b'e', b'.');
     target.format_literal(&literal, Style::PLAIN).map(|text| text.to_string())
 }
@@ -116,6 +133,7 @@ fn convert(text: &str, target: NumberFormatBuilder) -> Result<String, WriteError
 #[test]
 fn flags_add_what_they_require() {
     let none = NumberFormatBuilder::new().required_digits(false);
+    let signs = none.required_mantissa_sign(true).required_exponent_sign(true);
     let binary = NonZeroU8::new(2);
     let long = format!("5e{}", "9".repeat(40));
     for (text, target, wanted) in [
@@ -126,17 +144,76 @@ fn flags_add_what_they_require() {
         ("1e5", none.no_exponent_without_fraction(true).required_fraction_digits(true), Ok("1.0e5")),
         ("1.", none.required_fraction_digits(true), Ok("1.0")),
         ("5", none.required_exponent_notation(true), Ok("5e0")),
+        ("5", signs.required_exponent_notation(true), Ok("+5e+0")),
+        (
+            "5",
+            none.required_digits(true).required_exponent_notation(true).no_exponent_without_fraction(true),
+            Ok("5.0e0"),
+        ),
+        (".", none, Ok("0.")),
+        ("5.", none, Ok("5.")),
+        ("1e", none, Ok("1e0")),
+        ("007", none, Ok("7")),
+        ("1.50", none, Ok("1.50")),
         ("+5e+06", none.required_mantissa_sign(true), Ok("+5e6")),
         ("-0e-6", none.required_exponent_sign(true), Ok("-0e-6")),
         ("5e6", none.required_exponent_sign(true), Ok("5e+6")),
-        ("5e6", none.no_exponent_notation(true), Err(WriteError::Exponent)),
+        ("1.50", none.no_exponent_notation(true), Ok("1.50")),
         ("5", none.mantissa_radix(8), Err(WriteError::Radix)),
         ("5e6", none.exponent_radix(binary), Ok("5e110")),
-        ("5e6", none.exponent_base(binary), Err(WriteError::Radix)),
+        ("5e6", none.exponent_base(binary), Ok("5000000")),
         (&long, none, Ok(&long)),
-        (&long, none.exponent_radix(binary), Err(WriteError::Exponent)),
+        (&long, none.exponent_radix(binary), Err(WriteError::Radix)),
     ] {
         assert_eq!(convert(text, target), wanted.map(String::from), "{text}");
+    }
+}
+
+#[test]
+fn the_point_moves_where_no_exponent_is_allowed() {
+    let builder = NumberFormatBuilder::new().required_digits(false);
+    let source = Syntax::new_or_panic(builder.build_format_or_panic(), b'e', b'.');
+    let target = Syntax::new_or_panic(builder.no_exponent_notation(true).build_format_or_panic(), b'e', b'.');
+    let integers = Syntax::integers(target.format());
+    let (large, small) = (format!("1{}", "0".repeat(799)), format!("0.{}1", "0".repeat(797)));
+    let tiny = format!("1e-{}", "9".repeat(40));
+    let (far, near) = (format!("1e{}", "9".repeat(40)), format!("0.{}1e1000", "0".repeat(999)));
+    let (fraction, long) = (Err(WriteError::Fraction), Err(WriteError::Long));
+    for (text, wanted, whole) in [
+        ("1.2e3", Ok("1200"), Ok("1200")),
+        ("12.50e1", Ok("125"), Ok("125")),
+        ("12.50e+0", Ok("12.5"), fraction),
+        ("1e-7", Ok("0.0000001"), fraction),
+        ("-12345e-2", Ok("-123.45"), fraction),
+        (".5e0", Ok("0.5"), fraction),
+        ("1.50", Ok("1.50"), fraction),
+        ("1.0", Ok("1.0"), Ok("1")),
+        ("-.", Ok("-0."), Ok("-0")),
+        ("0e5", Ok("0"), Ok("0")),
+        ("0.00e-5", Ok("0"), Ok("0")),
+        ("1e799", Ok(&*large), Ok(&*large)),
+        ("1e800", long, long),
+        ("1e-798", Ok(&*small), fraction),
+        ("1e-799", long, fraction),
+        (&*near, Ok("1"), Ok("1")),
+        (&*far, long, long),
+        (&*tiny, long, fraction),
+    ] {
+        let literal = source.read(text).unwrap();
+        let written = |syntax: Syntax| syntax.format_literal(&literal, Style::PLAIN).map(|text| text.to_string());
+        assert_eq!(written(target), wanted.map(String::from), "{text}");
+        assert_eq!(written(integers), whole.map(String::from), "{text}");
+    }
+    // A radix that is a power of the exponent base: the point moves by whole digits.
+    let hexadecimal = builder.mantissa_radix(16).exponent_base(NonZeroU8::new(2)).exponent_radix(NonZeroU8::new(10));
+    let source = Syntax::new_or_panic(hexadecimal.build_format_or_panic(), b'p', b'.');
+    let integers = Syntax::integers(source.format());
+    for (text, wanted) in
+        [("1.8p4", Ok("18")), ("1.8p8", Ok("180")), ("8p-4", fraction), ("1p3", Err(WriteError::Exponent))]
+    {
+        let literal = source.read(text).unwrap();
+        let written = integers.format_literal(&literal, Style::PLAIN).map(|text| text.to_string());
+        assert_eq!(written, wanted.map(String::from), "{text}");
     }
 }
 
@@ -145,7 +222,18 @@ fn texts_are_printed() {
     let toml = Language::TOML.forms()[0].syntax;
     let text = toml.format_integer(-1_234_567, Style::PLAIN.group(3)).unwrap();
     let printed = format!("{text:>12}|{text:*^14.2}|{text:11}|{text:?}");
-    assert_eq!(printed, "  -1_234_567|**-1_234_567**|-1_234_567 |\"-1_234_567\"");
+    assert_eq!(printed, "  -1_234_567|**-1_234_567**| -1_234_567|\"-1_234_567\"");
+    let hexadecimal = Language::C.forms().iter().find(|form| form.name == "hexadecimal").unwrap().syntax;
+    let (short, long) = (hexadecimal.format_integer(255, Style::PLAIN).unwrap(), "7".repeat(60));
+    let literal = toml.read(&long).unwrap();
+    let long = toml.format_literal(&literal, Style::PLAIN).unwrap();
+    // As std's numbers: zeros and the sign come before the digits.
+    assert_eq!(
+        format!("{short:08}|{short:+}|{short:+8}|{short:<6}|"),
+        format!("{:#08X}|{:+}|{:>8}|0xFF  |", 255, "+0xFF", "+0xFF")
+    );
+    assert_eq!(format!("{text:012}|{text:+}|{long:063}"), format!("-001_234_567|-1_234_567|000{long}"));
+    assert_eq!(format!("{long:+}{long:_^62}"), format!("+{long}_{long}_"));
 }
 
 /// Integers of each number of binary digits, in groups and without, and the literals that are read from them. Each byte
@@ -164,7 +252,7 @@ fn texts_of_each_length_are_printed_and_written() {
         let wanted = &*(Vec::from_iter(groups).join("_") + &String::from_iter(suffix));
         let (length, literal) = (wanted.len(), syntax.read(wanted).unwrap());
         for text in [syntax.format_integer(value, style), syntax.format_literal(&literal, style)].map(Result::unwrap) {
-            assert_eq!((text.as_str(), &*text.to_string()), ((length <= 64).then_some(wanted), wanted));
+            assert_eq!(text.to_string(), wanted);
             assert_eq!(format!("{text:?} {text:>200}"), format!("{wanted:?} {wanted:>200}"));
             assert_eq!(text.write_into(&mut [0; 256][..length]), Ok(wanted));
             assert_eq!(text.write_into(&mut [0; 256][..length - 1]), Err(WriteError::Buffer(length)));
@@ -182,11 +270,102 @@ fn the_style_and_conditions_decide_on_prefix_suffix_and_groups() {
     assert_eq!((text(syntax, Style::PLAIN).as_str(), text(syntax, bare.group(2)).as_str()), ("0xFFFF", "FF,FF"));
     let conditions = Conditions::NONE.required_base_prefix(true).no_negative_mantissa_sign(true);
     let strict = syntax.with_conditions(conditions.integer_group_size(Some(3))).unwrap();
-    assert_eq!((text(strict, bare).as_str(), text(strict, bare.group(2)).as_str()), ("0xFFFF", "0xF,FFF"));
+    let texts = [bare, bare.group(2), bare.group(0)].map(|style| text(strict, style));
+    assert_eq!(texts, ["0xF,FFF", "0xF,FFF", "0xFFFF"]);
     assert_eq!(strict.format_integer(-1, bare).unwrap_err(), WriteError::Negative);
     let indian =
         syntax.with_conditions(Conditions::NONE.integer_group_size(Some(3)).higher_group_size(Some(2))).unwrap();
     let texts =
         [0xFFF, 0xFFFF, 0xF_FFFF, 0xFFF_FFFF].map(|it| indian.format_integer(it, bare.group(4)).unwrap().to_string());
     assert_eq!(texts, ["FFF", "F,FFF", "FF,FFF", "FF,FF,FFF"]);
+}
+
+/// Returns the next pseudo-random number below `bound`.
+fn below(state: &mut u64, bound: u64) -> u64 {
+    *state = state.wrapping_mul(6_364_136_223_846_793_005).wrapping_add(1_442_695_040_888_963_407);
+    (*state >> 32) % bound
+}
+
+/// Returns one of some bytes, as a number.
+fn pick(state: &mut u64, bytes: &[u8]) -> u128 {
+    bytes[below(state, bytes.len() as u64) as usize].into()
+}
+
+/// Returns a pseudo-random format with a mantissa radix, whose flags are `flags` or any others.
+fn random_format(state: &mut u64, radix: u128, flags: Option<u128>) -> Format {
+    loop {
+        let drawn = (0..45).filter(|_| below(state, 4) == 0).fold(0, |flags, bit| flags | 1 << bit) & FLAG_MASK;
+        let (separator, prefix) = (pick(state, b"\0_,"), pick(state, b"\0x"));
+        let (suffix, base) = (pick(state, b"\0h"), pick(state, &[0, 2, 10, radix as u8]));
+        let bytes = [(separator, 64), (prefix, 88), (suffix, 96), (radix, 104), (base, 112), (10, 120)];
+        let word = bytes.iter().fold(flags.unwrap_or(drawn), |word, (byte, bit)| word | byte << bit);
+        if let Ok(format) = Format::new(word) {
+            return format;
+        }
+    }
+}
+
+/// Returns a pseudo-random syntax, often with conditions.
+fn random_syntax(state: &mut u64) -> Syntax {
+    let radix = pick(state, &[10, 10, 10, 16, 16, 4, 3, 30]);
+    let format = random_format(state, radix, None);
+    let options = Syntax::new(format, b'^', b'.').ok().filter(|_| below(state, 4) > 0);
+    let syntax = options.unwrap_or(Syntax::integers(format));
+    let mut draw = || below(state, 3) == 0;
+    let conditions = Conditions::NONE.required_base_prefix(draw()).no_negative_mantissa_sign(draw());
+    let sizes = draw().then_some(2 + below(state, 3) as u8);
+    syntax.with_conditions(conditions.integer_group_size(sizes)).unwrap_or(syntax)
+}
+
+/// Returns digits of a radix, at most `most`.
+fn random_digits(state: &mut u64, radix: u128, most: u64) -> String {
+    let digit = |state: &mut u64| if below(state, 3) == 0 { 0 } else { below(state, radix as u64) as u32 };
+    (0..below(state, most + 1)).map(|_| char::from_digit(digit(state), 36).unwrap()).collect()
+}
+
+/// Returns whether a number was written with the right value, or refused for a reason.
+fn is_right(literal: &Literal, source: &Syntax, target: &Syntax, style: Style) -> bool {
+    match target.format_literal(literal, style).map(|text| text.to_string()) {
+        Ok(text) => target.read(&text).is_ok_and(|read| value(&read, target) == value(literal, source)),
+        Err(WriteError::Long) => {
+            target.exponent().is_none_or(|_| target.format().exponent_base() != source.format().exponent_base())
+                || target.format().no_exponent_notation()
+        }
+        Err(error) => is_reason(error, literal, source, target),
+    }
+}
+
+#[test]
+fn numbers_are_read_back_or_refused_in_any_syntax() {
+    let state = &mut 20_261_127;
+    for _ in 0..500 {
+        let target = random_syntax(state);
+        let styles = [Style::PLAIN, Style::PLAIN.without_base(), Style::PLAIN.group(1 + below(state, 4) as usize)];
+        for index in 0..400 {
+            let value = (u64::from(below(state, 1 << 32) as u32) << 32) as i64 >> below(state, 64);
+            match target.format_integer(value, styles[index % 3]).map(|text| text.to_string()) {
+                Ok(text) => assert_eq!(target.parse::<i64>(&text), Ok(value), "{text} in {target}"),
+                Err(WriteError::Negative) => assert!(value < 0 && target.conditions().has(Condition::NegativeSign)),
+                Err(error) => {
+                    assert_eq!((error, target.format().required_exponent_notation()), (WriteError::Float, true))
+                }
+            }
+        }
+        for index in 0..100 {
+            let radix = if below(state, 8) == 0 { 10 } else { u128::from(target.format().mantissa_radix()) };
+            // No digits are required.
+            let source = Syntax::new(random_format(state, radix, Some(0)), b'^', b'.').unwrap();
+            let [integer, fraction] = [(); 2].map(|()| random_digits(state, radix, 6));
+            let exponent = random_digits(state, 10, 3);
+            let (sign, power) = (["", "-"][index % 2], ["^", "^-"][index / 2 % 2]);
+            let point = if fraction.is_empty() { "" } else { "." };
+            let power = if exponent.is_empty() { "" } else { power };
+            let text = format!("{sign}{integer}{point}{fraction}{power}{exponent}");
+            if let Ok(literal) = source.read(&text) {
+                for style in styles {
+                    assert!(is_right(&literal, &source, &target, style), "{text} of {source} in {target}");
+                }
+            }
+        }
+    }
 }

@@ -107,7 +107,7 @@ EVERYWHERE = [
 
 # Types that may grow. In plain Rust, a match outside the crate has to have an arm for what they lack today.
 GROWS = {
-    "enum": "ArgumentKind Byte Cause Class Condition ConditionsErrorKind Edit EditErrorKind Error FlagSetter Note Part Place Radixes ReadErrorKind Role Rule "
+    "enum": "ArgumentKind Byte Cause Class Condition ConditionsErrorKind Edit EditErrorKind Error FlagSetter Grouping Note Part Place Radixes ReadErrorKind Role Rule "
     "Setter ValueErrorKind WriteError",
     "struct": "ConditionsError FormError NamedByte Separators Style",
 }

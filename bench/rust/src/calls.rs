@@ -30,6 +30,7 @@ calls! {
 pub fn writer() -> impl Fn(i64) -> usize {
     let syntax = Language::JSON.forms()[0].syntax;
     move |value| {
-        black_box(&syntax.format_integer(value, Style::PLAIN).expect("an integer")).as_str().map_or(0, str::len)
+        let written = syntax.format_integer(value, Style::PLAIN).expect("an integer");
+        black_box(written.write_into(&mut [0; 20]).expect("20 bytes")).len()
     }
 }

@@ -14,7 +14,7 @@ use lexical_value::float::to_float;
 use lexical_value::integer::ValueErrorKind;
 use lexical_value::parse::{ParseError, parse_float, parse_integer};
 use lexical_writer::integer::format_integer;
-use lexical_writer::layout::Style;
+use lexical_writer::layout::{Grouping, Style, WriteError};
 use lexical_writer::literal::format_literal;
 use std::test::Fail;
 
@@ -258,7 +258,7 @@ fn a_tie_of_770_digits_is_even_unless_a_digit_follows(rt: HostRuntime) {
 }
 
 const PLAIN: Style = Style {
-    group: 0,
+    group: Grouping::AsSyntax,
     prefix: true,
     suffix: true,
 };
@@ -283,6 +283,29 @@ fn numbers_are_written(rt: HostRuntime) -> Result<(), Fail> {
     assert_eq!(rt; layout.write(&mut buffer), 8);
     assert_eq!(rt; buffer.as_slice(), b"-12.50E3".as_slice());
     Ok(())
+}
+
+// Returns what is written of a text of the standard format as an integer.
+fn whole<'a>(text: &str, buffer: &'a mut [u8]) -> Result<&'a [u8], WriteError> {
+    let format = Format::new(STANDARD).map_err(|_| WriteError::Special)?;
+    let syntax = Syntax::new(format, b'e', b'.').map_err(|_| WriteError::Special)?;
+    let literal = syntax
+        .read(text.as_bytes())
+        .map_err(|_| WriteError::Special)?;
+    let layout = format_literal(&literal, &Syntax::integers(format), PLAIN)?;
+    let length = layout.write(buffer);
+    buffer.get(..length).ok_or(WriteError::Buffer(length))
+}
+
+#[test]
+fn the_point_moves_where_no_exponent_is_allowed(rt: HostRuntime) {
+    let mut buffer = [0u8; 8];
+    assert!(rt; matches!(whole("-12.50e2", &mut buffer), Ok(b"-1250")));
+    assert!(rt; matches!(whole("120e-1", &mut buffer), Ok(b"12")));
+    assert!(rt; matches!(whole("1.0", &mut buffer), Ok(b"1")));
+    assert!(rt; matches!(whole("0e-9", &mut buffer), Ok(b"0")));
+    assert!(rt; matches!(whole("12.5", &mut buffer), Err(WriteError::Fraction)));
+    assert!(rt; matches!(whole("1e800", &mut buffer), Err(WriteError::Long)));
 }
 
 // Returns whether a clone is equal to the value.

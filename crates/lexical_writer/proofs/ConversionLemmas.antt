@@ -1,6 +1,6 @@
 -- What is written of a literal has its value.
 use Rattle.std.proofs.Common.{ℕ, ◌≡◌, ◌*◌, ◌^◌, ◌&&◌, ◌||◌, ◌⊎◌, inl, inr, if◌then◌else◌, Bool, true, false, List, [], ◌∷◌, ◌++◌, length}
-use Rattle.std.proofs.Common.{Some, None, Ok, option_map, unwrap_or, sym, ap, ◌∙◌, arith}
+use Rattle.std.proofs.Common.{Some, None, Ok, unwrap_or, sym, ap, ◌∙◌, arith}
 use Rattle.std.proofs.Math.Nat.{pow-suc, pow-zero}
 use Rattle.std.proofs.lemmas.Bool.Decides.{nat_tests}
 use Rattle.std.specs.Borrow.{Bor}
@@ -26,7 +26,7 @@ cross : (m s q u d : ℕ) → (m * u) * ((s * q) * d) ≡ ((m * q) * u) * (s * d
 cross m s q u d = omega arith
 
 -- A 0 that stands for absent digits makes the number and the scale larger by the same factor.
-zero_scaled : (radix n : ℕ) (none : Bool) (digits : List ℕ) → (q : ℕ) × (number_from_digits_after radix n
+pub zero_scaled : (radix n : ℕ) (none : Bool) (digits : List ℕ) → (q : ℕ) × (number_from_digits_after radix n
     (or_zero none digits) ≡ number_from_digits_after radix n digits * q)
     × (radix ^ length (or_zero none digits) ≡ radix ^ length digits * q)
 zero_scaled radix n true [] = (radix, omega arith, pow-suc radix 0)
@@ -38,7 +38,7 @@ source_is : (bytes : Bor (List ℕ)) (from to : ℕ) (source : Source) → sourc
 source_is bytes from to source is = grind (arith, nat_tests)
 
 fraction_is : (radix : ℕ) (a : Bool) (bytes : Bor (List ℕ))
-    → values_of radix (unwrap_or (option_map sources.Bytes (if a && is_absent bytes.now then None else Some bytes)) (sources.Number 0))
+    → values_of radix (unwrap_or (if a && is_absent bytes.now then None else Some (sources.Bytes bytes)) (sources.Number 0))
     ≡ digits_in radix bytes.now
 fraction_is radix a bytes = grind arith
 

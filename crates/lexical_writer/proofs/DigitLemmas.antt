@@ -1,9 +1,11 @@
 -- Digits and their characters.
 use Rattle.std.proofs.Common.{ℕ, ◌≡◌, ◌+◌, ◌*◌, ◌<◌, ◌≤◌, ◌||◌, Bool, true, false, cond, nat_lt, List, [], ◌∷◌, ◌++◌, length, drop, get_or}
-use Rattle.std.proofs.Common.{◌-◌, ◌/◌, ◌%◌, map, set, slice_get, option_to_list, Some, None, refl, sym, ap, ◌∙◌, arith, suc, drop-cons}
-use Rattle.std.proofs.lemmas.Int.Digits.{all_below_base_digits_of, digits_of_step, first_digits_of}
-use Rattle.std.proofs.lemmas.List.{append_assoc, drop-set, map_push}
+use Rattle.std.proofs.Common.{Option, ◌-◌, ◌/◌, ◌%◌, map, set, slice_get, option_to_list, Some, None, refl, sym, ap, ◌∙◌, arith, suc, zero, drop-cons, add-one, replicate, append-nil, subst, inl, inr}
+use Rattle.std.proofs.lemmas.Bool.{cases_lt}
+use Rattle.std.proofs.lemmas.Int.Digits.{all_below_base_digits_of, digits_of_step, first_digits_of, length-digits_of_step, number_after_append}
+use Rattle.std.proofs.lemmas.List.{append_assoc, drop-set, length-append, length-set, map_push}
 use Rattle.std.proofs.lemmas.Bool.Decides.{nat_tests}
+use Rattle.std.proofs.Math.Nat.{div-div-eq-div-mul}
 use Rattle.std.proofs.lemmas.Nat.{div-mul-add, mod-mul-add}
 use Rattle.std.proofs.lemmas.Option.{get_or_from_slice_get}
 use Rattle.std.specs.Int.Digits.{AllBelowBase, digits_of, number_from_digits, number_from_digits_after}
@@ -12,10 +14,18 @@ use Rattle.lexical_util.specs.Digits.{byte_value, digit_characters, digit_of}
 use Rattle.lexical_base.proofs.ValueLemmas.{digit_of-digit_character}
 use Rattle.lexical_literal.specs.Literal.{is_present}
 use Rattle.lexical_number.specs.Number.{digits_in, number}
-use Rattle.lexical_writer.specs.Digits.{character, ends_group, grouped, no_groups, only_if, or_zero, separated, values_of}
+use Rattle.lexical_writer.specs.Digits.{character, ends_group, grouped, grouped_front, no_groups, only_if, or_zero, padded_values, separated, values_of}
 use Rattle.lexical_writer.specs.declared.run.Groups.{Groups}
+use Rattle.lexical_writer.specs.declared.run.Padded.{Padded}
 use Rattle.lexical_writer.specs.declared.run.Source.{Source}
 use Rattle.lexical_writer.specs.declared.run.Source.TheVariants as sources
+
+-- What is left of some bytes, where a digit is, or none.
+pub left_of : (radix i : ℕ) (bytes : List ℕ) (digit : Option ℕ) → i < length bytes → digit ≡ digit_of (get_or bytes i 0) radix
+    → digits_in radix (drop i bytes) ≡ cons_option digit (digits_in radix (drop (i + 1) bytes))
+left_of radix i bytes digit inside is =
+    let cons : drop i bytes ≡ get_or bytes i 0 ∷ drop (i + 1) bytes = rw add-one (drop-cons bytes i 0 inside) in
+    ap (digits_in radix) cons ∙ ap (λ digit. cons_option digit (digits_in radix (drop (i + 1) bytes))) (sym is)
 
 -- Each digit among bytes is below the radix.
 below_if : (radix value : ℕ) (digits : List ℕ) → AllBelowBase radix digits
@@ -26,9 +36,26 @@ pub digits_below : (radix : ℕ) (bytes : List ℕ) → AllBelowBase radix (digi
 digits_below radix [] = tt
 digits_below radix (byte ∷ bytes) = below_if radix (byte_value byte) (digits_in radix bytes) (digits_below radix bytes)
 
+pub zeros_below : (radix k : ℕ) → 2 ≤ radix → AllBelowBase radix (replicate k 0)
+zeros_below radix zero two = tt
+zeros_below radix (suc k) two = (omega arith, zeros_below radix k two)
+
+both_below : (radix : ℕ) (xs ys : List ℕ) → AllBelowBase radix xs → AllBelowBase radix ys → AllBelowBase radix (xs ++ ys)
+both_below radix [] ys all rest = rest
+both_below radix (x ∷ xs) ys all rest = (all.0, both_below radix xs ys all.1 rest)
+
+-- The digits behind the first piece.
+pub behind_below : (radix : ℕ) (padded : Padded) → 2 ≤ radix → AllBelowBase radix (digits_in radix padded.second.now ++ replicate padded.after 0)
+behind_below radix padded two = both_below radix _ _ (digits_below radix padded.second.now) (zeros_below radix padded.after two)
+
+pub padded_below : (radix : ℕ) (padded : Padded) → 2 ≤ radix → AllBelowBase radix (padded_values radix padded)
+padded_below radix padded two =
+    both_below radix _ _ (zeros_below radix padded.before two) (both_below radix _ _ (digits_below radix padded.first.now) (behind_below radix padded two))
+
 pub values_below : (radix : ℕ) (source : Source) → 2 ≤ radix → AllBelowBase radix (values_of radix source)
 values_below radix (sources.Bytes bytes) two = digits_below radix bytes.now
 values_below radix (sources.Number n) two = all_below_base_digits_of radix n two
+values_below radix (sources.Padded padded) two = padded_below radix padded two
 
 -- Digits that follow those of a number, and do not begin the whole with a zero, are digits of the whole.
 last : (radix n d : ℕ) → 2 ≤ radix → 0 < n * radix + d → d < radix → digits_of radix (n * radix + d) ≡ digits_of radix n ++ d ∷ []
@@ -44,6 +71,42 @@ after radix n d [] two some all = last radix n d two some all.0
 after radix n d (e ∷ digits) two some all =
     after radix (n * radix + d) e digits two (more (n * radix + d) radix e some two) all.1
     ∙ ap (λ front. front ++ e ∷ digits) (last radix n d two some all.0) ∙ append_assoc (digits_of radix n) (d ∷ []) (e ∷ digits)
+
+-- Zeros before digits do not change the number.
+pub zeros_number : (radix k : ℕ) (digits : List ℕ) → number_from_digits radix (replicate k 0 ++ digits) ≡ number_from_digits radix digits
+zeros_number radix zero digits = refl
+zeros_number radix (suc k) digits =
+    ap (λ n. number_from_digits_after radix n (replicate k 0 ++ digits)) {x = 0 * radix + 0} {y = 0} (omega arith) ∙ zeros_number radix k digits
+
+-- Digits behind those of a number that is not 0.
+pub followed : (radix n : ℕ) (digits : List ℕ) → 2 ≤ radix → 0 < n → AllBelowBase radix digits
+    → digits_of radix (number_from_digits_after radix n digits) ≡ digits_of radix n ++ digits
+followed radix n [] two some all = sym (append-nil (digits_of radix n))
+followed radix n (d ∷ digits) two some all = after radix n d digits two (more n radix d some two) all
+
+-- A number has digits if and only if it is not 0.
+some_number : (radix n : ℕ) → 0 < length (digits_of radix n) → 0 < n
+some_number radix zero some = absurd (omega (arith, some))
+some_number radix (suc n) some = omega arith
+
+pub no_number : (radix n : ℕ) → 2 ≤ radix → length (digits_of radix n) ≤ 0 → n ≡ 0
+no_number radix n two none = elim (cases_lt 0 n) [
+  | inl some ↦ absurd (let more = length-digits_of_step radix n two some in omega (arith, none, more))
+  | inr least ↦ omega (arith, least)
+]
+
+-- Digits without leading zeros are those of the whole, with what follows.
+pub lean_front : (radix zeros : ℕ) (xs ys front : List ℕ) → 2 ≤ radix → front ≡ digits_of radix (number_from_digits radix xs) → 0 < length front
+    → AllBelowBase radix ys → front ++ ys ≡ digits_of radix (number_from_digits radix (replicate zeros 0 ++ (xs ++ ys)))
+lean_front radix zeros xs ys front two is some all =
+    let positive = some_number radix (number_from_digits radix xs) (subst (λ ds. 0 < length ds) is some) in
+    ap (λ ds. ds ++ ys) is ∙ sym (followed radix (number_from_digits radix xs) ys two positive all)
+    ∙ sym (ap (digits_of radix) (zeros_number radix zeros (xs ++ ys) ∙ number_after_append radix 0 xs ys))
+
+pub zero_front : (radix zeros : ℕ) (xs ys : List ℕ) → number_from_digits radix xs ≡ 0
+    → number_from_digits radix (replicate zeros 0 ++ (xs ++ ys)) ≡ number_from_digits radix ys
+zero_front radix zeros xs ys none =
+    zeros_number radix zeros (xs ++ ys) ∙ number_after_append radix 0 xs ys ∙ ap (λ n. number_from_digits_after radix n ys) none
 
 -- What is left of the bytes at the index `i`, where a digit other than 0 is.
 pub lead : (radix i d : ℕ) (bytes : List ℕ) → 2 ≤ radix → i < length bytes → digit_of (get_or bytes i 0) radix ≡ Some d → 0 < d
@@ -102,6 +165,20 @@ one_more radix n start c buffer two some room inside is =
     ∙ ap (λ b. map character (digits_of radix (n / radix)) ++ b ∷ []) (get_or_from_slice_get digit_characters (n % radix) c 0 is) in
     rw (drop-set buffer (start - 1) c (omega arith), text, append_assoc) (ap (λ k. map character (digits_of radix (n / radix)) ++ c ∷ drop k buffer) (sym same))
 
+-- The last two digits, of which the last is written first.
+pub two_more : (n start a b : ℕ) (buffer : List ℕ) → 10 ≤ n → 2 ≤ start → start ≤ length buffer
+    → slice_get digit_characters (n % 100 / 10) ≡ Some a → slice_get digit_characters (n % 100 % 10) ≡ Some b
+    → map character (digits_of 10 (n / 100)) ++ drop (start - 2) (set (set buffer (start - 1) b) (start - 2) a) ≡ map character (digits_of 10 n) ++ drop start buffer
+two_more n start a b buffer two room inside first second =
+    let front : n / 10 / 10 ≡ n / 100 = div-div-eq-div-mul n 10 10 in
+    let place : start - 1 - 1 ≡ start - 2 = omega arith in
+    let high : n / 10 % 10 ≡ n % 100 / 10 = omega (arith, two) in
+    let low : n % 10 ≡ n % 100 % 10 = omega (arith, two) in
+    let before = one_more 10 (n / 10) (start - 1) a (set buffer (start - 1) b) (omega arith) (omega (arith, two)) (omega (arith, room))
+    (omega (arith, inside, length-set buffer (start - 1) b)) (ap (slice_get digit_characters) high ∙ first) in
+    sym (λ i. map character (digits_of 10 (front i)) ++ drop (place i) (set (set buffer (start - 1) b) (place i) a)) ∙ before
+    ∙ one_more 10 n start b buffer (omega arith) (omega (arith, two)) (omega (arith, room)) inside (ap (slice_get digit_characters) low ∙ second)
+
 -- Whether grouped digits are present.
 pub grouped_present : (separator : ℕ) (group : Groups) (none : Bool) (digits : List ℕ)
     → is_present (grouped separator group (or_zero none digits)) ≡ (none || is_present digits)
@@ -120,3 +197,50 @@ pub zero_number : (radix : ℕ) (none : Bool) (digits : List ℕ) → number_fro
 zero_number radix true [] = omega arith
 zero_number radix false [] = refl
 zero_number radix none (d ∷ digits) = refl
+
+-- What is written of digits is what is written of the first ones, and then of the others.
+pub grouped_parts : (separator : ℕ) (group : Groups) (left : ℕ) (xs ys : List ℕ) → left ≡ length (xs ++ ys)
+    → grouped separator group (xs ++ ys) ≡ grouped_front separator group left xs ++ grouped separator group ys
+grouped_parts separator group left [] ys is = refl
+grouped_parts separator group left (x ∷ xs) ys is =
+    let fewer : length (xs ++ ys) ≡ left - 1 = omega (arith, is) in
+    ap (λ rest. character x ∷ separated separator group (length (xs ++ ys)) ++ rest) (grouped_parts separator group (left - 1) xs ys (sym fewer))
+    ∙ ap (λ k. character x ∷ separated separator group k ++ (grouped_front separator group (left - 1) xs ++ grouped separator group ys)) fewer
+    ∙ sym (ap (λ rest. character x ∷ rest) (append_assoc (separated separator group (left - 1)) (grouped_front separator group (left - 1) xs)
+    (grouped separator group ys)))
+
+grouped_last : (separator : ℕ) (group : Groups) (left : ℕ) (digits : List ℕ) → left ≡ length digits
+    → grouped_front separator group left digits ≡ grouped separator group digits
+grouped_last separator group left digits is =
+    sym (append-nil (grouped_front separator group left digits))
+    ∙ sym (grouped_parts separator group left digits [] (is ∙ sym (ap length (append-nil digits)))) ∙ ap (grouped separator group) (append-nil digits)
+
+-- Digits between zeros are written one part after the other.
+pub padded_text : (separator : ℕ) (group : Groups) (text a b c d : List ℕ) (n behind between last : ℕ) → n ≡ length (a ++ (b ++ (c ++ d)))
+    → behind ≡ n - length a → between ≡ behind - length b → last ≡ between - length c
+    → (((text ++ grouped_front separator group n a) ++ grouped_front separator group behind b) ++ grouped_front separator group between c)
+    ++ grouped_front separator group last d ≡ text ++ grouped separator group (a ++ (b ++ (c ++ d)))
+padded_text separator group text a b c d n behind between last all second third fourth =
+    let whole = all ∙ length-append a (b ++ (c ++ d)) in
+    let rest = length-append b (c ++ d) in
+    let end = length-append c d in
+    let front = grouped_front separator group in
+    append_assoc ((text ++ front n a) ++ front behind b) (front between c) (front last d)
+    ∙ append_assoc (text ++ front n a) (front behind b) (front between c ++ front last d)
+    ∙ append_assoc text (front n a) (front behind b ++ (front between c ++ front last d))
+    ∙ ap (λ it. text ++ (front n a ++ (front behind b ++ (front between c ++ it)))) (grouped_last separator group last d (omega (arith, whole, rest, end, second, third, fourth)))
+    ∙ ap (λ it. text ++ (front n a ++ (front behind b ++ it))) (sym (grouped_parts separator group between c d (omega (arith, whole, rest, end, second, third))))
+    ∙ ap (λ it. text ++ (front n a ++ it)) (sym (grouped_parts separator group behind b (c ++ d) (omega (arith, whole, rest, second))))
+    ∙ ap (λ it. text ++ it) (sym (grouped_parts separator group n a (b ++ (c ++ d)) all))
+
+-- What is written of digits has at least as many bytes.
+grouped_longer : (separator : ℕ) (group : Groups) (digits : List ℕ) → length digits ≤ length (grouped separator group digits)
+grouped_longer separator group [] = omega arith
+grouped_longer separator group (d ∷ digits) =
+    let rest = grouped_longer separator group digits in
+    let all = length-append (separated separator group (length digits)) (grouped separator group digits) in
+    omega (arith, rest, all)
+
+pub run_longer : (separator : ℕ) (group : Groups) (none : Bool) (digits : List ℕ) → length digits ≤ length (grouped separator group (or_zero none digits))
+run_longer separator group none [] = omega arith
+run_longer separator group none (d ∷ digits) = grouped_longer separator group (d ∷ digits)

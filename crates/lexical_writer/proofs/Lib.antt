@@ -1,4 +1,6 @@
 mod DigitLemmas
 mod GroupLemmas
 mod LiteralLemmas
+mod MovedLemmas
 mod ConversionLemmas
+mod PlainLemmas

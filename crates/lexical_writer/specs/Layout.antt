@@ -1,6 +1,6 @@
 -- How a number is laid out as a literal.
 use Rattle.std.specs.Prelude.{ℕ, ◌≡◌, suc, ℤ, pos, negsuc, ◌==◌, ◌&&◌, ◌||◌, not, Bool, false, true, if◌then◌else◌, List, ◌++◌, Option, Some, None}
-use Rattle.std.specs.Prelude.{Result, Ok, Err, is_some, option_map, option_to_list, unwrap_or}
+use Rattle.std.specs.Prelude.{Result, Ok, Err, is_some, option_to_list, unwrap_or}
 use Rattle.std.specs.Int.Digits.{digits_of}
 use Rattle.lexical_util.specs.Layout as layout
 use Rattle.lexical_util.specs.Record.{Record, raw, effective_exponent_radix}
@@ -13,6 +13,8 @@ use Rattle.lexical_literal.specs.declared.syntax.Options.{Options}
 use Rattle.lexical_number.specs.Number.{digits_in, number}
 use Rattle.lexical_writer.specs.Digits.{grouped, no_groups, only_if, or_zero, run_text, size_of, values_of}
 use Rattle.lexical_writer.specs.declared.layout.Amount.{Amount}
+use Rattle.lexical_writer.specs.declared.layout.Grouping.{Grouping}
+use Rattle.lexical_writer.specs.declared.layout.Grouping.TheVariants as groupings
 use Rattle.lexical_writer.specs.declared.layout.Layout.{Layout}
 use Rattle.lexical_writer.specs.declared.layout.Power.{Power}
 use Rattle.lexical_writer.specs.declared.layout.Style.{Style}
@@ -54,7 +56,7 @@ options_of g = unwrap_or g.options (record { exponent = 0; point = 0 })
 
 -- `given_fraction amount` has the fraction digits of `amount`, or none if it has no fraction.
 abbrev pub given_fraction : Amount → Source
-given_fraction amount = unwrap_or (option_map sources.Bytes amount.fraction) (sources.Number 0)
+given_fraction amount = unwrap_or amount.fraction (sources.Number 0)
 
 -- `given_power amount` is the exponent of `amount`, or one without digits if it has none.
 abbrev pub given_power : Amount → Power
@@ -64,12 +66,18 @@ given_power amount = unwrap_or amount.exponent (record { negative = false; sourc
 abbrev pub either : ℕ → ℕ → ℕ
 either size other = if size == 0 then other else size
 
+-- `group_size size group` is the number of digits of a group where a condition requires `size`, or 0 if there are no groups.
+abbrev pub group_size : ℕ → Grouping → ℕ
+group_size size groupings.AsSyntax = size
+group_size size groupings.None = 0
+group_size size (groupings.Of other) = if other == 0 then 0 else either size other
+
 -- `groups_of r c style` are the groups of an integer. They have the sizes that the conditions `c` require, or that of `style`. There
 -- are none if `style` has none, and where the format `r` does not allow a separator between digits, or has none.
 abbrev pub groups_of : Record → Conditions → Style → Groups
 groups_of r c style =
-    let last = either (number_of c conditions.IntegerGroupSize) style.group in
-    if style.group == 0 || not (r.flag layout.integer_internal_digit_separator) || r.byte layout.digit_separator == 0 then no_groups
+    let last = group_size (number_of c conditions.IntegerGroupSize) style.group in
+    if last == 0 || not (r.flag layout.integer_internal_digit_separator) || r.byte layout.digit_separator == 0 then no_groups
     else record { last = last; higher = either (number_of c conditions.HigherGroupSize) last }
 
 -- `needs_exponent g` is true if each literal of `g` has an exponent.
@@ -144,12 +152,12 @@ abbrev pub whole : ℤ → Amount
 whole (pos n) = record { negative = false; integer = sources.Number n; fraction = None; exponent = None }
 whole (negsuc n) = record { negative = true; integer = sources.Number (suc n); fraction = None; exponent = None }
 
--- `whole_refusal g z` is why the integer `z` cannot be written as a literal of `g`, or `None` if it can: each literal has an exponent,
--- or else `z` is below 0 and no literal is.
+-- `whole_refusal g z` is why the integer `z` cannot be written as a literal of `g`, or `None` if it can: `z` is below 0 and no literal
+-- is, or else each literal has an exponent.
 abbrev pub whole_refusal : Grammar → ℤ → Option WriteError
 whole_refusal g z =
-    if needs_exponent g then Some errors.Float
-    else (if (whole z).negative && has g.conditions conditions.NegativeSign then Some errors.Negative else None)
+    if (whole z).negative && has g.conditions conditions.NegativeSign then Some errors.Negative
+    else (if needs_exponent g then Some errors.Float else None)
 
 -- `IsWhole g style z l` holds if `l` is what is written for the integer `z`.
 abbrev pub IsWhole : Grammar → Style → ℤ → Literal → Type 0

@@ -1,14 +1,14 @@
 //! Runs of digits are written.
 
-ghost use Rattle.std.specs.Prelude.{◌≡◌, ◌++◌, ◌∷◌, [], ◌<◌, ◌/◌, ◌%◌, ℕ, List, map, option_to_list};
-ghost use Rattle.std.specs.Int.Digits.{digits_of};
+ghost use Rattle.std.specs.Prelude.{◌≡◌, ◌++◌, ◌∷◌, [], ◌-◌, ◌<◌, ◌≤◌, ◌/◌, ◌%◌, ℕ, List, length, map, option_to_list, replicate};
+ghost use Rattle.std.specs.Int.Digits.{digits_of, number_from_digits};
 ghost use Rattle.lexical_number.specs.Number.{digits_in, number, places};
 ghost use Rattle.lexical_util.specs.Rules.{IsRadix};
-ghost use Rattle.lexical_writer.specs.Digits.{character, ends_group, grouped, only_if, or_zero, run_text, separated};
+ghost use Rattle.lexical_writer.specs.Digits.{character, ends_group, grouped, grouped_front, only_if, or_zero, padded_values, run_text, separated};
 
-use crate::run::{Groups, Run, Source};
+use crate::run::{Groups, Padded, Run, Source};
 use crate::sink::Sink;
-use lexical_base::digit::{char_to_digit, digit_to_char};
+use lexical_base::digit::{char_to_digit, digit_to_char, digit_to_char_const};
 use lexical_number::parts::count;
 
 // Returns what follows the zeros that the digits among bytes begin with.
@@ -38,10 +38,6 @@ fn split_last(number: u128, radix: u32) -> (u128, u32)
         return (number / base, (number % base) as u32);
     }
     let short = number as u64;
-    // A radix that is known when this is compiled takes less time.
-    if radix == 10 {
-        return ((short / 10) as u128, (short % 10) as u32);
-    }
     (
         (short / radix as u64) as u128,
         (short % radix as u64) as u32,
@@ -49,7 +45,6 @@ fn split_last(number: u128, radix: u32) -> (u128, u32)
 }
 
 // Writes the digits of a number to the end of a buffer, and returns them.
-#[inline(always)]
 fn characters(buffer: &mut [u8; 128], number: u128, radix: u32) -> &[u8]
     requires { IsRadix radix }
     ensures { result.now ≡ map character (digits_of radix number) }
@@ -65,12 +60,38 @@ fn characters(buffer: &mut [u8; 128], number: u128, radix: u32) -> &[u8]
     &buffer[start..]
 }
 
+// Writes the decimal digits of a number to the end of a buffer, and returns them. Two at a time take less time.
+#[inline(always)]
+fn decimals(buffer: &mut [u8; 20], number: u64) -> &[u8]
+    ensures { result.now ≡ map character (digits_of 10 number) }
+{
+    let mut left = number;
+    let mut start = 20;
+    while left >= 10 {
+        let pair = (left % 100) as u32;
+        buffer[start - 1] = digit_to_char_const(pair % 10, 10);
+        buffer[start - 2] = digit_to_char_const(pair / 10, 10);
+        start -= 2;
+        left /= 100;
+    }
+    if left > 0 {
+        start -= 1;
+        buffer[start] = digit_to_char_const(left as u32, 10);
+    }
+    &buffer[start..]
+}
+
 // Returns whether a group ends where `left` digits are left.
 #[inline(always)]
-const fn ends_group(groups: Groups, left: usize) -> bool
+const fn ends_group(groups: Groups, left: u128) -> bool
     ensures { result ≡ ends_group groups left }
 {
     let Groups { last, higher } = groups;
+    if left > usize::MAX as u128 {
+        return higher > 0 && (left - last as u128) % higher as u128 == 0;
+    }
+    // Division takes less time.
+    let left = left as usize;
     left > 0 && higher > 0 && last <= left && (left - last) % higher == 0
 }
 
@@ -95,7 +116,7 @@ pub(crate) fn put_if_any<S: Sink>(sink: &mut S, byte: Option<u8>)
 
 // Writes a digit and, where a group ends, a separator. Behind the digit, `left` more are to be written.
 #[inline(always)]
-fn put_digit<S: Sink>(sink: &mut S, digit: u32, left: usize, run: &Run)
+fn put_digit<S: Sink>(sink: &mut S, digit: u32, left: u128, run: &Run)
     requires { digit < 36 }
     ensures { (start : S) → (text : List ℕ) → S.has start sink.old text
         → S.has start sink.new (text ++ character digit ∷ separated run.now.separator run.now.groups left) }
@@ -104,11 +125,12 @@ fn put_digit<S: Sink>(sink: &mut S, digit: u32, left: usize, run: &Run)
     put_if_any(sink, only_if(ends_group(run.groups, left), run.separator));
 }
 
-// Writes the digits among bytes in groups, where `count` is the number of these digits.
-fn put_digits<S: Sink>(sink: &mut S, bytes: &[u8], count: usize, run: &Run)
-    requires { count ≡ places run.now.radix bytes.now }
-    ensures { (start : S) → (text : List ℕ) → S.has start sink.old text
-        → S.has start sink.new (text ++ grouped run.now.separator run.now.groups (digits_in run.now.radix bytes.now)) }
+// Writes the digits among bytes in groups, which are the first of `count` digits, and returns how many are left.
+fn put_digits<S: Sink>(sink: &mut S, bytes: &[u8], count: u128, run: &Run) -> u128
+    requires { places run.now.radix bytes.now ≤ count }
+    ensures left { result ≡ count - places run.now.radix bytes.now }
+    ensures text { (start : S) → (text : List ℕ) → S.has start sink.old text
+        → S.has start sink.new (text ++ grouped_front run.now.separator run.now.groups count (digits_in run.now.radix bytes.now)) }
 {
     let mut left = count;
     let mut index = 0;
@@ -119,6 +141,39 @@ fn put_digits<S: Sink>(sink: &mut S, bytes: &[u8], count: usize, run: &Run)
         }
         index += 1;
     }
+    left
+}
+
+// Writes zeros in groups, which are the first of `count` digits, and returns how many are left.
+fn put_zeros<S: Sink>(sink: &mut S, zeros: usize, count: u128, run: &Run) -> u128
+    requires { zeros ≤ count }
+    ensures left { result ≡ count - zeros }
+    ensures text { (start : S) → (text : List ℕ) → S.has start sink.old text
+        → S.has start sink.new (text ++ grouped_front run.now.separator run.now.groups count (replicate zeros 0)) }
+{
+    let mut left = count;
+    let end = count - zeros as u128;
+    while left > end {
+        left -= 1;
+        put_digit(sink, 0, left, run);
+    }
+    left
+}
+
+// Writes digits in groups or, if there are none, a 0 if the run has one.
+fn put_padded<S: Sink>(sink: &mut S, padded: &Padded, run: &Run)
+    ensures { (start : S) → (text : List ℕ) → S.has start sink.old text
+        → S.has start sink.new (text ++ grouped run.now.separator run.now.groups (or_zero run.now.zero (padded_values run.now.radix padded.now))) }
+{
+    let count = padded.count(run.radix);
+    if count == 0 && run.zero {
+        sink.put(b'0');
+        return;
+    }
+    let left = put_zeros(sink, padded.before, count, run);
+    let left = put_digits(sink, padded.first, left, run);
+    let left = put_digits(sink, padded.second, left, run);
+    put_zeros(sink, padded.after, left, run);
 }
 
 // Writes the digits among bytes in groups or, if there are none, a 0 if the run has one.
@@ -126,11 +181,19 @@ fn put_or_zero<S: Sink>(sink: &mut S, bytes: &[u8], run: &Run)
     ensures { (start : S) → (text : List ℕ) → S.has start sink.old text
         → S.has start sink.new (text ++ grouped run.now.separator run.now.groups (or_zero run.now.zero (digits_in run.now.radix bytes.now))) }
 {
-    let count = count(bytes, run.radix);
-    if count == 0 && run.zero {
-        sink.put(b'0');
+    put_padded(sink, &Padded::of(bytes), run);
+}
+
+// Writes the digits of a number, which are `bytes`, in groups or, if it is 0, a 0 if the run has one.
+fn put_characters<S: Sink>(sink: &mut S, bytes: &[u8], number: u128, run: &Run)
+    requires { bytes.now ≡ map character (digits_of run.now.radix number) }
+    ensures { (start : S) → (text : List ℕ) → S.has start sink.old text
+        → S.has start sink.new (text ++ grouped run.now.separator run.now.groups (or_zero run.now.zero (digits_of run.now.radix number))) }
+{
+    if run.groups.higher == 0 && number > 0 {
+        sink.put_all(bytes);
     } else {
-        put_digits(sink, bytes, count, run);
+        put_or_zero(sink, bytes, run);
     }
 }
 
@@ -139,17 +202,79 @@ fn put_number<S: Sink>(sink: &mut S, number: u128, run: &Run)
     ensures { (start : S) → (text : List ℕ) → S.has start sink.old text
         → S.has start sink.new (text ++ grouped run.now.separator run.now.groups (or_zero run.now.zero (digits_of run.now.radix number))) }
 {
-    let mut buffer = [0; 128];
-    let bytes = characters(&mut buffer, number, run.radix);
-    if run.groups.higher == 0 && number > 0 {
-        sink.put_all(bytes);
+    if run.radix == 10 && number <= u64::MAX as u128 {
+        let mut buffer = [0; 20];
+        let bytes = decimals(&mut buffer, number as u64);
+        put_characters(sink, bytes, number, run);
     } else {
-        put_or_zero(sink, bytes, run);
+        let mut buffer = [0; 128];
+        let bytes = characters(&mut buffer, number, run.radix);
+        put_characters(sink, bytes, number, run);
+    }
+}
+
+impl<'a> Padded<'a> {
+    // Returns the digits among bytes, without zeros around them.
+    #[inline(always)]
+    pub(crate) const fn of(bytes: &'a [u8]) -> Padded<'a>
+        ensures { (radix : ℕ) → padded_values radix result ≡ digits_in radix bytes.entry.now }
+    {
+        Padded {
+            before: 0,
+            first: bytes,
+            second: &[],
+            after: 0,
+        }
+    }
+
+    // Returns the number of digits.
+    pub(crate) fn count(&self, radix: u32) -> u128
+        ensures { result ≡ length (padded_values radix self.now) }
+    {
+        self.before as u128
+            + count(self.first, radix) as u128
+            + count(self.second, radix) as u128
+            + self.after as u128
+    }
+
+    // Returns the digits without the zeros that they begin with.
+    pub(crate) fn lean(&self, radix: u32) -> Padded<'a>
+        requires { IsRadix radix }
+        ensures { padded_values radix result ≡ digits_of radix (number_from_digits radix (padded_values radix self.now)) }
+    {
+        let first = without_zeros(self.first, radix);
+        if count(first, radix) > 0 {
+            return Padded {
+                before: 0,
+                first,
+                second: self.second,
+                after: self.after,
+            };
+        }
+        let second = without_zeros(self.second, radix);
+        let some = count(second, radix) > 0;
+        Padded {
+            before: 0,
+            first: &[],
+            second,
+            after: if some { self.after } else { 0 },
+        }
     }
 }
 
 impl Run<'_> {
+    // Returns the number of digits if there can be zeros around them, and 0 otherwise.
+    pub(crate) fn count(&self) -> u128
+        ensures { result ≤ length (run_text self.now) }
+    {
+        match &self.source {
+            Source::Padded(padded) => padded.count(self.radix),
+            _ => 0,
+        }
+    }
+
     // Writes the digits, or a 0 for absent ones.
+    #[inline(always)]
     pub(crate) fn put<S: Sink>(&self, sink: &mut S)
         ensures { (start : S) → (text : List ℕ) → S.has start sink.old text
             → S.has start sink.new (text ++ run_text self.now) }
@@ -158,6 +283,7 @@ impl Run<'_> {
             Source::Number(0) if !self.zero => (),
             Source::Bytes(bytes) => put_or_zero(sink, bytes, self),
             Source::Number(number) => put_number(sink, number, self),
+            Source::Padded(padded) => put_padded(sink, &padded, self),
         }
     }
 }

@@ -9,15 +9,16 @@ ghost use Rattle.lexical_writer.specs.Layout.{IsWhole, literal_of, whole_refusal
 
 use crate::layout::{Amount, Layout, Style, WriteError, needs_exponent};
 use crate::run::Source;
-use lexical_literal::syntax::Syntax;
+use lexical_literal::syntax::{Condition, Syntax};
 use lexical_number::integer::Integer;
 
 /// Returns how the value of an integer is written as a literal of `syntax`.
 ///
 /// # Errors
 ///
-/// [`WriteError::Float`] if each literal of `syntax` has an exponent, and otherwise [`WriteError::Negative`] if the
-/// value is below 0 and no literal has the sign `-`.
+/// [`WriteError::Negative`] if the value is below 0 and no literal has the sign `-`, and otherwise
+/// [`WriteError::Float`] if each literal of `syntax` has an exponent.
+#[inline(always)]
 pub fn format_integer<T: Integer>(
     syntax: &Syntax,
     value: T,
@@ -27,13 +28,16 @@ pub fn format_integer<T: Integer>(
     ensures literal { IfOk result (λ layout. Reads (notation_of syntax.now) (literal_of layout) (text_of (literal_of layout))) }
     ensures value { IfOk result (λ layout. IsInteger (raw syntax.now.word) (literal_of layout) (T.range.value value)) }
     ensures parts { IfOk result (λ layout. IsWhole syntax.now style (T.range.value value) (literal_of layout)) }
-    // Each integer can be written, unless each literal has an exponent, or no literal is below 0.
+    // Each integer can be written, unless it is below 0 and no literal is, or each literal has an exponent.
     ensures error { IfErr result (λ error. whole_refusal syntax.now (T.range.value value) ≡ Some error) }
 {
+    let (negative, size) = value.sign_and_size();
+    if negative && syntax.conditions().has(Condition::NegativeSign) {
+        return Err(WriteError::Negative);
+    }
     if needs_exponent(syntax) {
         return Err(WriteError::Float);
     }
-    let (negative, size) = value.sign_and_size();
     let amount = Amount {
         negative,
         integer: Source::Number(size),

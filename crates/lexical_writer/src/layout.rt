@@ -1,6 +1,6 @@
 //! Numbers are laid out as literals.
 
-ghost use Rattle.std.specs.Prelude.{◌≡◌, ◌++◌, ◌&&◌, not, [], ℕ, IfOk, List, option_to_list};
+ghost use Rattle.std.specs.Prelude.{◌≡◌, ◌++◌, ◌&&◌, not, nat_lt, [], ℕ, IfOk, List, length, option_to_list};
 ghost use Rattle.std.specs.Int.Digits.{digits_of};
 ghost use Rattle.lexical_util.specs.Record.{raw};
 ghost use Rattle.lexical_util.specs.Rules.{IsRadix, Lawful};
@@ -8,7 +8,7 @@ ghost use Rattle.lexical_literal.specs.Literal.{Reads, is_present, text_of};
 ghost use Rattle.lexical_literal.specs.Notation.{notation_of};
 ghost use Rattle.lexical_literal.specs.Syntax.{IsSyntax};
 ghost use Rattle.lexical_writer.specs.Digits.{grouped, no_groups, only_if, or_zero, run_text, size_of, values_of};
-ghost use Rattle.lexical_writer.specs.Layout.{base_byte, either, first_error, given_fraction, groups_of, has_zero};
+ghost use Rattle.lexical_writer.specs.Layout.{base_byte, either, first_error, given_fraction, group_size, groups_of, has_zero};
 ghost use Rattle.lexical_writer.specs.Layout.{HasNumber, IsLaidOut, literal_of, needs_exponent, refusal, sign_of};
 ghost use Rattle.lexical_writer.specs.Buffer.{IsTaken};
 
@@ -23,12 +23,22 @@ use lexical_util::laws::byte_facts;
 // Digits without groups.
 const NO_GROUPS: Groups = Groups { last: 0, higher: 0 };
 
+/// How many digits a group of the integer has. Where the format does not allow separators between them, there are none.
+#[derive(Debug, Clone, Copy, PartialEq, Eq, Hash)]
+pub enum Grouping {
+    /// As many as a condition of the syntax says. Without such a condition, there are no groups.
+    AsSyntax,
+    /// There are no groups.
+    None,
+    /// As many as this number, or as a condition of the syntax says, if it has one. For 0, there are no groups.
+    Of(usize),
+}
+
 /// How numbers are written where a syntax leaves a choice.
 #[derive(Debug, Clone, Copy, PartialEq, Eq, Hash)]
 pub struct Style {
-    /// The number of integer digits of a group, or 0 for digits without groups. Where the format does not allow
-    /// separators between integer digits, there are no groups. Where the syntax requires sizes, groups have these sizes.
-    pub group: usize,
+    /// How many digits a group of the integer has.
+    pub group: Grouping,
     /// Whether the base prefix is written, if the format has one.
     pub prefix: bool,
     /// Whether the base suffix is written, if the format has one.
@@ -38,18 +48,20 @@ pub struct Style {
 /// Why a number cannot be written as a literal of a syntax.
 #[derive(Debug, Clone, Copy, PartialEq, Eq, Hash)]
 pub enum WriteError {
-    /// The mantissa radixes differ or, for a number with an exponent, the exponent bases.
+    /// The mantissa radixes differ, or the exponent has another radix and more than 128 bits.
     Radix,
     /// The number is below 0, or -0, and no literal has the sign `-`.
     Negative,
-    /// The number has a fraction, and the literals of the syntax are integers.
+    /// The number is not whole, and the literals of the syntax are integers.
     Fraction,
-    /// The number has an exponent, and no literal has one, or its exponent digits have another radix and are too many.
+    /// No literal has the exponent of the number, which does not move the point by whole digits.
     Exponent,
     /// The number is an integer of Rust, and each literal has an exponent.
     Float,
     /// The number is NaN or infinity, which no literal is.
     Special,
+    /// No literal has the exponent of the number, and if the point moves, the text has more than 800 bytes.
+    Long,
     /// The buffer is too short for the text, which has this number of bytes.
     Buffer(usize),
 }
@@ -70,8 +82,8 @@ pub struct Amount<'a> {
     pub negative: bool,
     /// The integer digits, in the mantissa radix of the syntax.
     pub integer: Source<'a>,
-    /// The bytes with the fraction digits, or `None` for a number without a decimal point.
-    pub fraction: Option<&'a [u8]>,
+    /// The fraction digits, or `None` for a number without a decimal point.
+    pub fraction: Option<Source<'a>>,
     /// The exponent, or `None` for a number without one.
     pub exponent: Option<Power<'a>>,
 }
@@ -113,6 +125,14 @@ impl Layout<'_> {
         self.put(window);
     }
 
+    // Returns whether the text has more than 800 bytes.
+    pub(crate) fn is_long(&self) -> bool
+        ensures { result ≡ nat_lt 800 (length (text_of (literal_of self.now))) }
+    {
+        // There can be more zeros than there is time to write.
+        self.integer.count() > 800 || self.fraction.count() > 800 || self.write(&mut []) > 800
+    }
+
     // Writes the text.
     pub(crate) fn put<S: Sink>(&self, sink: &mut S)
         ensures { (start : S) → (text : List ℕ) → S.has start sink.old text
@@ -150,6 +170,7 @@ const fn base_byte(condition: bool, byte: u8) -> Option<u8>
 }
 
 // Returns a run without groups.
+#[inline]
 const fn plain_run<'a>(source: Source<'a>, radix: u32, zero: bool) -> Run<'a>
     requires { IsRadix radix }
     ensures { run_text result ≡ grouped 0 no_groups (or_zero zero (values_of radix source.entry)) }
@@ -164,6 +185,7 @@ const fn plain_run<'a>(source: Source<'a>, radix: u32, zero: bool) -> Run<'a>
 }
 
 // Returns the digits of a source without the zeros that they begin with.
+#[inline]
 fn lean<'a>(source: Source<'a>, radix: u32) -> Source<'a>
     requires { IsRadix radix }
     ensures { values_of radix result ≡ digits_of radix (size_of radix source.entry) }
@@ -171,10 +193,12 @@ fn lean<'a>(source: Source<'a>, radix: u32) -> Source<'a>
     match source {
         Source::Bytes(bytes) => Source::Bytes(without_zeros(bytes, radix)),
         Source::Number(number) => Source::Number(number),
+        Source::Padded(padded) => Source::Padded(padded.lean(radix)),
     }
 }
 
 // Returns whether a source has digits.
+#[inline]
 fn has_digits(source: Source, radix: u32) -> bool
     requires { IsRadix radix }
     ensures { result ≡ is_present (values_of radix source.entry) }
@@ -182,6 +206,7 @@ fn has_digits(source: Source, radix: u32) -> bool
     match source {
         Source::Bytes(bytes) => count(bytes, radix) > 0,
         Source::Number(number) => number > 0,
+        Source::Padded(padded) => padded.count(radix) > 0,
     }
 }
 
@@ -254,6 +279,7 @@ impl<'a> Amount<'a> {
     }
 
     // Returns why the number cannot be written, if it cannot.
+    #[inline]
     fn refusal(&self, syntax: &Syntax) -> Option<WriteError>
         ensures { result ≡ refusal syntax.now self.now }
     {
@@ -267,6 +293,7 @@ impl<'a> Amount<'a> {
     }
 
     // Returns whether a 0 stands for absent integer digits.
+    #[inline]
     fn has_zero(&self, format: NumberFormat) -> bool
         requires { Lawful format }
         ensures { result ≡ has_zero (raw format) self.now }
@@ -278,17 +305,19 @@ impl<'a> Amount<'a> {
     }
 
     // Returns the fraction digits, if there are any.
+    #[inline]
     fn fraction(&self) -> Source<'a>
         ensures { result ≡ given_fraction self.now }
     {
         match self.fraction {
-            Some(bytes) => Source::Bytes(bytes),
+            Some(source) => source,
             None => Source::Number(0),
         }
     }
 }
 
 // Returns whether each literal has an exponent.
+#[inline]
 pub(crate) fn needs_exponent(syntax: &Syntax) -> bool
     ensures { result ≡ needs_exponent syntax.now }
 {
@@ -311,18 +340,30 @@ const fn first_error(sign: bool, fraction: bool, exponent: bool) -> Option<Write
 }
 
 // Returns the groups of an integer.
+#[inline]
 const fn groups_of(format: NumberFormat, conditions: Conditions, style: Style) -> Groups
     ensures { result ≡ groups_of (raw format) conditions style }
 {
-    if style.group == 0
+    let last = group_size(conditions.number(Condition::IntegerGroupSize), style.group);
+    if last == 0
         || !format.integer_internal_digit_separator()
         || digit_separator(format.word()) == 0
     {
         return NO_GROUPS;
     }
-    let last = either(conditions.number(Condition::IntegerGroupSize), style.group);
     let higher = either(conditions.number(Condition::HigherGroupSize), last);
     Groups { last, higher }
+}
+
+// Returns how many digits a group has, where a condition requires `size` digits, or 0 for digits without groups.
+const fn group_size(size: u8, group: Grouping) -> usize
+    ensures { result ≡ group_size size group }
+{
+    match group {
+        Grouping::AsSyntax => size as usize,
+        Grouping::None | Grouping::Of(0) => 0,
+        Grouping::Of(other) => either(size, other),
+    }
 }
 
 // Returns the size that a condition requires, or `other` if it requires none.

@@ -8,5 +8,6 @@ pub mod digits;
 pub mod integer;
 pub mod layout;
 pub mod literal;
+pub mod moved;
 pub mod run;
 pub mod sink;

@@ -9,6 +9,21 @@ pub enum Source<'a> {
     Bytes(&'a [u8]),
     /// The digits of this number. The number 0 has none.
     Number(u128),
+    /// Digits among bytes, with zeros around them.
+    Padded(Padded<'a>),
+}
+
+/// Digits among two pieces of bytes, one after the other, with zeros around them.
+#[derive(Debug, Clone, Copy, PartialEq, Eq)]
+pub struct Padded<'a> {
+    /// The number of zeros before the digits.
+    pub before: usize,
+    /// The first digits.
+    pub first: &'a [u8],
+    /// The digits behind them.
+    pub second: &'a [u8],
+    /// The number of zeros behind the digits.
+    pub after: usize,
 }
 
 /// How many digits are in groups: in the last one, and in each before it. The first may have fewer. If `higher` is 0,

@@ -12,43 +12,42 @@ use peltzivar::Format;
 /// Whether a number is written: the index of one of [`DESCRIPTIONS`].
 type WriteStatus = u8;
 
-const EXPONENT: WriteStatus = 4;
 const BUFFER: WriteStatus = 7;
 const ARGUMENT: WriteStatus = 8;
 
 texts! {
-    DESCRIPTIONS: [9] = |status| match status {
+    DESCRIPTIONS: [10] = |status| match status {
         1 => b"the digits or the exponent have another radix or base",
         2 => b"no literal has the sign '-'",
-        3 => b"literals are integers, and the number has a decimal point",
-        4 => b"no literal has this exponent",
+        3 => b"literals are integers, and the number is not whole",
+        4 => b"no literal has an exponent, and this one does not move the point by whole digits",
         5 => b"each literal has an exponent, and an integer has none",
         6 => b"no literal is NaN or infinity",
         7 => b"the buffer is too short",
         8 => b"peltzivar_check_syntax refuses the syntax, or no call has made the literal",
+        9 => b"without an exponent, the text has more than 800 bytes",
         _ => b"",
     };
 }
 
-/// How numbers are written where a syntax leaves a choice. With zeros, they have a base, and no groups.
+/// How numbers are written where a syntax leaves a choice. With zeros, they have a base, and the groups of the syntax.
 #[repr(C)]
 pub struct Style {
     group: u8,
     without_base: u8,
 }
 
-/// The text of a float.
+/// The text of a float: at most 17 digits, a point, two signs, and an exponent of 3 digits, or zeros for up to 16 digits.
 struct Shortest {
-    bytes: [u8; 400],
+    bytes: [u8; 32],
     len: usize,
 }
 
 impl Shortest {
-    /// Returns a text of at most 400 bytes.
-    fn of(text: fmt::Arguments<'_>) -> Shortest {
-        let mut shortest = Shortest { bytes: [0; 400], len: 0 };
-        // A float has at most 325 digits, and nothing else can fail.
-        let _ = shortest.write_fmt(text);
+    fn of(value: f64) -> Shortest {
+        let mut shortest = Shortest { bytes: [0; 32], len: 0 };
+        // There is room for the text, and nothing else can fail.
+        let _ = write!(shortest, "{value:?}");
         shortest
     }
 }
@@ -75,7 +74,11 @@ fn given(syntax: Option<&Syntax>, style: Option<&Style>) -> Option<(literal::Syn
         syntax,
         style.map_or(plain, |style| {
             let plain = if style.without_base != 0 { plain.without_base() } else { plain };
-            plain.group(style.group.into())
+            if style.group == 0 {
+                plain
+            } else {
+                plain.group(style.group.into())
+            }
         }),
     ))
 }
@@ -101,8 +104,9 @@ unsafe fn write<'a>(
             WriteError::Radix => 1,
             WriteError::Negative => 2,
             WriteError::Fraction => 3,
-            WriteError::Exponent => EXPONENT,
+            WriteError::Exponent => 4,
             WriteError::Float => 5,
+            WriteError::Long => 9,
             _ => 6,
         },
     }
@@ -130,22 +134,16 @@ calls! {
     fn peltzivar_format_f64(
         syntax: Option<&Syntax>, value: f64, style: Option<&Style>, text: *mut u8, len: usize, needed: Out<usize>
     ) -> WriteStatus {
-        let format = |digits: Shortest| write((syntax, style), (text, len, needed), |syntax, style| {
-            let digits = &digits.bytes[..digits.len];
+        let digits = Shortest::of(value);
+        write((syntax, style), (text, len, needed), |syntax, style| {
             // With a second caller, `read_bytes` would not be inlined in `peltzivar_read`.
-            let (literal, _) = FLOATS.read_prefix_bytes(digits).map_err(|_| WriteError::Special)?;
-            match syntax.point() {
+            let (literal, _) = FLOATS.read_prefix_bytes(&digits.bytes[..digits.len]).map_err(|_| WriteError::Special)?;
+            match syntax.format().exponent_base() {
+                10 => syntax.format_literal(&literal, style),
                 // No float type has a value of a literal with these digits and another exponent base.
-                _ if syntax.format().exponent_base() != 10 => Err(WriteError::Radix),
-                None => Err(WriteError::Fraction),
-                Some(_) => syntax.format_literal(&literal, style),
+                _ => Err(WriteError::Radix),
             }
-        });
-        // A float that is very large or very small has an exponent, if the syntax has one.
-        match format(Shortest::of(format_args!("{value:?}"))) {
-            EXPONENT => format(Shortest::of(format_args!("{value}"))),
-            status => status,
-        }
+        })
     }
 
     fn peltzivar_format_literal(

@@ -233,7 +233,7 @@ impl fmt::Display for Literal<'_> {
 }
 
 /// Prints a text of `length` characters with the width and the fill of the formatter.
-pub(super) fn pad(
+fn pad(
     f: &mut fmt::Formatter<'_>,
     length: usize,
     print: impl FnOnce(&mut fmt::Formatter<'_>) -> fmt::Result,

@@ -3,7 +3,6 @@
 use core::fmt::{self, Write};
 use core::str;
 
-use crate::literal::number::pad;
 use crate::literal::{Literal, Syntax};
 use crate::number::integer::Integer;
 
@@ -12,16 +11,15 @@ mod integer;
 mod layout;
 #[allow(clippy::module_inception, clippy::needless_lifetimes, reason = "as it is proved")]
 mod literal;
+#[allow(clippy::needless_lifetimes, reason = "as it is proved")]
+mod moved;
 mod run;
 mod sink;
 
-pub use layout::{Style, WriteError};
+pub use layout::{Grouping, Style, WriteError};
 
 use layout::Layout;
 use sink::Sink;
-
-/// The number of bytes that [`Written::as_str`] can return.
-const CAPACITY: usize = 64;
 
 /// A type that can be [written][Syntax::format_integer]: each integer type of Rust.
 pub trait WriteInteger: Integer {}
@@ -29,14 +27,15 @@ pub trait WriteInteger: Integer {}
 impl<T: Integer> WriteInteger for T {}
 
 impl Style {
-    /// The digits without groups, with the base prefix and the base suffix if the format has them.
-    pub const PLAIN: Style = Style { group: 0, prefix: true, suffix: true };
+    /// The integer digits in groups where a condition of the syntax has a size, with the base prefix and the base suffix if
+    /// the format has them.
+    pub const PLAIN: Style = Style { group: Grouping::AsSyntax, prefix: true, suffix: true };
 
     /// Writes the integer digits in groups of `size` digits, counted from the right, where the format allows separators
-    /// between them. For `0`, there are no groups. Where the syntax requires sizes, the groups have these.
+    /// between them. For `0`, there are no groups. Where a condition of the syntax has a size, the groups have this.
     #[must_use]
     pub const fn group(mut self, size: usize) -> Style {
-        self.group = size;
+        self.group = Grouping::Of(size);
         self
     }
 
@@ -73,16 +72,19 @@ impl Syntax {
     ///
     /// # Errors
     ///
-    /// [`WriteError::Float`] if each literal has an exponent, and [`WriteError::Negative`] if the value is below 0 and the
-    /// syntax forbids `-`.
+    /// [`WriteError::Negative`] if the value is below 0 and the syntax forbids `-`, and [`WriteError::Float`] if each literal
+    /// has an exponent.
+    #[inline(always)]
     pub fn format_integer<T: WriteInteger>(&self, value: T, style: Style) -> Result<Written<'static>, WriteError> {
-        integer::format_integer(self, value, style).map(Written::new)
+        integer::format_integer(self, value, style).map(|layout| Written { layout })
     }
 
     /// Returns a literal, which may be of another syntax, as a literal of this syntax with the same value.
     ///
     /// Separators and leading zeros are left out, and groups are those of `style`. Where the format requires digits or an
     /// exponent that the literal does not have, `0` and `e0` are added. Trailing zeros are kept, and so is the sign of `-0`.
+    /// Where no exponent is allowed, the point moves in its place, and trailing zeros of the fraction are left out: `1.2e3`
+    /// is `1200`. So they are in a syntax of integers alone, in which `1.0` is `1`.
     ///
     /// ```
     /// use peltzivar::literal::{Style, Syntax};
@@ -97,10 +99,9 @@ impl Syntax {
     ///
     /// # Errors
     ///
-    /// If the literal cannot be written, returns why. The digits of a literal with an exponent are not moved, even where no
-    /// exponent is allowed.
+    /// If the literal cannot be written, returns why.
     pub fn format_literal<'a>(&self, literal: &Literal<'a>, style: Style) -> Result<Written<'a>, WriteError> {
-        literal::format_literal(literal, self, style).map(Written::new)
+        literal::format_literal(literal, self, style).map(|layout| Written { layout })
     }
 }
 
@@ -108,23 +109,9 @@ impl Syntax {
 #[derive(Clone, Copy)]
 pub struct Written<'a> {
     layout: Layout<'a>,
-    text: [u8; CAPACITY],
-    length: usize,
 }
 
-impl<'a> Written<'a> {
-    fn new(layout: Layout<'a>) -> Self {
-        let mut text = [0; CAPACITY];
-        let length = layout.write(&mut text);
-        Written { layout, text, length }
-    }
-
-    /// Returns the text, or `None` if it has more than 64 bytes.
-    #[must_use]
-    pub fn as_str(&self) -> Option<&str> {
-        str::from_utf8(self.text.get(..self.length)?).ok()
-    }
-
+impl Written<'_> {
     /// Writes the text to the beginning of a buffer, and returns it.
     ///
     /// ```
@@ -148,17 +135,45 @@ impl<'a> Written<'a> {
     }
 }
 
-/// Prints the text, with the width and the fill of the formatter. A precision is ignored.
+/// Prints the text as std prints numbers: with the width and the fill of the formatter, to the right if it has no alignment,
+/// for `+` with a sign, and for `0` with zeros behind the sign and the prefix. With these two, it may not be a literal. A
+/// precision is ignored.
 impl fmt::Display for Written<'_> {
     fn fmt(&self, f: &mut fmt::Formatter<'_>) -> fmt::Result {
-        pad(f, self.length, |f| match self.as_str() {
-            Some(text) => f.write_str(text),
-            None => {
-                let mut printer = Printer { f, result: Ok(()) };
-                self.layout.put(&mut printer);
-                printer.result
-            }
-        })
+        let mut text = [0; 40];
+        let length = self.layout.write(&mut text);
+        let text = text.get(..length).and_then(|text| str::from_utf8(text).ok());
+        match text {
+            Some(text) if f.width().is_none() && !f.sign_plus() => f.write_str(text),
+            _ => self.pad(f, length),
+        }
+    }
+}
+
+impl Written<'_> {
+    /// Prints the text, of which the length is known, with what the formatter adds.
+    #[cold]
+    fn pad(&self, f: &mut fmt::Formatter<'_>, length: usize) -> fmt::Result {
+        let (sign, prefix) = (self.layout.sign, self.layout.prefix);
+        let sign = sign.or(if f.sign_plus() { Some(b'+') } else { None });
+        let front = usize::from(self.layout.sign.is_some()) + 2 * usize::from(prefix.is_some());
+        let added = usize::from(sign != self.layout.sign);
+        let missing = f.width().unwrap_or(0).saturating_sub(length.saturating_add(added));
+        let (before, zeros) = match f.align() {
+            _ if f.sign_aware_zero_pad() => (0, missing),
+            Some(fmt::Alignment::Left) => (0, 0),
+            Some(fmt::Alignment::Center) => (missing / 2, 0),
+            _ => (missing, 0),
+        };
+        let fill = f.fill();
+        (0..before).try_for_each(|_| f.write_char(fill))?;
+        let bytes = [sign, prefix.map(|_| b'0'), prefix];
+        bytes.into_iter().flatten().try_for_each(|byte| f.write_char(byte.into()))?;
+        (0..zeros).try_for_each(|_| f.write_char('0'))?;
+        let mut printer = Printer { f, skip: front, result: Ok(()) };
+        self.layout.put(&mut printer);
+        printer.result?;
+        (before + zeros..missing).try_for_each(|_| f.write_char(fill))
     }
 }
 
@@ -183,15 +198,18 @@ impl Write for Escaper<'_, '_> {
     }
 }
 
-/// A formatter that takes a text byte by byte.
+/// A formatter that takes a text byte by byte, without the first ones.
 struct Printer<'a, 'b> {
     f: &'a mut fmt::Formatter<'b>,
+    skip: usize,
     result: fmt::Result,
 }
 
 impl Sink for Printer<'_, '_> {
     fn put(&mut self, byte: u8) {
-        if self.result.is_ok() {
+        if self.skip > 0 {
+            self.skip -= 1;
+        } else if self.result.is_ok() {
             self.result = self.f.write_char(byte.into());
         }
     }
@@ -207,10 +225,11 @@ impl fmt::Display for WriteError {
         f.pad(match self {
             WriteError::Radix => "the digits or the exponent have another radix or base",
             WriteError::Negative => "no literal has the sign '-'",
-            WriteError::Fraction => "literals are integers, and the number has a decimal point",
-            WriteError::Exponent => "no literal has this exponent",
+            WriteError::Fraction => "literals are integers, and the number is not whole",
+            WriteError::Exponent => "no literal has an exponent, and this one does not move the point by whole digits",
             WriteError::Float => "each literal has an exponent, and an integer of Rust has none",
             WriteError::Special => "no literal is NaN or infinity",
+            WriteError::Long => "without an exponent, the text has more than 800 bytes",
             WriteError::Buffer(length) => return write!(f, "the text has {length} bytes"),
         })
     }

@@ -2,8 +2,8 @@
 
 //! Runs of digits are written.
 
-use crate::digit::{char_to_digit, digit_to_char};
-use crate::literal::writer::run::{Groups, Run, Source};
+use crate::digit::{char_to_digit, digit_to_char, digit_to_char_const};
+use crate::literal::writer::run::{Groups, Padded, Run, Source};
 use crate::literal::writer::sink::Sink;
 use crate::number::parts::count;
 
@@ -27,15 +27,10 @@ fn split_last(number: u128, radix: u32) -> (u128, u32) {
         return (number / base, (number % base) as u32);
     }
     let short = number as u64;
-    // A radix that is known when this is compiled takes less time.
-    if radix == 10 {
-        return ((short / 10) as u128, (short % 10) as u32);
-    }
     ((short / radix as u64) as u128, (short % radix as u64) as u32)
 }
 
 // Writes the digits of a number to the end of a buffer, and returns them.
-#[inline(always)]
 fn characters(buffer: &mut [u8; 128], number: u128, radix: u32) -> &[u8] {
     let mut left = number;
     let mut start = 128;
@@ -48,10 +43,34 @@ fn characters(buffer: &mut [u8; 128], number: u128, radix: u32) -> &[u8] {
     &buffer[start..]
 }
 
+// Writes the decimal digits of a number to the end of a buffer, and returns them. Two at a time take less time.
+#[inline(always)]
+fn decimals(buffer: &mut [u8; 20], number: u64) -> &[u8] {
+    let mut left = number;
+    let mut start = 20;
+    while left >= 10 {
+        let pair = (left % 100) as u32;
+        buffer[start - 1] = digit_to_char_const(pair % 10, 10);
+        buffer[start - 2] = digit_to_char_const(pair / 10, 10);
+        start -= 2;
+        left /= 100;
+    }
+    if left > 0 {
+        start -= 1;
+        buffer[start] = digit_to_char_const(left as u32, 10);
+    }
+    &buffer[start..]
+}
+
 // Returns whether a group ends where `left` digits are left.
 #[inline(always)]
-const fn ends_group(groups: Groups, left: usize) -> bool {
+const fn ends_group(groups: Groups, left: u128) -> bool {
     let Groups { last, higher } = groups;
+    if left > usize::MAX as u128 {
+        return higher > 0 && (left - last as u128) % higher as u128 == 0;
+    }
+    // Division takes less time.
+    let left = left as usize;
     left > 0 && higher > 0 && last <= left && (left - last) % higher == 0
 }
 
@@ -75,13 +94,13 @@ pub(crate) fn put_if_any<S: Sink>(sink: &mut S, byte: Option<u8>) {
 
 // Writes a digit and, where a group ends, a separator. Behind the digit, `left` more are to be written.
 #[inline(always)]
-fn put_digit<S: Sink>(sink: &mut S, digit: u32, left: usize, run: &Run) {
+fn put_digit<S: Sink>(sink: &mut S, digit: u32, left: u128, run: &Run) {
     sink.put(digit_to_char(digit));
     put_if_any(sink, only_if(ends_group(run.groups, left), run.separator));
 }
 
-// Writes the digits among bytes in groups, where `count` is the number of these digits.
-fn put_digits<S: Sink>(sink: &mut S, bytes: &[u8], count: usize, run: &Run) {
+// Writes the digits among bytes in groups, which are the first of `count` digits, and returns how many are left.
+fn put_digits<S: Sink>(sink: &mut S, bytes: &[u8], count: u128, run: &Run) -> u128 {
     let mut left = count;
     let mut index = 0;
     while index < bytes.len() {
@@ -91,22 +110,40 @@ fn put_digits<S: Sink>(sink: &mut S, bytes: &[u8], count: usize, run: &Run) {
         }
         index += 1;
     }
+    left
+}
+
+// Writes zeros in groups, which are the first of `count` digits, and returns how many are left.
+fn put_zeros<S: Sink>(sink: &mut S, zeros: usize, count: u128, run: &Run) -> u128 {
+    let mut left = count;
+    let end = count - zeros as u128;
+    while left > end {
+        left -= 1;
+        put_digit(sink, 0, left, run);
+    }
+    left
+}
+
+// Writes digits in groups or, if there are none, a 0 if the run has one.
+fn put_padded<S: Sink>(sink: &mut S, padded: &Padded, run: &Run) {
+    let count = padded.count(run.radix);
+    if count == 0 && run.zero {
+        sink.put(b'0');
+        return;
+    }
+    let left = put_zeros(sink, padded.before, count, run);
+    let left = put_digits(sink, padded.first, left, run);
+    let left = put_digits(sink, padded.second, left, run);
+    put_zeros(sink, padded.after, left, run);
 }
 
 // Writes the digits among bytes in groups or, if there are none, a 0 if the run has one.
 fn put_or_zero<S: Sink>(sink: &mut S, bytes: &[u8], run: &Run) {
-    let count = count(bytes, run.radix);
-    if count == 0 && run.zero {
-        sink.put(b'0');
-    } else {
-        put_digits(sink, bytes, count, run);
-    }
+    put_padded(sink, &Padded::of(bytes), run);
 }
 
-// Writes the digits of a number in groups or, if it is 0, a 0 if the run has one.
-fn put_number<S: Sink>(sink: &mut S, number: u128, run: &Run) {
-    let mut buffer = [0; 128];
-    let bytes = characters(&mut buffer, number, run.radix);
+// Writes the digits of a number, which are `bytes`, in groups or, if it is 0, a 0 if the run has one.
+fn put_characters<S: Sink>(sink: &mut S, bytes: &[u8], number: u128, run: &Run) {
     if run.groups.higher == 0 && number > 0 {
         sink.put_all(bytes);
     } else {
@@ -114,13 +151,60 @@ fn put_number<S: Sink>(sink: &mut S, number: u128, run: &Run) {
     }
 }
 
+// Writes the digits of a number in groups or, if it is 0, a 0 if the run has one.
+fn put_number<S: Sink>(sink: &mut S, number: u128, run: &Run) {
+    if run.radix == 10 && number <= u64::MAX as u128 {
+        let mut buffer = [0; 20];
+        let bytes = decimals(&mut buffer, number as u64);
+        put_characters(sink, bytes, number, run);
+    } else {
+        let mut buffer = [0; 128];
+        let bytes = characters(&mut buffer, number, run.radix);
+        put_characters(sink, bytes, number, run);
+    }
+}
+
+impl<'a> Padded<'a> {
+    // Returns the digits among bytes, without zeros around them.
+    #[inline(always)]
+    pub(crate) const fn of(bytes: &'a [u8]) -> Padded<'a> {
+        Padded { before: 0, first: bytes, second: &[], after: 0 }
+    }
+
+    // Returns the number of digits.
+    pub(crate) fn count(&self, radix: u32) -> u128 {
+        self.before as u128 + count(self.first, radix) as u128 + count(self.second, radix) as u128 + self.after as u128
+    }
+
+    // Returns the digits without the zeros that they begin with.
+    pub(crate) fn lean(&self, radix: u32) -> Padded<'a> {
+        let first = without_zeros(self.first, radix);
+        if count(first, radix) > 0 {
+            return Padded { before: 0, first, second: self.second, after: self.after };
+        }
+        let second = without_zeros(self.second, radix);
+        let some = count(second, radix) > 0;
+        Padded { before: 0, first: &[], second, after: if some { self.after } else { 0 } }
+    }
+}
+
 impl Run<'_> {
+    // Returns the number of digits if there can be zeros around them, and 0 otherwise.
+    pub(crate) fn count(&self) -> u128 {
+        match &self.source {
+            Source::Padded(padded) => padded.count(self.radix),
+            _ => 0,
+        }
+    }
+
     // Writes the digits, or a 0 for absent ones.
+    #[inline(always)]
     pub(crate) fn put<S: Sink>(&self, sink: &mut S) {
         match self.source {
             Source::Number(0) if !self.zero => (),
             Source::Bytes(bytes) => put_or_zero(sink, bytes, self),
             Source::Number(number) => put_number(sink, number, self),
+            Source::Padded(padded) => put_padded(sink, &padded, self),
         }
     }
 }

@@ -2,7 +2,7 @@
 
 //! Integers are written.
 
-use crate::literal::syntax::Syntax;
+use crate::literal::syntax::{Condition, Syntax};
 use crate::literal::writer::layout::{needs_exponent, Amount, Layout, Style, WriteError};
 use crate::literal::writer::run::Source;
 use crate::number::integer::Integer;
@@ -11,13 +11,17 @@ use crate::number::integer::Integer;
 ///
 /// # Errors
 ///
-/// [`WriteError::Float`] if each literal of `syntax` has an exponent, and otherwise [`WriteError::Negative`] if the
-/// value is below 0 and no literal has the sign `-`.
+/// [`WriteError::Negative`] if the value is below 0 and no literal has the sign `-`, and otherwise
+/// [`WriteError::Float`] if each literal of `syntax` has an exponent.
+#[inline(always)]
 pub fn format_integer<T: Integer>(syntax: &Syntax, value: T, style: Style) -> Result<Layout<'static>, WriteError> {
+    let (negative, size) = value.sign_and_size();
+    if negative && syntax.conditions().has(Condition::NegativeSign) {
+        return Err(WriteError::Negative);
+    }
     if needs_exponent(syntax) {
         return Err(WriteError::Float);
     }
-    let (negative, size) = value.sign_and_size();
     let amount = Amount { negative, integer: Source::Number(size), fraction: None, exponent: None };
     amount.lay_out(syntax, style)
 }

@@ -12,13 +12,24 @@ use crate::word::{base_prefix, base_suffix, digit_separator, FormatView};
 // Digits without groups.
 const NO_GROUPS: Groups = Groups { last: 0, higher: 0 };
 
+/// How many digits a group of the integer has. Where the format does not allow separators between them, there are none.
+#[derive(Debug, Clone, Copy, PartialEq, Eq, Hash)]
+#[non_exhaustive]
+pub enum Grouping {
+    /// As many as a condition of the syntax says. Without such a condition, there are no groups.
+    AsSyntax,
+    /// There are no groups.
+    None,
+    /// As many as this number, or as a condition of the syntax says, if it has one. For 0, there are no groups.
+    Of(usize),
+}
+
 /// How numbers are written where a syntax leaves a choice.
 #[derive(Debug, Clone, Copy, PartialEq, Eq, Hash)]
 #[non_exhaustive]
 pub struct Style {
-    /// The number of integer digits of a group, or 0 for digits without groups. Where the format does not allow
-    /// separators between integer digits, there are no groups. Where the syntax requires sizes, groups have these sizes.
-    pub group: usize,
+    /// How many digits a group of the integer has.
+    pub group: Grouping,
     /// Whether the base prefix is written, if the format has one.
     pub prefix: bool,
     /// Whether the base suffix is written, if the format has one.
@@ -29,18 +40,20 @@ pub struct Style {
 #[derive(Debug, Clone, Copy, PartialEq, Eq, Hash)]
 #[non_exhaustive]
 pub enum WriteError {
-    /// The mantissa radixes differ or, for a number with an exponent, the exponent bases.
+    /// The mantissa radixes differ, or the exponent has another radix and more than 128 bits.
     Radix,
     /// The number is below 0, or -0, and no literal has the sign `-`.
     Negative,
-    /// The number has a fraction, and the literals of the syntax are integers.
+    /// The number is not whole, and the literals of the syntax are integers.
     Fraction,
-    /// The number has an exponent, and no literal has one, or its exponent digits have another radix and are too many.
+    /// No literal has the exponent of the number, which does not move the point by whole digits.
     Exponent,
     /// The number is an integer of Rust, and each literal has an exponent.
     Float,
     /// The number is NaN or infinity, which no literal is.
     Special,
+    /// No literal has the exponent of the number, and if the point moves, the text has more than 800 bytes.
+    Long,
     /// The buffer is too short for the text, which has this number of bytes.
     Buffer(usize),
 }
@@ -61,8 +74,8 @@ pub struct Amount<'a> {
     pub negative: bool,
     /// The integer digits, in the mantissa radix of the syntax.
     pub integer: Source<'a>,
-    /// The bytes with the fraction digits, or `None` for a number without a decimal point.
-    pub fraction: Option<&'a [u8]>,
+    /// The fraction digits, or `None` for a number without a decimal point.
+    pub fraction: Option<Source<'a>>,
     /// The exponent, or `None` for a number without one.
     pub exponent: Option<Power<'a>>,
 }
@@ -95,6 +108,12 @@ impl Layout<'_> {
         self.put(window);
     }
 
+    // Returns whether the text has more than 800 bytes.
+    pub(crate) fn is_long(&self) -> bool {
+        // There can be more zeros than there is time to write.
+        self.integer.count() > 800 || self.fraction.count() > 800 || self.write(&mut []) > 800
+    }
+
     // Writes the text.
     pub(crate) fn put<S: Sink>(&self, sink: &mut S) {
         put_if_any(sink, self.sign);
@@ -125,23 +144,28 @@ const fn base_byte(condition: bool, byte: u8) -> Option<u8> {
 }
 
 // Returns a run without groups.
+#[inline]
 const fn plain_run<'a>(source: Source<'a>, radix: u32, zero: bool) -> Run<'a> {
     Run { source, radix, zero, groups: NO_GROUPS, separator: 0 }
 }
 
 // Returns the digits of a source without the zeros that they begin with.
+#[inline]
 fn lean<'a>(source: Source<'a>, radix: u32) -> Source<'a> {
     match source {
         Source::Bytes(bytes) => Source::Bytes(without_zeros(bytes, radix)),
         Source::Number(number) => Source::Number(number),
+        Source::Padded(padded) => Source::Padded(padded.lean(radix)),
     }
 }
 
 // Returns whether a source has digits.
+#[inline]
 fn has_digits(source: Source, radix: u32) -> bool {
     match source {
         Source::Bytes(bytes) => count(bytes, radix) > 0,
         Source::Number(number) => number > 0,
+        Source::Padded(padded) => padded.count(radix) > 0,
     }
 }
 
@@ -189,6 +213,7 @@ impl<'a> Amount<'a> {
     }
 
     // Returns why the number cannot be written, if it cannot.
+    #[inline]
     fn refusal(&self, syntax: &Syntax) -> Option<WriteError> {
         let integers = syntax.options().is_none();
         let no_exponent = integers | syntax.format().view().no_exponent_notation();
@@ -200,21 +225,24 @@ impl<'a> Amount<'a> {
     }
 
     // Returns whether a 0 stands for absent integer digits.
+    #[inline]
     fn has_zero(&self, format: FormatView) -> bool {
         let radix = format.mantissa_radix();
         format.required_integer_digits() || has_digits(self.integer, radix) || !has_digits(self.fraction(), radix)
     }
 
     // Returns the fraction digits, if there are any.
+    #[inline]
     fn fraction(&self) -> Source<'a> {
         match self.fraction {
-            Some(bytes) => Source::Bytes(bytes),
+            Some(source) => source,
             None => Source::Number(0),
         }
     }
 }
 
 // Returns whether each literal has an exponent.
+#[inline]
 pub(crate) fn needs_exponent(syntax: &Syntax) -> bool {
     syntax.format().view().required_exponent_notation() && syntax.options().is_some()
 }
@@ -233,13 +261,23 @@ const fn first_error(sign: bool, fraction: bool, exponent: bool) -> Option<Write
 }
 
 // Returns the groups of an integer.
+#[inline]
 const fn groups_of(format: FormatView, conditions: Conditions, style: Style) -> Groups {
-    if style.group == 0 || !format.integer_internal_digit_separator() || digit_separator(format.word()) == 0 {
+    let last = group_size(conditions.number(Condition::IntegerGroupSize), style.group);
+    if last == 0 || !format.integer_internal_digit_separator() || digit_separator(format.word()) == 0 {
         return NO_GROUPS;
     }
-    let last = either(conditions.number(Condition::IntegerGroupSize), style.group);
     let higher = either(conditions.number(Condition::HigherGroupSize), last);
     Groups { last, higher }
+}
+
+// Returns how many digits a group has, where a condition requires `size` digits, or 0 for digits without groups.
+const fn group_size(size: u8, group: Grouping) -> usize {
+    match group {
+        Grouping::AsSyntax => size as usize,
+        Grouping::None | Grouping::Of(0) => 0,
+        Grouping::Of(other) => either(size, other),
+    }
 }
 
 // Returns the size that a condition requires, or `other` if it requires none.

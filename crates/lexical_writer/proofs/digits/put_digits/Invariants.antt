@@ -1,6 +1,6 @@
-use Rattle.std.proofs.Common.{length, drop, ◌-◌, ◌++◌, ◌≡◌, ◌≤◌, List, ℕ}
+use Rattle.std.proofs.Common.{length, drop, ◌+◌, ◌-◌, ◌++◌, ◌≡◌, ◌≤◌, List, ℕ}
 use Rattle.lexical_number.specs.Number.{digits_in, places}
-use Rattle.lexical_writer.specs.Digits.{grouped}
+use Rattle.lexical_writer.specs.Digits.{grouped_front}
 use Rattle.lexical_writer.specs.contracts.digits.put_digits.{S-type}
 use Rattle.lexical_writer.proofs.digits.put_digits.Given as goal
 
@@ -8,11 +8,11 @@ use Rattle.lexical_writer.proofs.digits.put_digits.Given as goal
 abbrev pub invariant-loop-index : goal.invariant-loop-index
 invariant-loop-index g l = record {
   within : l.index ≤ length l.bytes;
-  left : l.left ≡ places l.run.radix (drop l.index l.bytes);
+  left : l.left ≡ (l.count - places l.run.radix l.bytes) + places l.run.radix (drop l.index l.bytes);
   written : (start : S-type g.row.S) → (text : List ℕ) → g.S.Sink.has start l.initial.sink text
       → (middle : List ℕ) × g.S.Sink.has start l.sink middle
-      × (middle ++ grouped l.run.separator l.run.groups (digits_in l.run.radix (drop l.index l.bytes))
-      ≡ text ++ grouped l.run.separator l.run.groups (digits_in l.run.radix l.bytes));
+      × (middle ++ grouped_front l.run.separator l.run.groups l.left (digits_in l.run.radix (drop l.index l.bytes))
+      ≡ text ++ grouped_front l.run.separator l.run.groups l.count (digits_in l.run.radix l.bytes));
 }
 
 abbrev pub decreases-loop-index : goal.decreases-loop-index

@@ -5,7 +5,7 @@ use Rattle.lexical_util.specs.Record.{raw}
 use Rattle.lexical_writer.specs.Conversion.{amount_of}
 use Rattle.lexical_writer.specs.Layout.{literal_of}
 use Rattle.lexical_writer.proofs.ConversionLemmas.{same_fraction}
-use Rattle.lexical_writer.proofs.literal.convert.Goals as goal
+use Rattle.lexical_writer.proofs.literal.keep.Goals as goal
 
 pub returns-clause-value : goal.returns-clause-value
 returns-clause-value c =

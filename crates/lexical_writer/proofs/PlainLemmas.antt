@@ -1,0 +1,288 @@
+-- A number whose point has moved has the value of the literal.
+use Rattle.std.proofs.Common.{ℕ, zero, suc, ◌≡◌, ◌<◌, ◌≤◌, ◌+◌, ◌-◌, ◌*◌, ◌/◌, ◌%◌, ◌^◌, ◌==◌, ◌&&◌, ◌||◌, ◌⊎◌, inl, inr, not, nat_lt, Bool, true, false, if◌then◌else◌}
+use Rattle.std.proofs.Common.{Option, unwrap_or, List, ◌++◌, length, take, drop, replicate, Result, Ok, Err, refl, sym, ap, ◌∙◌, subst, arith, append-nil}
+use Rattle.std.proofs.Math.Nat.{dvd_of_mod-eq-zero, div-mul_cancel, mul-div_cancel, one-le-pow, pow-suc, pow-zero}
+use Rattle.std.proofs.lemmas.Bool.{cases_lt, false≢true}
+use Rattle.std.proofs.lemmas.Bool.Decides.{nat_tests}
+use Rattle.std.proofs.lemmas.Int.Digits.{number_after_append, number_digits_of}
+use Rattle.std.proofs.lemmas.List.{append_assoc, drop_all, length-append, length-drop, length-replicate, take-append-drop, take_all}
+use Rattle.std.proofs.lemmas.List.Elements.{filter_map-append}
+use Rattle.std.specs.Int.Digits.{number_from_digits, number_from_digits_after}
+use Rattle.lexical_util.specs.Layout as layout
+use Rattle.lexical_util.specs.Record.{Record, raw, effective_exponent_base, effective_exponent_radix}
+use Rattle.lexical_literal.specs.Literal.{Literal, is_absent, is_minus}
+use Rattle.lexical_literal.specs.Parts.{literal_of}
+use Rattle.lexical_literal.specs.Read.{mantissa}
+use Rattle.lexical_literal.specs.declared.read.Parts.{Parts}
+use Rattle.lexical_literal.specs.declared.syntax.Grammar.{Grammar}
+use Rattle.lexical_number.specs.Number.{digits_in, number}
+use Rattle.lexical_value.specs.Value.{power, scale}
+use Rattle.lexical_writer.specs.Conversion.{SameFraction}
+use Rattle.lexical_writer.specs.Digits.{or_zero, size_of, values_of}
+use Rattle.lexical_writer.specs.Layout.{HasNumber, given_power}
+use Rattle.lexical_writer.specs.Moved.{IsMoved, factors, has_zeros, moved_by, moved_fraction, moved_integer, too_far, trimmed}
+use Rattle.lexical_writer.specs.declared.layout.Amount.{Amount}
+use Rattle.lexical_writer.specs.declared.layout.Power.{Power}
+use Rattle.lexical_writer.specs.declared.layout.WriteError.{WriteError}
+use Rattle.lexical_writer.specs.declared.layout.WriteError.TheVariants as errors
+use Rattle.lexical_writer.specs.declared.run.Source.{Source}
+use Rattle.lexical_writer.specs.declared.run.Source.TheVariants as sources
+use Rattle.lexical_writer.proofs.ConversionLemmas.{zero_scaled}
+use Rattle.lexical_writer.proofs.DigitLemmas.{zeros_number}
+use Rattle.lexical_writer.proofs.MovedLemmas.{absent_is, trimmed_is}
+use lib.Pow.{pow-add}
+
+-- Zeros behind digits.
+zeros_after : (radix n k : ℕ) → number_from_digits_after radix n (replicate k 0) ≡ n * radix ^ k
+zeros_after radix n zero = let one = pow-zero radix in sym (ap (λ p. n * p) one ∙ omega arith)
+zeros_after radix n (suc k) =
+    ap (λ m. number_from_digits_after radix m (replicate k 0)) {x = n * radix + 0} {y = n * radix} (omega arith) ∙ zeros_after radix (n * radix) k
+    ∙ turned n radix (radix ^ k) ∙ sym (ap (λ p. n * p) (pow-suc radix k))
+  where
+    turned : (a b c : ℕ) → a * b * c ≡ a * (c * b)
+    turned a b c = omega arith
+
+-- The product of more factors.
+one_factor : (base : ℕ) → base ^ 1 ≡ base
+one_factor base = pow-suc base 0 ∙ ap (λ p. p * base) (pow-zero base) ∙ omega arith
+
+pow_twice : (base k n : ℕ) → (base ^ k) ^ n ≡ base ^ (n * k)
+pow_twice base k zero = pow-zero (base ^ k) ∙ sym (ap (λ e. base ^ e) {x = 0 * k} {y = 0} (omega arith) ∙ pow-zero base)
+pow_twice base k (suc n) =
+    pow-suc (base ^ k) n ∙ ap (λ p. p * base ^ k) (pow_twice base k n) ∙ sym (pow-add base (n * k) k)
+    ∙ ap (λ e. base ^ e) {x = n * k + k} {y = suc n * k} (omega arith)
+
+pow_if : (base radix k rest : ℕ) (test : Bool) → test ≡ (base ^ k == radix) → (test ≡ false → (rest == 0) ≡ false → base ^ rest ≡ radix)
+    → ((if test then k else rest) == 0) ≡ false → base ^ (if test then k else rest) ≡ radix
+pow_if base radix k rest true is more some = grind (arith, nat_tests)
+pow_if base radix k rest false is more some = more refl some
+
+pub factor_power : (base radix : ℕ) → (factors base radix == 0) ≡ false → base ^ factors base radix ≡ radix
+factor_power base radix =
+    pow_if base radix 1 _ (base == radix) (ap (λ p. p == radix) (sym (one_factor base)))
+    (λ no. pow_if base radix 2 _ (base ^ 2 == radix) refl (λ no. pow_if base radix 3 _ (base ^ 3 == radix) refl
+    (λ no. pow_if base radix 4 _ (base ^ 4 == radix) refl (λ no. pow_if base radix 5 0 (base ^ 5 == radix) refl (λ no some. absurd (false≢true (sym some)))))))
+
+abbrev places : WriteError → Bool → ℕ → ℕ → Result ℕ WriteError
+places far zeros e k = if zeros || e == 0 then Ok 0 else (if nat_lt (2 ^ 128 - 1) e then Err far else (if k == 0 || not (e % k == 0) then Err errors.Exponent
+    else (if nat_lt (2 ^ 64 - 1) (e / k) then Err far else Ok (e / k))))
+
+-- The power of the base is that of the radix by as many digits as the point moves.
+moves : (far : WriteError) (zeros : Bool) (base radix e k n : ℕ) → ((k == 0) ≡ false → base ^ k ≡ radix)
+    → places far zeros e k ≡ Ok n
+    → ((zeros ≡ true) × (n ≡ 0)) ⊎ (base ^ e ≡ radix ^ n)
+moves far true base radix e k n whole is = inl (refl, grind arith)
+moves far false base radix e k n whole is = inr (go (e == 0) refl)
+  where
+    go : (test : Bool) → e == 0 ≡ test → base ^ e ≡ radix ^ n
+    go true none =
+        let first : e ≡ 0 = grind (arith, nat_tests) in
+        let second : n ≡ 0 = grind arith in
+        ap (λ e. base ^ e) first ∙ pow-zero base ∙ sym (ap (λ n. radix ^ n) second ∙ pow-zero radix)
+    go false some =
+        let factor : (k == 0) ≡ false = grind arith in
+        let exact : e % k ≡ 0 = grind (arith, nat_tests) in
+        let count : e / k ≡ n = grind arith in
+        ap (λ e. base ^ e) (sym (div-mul_cancel k (dvd_of_mod-eq-zero k exact)) ∙ ap (λ n. n * k) count) ∙ sym (pow_twice base k n)
+        ∙ ap (λ b. b ^ n) (whole factor)
+
+-- The digits and the places of a point that has moved to the left.
+left_worth : (radix n : ℕ) (i f : List ℕ) → (number_from_digits radix (moved_integer true n i f ++ moved_fraction true n i f) ≡ number_from_digits radix (i ++ f))
+    × (length (moved_fraction true n i f) ≡ n + length f)
+left_worth radix n i f =
+    let k = length i - n in
+    let z = n - length i in
+    let zeros : List ℕ = replicate z 0 in
+    let all = length-append zeros (drop k i ++ f) in
+    let first = length-replicate {A = ℕ} z 0 in
+    let second = length-append (drop k i) f in
+    let third = length-drop k i in
+    let digits : number_from_digits radix (take k i ++ (zeros ++ (drop k i ++ f))) ≡ number_from_digits radix (i ++ f) = elim (cases_lt (length i) n) [
+      | inl past ↦
+          ap (λ k. number_from_digits radix (take k i ++ (zeros ++ (drop k i ++ f)))) {x = k} {y = 0} (omega (arith, past)) ∙ zeros_number radix z (i ++ f)
+      | inr within ↦
+          ap (λ z. number_from_digits radix (take k i ++ (replicate z 0 ++ (drop k i ++ f)))) {x = z} {y = 0} (omega (arith, within))
+          ∙ ap (number_from_digits radix) (sym (append_assoc (take k i) (drop k i) f) ∙ ap (λ xs. xs ++ f) (take-append-drop k i))
+    ] in
+    (digits, omega (arith, all, first, second, third))
+
+-- The same of one that has moved to the right.
+shuffled : (n k f u : ℕ) → u ≡ f * k → (n * k) * f ≡ (n * u) * 1
+shuffled n k f u is = ap (λ it. (n * k) * it) {x = f} {y = f} (omega arith) ∙ turned n k f ∙ sym (ap (λ u. (n * u) * 1) is)
+  where
+    turned : (a b c : ℕ) → (a * b) * c ≡ (a * (c * b)) * 1
+    turned a b c = omega arith
+
+right_worth : (radix n : ℕ) (i f : List ℕ) → number_from_digits radix (moved_integer false n i f ++ moved_fraction false n i f) * radix ^ length f
+    ≡ (number_from_digits radix (i ++ f) * radix ^ n) * radix ^ length (moved_fraction false n i f)
+right_worth radix n i f =
+    let k = n - length f in
+    let whole = number_from_digits radix (i ++ f) in
+    let zeros : List ℕ = replicate k 0 in
+    elim (cases_lt (length f) n) [
+      | inl past ↦
+          let passed = take_all n f (omega (arith, past)) in
+          let rest = drop_all n f (omega (arith, past)) in
+          let digits : (i ++ (take n f ++ zeros)) ++ drop n f ≡ (i ++ f) ++ zeros =
+          ap (λ ds. (i ++ (take n f ++ zeros)) ++ ds) rest ∙ append-nil (i ++ (take n f ++ zeros)) ∙ ap (λ ds. i ++ (ds ++ zeros)) passed
+          ∙ sym (append_assoc i f zeros) in
+          let power : radix ^ n ≡ radix ^ length f * radix ^ k = ap (λ e. radix ^ e) {x = n} {y = length f + k} (omega (arith, past)) ∙ pow-add radix (length f) k in
+          ap (λ ds. number_from_digits radix ds * radix ^ length f) digits
+          ∙ ap (λ m. m * radix ^ length f) (number_after_append radix 0 (i ++ f) zeros ∙ zeros_after radix whole k)
+          ∙ shuffled whole (radix ^ k) (radix ^ length f) (radix ^ n) power
+          ∙ sym (ap (λ ds. (whole * radix ^ n) * radix ^ length ds) rest ∙ ap (λ p. (whole * radix ^ n) * p) (pow-zero radix))
+      | inr within ↦
+          let digits : (i ++ (take n f ++ zeros)) ++ drop n f ≡ i ++ f =
+          ap (λ k. (i ++ (take n f ++ replicate k 0)) ++ drop n f) {x = k} {y = 0} (omega (arith, within)) ∙ ap (λ ds. (i ++ ds) ++ drop n f) (append-nil (take n f))
+          ∙ append_assoc i (take n f) (drop n f) ∙ ap (λ ds. i ++ ds) (take-append-drop n f) in
+          let length_is = length-drop n f in
+          let power : radix ^ length f ≡ radix ^ n * radix ^ length (drop n f) =
+          ap (λ e. radix ^ e) {x = length f} {y = n + length (drop n f)} (omega (arith, within, length_is)) ∙ pow-add radix n (length (drop n f)) in
+          ap (λ ds. number_from_digits radix ds * radix ^ length f) digits ∙ ap (λ p. whole * p) power ∙ regrouped whole (radix ^ n) (radix ^ length (drop n f))
+    ]
+  where
+    regrouped : (a b c : ℕ) → a * (b * c) ≡ (a * b) * c
+    regrouped a b c = omega arith
+
+moved_worth : (left : Bool) (radix n : ℕ) (i f : List ℕ)
+    → number_from_digits radix (moved_integer left n i f ++ moved_fraction left n i f) * (radix ^ length f * (if left then radix ^ n else 1))
+    ≡ (number_from_digits radix (i ++ f) * (if left then 1 else radix ^ n)) * radix ^ length (moved_fraction left n i f)
+moved_worth true radix n i f =
+    let is = left_worth radix n i f in
+    let whole = number_from_digits radix (i ++ f) in
+    ap (λ m. m * (radix ^ length f * radix ^ n)) is.0 ∙ turned whole (radix ^ length f) (radix ^ n)
+    ∙ sym (ap (λ p. (whole * 1) * p) (ap (λ e. radix ^ e) is.1 ∙ pow-add radix n (length f)))
+  where
+    turned : (a b c : ℕ) → a * (b * c) ≡ (a * 1) * (c * b)
+    turned a b c = omega arith
+moved_worth false radix n i f =
+    ap (λ p. number_from_digits radix (moved_integer false n i f ++ moved_fraction false n i f) * p) {x = radix ^ length f * 1} {y = radix ^ length f} (omega arith)
+    ∙ right_worth radix n i f
+
+-- Zeros that are left out do not change the value.
+cancelled : (a b k : ℕ) → 0 < k → a * k ≡ b * k → a ≡ b
+cancelled a b k some is = sym (mul-div_cancel a some) ∙ ap (λ m. m / k) is ∙ mul-div_cancel b some
+
+plain_worth : (left : Bool) (radix n : ℕ) (i f : List ℕ) → 0 < radix
+    → number_from_digits radix (moved_integer left n i f ++ trimmed (moved_fraction left n i f)) * (radix ^ length f * (if left then radix ^ n else 1))
+    ≡ (number_from_digits radix (i ++ f) * (if left then 1 else radix ^ n)) * radix ^ length (trimmed (moved_fraction left n i f))
+plain_worth left radix n i f some =
+    let front = moved_integer left n i f in
+    let rest = moved_fraction left n i f in
+    let down = radix ^ length f * (if left then radix ^ n else 1) in
+    let up = number_from_digits radix (i ++ f) * (if left then 1 else radix ^ n) in
+    let is = trimmed_is rest in
+    let zeros : List ℕ = replicate is.0 0 in
+    let number : number_from_digits radix (front ++ rest) ≡ number_from_digits radix (front ++ trimmed rest) * radix ^ is.0 =
+    ap (λ ds. number_from_digits radix (front ++ ds)) is.1 ∙ ap (number_from_digits radix) (sym (append_assoc front (trimmed rest) zeros))
+    ∙ number_after_append radix 0 (front ++ trimmed rest) zeros ∙ zeros_after radix (number_from_digits radix (front ++ trimmed rest)) is.0 in
+    let size = length-replicate {A = ℕ} is.0 0 in
+    let count : radix ^ length rest ≡ radix ^ length (trimmed rest) * radix ^ is.0 =
+    ap (λ e. radix ^ e) (ap length is.1 ∙ length-append (trimmed rest) zeros ∙ ap (λ k. length (trimmed rest) + k) size) ∙ pow-add radix (length (trimmed rest)) is.0 in
+    cancelled _ _ (radix ^ is.0) (one-le-pow is.0 radix some)
+    (turned (number_from_digits radix (front ++ trimmed rest)) (radix ^ is.0) down ∙ sym (ap (λ m. m * down) number) ∙ moved_worth left radix n i f
+    ∙ ap (λ p. up * p) count ∙ regrouped up (radix ^ length (trimmed rest)) (radix ^ is.0))
+  where
+    turned : (a b c : ℕ) → (a * c) * b ≡ (a * b) * c
+    turned a b c = omega arith
+
+    regrouped : (a b c : ℕ) → a * (b * c) ≡ (a * b) * c
+    regrouped a b c = omega arith
+
+-- The digits of a source represent its number.
+size_values : (radix : ℕ) (source : Source) → 2 ≤ radix → size_of radix source ≡ number_from_digits radix (values_of radix source)
+size_values radix (sources.Bytes bytes) two = refl
+size_values radix (sources.Number n) two = sym (number_digits_of radix n two)
+size_values radix (sources.Padded padded) two = refl
+
+-- Digits that are all zeros represent 0.
+no_mantissa : (radix : ℕ) (i f : List ℕ) → (is_absent (trimmed i) && is_absent (trimmed f)) ≡ true → number_from_digits radix (i ++ f) ≡ 0
+no_mantissa radix i f none =
+    number_after_append radix 0 i f ∙ ap (λ m. number_from_digits_after radix m f) (zeros_are radix i (grind arith)) ∙ zeros_are radix f (grind arith)
+  where
+    zeros_are : (radix : ℕ) (digits : List ℕ) → is_absent (trimmed digits) ≡ true → number_from_digits radix digits ≡ 0
+    zeros_are radix digits none =
+        let is = trimmed_is digits in
+        ap (number_from_digits radix) (is.1 ∙ ap (λ ds. ds ++ replicate is.0 0) (absent_is (trimmed digits) none)) ∙ zeros_after radix 0 is.0 ∙ omega arith
+
+-- Both sides of the equation of two values.
+both_worth : (n a u d f t q : ℕ) → a * (f * d) ≡ (n * u) * t → (n * u) * ((t * q) * 1) ≡ ((a * q) * 1) * (f * d)
+both_worth n a u d f t q is = first (n * u) t q ∙ sym (ap (λ m. m * q) is) ∙ second a (f * d) q
+  where
+    first : (m t q : ℕ) → m * ((t * q) * 1) ≡ (m * t) * q
+    first m t q = omega arith
+
+    second : (a d q : ℕ) → (a * d) * q ≡ ((a * q) * 1) * d
+    second a d q = omega arith
+
+none_worth : (n a u v d w f t q : ℕ) → n ≡ 0 → a * (f * d) ≡ (n * u) * t → d ≡ 1 → (n * v) * ((t * q) * 1) ≡ ((a * q) * 1) * (f * w)
+none_worth n a u v d w f t q none is one =
+    let zero_is : a * f ≡ 0 = ap (λ d. a * d) {x = f} {y = f * 1} (omega arith) ∙ ap (λ d. a * (f * d)) (sym one) ∙ is ∙ ap (λ n. (n * u) * t) none ∙ omega arith in
+    ap (λ n. (n * v) * ((t * q) * 1)) none ∙ empty v ((t * q) * 1) ∙ sym (second a f q w ∙ ap (λ m. m * (q * w)) zero_is ∙ omega arith)
+  where
+    empty : (v m : ℕ) → (0 * v) * m ≡ 0
+    empty v m = omega arith
+
+    second : (a f q w : ℕ) → ((a * q) * 1) * (f * w) ≡ (a * f) * (q * w)
+    second a f q w = omega arith
+
+-- What has the digits of a number whose point has moved has the value of the literal.
+pub same_moved : (only : Bool) (r : Record) (parts : Parts) (g : Grammar) (amount : Amount) (n : ℕ) → moved_by only r parts ≡ Ok n
+    → IsMoved (r.byte layout.mantissa_radix) (is_minus parts.exponent_sign.now) n parts amount
+    → r.byte layout.mantissa_radix ≡ (raw g.word).byte layout.mantissa_radix → 2 ≤ (raw g.word).byte layout.mantissa_radix
+    → (l : Literal) → HasNumber g amount l → SameFraction r (literal_of parts) (raw g.word) l
+same_moved only r parts g amount n by is_moved same two l has =
+    let s = raw g.word in
+    let k = literal_of parts in
+    let radix = s.byte layout.mantissa_radix in
+    let left = is_minus parts.exponent_sign.now in
+    let base = effective_exponent_base r in
+    let e = number (effective_exponent_radix r) parts.exponent.now in
+    let i = digits_in radix parts.integer.now in
+    let f = digits_in radix parts.fraction.now in
+    let m = subst (λ radix. IsMoved radix left n parts amount) same is_moved in
+    let front = moved_integer left n i f in
+    let rest = trimmed (moved_fraction left n i f) in
+    let whole = number_from_digits radix (i ++ f) in
+    let written = number_from_digits radix (front ++ rest) in
+    let factor = zero_scaled radix (number_from_digits radix front) has.zero rest in
+    let given_mantissa : mantissa r k ≡ whole = ap (λ b. number b (parts.integer.now ++ parts.fraction.now)) same
+    ∙ ap (number_from_digits radix) (filter_map-append _ parts.integer.now parts.fraction.now) in
+    let given_scale : scale r k ≡ radix ^ length f = ap (λ b. b ^ length (digits_in b parts.fraction.now)) same in
+    let size : number radix l.integer ≡ number_from_digits radix front = has.integer ∙ size_values radix amount.integer two
+    ∙ ap (number_from_digits radix) m.integer ∙ ap (λ n. number_from_digits_after radix n front) {x = 0 * radix + 0} {y = 0} (omega arith) in
+    let fraction : digits_in radix l.fraction ≡ or_zero has.zero rest = has.fraction ∙ ap (or_zero has.zero) m.fraction in
+    let written_mantissa : mantissa s l ≡ written * factor.0 = ap (number_from_digits radix) (filter_map-append _ l.integer l.fraction)
+    ∙ number_after_append radix 0 (digits_in radix l.integer) (digits_in radix l.fraction)
+    ∙ (λ j. number_from_digits_after radix (size j) (fraction j)) ∙ factor.1 ∙ ap (λ m. m * factor.0) (sym (number_after_append radix 0 front rest)) in
+    let written_scale : scale s l ≡ radix ^ length rest * factor.0 = ap (λ digits. radix ^ length digits) fraction ∙ factor.2 in
+    let no_power : given_power amount ≡ record { negative = false; source = sources.Number 0 } =
+    ap (λ (power : Option Power). unwrap_or power (record { negative = false; source = sources.Number 0 })) m.exponent in
+    let no_sign : is_minus l.exponent_sign ≡ false = has.exponent_sign ∙ ap (λ (power : Power). power.negative) no_power in
+    let one : power s l ≡ 1 = ap (λ n. effective_exponent_base s ^ n) (has.exponent ∙ ap (λ (power : Power). size_of (effective_exponent_radix s) power.source) no_power)
+    ∙ pow-zero (effective_exponent_base s) in
+    let up = if left then 1 else base ^ e in
+    let down = if left then base ^ e else 1 in
+    let worth = plain_worth left radix n i f (omega (arith, two)) in
+    let equal : (whole * up) * ((radix ^ length rest * factor.0) * 1) ≡ ((written * factor.0) * 1) * (radix ^ length f * down) =
+    elim (moves (too_far only parts) (has_zeros (r.byte layout.mantissa_radix) parts) base (r.byte layout.mantissa_radix) e (factors base (r.byte layout.mantissa_radix)) n
+    (factor_power base (r.byte layout.mantissa_radix)) by) [
+      | inl none ↦
+          let zeros : number_from_digits radix (i ++ f) ≡ 0 = no_mantissa radix i f (ap (λ b. is_absent (trimmed (digits_in b parts.integer.now))
+          && is_absent (trimmed (digits_in b parts.fraction.now))) (sym same) ∙ none.0) in
+          none_worth whole written (if left then 1 else radix ^ n) up (if left then radix ^ n else 1) down (radix ^ length f) (radix ^ length rest) factor.0 zeros worth
+          (one_power left radix n none.1)
+      | inr power ↦
+          let raised : base ^ e ≡ radix ^ n = power ∙ ap (λ b. b ^ n) same in
+          both_worth whole written up down (radix ^ length f) (radix ^ length rest) factor.0
+          (ap (λ p. written * (radix ^ length f * (if left then p else 1))) raised ∙ worth ∙ sym (ap (λ p. (whole * (if left then 1 else p)) * radix ^ length rest) raised))
+    ] in
+    record {
+      sign = sym (has.sign ∙ m.negative);
+      fraction = (λ j. (given_mantissa j * up) * (written_scale j * (if no_sign j then one j else 1))) ∙ equal
+          ∙ sym (λ j. (written_mantissa j * (if no_sign j then 1 else one j)) * (given_scale j * down));
+    }
+  where
+    one_power : (left : Bool) (radix n : ℕ) → n ≡ 0 → (if left then radix ^ n else 1) ≡ 1
+    one_power true radix n none = ap (λ n. radix ^ n) none ∙ pow-zero radix
+    one_power false radix n none = refl

@@ -1,0 +1,14 @@
+use Rattle.std.proofs.Common.{length, take, ◌≡◌, ◌≤◌}
+use Rattle.lexical_number.specs.Number.{digits_in}
+use Rattle.lexical_writer.specs.Moved.{trimmed}
+use Rattle.lexical_writer.proofs.moved.without_last_zeros.Given as goal
+
+-- What has been passed are zeros.
+abbrev pub invariant-loop-end : goal.invariant-loop-end
+invariant-loop-end l = record {
+  within : l.end ≤ length l.bytes;
+  front : trimmed (digits_in l.radix (take l.end l.bytes)) ≡ trimmed (digits_in l.radix l.bytes);
+}
+
+abbrev pub decreases-loop-end : goal.decreases-loop-end
+decreases-loop-end l = l.end

@@ -1,0 +1,213 @@
+//! The point of a number moves, so that the number needs no exponent.
+
+ghost use Rattle.std.specs.Prelude.{◌≡◌, ◌∷◌, false, take, drop, true};
+ghost use Rattle.lexical_util.specs.Record.{raw};
+ghost use Rattle.lexical_literal.specs.Literal.{is_absent, is_minus};
+ghost use Rattle.lexical_number.specs.Number.{digits_in};
+ghost use Rattle.lexical_writer.specs.Digits.{padded_values};
+ghost use Rattle.lexical_writer.specs.Moved.{IsMoved, factors, moved_by, moved_fraction, moved_integer, too_far, trimmed};
+
+use crate::layout::{Amount, WriteError};
+use crate::literal::is_minus;
+use crate::run::{Padded, Source};
+use lexical_base::digit::char_to_digit;
+use lexical_literal::read::Parts;
+use lexical_number::numeral::{Magnitude, Numeral};
+use lexical_number::parts::count;
+use lexical_util::format::NumberFormat;
+
+// Returns bytes up to a place among their digits, and the others. Before the place are at most `places` digits.
+fn cut<'a>(bytes: &'a [u8], radix: u32, places: usize) -> (&'a [u8], &'a [u8])
+    ensures front { digits_in radix result.0.now ≡ take places (digits_in radix bytes.entry.now) }
+    ensures rest { digits_in radix result.1.now ≡ drop places (digits_in radix bytes.entry.now) }
+{
+    let mut index = 0;
+    let mut left = places;
+    while left > 0 && index < bytes.len() {
+        if char_to_digit(bytes[index], radix).is_some() {
+            left -= 1;
+        }
+        index += 1;
+    }
+    (&bytes[..index], &bytes[index..])
+}
+
+// Returns what comes before the zeros that the digits among bytes end with.
+fn without_last_zeros<'a>(bytes: &'a [u8], radix: u32) -> &'a [u8]
+    ensures { digits_in radix result.now ≡ trimmed (digits_in radix bytes.entry.now) }
+{
+    let mut end = bytes.len();
+    while end > 0 {
+        if char_to_digit(bytes[end - 1], radix).unwrap_or(0) > 0 {
+            return &bytes[..end];
+        }
+        end -= 1;
+    }
+    &[]
+}
+
+impl<'a> Padded<'a> {
+    // Returns the digits without the zeros that they end with.
+    fn trimmed(&self, radix: u32) -> Padded<'a>
+        ensures { padded_values radix result ≡ trimmed (padded_values radix self.now) }
+    {
+        let second = without_last_zeros(self.second, radix);
+        if count(second, radix) > 0 {
+            return Padded {
+                before: self.before,
+                first: self.first,
+                second,
+                after: 0,
+            };
+        }
+        let first = without_last_zeros(self.first, radix);
+        let some = count(first, radix) > 0;
+        Padded {
+            before: if some { self.before } else { 0 },
+            first,
+            second: &[],
+            after: 0,
+        }
+    }
+}
+
+// Returns the digits before and behind a point that moves to the left.
+fn moved_left<'a>(
+    integer: &'a [u8],
+    fraction: &'a [u8],
+    radix: u32,
+    places: usize,
+) -> (Padded<'a>, Padded<'a>)
+    ensures integer { padded_values radix result.0
+        ≡ 0 ∷ moved_integer true places (digits_in radix integer.entry.now) (digits_in radix fraction.entry.now) }
+    ensures fraction { padded_values radix result.1
+        ≡ moved_fraction true places (digits_in radix integer.entry.now) (digits_in radix fraction.entry.now) }
+{
+    let digits = count(integer, radix);
+    let (rest, passed) = cut(integer, radix, digits.saturating_sub(places));
+    let integer = Padded {
+        before: 1,
+        first: rest,
+        second: &[],
+        after: 0,
+    };
+    let fraction = Padded {
+        before: places.saturating_sub(digits),
+        first: passed,
+        second: fraction,
+        after: 0,
+    };
+    (integer, fraction)
+}
+
+// Returns the digits before and behind a point that moves to the right.
+fn moved_right<'a>(
+    integer: &'a [u8],
+    fraction: &'a [u8],
+    radix: u32,
+    places: usize,
+) -> (Padded<'a>, Padded<'a>)
+    ensures integer { padded_values radix result.0
+        ≡ 0 ∷ moved_integer false places (digits_in radix integer.entry.now) (digits_in radix fraction.entry.now) }
+    ensures fraction { padded_values radix result.1
+        ≡ moved_fraction false places (digits_in radix integer.entry.now) (digits_in radix fraction.entry.now) }
+{
+    let (passed, rest) = cut(fraction, radix, places);
+    let integer = Padded {
+        before: 1,
+        first: integer,
+        second: passed,
+        after: places.saturating_sub(count(fraction, radix)),
+    };
+    (integer, Padded::of(rest))
+}
+
+// Returns the number of parts whose point moves by as many digits as `places`, in place of the exponent.
+pub(crate) fn moved<'a>(parts: &Parts<'a>, radix: u32, places: usize) -> Amount<'a>
+    ensures { IsMoved radix (is_minus parts.now.exponent_sign.now) places parts.now result }
+{
+    let (integer, fraction) = if is_minus(parts.exponent_sign) {
+        moved_left(parts.integer, parts.fraction, radix, places)
+    } else {
+        moved_right(parts.integer, parts.fraction, radix, places)
+    };
+    let fraction = fraction.trimmed(radix);
+    Amount {
+        negative: is_minus(parts.sign),
+        integer: Source::Padded(integer),
+        fraction: if fraction.count(radix) > 0 {
+            Some(Source::Padded(fraction))
+        } else {
+            None
+        },
+        exponent: None,
+    }
+}
+
+// Returns the number of factors whose product is the radix, or 0.
+fn factors(base: u32, radix: u32) -> u128
+    ensures { result ≡ factors base radix }
+{
+    if base == radix {
+        1
+    } else if base.checked_pow(2) == Some(radix) {
+        2
+    } else if base.checked_pow(3) == Some(radix) {
+        3
+    } else if base.checked_pow(4) == Some(radix) {
+        4
+    } else if base.checked_pow(5) == Some(radix) {
+        5
+    } else {
+        0
+    }
+}
+
+// Returns whether all digits among bytes are zeros.
+fn is_zero(bytes: &[u8], radix: u32) -> bool
+    ensures { result ≡ is_absent (trimmed (digits_in radix bytes.now)) }
+{
+    count(without_last_zeros(bytes, radix), radix) == 0
+}
+
+// Returns the error of a point that moves by more digits than a text has. Only whole numbers can be written if `whole` is true.
+const fn too_far(whole: bool, parts: &Parts) -> WriteError
+    ensures { result ≡ too_far whole parts.now }
+{
+    if whole && is_minus(parts.exponent_sign) {
+        WriteError::Fraction
+    } else {
+        WriteError::Long
+    }
+}
+
+// Returns by how many digits the point moves. Only whole numbers can be written if `whole` is true.
+pub(crate) fn moved_by(
+    format: NumberFormat,
+    parts: &Parts,
+    whole: bool,
+) -> Result<usize, WriteError>
+    ensures { result ≡ moved_by whole (raw format) parts.now }
+{
+    let radix = format.mantissa_radix();
+    let exponent = Numeral {
+        negative: false,
+        magnitude: Magnitude::Digits(parts.exponent, format.exponent_radix()),
+    };
+    let exponent = exponent.as_u128();
+    if is_zero(parts.integer, radix) && is_zero(parts.fraction, radix) || exponent == Some(0) {
+        return Ok(0);
+    }
+    let Some(exponent) = exponent else {
+        return Err(too_far(whole, parts));
+    };
+    let factors = factors(format.exponent_base(), radix);
+    if factors == 0 || exponent % factors != 0 {
+        return Err(WriteError::Exponent);
+    }
+    let places = exponent / factors;
+    if places > usize::MAX as u128 {
+        return Err(too_far(whole, parts));
+    }
+    Ok(places as usize)
+}

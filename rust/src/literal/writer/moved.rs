@@ -1,0 +1,136 @@
+// Made by rust/tools/erase.py from crates/lexical_writer/src/moved.rt: change that file.
+
+//! The point of a number moves, so that the number needs no exponent.
+
+use crate::digit::char_to_digit;
+use crate::literal::read::Parts;
+use crate::literal::writer::layout::{Amount, WriteError};
+use crate::literal::writer::literal::is_minus;
+use crate::literal::writer::run::{Padded, Source};
+use crate::number::numeral::{Magnitude, Numeral};
+use crate::number::parts::count;
+use crate::word::FormatView;
+
+// Returns bytes up to a place among their digits, and the others. Before the place are at most `places` digits.
+fn cut<'a>(bytes: &'a [u8], radix: u32, places: usize) -> (&'a [u8], &'a [u8]) {
+    let mut index = 0;
+    let mut left = places;
+    while left > 0 && index < bytes.len() {
+        if char_to_digit(bytes[index], radix).is_some() {
+            left -= 1;
+        }
+        index += 1;
+    }
+    (&bytes[..index], &bytes[index..])
+}
+
+// Returns what comes before the zeros that the digits among bytes end with.
+fn without_last_zeros<'a>(bytes: &'a [u8], radix: u32) -> &'a [u8] {
+    let mut end = bytes.len();
+    while end > 0 {
+        if char_to_digit(bytes[end - 1], radix).unwrap_or(0) > 0 {
+            return &bytes[..end];
+        }
+        end -= 1;
+    }
+    &[]
+}
+
+impl<'a> Padded<'a> {
+    // Returns the digits without the zeros that they end with.
+    fn trimmed(&self, radix: u32) -> Padded<'a> {
+        let second = without_last_zeros(self.second, radix);
+        if count(second, radix) > 0 {
+            return Padded { before: self.before, first: self.first, second, after: 0 };
+        }
+        let first = without_last_zeros(self.first, radix);
+        let some = count(first, radix) > 0;
+        Padded { before: if some { self.before } else { 0 }, first, second: &[], after: 0 }
+    }
+}
+
+// Returns the digits before and behind a point that moves to the left.
+fn moved_left<'a>(integer: &'a [u8], fraction: &'a [u8], radix: u32, places: usize) -> (Padded<'a>, Padded<'a>) {
+    let digits = count(integer, radix);
+    let (rest, passed) = cut(integer, radix, digits.saturating_sub(places));
+    let integer = Padded { before: 1, first: rest, second: &[], after: 0 };
+    let fraction = Padded { before: places.saturating_sub(digits), first: passed, second: fraction, after: 0 };
+    (integer, fraction)
+}
+
+// Returns the digits before and behind a point that moves to the right.
+fn moved_right<'a>(integer: &'a [u8], fraction: &'a [u8], radix: u32, places: usize) -> (Padded<'a>, Padded<'a>) {
+    let (passed, rest) = cut(fraction, radix, places);
+    let integer =
+        Padded { before: 1, first: integer, second: passed, after: places.saturating_sub(count(fraction, radix)) };
+    (integer, Padded::of(rest))
+}
+
+// Returns the number of parts whose point moves by as many digits as `places`, in place of the exponent.
+pub(crate) fn moved<'a>(parts: &Parts<'a>, radix: u32, places: usize) -> Amount<'a> {
+    let (integer, fraction) = if is_minus(parts.exponent_sign) {
+        moved_left(parts.integer, parts.fraction, radix, places)
+    } else {
+        moved_right(parts.integer, parts.fraction, radix, places)
+    };
+    let fraction = fraction.trimmed(radix);
+    Amount {
+        negative: is_minus(parts.sign),
+        integer: Source::Padded(integer),
+        fraction: if fraction.count(radix) > 0 { Some(Source::Padded(fraction)) } else { None },
+        exponent: None,
+    }
+}
+
+// Returns the number of factors whose product is the radix, or 0.
+fn factors(base: u32, radix: u32) -> u128 {
+    if base == radix {
+        1
+    } else if base.checked_pow(2) == Some(radix) {
+        2
+    } else if base.checked_pow(3) == Some(radix) {
+        3
+    } else if base.checked_pow(4) == Some(radix) {
+        4
+    } else if base.checked_pow(5) == Some(radix) {
+        5
+    } else {
+        0
+    }
+}
+
+// Returns whether all digits among bytes are zeros.
+fn is_zero(bytes: &[u8], radix: u32) -> bool {
+    count(without_last_zeros(bytes, radix), radix) == 0
+}
+
+// Returns the error of a point that moves by more digits than a text has. Only whole numbers can be written if `whole` is true.
+const fn too_far(whole: bool, parts: &Parts) -> WriteError {
+    if whole && is_minus(parts.exponent_sign) {
+        WriteError::Fraction
+    } else {
+        WriteError::Long
+    }
+}
+
+// Returns by how many digits the point moves. Only whole numbers can be written if `whole` is true.
+pub(crate) fn moved_by(format: FormatView, parts: &Parts, whole: bool) -> Result<usize, WriteError> {
+    let radix = format.mantissa_radix();
+    let exponent = Numeral { negative: false, magnitude: Magnitude::Digits(parts.exponent, format.exponent_radix()) };
+    let exponent = exponent.as_u128();
+    if is_zero(parts.integer, radix) && is_zero(parts.fraction, radix) || exponent == Some(0) {
+        return Ok(0);
+    }
+    let Some(exponent) = exponent else {
+        return Err(too_far(whole, parts));
+    };
+    let factors = factors(format.exponent_base(), radix);
+    if factors == 0 || exponent % factors != 0 {
+        return Err(WriteError::Exponent);
+    }
+    let places = exponent / factors;
+    if places > usize::MAX as u128 {
+        return Err(too_far(whole, parts));
+    }
+    Ok(places as usize)
+}
