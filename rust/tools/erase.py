@@ -148,6 +148,9 @@ REPLACED += [
     ("lexical_literal/src/literal.rt", "pub const fn scale(&self)", "pub(crate) const fn scale(&self)"),
     # A syntax that is not lawful can have any radix.
     ("lexical_number/src/word.rt", "MOST[radix as usize] as usize", "if radix <= 36 { MOST[radix as usize] as usize } else { 0 }"),
+    # Programs have one copy of these.
+    ("lexical_literal/src/list.rt", "syntax.begin(false, text, false)", "syntax.begin_any(text, false)"),
+    ("lexical_literal/src/read.rt", "self.begin(false, text, true)", "self.begin_any(text, true)"),
     # A decimal literal need not be in memory where another one would be.
     ("lexical_value/src/float.rt", "binary_size(F::DOUBLE, literal)", "binary_size(F::DOUBLE, &{ *literal })"),
     # Calls for constants.

@@ -49,7 +49,7 @@ impl<'a> SyntaxList<'a> {
         let mut form = 0;
         while form < self.syntaxes.len() {
             let syntax = &self.syntaxes[form];
-            let counted = syntax.begin(false, text, false);
+            let counted = syntax.begin_any(text, false);
             if syntax.is_whole(text, counted) {
                 return Ok((form, syntax.literal(text, counted.counts, counted.sums)));
             }

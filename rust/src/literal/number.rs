@@ -5,7 +5,7 @@ use core::{iter::FusedIterator, slice};
 
 use crate::digit::char_to_valid_digit_const;
 use crate::format_flags::Part;
-use crate::literal::plain::At;
+use crate::literal::plain::{At, Counted};
 use crate::literal::read::Found;
 use crate::literal::{Literal, ReadError, Syntax};
 
@@ -76,6 +76,12 @@ impl Syntax {
         } else {
             self.read_slowly(text, counted.at)
         }
+    }
+
+    // Returns what `begin` returns for any syntax, in one copy.
+    #[inline(never)]
+    pub(crate) const fn begin_any(&self, text: &[u8], fronts: bool) -> Counted {
+        self.begin(false, text, fronts)
     }
 
     // Returns what `read` returns, where `at` has been read.

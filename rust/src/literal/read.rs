@@ -44,7 +44,7 @@ impl Syntax {
     // Returns where reading `text` stops, and the longest front that is a literal, if there is one.
     #[inline(always)]
     pub(crate) const fn front(&self, text: &[u8]) -> (At, Option<Found>) {
-        let Counted { at, counts, complete, .. } = self.begin(false, text, true);
+        let Counted { at, counts, complete, .. } = self.begin_any(text, true);
         let stop = self.stop(text, at);
         if complete && stop.size == at.size {
             let size = stop.size;
