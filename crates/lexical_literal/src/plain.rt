@@ -145,9 +145,7 @@ pub(crate) const fn is_decimal(grammar: Grammar) -> bool
     ensures { IsTrue result → IsDecimal (raw grammar.word) }
 {
     let view = grammar.view();
-    view.mantissa_radix() == 10
-        && view.exponent_radix() == 10
-        && base_prefix(grammar.word) == 0
+    view.mantissa_radix() == 10 && view.exponent_radix() == 10 && base_prefix(grammar.word) == 0
 }
 
 // Returns whether a sign of the mantissa, or of the exponent, follows and is read.
@@ -214,7 +212,13 @@ const fn reads_prefix(grammar: Grammar, decimal: bool, text: &[u8], size: usize)
 
 // Returns the value of the digit of `part` at `index`, if there is one.
 #[inline(always)]
-const fn value_at(grammar: Grammar, decimal: bool, text: &[u8], part: Part, index: usize) -> Option<u32>
+const fn value_at(
+    grammar: Grammar,
+    decimal: bool,
+    text: &[u8],
+    part: Part,
+    index: usize,
+) -> Option<u32>
     requires decimal { IsTrue decimal → IsDecimal (raw grammar.word) }
     ensures some { IfSome result (λ value. IsDigitAt (radix_of (raw grammar.word) part) text.now index value) }
     ensures none { IsNone result → index < length text.now → (steps_of grammar).digit part (get_or text.now index 0) ≡ false }
@@ -230,7 +234,14 @@ const fn value_at(grammar: Grammar, decimal: bool, text: &[u8], part: Part, inde
 
 // Returns the run with one more digit, whose byte is the last of `bytes` more.
 #[inline(always)]
-const fn push(grammar: Grammar, decimal: bool, part: Part, run: Run, value: u32, bytes: usize) -> Run
+const fn push(
+    grammar: Grammar,
+    decimal: bool,
+    part: Part,
+    run: Run,
+    value: u32,
+    bytes: usize,
+) -> Run
     requires decimal { IsTrue decimal → IsDecimal (raw grammar.word) }
     requires size { run.size + bytes < 2 ^ 64 }
     requires digits { run.digits + 1 < 2 ^ 64 }
@@ -241,11 +252,7 @@ const fn push(grammar: Grammar, decimal: bool, part: Part, run: Run, value: u32,
       sum = (run.sum * radix_of (raw grammar.word) part % 2 ^ 64 + value) % 2 ^ 64;
     } }
 {
-    let radix = if decimal {
-        10
-    } else {
-        radix_of(grammar, part)
-    };
+    let radix = if decimal { 10 } else { radix_of(grammar, part) };
     let sum = run.sum.wrapping_mul(radix);
     Run {
         size: run.size + bytes,
@@ -257,7 +264,13 @@ const fn push(grammar: Grammar, decimal: bool, part: Part, run: Run, value: u32,
 
 // Returns the value of the digit behind a separator at `index`, if a separator may be there.
 #[inline(always)]
-const fn separated(grammar: Grammar, decimal: bool, text: &[u8], part: Part, index: usize) -> Option<u32>
+const fn separated(
+    grammar: Grammar,
+    decimal: bool,
+    text: &[u8],
+    part: Part,
+    index: usize,
+) -> Option<u32>
     requires decimal { IsTrue decimal → IsDecimal (raw grammar.word) }
     requires within { index ≤ length text.now }
     ensures { IfSome result (λ value. IsSeparated (steps_of grammar) (radix_of (raw grammar.word) part) text.now part index value) }
@@ -457,7 +470,13 @@ const fn without_prefix(grammar: Grammar, text: &[u8], sign: usize) -> Counted
 
 // Reads the integer, and what follows it.
 #[inline(always)]
-const fn integer(grammar: Grammar, decimal: bool, text: &[u8], fronts: bool, opening: Opening) -> Counted
+const fn integer(
+    grammar: Grammar,
+    decimal: bool,
+    text: &[u8],
+    fronts: bool,
+    opening: Opening,
+) -> Counted
     requires decimal { IsTrue decimal → IsDecimal (raw grammar.word) }
     requires ready { IsReady (steps_of grammar) }
     requires opened { IsOpened (steps_of grammar) text.now opening }

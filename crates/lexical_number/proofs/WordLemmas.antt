@@ -1,19 +1,16 @@
 -- Numbers of 64 bits, by the number of their digits behind leading zeros.
-use Rattle.std.proofs.Common.{◌≡◌, ℕ, zero, suc, ◌+◌, ◌-◌, ◌*◌, ◌%◌, ◌^◌, ◌<◌, ◌≤◌, ◌↔◌, ◌&&◌, ◌||◌, ◌==◌, ◌⊎◌, inl, inr, List, [], ◌∷◌, ◌++◌, length, nat_lt, nat_le}
-use Rattle.std.proofs.Common.{Bool, true, false, cond, if◌then◌else◌, IsTrue, IsSome, Option, Some, None, refl, sym, ap, subst, ◌∙◌, arith, slice_index_or}
+use Rattle.std.proofs.Common.{◌≡◌, ℕ, zero, suc, ◌+◌, ◌-◌, ◌*◌, ◌%◌, ◌^◌, ◌<◌, ◌≤◌, ◌↔◌, ◌&&◌, ◌||◌, ◌==◌, inl, inr, List, [], ◌∷◌, ◌++◌, length, nat_lt, nat_le}
+use Rattle.std.proofs.Common.{Bool, true, false, cond, if◌then◌else◌, IsTrue, Some, None, refl, sym, ap, subst, ◌∙◌, arith, slice_index_or}
 use Rattle.std.proofs.lemmas.Bool.{agree_below_at, cases_lt}
 use Rattle.std.proofs.lemmas.Bool.Decides.{nat_tests}
-use Rattle.std.proofs.lemmas.Int.Digits.{number_after_ge, number_lt}
-use Rattle.std.proofs.lemmas.List.Elements.{filter_map-append}
+use Rattle.std.proofs.lemmas.Int.Digits.{number_lt}
 use Rattle.std.proofs.lemmas.Nat.{mul-mod_first}
 use Rattle.std.proofs.Math.Nat.{mod-add-mod, mul-le-mul_right, pow-le-pow_right, pow-suc, pow-zero}
 use Rattle.std.specs.Int.Digits.{AllBelowBase, number_from_digits, number_from_digits_after}
 use Rattle.std.specs.List.{cons_option}
-use lib.ListN.{length-append}
-use Rattle.lexical_base.specs.Digits.{byte_value, digit_of}
-use Rattle.lexical_number.specs.Leading.{number_after}
+use Rattle.lexical_base.specs.Digits.{byte_value}
 use Rattle.lexical_number.specs.Number.{digits_in, number, places}
-use Rattle.lexical_number.specs.Word.{IsShort, IsWord, leading_zeros}
+use Rattle.lexical_number.specs.Word.{IsWord, leading_zeros}
 use Rattle.lexical_number.specs.declared.word.TheConstants.{MOST}
 
 -- Digits behind a number are those behind each number that is the same modulo `2 ^ 64`.

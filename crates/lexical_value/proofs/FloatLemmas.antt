@@ -1,5 +1,5 @@
 -- The fraction that a literal is, by its parts, and floats that are no NaN.
-use Rattle.std.proofs.Common.{ℕ, ◌≡◌, ◌+◌, ◌*◌, ◌^◌, ◌++◌, ◌<◌, ◌≤◌, ◌==◌, length, not, arith, Bool, true, false, cond, ap, ◌∙◌, refl, subst, sym, zero, suc}
+use Rattle.std.proofs.Common.{ℕ, ◌≡◌, ◌+◌, ◌*◌, ◌^◌, ◌<◌, ◌≤◌, ◌==◌, not, arith, Bool, true, false, cond, ap, ◌∙◌, refl, subst, sym, zero, suc}
 use lib.Ieee.{Float, Format, emax, inf, is_nan, low, odd, prec, round, units}
 use lib.Ieee.Fits.{round_is}
 use Rattle.std.proofs.Math.Nat.{pow-zero}
@@ -14,7 +14,7 @@ use Rattle.lexical_literal.specs.Literal.{Literal, is_minus}
 use Rattle.lexical_number.specs.Binary.{raised_down, raised_up}
 use Rattle.lexical_number.specs.Leading.{IsCutTo, Leads}
 use Rattle.lexical_number.specs.Number.{number, places}
-use Rattle.lexical_literal.specs.Read.{exponent, mantissa}
+use Rattle.lexical_literal.specs.Read.{mantissa}
 use Rattle.lexical_value.specs.Value.{denominator, numerator}
 
 -- What holds of the fraction by its parts holds of the value of the literal.

@@ -1,5 +1,5 @@
 -- The value of a literal, which is a fraction with a sign.
-use Rattle.std.specs.Prelude.{ℕ, ◌≡◌, ◌*◌, ◌^◌, ◌==◌, not, Bool, false, if◌then◌else◌, List, [], ◌∷◌, filter, map}
+use Rattle.std.specs.Prelude.{ℕ, ◌≡◌, ◌*◌, ◌^◌, not, if◌then◌else◌, List, filter, map}
 use Rattle.lexical_util.specs.Digits.{uppercase}
 use Rattle.lexical_util.specs.Layout as layout
 use Rattle.lexical_util.specs.Record.{Record, effective_exponent_base}

@@ -1,9 +1,8 @@
 -- Few digits fit, and of more those behind the zeros may.
-use Rattle.std.proofs.Common.{◌≡◌, ◌+◌, ◌%◌, ◌^◌, ◌++◌, sym, ap, subst, ◌∙◌, arith}
+use Rattle.std.proofs.Common.{◌≡◌, ◌%◌, ◌^◌, ◌++◌, sym, ap, subst, ◌∙◌, arith}
 use Rattle.lexical_literal.specs.Literal.{Literal}
 use Rattle.lexical_literal.specs.Additions.Read.{cut}
 use Rattle.lexical_literal.specs.Additions.Summary.{cuts_of}
-use Rattle.lexical_literal.specs.Parts.{literal_of}
 use Rattle.lexical_number.specs.Number.{number, places}
 use Rattle.lexical_number.specs.Word.{IsWord}
 use Rattle.lexical_number.proofs.WordLemmas.{fitting_word}

@@ -1,6 +1,5 @@
 -- One byte, a digit or not.
 use Rattle.std.proofs.Common.{◌+◌, ◌*◌, ◌%◌, ◌^◌, Some, None, get_or, sym, ap, ◌∙◌, arith, refl}
-use Rattle.lexical_base.specs.Digits.{digit_of}
 use Rattle.std.proofs.Math.Nat.{mod-add-mod, mod-mod}
 use Rattle.lexical_number.proofs.NumberLemmas.{at}
 use Rattle.lexical_number.proofs.WordLemmas.{push_same}

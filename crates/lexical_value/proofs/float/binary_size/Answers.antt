@@ -1,9 +1,8 @@
 -- The leading digits and the exponent make the value.
-use Rattle.std.proofs.Common.{◌^◌, ap, ◌∙◌, sym, refl}
+use Rattle.std.proofs.Common.{ap, ◌∙◌, sym, refl}
 use Rattle.core.specs.Dec2flt.Rounding.{IsNearestBits}
 use Rattle.lexical_util.specs.Layout as layout
 use Rattle.lexical_util.specs.Record.{effective_exponent_base, raw}
-use Rattle.lexical_literal.specs.Literal.{Literal, is_minus}
 use Rattle.lexical_literal.specs.Read.{exponent, mantissa}
 use Rattle.lexical_number.specs.Binary.{format_of}
 use Rattle.lexical_value.proofs.FloatLemmas.{by_bits, of_value}

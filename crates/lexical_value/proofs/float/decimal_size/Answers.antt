@@ -1,8 +1,7 @@
 -- The numbers, or the digits and the exponent, make the value.
-use Rattle.std.proofs.Common.{◌≡◌, ◌++◌, ◌^◌, false, refl, ap, ◌∙◌}
+use Rattle.std.proofs.Common.{◌≡◌, ◌++◌, false, refl}
 use lib.Ieee.{round}
 use Rattle.lexical_util.specs.Record.{raw}
-use Rattle.lexical_literal.specs.Literal.{Literal, is_minus}
 use Rattle.lexical_literal.specs.Read.{exponent}
 use Rattle.lexical_number.specs.Binary.{format_of}
 use Rattle.lexical_number.specs.Number.{number, places}

@@ -1,6 +1,5 @@
 -- The invariant has the number.
 use Rattle.std.proofs.Common.{◌≡◌, IfSome, IsSome, subst}
-use Rattle.lexical_util.specs.Layout as layout
 use Rattle.lexical_util.specs.Record.{effective_exponent_radix, raw}
 use Rattle.lexical_literal.specs.Read.{Read, exponent}
 use Rattle.lexical_number.specs.Word.{IsShort}
