@@ -156,7 +156,8 @@ const fn reads_sign(grammar: Grammar, text: &[u8], part: Part, size: usize) -> b
     ensures on { IsTrue result → IsReadOn (steps_of grammar) text.now (at_stage size (fresh part)) (piece_of part Role.Sign)
         (at_stage (size + 1) (after_mark (fresh part))) }
 {
-    if size >= text.len() {
+    // Digits and letters are above the signs.
+    if size >= text.len() || text[size] > b'-' {
         return false;
     }
     let plus = text[size] == b'+';

@@ -9,11 +9,11 @@ ghost use Rattle.lexical_literal.specs.Additions.Read.{IsSummed};
 ghost use Rattle.lexical_literal.specs.Additions.Sizes.{goes, steps_of};
 ghost use Rattle.lexical_util.specs.Record.{raw};
 ghost use Rattle.lexical_literal.specs.Additions.Summary.{HasLengths, count, cuts_of, part_of, role_at};
-ghost use Rattle.lexical_literal.specs.Groups.{has_sizes};
 ghost use Rattle.lexical_literal.specs.Cause.{IsRefusal, tail_of, tail_size};
 ghost use Rattle.lexical_literal.specs.Front.{NoLiteral};
 ghost use Rattle.lexical_literal.specs.Literal.{Literal, Reads, text_of};
-ghost use Rattle.lexical_literal.specs.Notation.{notation_of};
+ghost use Rattle.lexical_literal.specs.Notation.{all_conditions, has, notation_of};
+ghost use Rattle.std.specs.List.{list_any};
 ghost use Rattle.lexical_literal.specs.declared.groups.Group.{Group};
 ghost use Rattle.lexical_literal.specs.Parts.{literal_of};
 
@@ -79,7 +79,7 @@ impl Syntax {
     #[inline(always)]
     pub(crate) const fn is_decimal(&self) -> bool
         ensures radix { IsTrue result → IsDecimal (raw self.now.word) }
-        ensures sizes { IsTrue result → has_sizes (notation_of self.now) ≡ false }
+        ensures none { IsTrue result → list_any (has self.now.conditions) all_conditions ≡ false }
     {
         let grammar = self.grammar();
         is_decimal(grammar) && grammar.conditions.is_none()
@@ -90,15 +90,15 @@ impl Syntax {
     #[inline(always)]
     pub(crate) const fn begin(&self, decimal: bool, text: &[u8], fronts: bool) -> Counted
         requires radix { IsTrue decimal → IsDecimal (raw self.now.word) }
-        requires sizes { IsTrue decimal → has_sizes (notation_of self.now) ≡ false }
+        requires none { IsTrue decimal → list_any (has self.now.conditions) all_conditions ≡ false }
         ensures found { HasBegun (notation_of self.now) text.now result }
         ensures summed { IsSummed (raw self.now.word) text.now result }
     {
+        if decimal {
+            return plain(self.free_grammar(), decimal, text, fronts);
+        }
         let grammar = self.grammar();
         let counted = plain(grammar, decimal, text, fronts);
-        if decimal {
-            return counted;
-        }
         if has_sizes(grammar) {
             sized(self.grammar(), text, counted)
         } else {

@@ -1,6 +1,6 @@
 //! A lawful format with the bytes that a format does not define.
 
-ghost use Rattle.std.specs.Prelude.{◌≡◌, if◌then◌else◌, length, not, IfErr, Some, None};
+ghost use Rattle.std.specs.Prelude.{false, ◌≡◌, if◌then◌else◌, length, not, IfErr, Some, None};
 ghost use Rattle.std.specs.List.{find, list_any};
 ghost use Rattle.lexical_util.specs.Record.{raw};
 ghost use Rattle.std.specs.Result.{OkIff};
@@ -329,6 +329,22 @@ impl Syntax {
             word: self.format.word(),
             options: self.options,
             conditions: self.conditions,
+        }
+    }
+}
+
+impl Syntax {
+    // Returns the same of a syntax without conditions, which the compiler then knows.
+    #[inline(always)]
+    pub(crate) const fn free_grammar(&self) -> Grammar
+        requires { list_any (has self.now.conditions) all_conditions ≡ false }
+        ensures value { result ≡ self.now }
+        ensures ready { IsReady (steps_of self.now) }
+        ensures sizes { HasSizes (notation_of self.now) }
+    {
+        Grammar {
+            conditions: Conditions::NONE,
+            ..self.grammar()
         }
     }
 }

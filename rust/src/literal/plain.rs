@@ -114,7 +114,8 @@ pub(crate) const fn is_decimal(grammar: Grammar) -> bool {
 // Returns whether a sign of the mantissa, or of the exponent, follows and is read.
 #[inline(always)]
 const fn reads_sign(grammar: Grammar, text: &[u8], part: Part, size: usize) -> bool {
-    if size >= text.len() {
+    // Digits and letters are above the signs.
+    if size >= text.len() || text[size] > b'-' {
         return false;
     }
     let plus = text[size] == b'+';

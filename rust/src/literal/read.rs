@@ -64,11 +64,11 @@ impl Syntax {
     // `text`, may not be said to be one, which takes less time.
     #[inline(always)]
     pub(crate) const fn begin(&self, decimal: bool, text: &[u8], fronts: bool) -> Counted {
+        if decimal {
+            return plain(self.free_grammar(), decimal, text, fronts);
+        }
         let grammar = self.as_grammar();
         let counted = plain(grammar, decimal, text, fronts);
-        if decimal {
-            return counted;
-        }
         if has_sizes(grammar) {
             sized(self.as_grammar(), text, counted)
         } else {

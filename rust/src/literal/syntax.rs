@@ -243,6 +243,14 @@ impl Syntax {
     }
 }
 
+impl Syntax {
+    // Returns the same of a syntax without conditions, which the compiler then knows.
+    #[inline(always)]
+    pub(crate) const fn free_grammar(&self) -> Grammar {
+        Grammar { conditions: Conditions::NONE, ..self.as_grammar() }
+    }
+}
+
 // Returns the error of the first of `conditions` that the format of `grammar` contradicts.
 const fn contradiction(grammar: Grammar, conditions: Conditions) -> Option<ConditionsError> {
     let mut index = 0;
