@@ -399,6 +399,9 @@ class Walk(unittest.TestCase):
         self.run_script("document.querySelectorAll('#texts details').forEach((it) => { it.open = true; })")
         self.assertEqual([int(it.split(": ")[1]) for it in heads], [
             self.run_script(f"return document.querySelectorAll('#texts > ul')[{index}].querySelectorAll('code').length") for index in (0, 1)])
+        told, held = self.run_script("""const more = [...document.querySelectorAll("#texts details")];
+            return [more.map((it) => parseInt(it.textContent)), more.map((it) => it.childElementCount - 1)];""")
+        self.assertEqual(told, held)
         self.assertIn("-1 unexpected minus sign, which no_negative_mantissa_sign forbids", self.texts("#texts ul:first-of-type li"))
         self.assertIn("0x1 unexpected character 'x'", self.texts("#texts ul:nth-of-type(2) li"))
         Select(self.find("#compare")).select_by_value("C:octal")
@@ -425,7 +428,7 @@ class Walk(unittest.TestCase):
         self.assertIn("The format is not that of Rust any more", self.text("#told"))
 
     def test_a_language_is_changed_in_the_form_that_goes_furthest(self):
-        self.type("#literal", "0x1_000.5")
+        self.type("#literal", "\n0x1_000.5")
         Select(self.find("#language")).select_by_value("JAVA")
         self.click("#read p .link", "hexadecimal float")
         self.assertEqual(self.focused(), "required_exponent_notation")
@@ -596,6 +599,14 @@ class Walk(unittest.TestCase):
         self.load("#language=JSON&amp;tab=c")
         self.assertEqual((self.value("#language"), self.text("#code")[:2], self.text("#told")), ("JSON", "/*", ""))
 
+    def test_links_have_each_choice(self):
+        lost = self.run_script("""return ["language", "compare"].flatMap((name) => [...find(name).options].filter(({ value }) => {
+                history.replaceState(null, "", `#${name}=${encodeURIComponent(value)}`);
+                page.read();
+                return find(name).value !== value;
+            }).map((it) => it.value));""")
+        self.assertEqual(lost, [])
+
     def test_what_a_link_has_in_vain_is_told(self):
         wrong = ["word=nonsense", "exponent=300", "point=", "language=NONE", "compare=NONE", "tab=none", "conditions=no_such=1",
                  "conditions=integer_group_size=9", "unknown=1", 1000 * "a"]
@@ -623,7 +634,9 @@ class Walk(unittest.TestCase):
         for link in self.links():
             controls = self.driver.find_elements(By.CSS_SELECTOR, "button, input, select, textarea, summary, pre[tabindex]")
             unnamed = [it.get_attribute("outerHTML") for it in controls if it.is_displayed() and not it.accessible_name]
-            self.assertEqual((unnamed, self.driver.execute_async_script(IDLE, link)), ([], []), link)
+            fields = [it.accessible_name for it in controls if it.is_displayed() and it.tag_name in ("input", "select", "textarea")]
+            same = [it for it in fields if fields.count(it) > 1]
+            self.assertEqual((unnamed, same, self.driver.execute_async_script(IDLE, link)), ([], [], []), link)
 
     def test_texts_can_be_read_in_light_and_dark(self):
         self.addCleanup(self.driver.execute_cdp_cmd, "Emulation.setEmulatedMedia", {"features": []})
@@ -638,7 +651,7 @@ class Walk(unittest.TestCase):
 
     def test_numbers_are_tried(self):
         self.load("#word=0x00000A000000005F000000020000000C")
-        self.type("#literal", "-0.1_2e-5\n-1_000\n1\u00e9\n!1\n!.x")
+        self.type("#literal", "-0.1_2e-5\n-1_000\n1\u00e95\n!1\n!.x")
         self.assertEqual(self.texts("#read > li:first-child .written span"), ["-", "0", ".", "1", "_", "2", "e", "-", "5"])
         self.assertEqual(self.find("#read .separator").get_attribute("data-field"), "digit_separator")
         self.assertEqual(self.texts("#read > li:nth-child(2) .written"), ["-1_000"])
