@@ -236,6 +236,9 @@ static void test_values(void) {
             CHECK(!peltzivar_to_f32(&it, &real) && real == strtof(rows[i][0], NULL) && !signbit(real) == (*it.text != '-'));
         }
     }
+    /* The double nearest to this lies between two floats. */
+    static const char near[] = "1.00000005960464477540";
+    CHECK(peltzivar_forms_read(swift, near, sizeof near - 1, &it, NULL) && !peltzivar_to_f32(&it, &real) && real == strtof(near, NULL));
     CHECK(peltzivar_forms_read(language("C"), "0x1.8p-1", 8, &it, NULL) && !peltzivar_to_f32(&it, &real) && real == 0.75F);
     CHECK(peltzivar_to_i64(&it, NULL) == 1 && peltzivar_to_u64(&it, NULL) == 1 && peltzivar_to_i128(&it, NULL) == PELTZIVAR_VALUE_FLOAT);
     memset(&it, 0, sizeof it);

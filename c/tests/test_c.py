@@ -91,7 +91,8 @@ class Programs(unittest.TestCase):
     def test_the_first_program_of_the_header(self):
         lines = re.findall(r"^ \*     (.*)$", HEADER, re.M)
         self.folder.joinpath("first.c").write_text("\n".join(lines) + "\n")
-        program = self.made("cc", *STRICT, self.folder / "first.c", ARCHIVE)
+        self.folder.joinpath("second.c").write_text('#include "peltzivar.h"\n')
+        program = self.made("cc", *STRICT, self.folder / "first.c", self.folder / "second.c", ARCHIVE)
         self.assertEqual(run(program), ("1234.50\n", 0))
 
     def test_the_example(self):
