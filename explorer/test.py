@@ -326,7 +326,11 @@ class Walk(unittest.TestCase):
         self.assertEqual(self.texts(".byte-row .other"), ["", "x 120 0x78", "", "", "means 16", "means 16", "e 101 0x65", ". 46 0x2E"])
         self.assertEqual(self.text("#verdict"), "Not valid: 1 reason")
         self.assertEqual(self.texts(".reason strong"), ["the exponent character 'e' is a digit in radix 16"])
-        self.assertEqual(self.texts(".reason .link"), ["exponent character", "mantissa_radix", "exponent_radix"])
+        fields = {"exponent character": "exponent", "mantissa_radix": "mantissa_radix", "exponent_radix": "exponent_radix"}
+        self.assertEqual(self.texts(".reason .link"), [*fields])
+        for name, field in fields.items():
+            self.click(".reason .link", name)
+            self.assertEqual(self.focused(), field)
         self.type("#exponent", "p")
         self.assertEqual((self.text("#verdict"), self.texts(".reason")), ("Valid format", []))
         self.type("#point", "p")
