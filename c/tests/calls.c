@@ -313,9 +313,12 @@ static void test_writing(void) {
     CHECK(peltzivar_format_f64(&english, 5e-324, NULL, NULL, 0, &needed) == PELTZIVAR_WRITE_BUFFER && needed == 327);
     CHECK(make_syntax("exponent=none\npoint=none", &other) && peltzivar_format_f64(&other, 1e-7, NULL, text, 1, NULL) == PELTZIVAR_WRITE_FRACTION);
     CHECK(!peltzivar_format_f64(&other, 1e16, NULL, text, sizeof text, NULL) && !strcmp(text, "10000000000000000"));
-    CHECK(peltzivar_read(&json, "1.2E3", 5, &literal, NULL) && !peltzivar_format_literal(&english, &literal, NULL, text, sizeof text, NULL) && !strcmp(text, "1,200"));
-    CHECK(peltzivar_read(&json, "1E-7", 4, &literal, NULL) && !peltzivar_format_literal(&english, &literal, NULL, text, sizeof text, NULL) && !strcmp(text, "0.0000001"));
-    CHECK(peltzivar_read(&json, "1E800", 5, &literal, NULL) && peltzivar_format_literal(&english, &literal, NULL, text, sizeof text, NULL) == PELTZIVAR_WRITE_LONG);
+    CHECK(peltzivar_read(&json, "1.2E3", 5, &literal, NULL) && !peltzivar_format_literal(&english, &literal, NULL, text, sizeof text, NULL)
+        && !strcmp(text, "1,200"));
+    CHECK(peltzivar_read(&json, "1E-7", 4, &literal, NULL) && !peltzivar_format_literal(&english, &literal, NULL, text, sizeof text, NULL)
+        && !strcmp(text, "0.0000001"));
+    CHECK(peltzivar_read(&json, "1E800", 5, &literal, NULL)
+        && peltzivar_format_literal(&english, &literal, NULL, text, sizeof text, NULL) == PELTZIVAR_WRITE_LONG);
     memset(&literal, 0, sizeof literal);
     CHECK(peltzivar_format_f64(&json, HUGE_VAL, NULL, text, sizeof text, &needed) == PELTZIVAR_WRITE_SPECIAL && needed == 327);
     CHECK(peltzivar_format_f64(&hexadecimal, 0.5, NULL, text, sizeof text, NULL) == PELTZIVAR_WRITE_RADIX);
@@ -415,19 +418,25 @@ static void test_misuse(void) {
         sum += peltzivar_grammar(syntax, NULL, 0) + peltzivar_regex(syntax, text, sizeof text) + (peltzivar_forms_of(syntax) != NULL);
         for (int j = 0; j < 2; j++) {
             const peltzivar_syntax *const by = j ? &json : syntax;
-            sum += (size_t)(peltzivar_read(by, bytes, len, to, NULL) + peltzivar_read(by, bytes, len, NULL, stopped) + peltzivar_read_prefix(by, bytes, len, to, stopped));
+            sum += (size_t)(peltzivar_read(by, bytes, len, to, NULL) + peltzivar_read(by, bytes, len, NULL, stopped)
+                + peltzivar_read_prefix(by, bytes, len, to, stopped));
             sum += peltzivar_read_special(by, &specials, bytes, len, (peltzivar_special *)(out + shift));
             sum += peltzivar_format_i64(by, INT64_MIN, style, text, sizeof text, (size_t *)(out + shift)) + peltzivar_format_f64(by, 1.5, style, text, 0, NULL);
             sum += peltzivar_format_u64(by, 7, style, text, 9, NULL) + peltzivar_format_literal(by, literal, style, text, sizeof text, NULL);
         }
-        sum += (size_t)(peltzivar_to_i64(literal, (int64_t *)out) + peltzivar_to_u64(literal, NULL) + peltzivar_to_i128(literal, NULL) + peltzivar_to_f32(literal, NULL));
+        sum += (size_t)(peltzivar_to_i64(literal, (int64_t *)out) + peltzivar_to_u64(literal, NULL)
+            + peltzivar_to_i128(literal, NULL) + peltzivar_to_f32(literal, NULL));
         sum += peltzivar_to_f64(literal, (double *)(out + shift)) + peltzivar_explain(error, NULL) + peltzivar_read_error_text(error, text, sizeof text);
         sum += peltzivar_build(edits, len, (peltzivar_word *)(out + shift)) + peltzivar_edit_word(ZERO, edits, len, NULL) + peltzivar_pack(fields).low;
-        sum += peltzivar_edit_fields((peltzivar_fields *)(memory + shift), edits + 9, len) + peltzivar_note_text(fields, 0, text, 9) + peltzivar_note_mask(fields, 9).low;
+        sum += peltzivar_edit_fields((peltzivar_fields *)(memory + shift), edits + 9, len)
+            + peltzivar_note_text(fields, 0, text, 9) + peltzivar_note_mask(fields, 9).low;
         sum += peltzivar_read_settings(bytes, len, (peltzivar_syntax *)(out + shift)) + peltzivar_settings_text(bytes, len, len / 7, text, sizeof text);
-        sum += peltzivar_settings_lines(bytes, len, 0, (size_t *)(out + shift), 9) + peltzivar_parse_edit(bytes, len, NULL) + peltzivar_parse_byte(bytes, len, out);
-        sum += peltzivar_parse_word(bytes, len, (peltzivar_word *)(out + shift), NULL) + peltzivar_setter_of_name(bytes, len) + peltzivar_setting_error_text(bytes, len, text, 9);
-        sum += (size_t)((peltzivar_language(bytes, len, NULL) != NULL) + peltzivar_parse_f64(NULL, bytes, len, NULL, stopped) + peltzivar_parse_i64(peltzivar_language_c(), bytes, len, NULL, NULL));
+        sum += peltzivar_settings_lines(bytes, len, 0, (size_t *)(out + shift), 9)
+            + peltzivar_parse_edit(bytes, len, NULL) + peltzivar_parse_byte(bytes, len, out);
+        sum += peltzivar_parse_word(bytes, len, (peltzivar_word *)(out + shift), NULL)
+            + peltzivar_setter_of_name(bytes, len) + peltzivar_setting_error_text(bytes, len, text, 9);
+        sum += (size_t)((peltzivar_language(bytes, len, NULL) != NULL)
+            + peltzivar_parse_f64(NULL, bytes, len, NULL, stopped) + peltzivar_parse_i64(peltzivar_language_c(), bytes, len, NULL, NULL));
         sum += peltzivar_parse_u64_column(peltzivar_language_c(), bytes, (const int64_t *)(it + 99), 9, (uint64_t *)(out + shift), out);
     }
     CHECK(sum);

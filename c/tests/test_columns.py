@@ -43,10 +43,12 @@ class Columns(unittest.TestCase):
     def test_wrong_and_missing_cells(self):
         na = type("NA", (), {"__ne__": lambda self, other: self, "__bool__": None})()
         cells = ["1,5", None, "x", "\u00e9", "2", math.nan, na, "", "5\ud800"]
-        for given, out in itertools.product((cells, [it.encode("utf-8", "surrogatepass") if isinstance(it, str) else it for it in cells]), (None, array("d", 9 * [7]))):
+        encoded = [it.encode("utf-8", "surrogatepass") if isinstance(it, str) else it for it in cells]
+        for given, out in itertools.product((cells, encoded), (None, array("d", 9 * [7]))):
             with mock.patch.dict(sys.modules, pandas=mock.Mock(NA=na)):
                 values, wrong, missing = Language.CSV_DE.column(given, errors="coerce", out=out)
-                self.assertEqual([str(it) for it in Language.CSV_DE.column(given, fill=0, errors="coerce").values], "1.5 0.0 0.0 0.0 2.0 0.0 0.0 0.0 0.0".split())
+                filled = Language.CSV_DE.column(given, fill=0, errors="coerce").values
+                self.assertEqual([str(it) for it in filled], "1.5 0.0 0.0 0.0 2.0 0.0 0.0 0.0 0.0".split())
                 with self.assertRaises(peltzivar.ColumnError) as caught:
                     Language.CSV_DE.column(given)
             self.assertEqual(([*map(str, values)], missing), ("1.5 nan nan nan 2.0 nan nan nan nan".split(), (1, 5, 6)))
@@ -60,7 +62,8 @@ class Columns(unittest.TestCase):
         self.assertEqual([(it.index, it.text) for it in Language.JSON.column((b"12", offsets), errors="coerce").wrong], [(0, b"12"), (1, b"")])
 
     def test_one_text(self):
-        for text, kind, value in (("1.5", float, 1.5), (b"15", int, 15), ("-inf", float, -math.inf), ("9" * 30, int, int("9" * 30)), ("1" * 99, float, float("1" * 99))):
+        rows = [("1.5", float, 1.5), (b"15", int, 15), ("-inf", float, -math.inf)]
+        for text, kind, value in [*rows, ("9" * 30, int, int("9" * 30)), ("1" * 99, float, float("1" * 99))]:
             self.assertEqual((type(Language.TOML.parse(text, kind)), Language.TOML.parse(text, kind)), (kind, value))
         for text in ("x", "\u00e9", "\ud800", "", b"\xff", "9" * 99 + "x"):
             self.assertRaises(LiteralError, Language.TOML.parse, text)

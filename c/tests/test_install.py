@@ -139,7 +139,8 @@ class Package(InFolder):
         with zipfile.ZipFile(wheel) as opened:
             files = {name.rpartition("/")[2]: opened.read(name) for name in opened.namelist()}
         self.assertEqual((files["py.typed"], files["LICENSE"]), (b"", (C.parent / "LICENSE").read_bytes()))
-        self.assertRegex(files["METADATA"].decode(), r"(?ms)^License: MIT$.*^Classifier: Typing :: Typed$.*^Requires-Python: >=3.9$.*^\n.* >>> from peltzivar import Syntax, languages$")
+        entries = ["License: MIT", "Classifier: Typing :: Typed", "Requires-Python: >=3.9", "", ".* >>> from peltzivar import Syntax, languages"]
+        self.assertRegex(files["METADATA"].decode(), "(?ms)" + ".*".join(f"^{it}$" for it in entries))
         self.assertRegex(wheel.name, f"-py3-none-manylinux_2_17_{os.uname().machine}.whl$")
         # Without a network, pip gets from the system what it would fetch.
         paths = f"{checkout.parent}/environment/bin:{os.environ['PATH']}"
