@@ -46,7 +46,7 @@ from array import array
 from ctypes import CDLL, POINTER, PyDLL, Structure, byref, c_bool, c_char_p, c_double, c_float, c_int64, c_size_t
 from ctypes import c_uint8, c_uint32, c_uint64, c_void_p, create_string_buffer, sizeof
 from dataclasses import dataclass, field
-from decimal import MAX_EMAX, MIN_EMIN, Context, Decimal, DecimalException, InvalidOperation, Rounded
+from decimal import MAX_EMAX, MIN_EMIN, Context, Decimal, DecimalException, InvalidOperation, Overflow, Rounded, Subnormal
 from enum import Enum
 from fractions import Fraction
 from itertools import accumulate, count, repeat, takewhile
@@ -1297,12 +1297,13 @@ class Literal(Generic[AnyStr]):
     def fraction(self) -> Fraction:
         """Returns the exact value. Raises OverflowError if its numerator or denominator has more than 10^6 digits before
         the fraction is reduced."""
-        short, _, power = (self._short() or "").partition("e")
-        whole, _, part = short.partition(".")
-        if len(power) < 4 and whole[-1:].isdigit() and (power + "0")[-2:].isdigit():
-            places = len(part) - int(power or 0)
-            number = int(whole + part)
-            return Fraction(number * 10**-places) if places <= 0 else Fraction(number, 10**places)
+        try:
+            fraction: Any = object.__new__(Fraction)
+            # The two have no common factor, and Fraction would look for one.
+            fraction._numerator, fraction._denominator = _NEAR.create_decimal(self._short() or "").as_integer_ratio()
+            return cast(Fraction, fraction)
+        except DecimalException:
+            pass
         digits, places, exponent = self._scaled()
         radix, base = self.syntax._fields.mantissa_radix, self.syntax._fields.exponent_base
         number = int(digits, radix)
@@ -1610,6 +1611,8 @@ _FACTORS = {2**twos * 5**fives: (twos, fives) for twos in range(6) for fives in 
 _MOST_DIGITS = 10**6
 _TOO_LONG = "the exact value has more than 10^6 digits"
 _EXACT = Context(_MOST_DIGITS, Emin=MIN_EMIN, Emax=MAX_EMAX, traps=[InvalidOperation, Rounded])
+# Numbers that are neither long nor far from 1.
+_NEAR = Context(400, Emin=-999, Emax=999, traps=[InvalidOperation, Rounded, Overflow, Subnormal])
 
 
 @dataclass(frozen=True)

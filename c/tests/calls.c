@@ -330,8 +330,19 @@ static void test_writing(void) {
     CHECK(!strcmp(text, "-1234.5") && text[8] == '#');
 }
 
+/* Checks that the call which makes a value stops where `error` is, for the same reason. */
+#define STOPS_ALIKE(T, type) { \
+    T value = 7; \
+    peltzivar_read_error other; \
+    peltzivar_explanation whys[2]; \
+    CHECK(peltzivar_parse_##type(forms, refused[j], strlen(refused[j]), &value, &other) == PELTZIVAR_VALUE_REFUSED && value == 7); \
+    CHECK(peltzivar_explain(&error, &whys[0]) && peltzivar_explain(&other, &whys[1]) && !memcmp(&whys[0], &whys[1], sizeof *whys)); \
+    CHECK(other.form == error.form && other.valid_up_to == error.valid_up_to); }
+
 /* Each language has a name by which it is found, and forms, whose first takes precedence. A null pointer has no forms. */
 static void test_languages(void) {
+    static const char *const refused[] = {"", "0x1G", "09", "0b2", "0x1p", "1e", "1.5.5", "0b", "0o9", "-"};
+    size_t wrong[256] = {0};
     peltzivar_specials specials = {text, text, text};
     peltzivar_special special = {7, 7};
     peltzivar_syntax syntax;
@@ -345,7 +356,16 @@ static void test_languages(void) {
         CHECK(forms && *peltzivar_form_name(forms, 0));
         for (; *peltzivar_form_name(forms, form); form++) CHECK(peltzivar_form_syntax(forms, form, &syntax) && !peltzivar_check_syntax(&syntax));
         CHECK(!peltzivar_form_syntax(forms, form, &syntax) && !*peltzivar_form_name(forms, SIZE_MAX));
+        for (size_t j = 0; j < sizeof refused / sizeof *refused; j++) {
+            if (peltzivar_forms_read(forms, refused[j], strlen(refused[j]), &literal, &error)) continue;
+            STOPS_ALIKE(int64_t, i64)
+            STOPS_ALIKE(uint64_t, u64)
+            STOPS_ALIKE(double, f64)
+            STOPS_ALIKE(float, f32)
+            wrong[error.form]++;
+        }
     }
+    CHECK(wrong[0] && wrong[1] && wrong[2] && wrong[3]);
     CHECK(peltzivar_language("JSON", 4, &specials) && !*specials.nan && !*specials.infinity && !*peltzivar_language_name(SIZE_MAX));
     CHECK(peltzivar_forms_read(language("C"), "017", 3, &literal, &error) && literal.form == 1 && literal.integer.end == 3);
     CHECK(peltzivar_forms_read_prefix(language("C"), "0x1.8", 5, &literal, &error) && literal.form == 2 && literal.size == 3);

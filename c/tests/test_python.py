@@ -12,10 +12,12 @@ import pathlib
 import pickle
 import pydoc
 import re
+import runpy
 import shutil
 import subprocess
 import sys
 import tempfile
+import typing
 import unittest
 from array import array
 from decimal import Decimal
@@ -404,6 +406,11 @@ class Literals(unittest.TestCase):
             ("the base prefix 'b' is a digit in radix 16", (1, 2)),
         ]
         self.assertEqual([(str(it), it.indexes) for it in error.reasons], sentences)
+        # A reason has as many indexes as it has settings: one, two, three and four.
+        with self.assertRaises(SettingsError) as caught:
+            settings = {f"integer_{it}_digit_separator": False for it in ("internal", "leading", "trailing")}
+            Syntax.of("radix=40", "base_prefix='('", "base_suffix='('", **settings, integer_consecutive_digit_separator=True)
+        self.assertEqual([it.indexes for it in caught.exception.reasons], [(0,), (1, 2), (3, 4, 5, 6)])
 
 
 BYTE = "one ASCII character or a number from 0 to 255"
@@ -475,19 +482,36 @@ class Wrong(unittest.TestCase):
                         self.assertRegex(str(error), names)
 
     @unittest.skipUnless(shutil.which("mypy"), "mypy")
-    def test_a_type_checker_refuses_wrong_arguments(self):
-        program = """from decimal import Decimal; from fractions import Fraction; from peltzivar import Edit, Format, Setter, Syntax, notes_of
-Format.of("radix=16", Edit.of(Setter.NO_SPECIAL, True), mantissa_radix=16, base_prefix=b"x").edit(exponent_base=None)
+    def test_a_type_checker_accepts_right_arguments_and_refuses_wrong_ones(self):
+        program = """from decimal import Decimal; from peltzivar import Format, Syntax, notes_of
 Format.of(mantissa_radix="x", base_prefx=3)
 Format().edit(no_special=1)
 Syntax.of(radix=16, point=1.5).read("1").value.real
 notes_of(mantissa_radix=None)
-print(Format().no_special + "", Format().edit().check().error().description)
-write = Syntax(Format()).format_number; print(write(1), write(1.5), write(Decimal(1)), write(Fraction(1)), write(Syntax(Format()).read("1")), write("1"))
+print(Format().no_special + "", Format().check_options("e", None))
+Syntax(Format()).format_number("1")
 """
-        command = ["mypy", "--strict", f"--python-version={OLDEST}", "--cache-dir=/dev/null", peltzivar.__file__, "/dev/stdin"]
+        command = ["mypy", "--strict", f"--python-version={OLDEST}", "--cache-dir=/dev/null", peltzivar.__file__, TESTS / "typed.py", "/dev/stdin"]
         ran = subprocess.run(command, env={**os.environ, "MYPYPATH": str(TESTS.parent)}, input=program, capture_output=True, text=True)
-        self.assertEqual(re.findall(r"^(.*):(\d+): error", ran.stdout, re.M), [("/dev/stdin", line) for line in "3345678"], ran)
+        self.assertEqual(re.findall(r"^(.*):(\d+): error", ran.stdout, re.M), [("/dev/stdin", line) for line in "223456667"], ran)
+
+    def test_values_have_the_types_of_a_typed_program(self):
+        def fits(value, kind):
+            origin, arguments = typing.get_origin(kind) or kind, typing.get_args(kind)
+            if origin is typing.Union:
+                return any(fits(value, it) for it in arguments)
+            if origin is not tuple:
+                return isinstance(value, origin)
+            each = arguments[:1] * len(value) if arguments[1:] == (...,) else arguments
+            return len(each) == len(value) and all(map(fits, value, each))
+
+        path = TESTS / "typed.py"
+        made = runpy.run_path(str(path))
+        for name, kind in made["__annotations__"].items():
+            self.assertTrue(fits(made[name], kind), (name, kind, made[name]))
+        kinds = [it for it in map(vars(peltzivar).get, peltzivar.__all__) if isinstance(it, type)]
+        names = {name for kind in kinds for name in (*vars(kind), *vars(kind).get("__annotations__", ())) if name[0] != "_" and not name.isupper()}
+        self.assertEqual(names - {*re.findall(r"\w+", path.read_text())} - {it.name.lower() for it in Setter}, set())
 
     def test_help_has_no_private_names(self):
         text = pydoc.plain(pydoc.render_doc(peltzivar))
