@@ -31,14 +31,18 @@ static bool is_word(peltzivar_word word, uint64_t high, uint64_t low) {
 
 /* Returns the forms of a language. */
 static const peltzivar_forms *language(const char *name) {
-    return peltzivar_language(name, strlen(name), NULL);
+    return peltzivar_language(name, strlen(name));
 }
 
 /* Returns the syntax of the first form of a language. */
 static peltzivar_syntax first_form(const char *name) {
-    peltzivar_syntax syntax;
-    CHECK(peltzivar_form_syntax(language(name), 0, &syntax));
-    return syntax;
+    return language(name)->forms[0].syntax;
+}
+
+/* Returns `count` forms of an array, without spellings. */
+static peltzivar_forms forms_of(const peltzivar_form *forms, size_t count) {
+    const peltzivar_forms of = {forms, count, {NULL, NULL, NULL}, NULL, {0}};
+    return of;
 }
 
 /* Writes the syntax that settings build, and returns whether there is one. */
@@ -57,6 +61,7 @@ static void test_constants(void) {
     CHECK(sizeof(peltzivar_word) == 16 && sizeof(peltzivar_fields) == 16 && sizeof(peltzivar_edit) == 2);
     CHECK(sizeof(peltzivar_read_error) == 128 && sizeof(peltzivar_literal) == 320 && sizeof(peltzivar_span) == 16);
     CHECK(sizeof(peltzivar_syntax) == 32 && sizeof(peltzivar_explanation) == 48 && sizeof(peltzivar_i128) == 16);
+    CHECK(sizeof(peltzivar_form) == 56 && sizeof(peltzivar_forms) == 72);
     CHECK(sizeof(peltzivar_specials) == 24 && sizeof(peltzivar_special) == 2 && sizeof(peltzivar_style) == 2);
     CHECK(sizeof(peltzivar_separators) == 4);
 }
@@ -251,10 +256,9 @@ static void test_columns(void) {
     static const int64_t offsets[] = {0, 1, 3, 6, 7, 7, 27, 30, 34, 33, 99, -1, 34};
     static const uint8_t natural[] = {0, 3, 1, 6, 6, 2, 7, 0, 6, 6, 6, 6}, integer[] = {0, 0, 1, 6, 6, 2, 7, 0, 6, 6, 6, 6},
         real[] = {0, 0, 0, 6, 6, 0, 0, 0, 6, 6, 6, 6};
-    const peltzivar_syntax json = first_form("JSON");
-    const peltzivar_forms *const forms[] = {peltzivar_language_toml(), peltzivar_forms_of(&json), NULL};
+    const peltzivar_forms json = forms_of(language("JSON")->forms, 1), *const forms[] = {peltzivar_language_toml(), &json, NULL};
     peltzivar_read_error error;
-    CHECK(forms[0] == language("TOML") && forms[1] && !peltzivar_forms_of(NULL) && !*peltzivar_form_name(forms[1], 0));
+    CHECK(forms[0] == language("TOML"));
 /* Checks the statuses of a type, and that values which are not there are left, by all forms. */
 #define IS_COLUMN(T, type, wanted, wrong) \
     for (int i = 0; i < 3; i++) { \
@@ -343,19 +347,13 @@ static void test_writing(void) {
 static void test_languages(void) {
     static const char *const refused[] = {"", "0x1G", "09", "0b2", "0x1p", "1e", "1.5.5", "0b", "0o9", "-"};
     size_t wrong[256] = {0};
-    peltzivar_specials specials = {text, text, text};
     peltzivar_special special = {7, 7};
-    peltzivar_syntax syntax;
     peltzivar_literal literal;
     peltzivar_read_error error;
-    CHECK(!peltzivar_language("json", 4, &specials) && !peltzivar_language("", 0, &specials) && specials.inf == text);
-    CHECK(!peltzivar_language("JSON", SIZE_MAX, &specials) && !peltzivar_language("JSO", 3, &specials));
+    CHECK(!language("json") && !language("") && !peltzivar_language("JSON", SIZE_MAX) && !language("JSO"));
     for (size_t i = 0; *peltzivar_language_name(i); i++) {
         const peltzivar_forms *const forms = language(peltzivar_language_name(i));
-        size_t form = 0;
-        CHECK(forms && *peltzivar_form_name(forms, 0));
-        for (; *peltzivar_form_name(forms, form); form++) CHECK(peltzivar_form_syntax(forms, form, &syntax) && !peltzivar_check_syntax(&syntax));
-        CHECK(!peltzivar_form_syntax(forms, form, &syntax) && !*peltzivar_form_name(forms, SIZE_MAX));
+        for (size_t form = 0; form < forms->count; form++) CHECK(*forms->forms[form].name && !peltzivar_check_syntax(&forms->forms[form].syntax));
         for (size_t j = 0; j < sizeof refused / sizeof *refused; j++) {
             if (peltzivar_forms_read(forms, refused[j], strlen(refused[j]), &literal, &error)) continue;
             STOPS_ALIKE(int64_t, i64)
@@ -366,15 +364,14 @@ static void test_languages(void) {
         }
     }
     CHECK(wrong[0] && wrong[1] && wrong[2] && wrong[3]);
-    CHECK(peltzivar_language("JSON", 4, &specials) && !*specials.nan && !*specials.infinity && !*peltzivar_language_name(SIZE_MAX));
+    CHECK(!language("JSON")->specials.nan && !strcmp(language("TOML")->specials.inf, "inf") && !*peltzivar_language_name(SIZE_MAX));
     CHECK(peltzivar_forms_read(language("C"), "017", 3, &literal, &error) && literal.form == 1 && literal.integer.end == 3);
     CHECK(peltzivar_forms_read_prefix(language("C"), "0x1.8", 5, &literal, &error) && literal.form == 2 && literal.size == 3);
     CHECK(!peltzivar_forms_read(language("YAML"), "-.inf", 5, &literal, &error) && error.valid_up_to == 2 && error.form == 0);
     CHECK(peltzivar_forms_read_special(language("YAML"), "-.inf", 5, &special) && special.spelling == PELTZIVAR_SPELLING_INF && special.sign == '-');
     CHECK(!peltzivar_forms_read_special(language("YAML"), "1", SIZE_MAX, &special) && !peltzivar_forms_read_special(NULL, "-.inf", 5, &special));
     CHECK(!peltzivar_forms_read(NULL, "1", 1, &literal, NULL) && !peltzivar_forms_read_prefix(NULL, "1", 1, &literal, &error));
-    CHECK(WRITES("the forms are a null pointer", peltzivar_read_error_text(&error, text, sizeof text)) && error.valid_up_to == 0);
-    CHECK(!*peltzivar_form_name(NULL, 0) && !peltzivar_form_syntax(NULL, 0, &syntax));
+    CHECK(WRITES("the forms are null, not 1 to 64, or have reserved members", peltzivar_read_error_text(&error, text, sizeof text)) && error.valid_up_to == 0);
 }
 
 /* A null pointer with a length of 0 is accepted as an empty array, and a null pointer to output is not written to. Input
@@ -435,7 +432,7 @@ static void test_misuse(void) {
         const char *const bytes = (const char *)it;
         memset(memory, fills[i / 2 % 3], sizeof memory);
         sum += peltzivar_check_syntax(syntax) + peltzivar_syntax_error_text(syntax, text, sizeof text) + peltzivar_sentence(syntax, text, 9);
-        sum += peltzivar_grammar(syntax, NULL, 0) + peltzivar_regex(syntax, text, sizeof text) + (peltzivar_forms_of(syntax) != NULL);
+        sum += peltzivar_grammar(syntax, NULL, 0) + peltzivar_regex(syntax, text, sizeof text);
         for (int j = 0; j < 2; j++) {
             const peltzivar_syntax *const by = j ? &json : syntax;
             sum += (size_t)(peltzivar_read(by, bytes, len, to, NULL) + peltzivar_read(by, bytes, len, NULL, stopped)
@@ -455,7 +452,7 @@ static void test_misuse(void) {
             + peltzivar_parse_edit(bytes, len, NULL) + peltzivar_parse_byte(bytes, len, out);
         sum += peltzivar_parse_word(bytes, len, (peltzivar_word *)(out + shift), NULL)
             + peltzivar_setter_of_name(bytes, len) + peltzivar_setting_error_text(bytes, len, text, 9);
-        sum += (size_t)((peltzivar_language(bytes, len, NULL) != NULL)
+        sum += (size_t)((peltzivar_language(bytes, len) != NULL)
             + peltzivar_parse_f64(NULL, bytes, len, NULL, stopped) + peltzivar_parse_i64(peltzivar_language_c(), bytes, len, NULL, NULL));
         sum += peltzivar_parse_u64_column(peltzivar_language_c(), bytes, (const int64_t *)(it + 99), 9, (uint64_t *)(out + shift), out);
     }
