@@ -334,44 +334,110 @@ static void test_writing(void) {
     CHECK(!strcmp(text, "-1234.5") && text[8] == '#');
 }
 
-/* Checks that the call which makes a value stops where `error` is, for the same reason. */
-#define STOPS_ALIKE(T, type) { \
-    T value = 7; \
-    peltzivar_read_error other; \
-    peltzivar_explanation whys[2]; \
-    CHECK(peltzivar_parse_##type(forms, refused[j], strlen(refused[j]), &value, &other) == PELTZIVAR_VALUE_REFUSED && value == 7); \
-    CHECK(peltzivar_explain(&error, &whys[0]) && peltzivar_explain(&other, &whys[1]) && !memcmp(&whys[0], &whys[1], sizeof *whys)); \
-    CHECK(other.form == error.form && other.valid_up_to == error.valid_up_to); }
+/* Returns whether two errors are the same. */
+static bool is_same_error(const peltzivar_read_error *error, const peltzivar_read_error *other) {
+    peltzivar_explanation whys[2];
+    return error->form == other->form && error->valid_up_to == other->valid_up_to && peltzivar_explain(error, &whys[0])
+        && peltzivar_explain(other, &whys[1]) && !memcmp(&whys[0], &whys[1], sizeof *whys);
+}
 
-/* Each language has a name by which it is found, and forms, whose first takes precedence. A null pointer has no forms. */
+/* Checks that two lists of forms read a text alike, and that the calls which make a value stop for the same reason. */
+static void read_alike(const peltzivar_forms *forms, const peltzivar_forms *others, const char *from, size_t *stops) {
+    const size_t len = strlen(from);
+    peltzivar_literal literal, other;
+    peltzivar_read_error error, why;
+    peltzivar_special special = {0, 0}, again = {0, 0};
+    const bool is_read = peltzivar_forms_read(forms, from, len, &literal, &error);
+    const bool is_special = peltzivar_forms_read_special(forms, from, len, &special);
+    CHECK(peltzivar_forms_read(others, from, len, &other, &why) == is_read);
+    CHECK(is_read ? literal.form == other.form && !memcmp(&literal.sign, &other.sign, 9 * sizeof literal.sign) : is_same_error(&error, &why));
+    CHECK(peltzivar_forms_read_special(others, from, len, &again) == is_special && !memcmp(&special, &again, sizeof special));
+    CHECK(peltzivar_forms_read_prefix(forms, from, len, &literal, NULL) == peltzivar_forms_read_prefix(others, from, len, &other, NULL));
+/* Checks the values of a type. */
+#define VALUES_ALIKE(T, type) { \
+    T value = 7, another = 7; \
+    const peltzivar_value_status status = peltzivar_parse_##type(forms, from, len, &value, &why); \
+    CHECK((status == PELTZIVAR_VALUE_REFUSED) == !(is_read || is_special) && (status != PELTZIVAR_VALUE_REFUSED || is_same_error(&error, &why))); \
+    CHECK(peltzivar_parse_##type(others, from, len, &another, &why) == status && !memcmp(&value, &another, sizeof value)); \
+    CHECK(status != PELTZIVAR_VALUE_REFUSED || is_same_error(&error, &why)); }
+    VALUES_ALIKE(int64_t, i64)
+    VALUES_ALIKE(uint64_t, u64)
+    VALUES_ALIKE(double, f64)
+    VALUES_ALIKE(float, f32)
+    stops[is_read || is_special ? 255 : error.form]++;
+}
+
+/* Each language has a name by which it is found, and forms, which read the same as a copy. */
 static void test_languages(void) {
-    static const char *const refused[] = {"", "0x1G", "09", "0b2", "0x1p", "1e", "1.5.5", "0b", "0o9", "-"};
-    size_t wrong[256] = {0};
+    static const char *const texts[] = {"", "0x1G", "09", "0b2", "0x1p", "1e", "1.5.5", "0b", "0o9", "-", "017", "0x1F", "1_0", "1.5e3", "nan", "-inf"};
+    size_t stops[256] = {0};
     peltzivar_special special = {7, 7};
     peltzivar_literal literal;
     peltzivar_read_error error;
+    peltzivar_explanation why;
     CHECK(!language("json") && !language("") && !peltzivar_language("JSON", SIZE_MAX) && !language("JSO"));
     for (size_t i = 0; *peltzivar_language_name(i); i++) {
         const peltzivar_forms *const forms = language(peltzivar_language_name(i));
+        const peltzivar_forms copied = *forms;
         for (size_t form = 0; form < forms->count; form++) CHECK(*forms->forms[form].name && !peltzivar_check_syntax(&forms->forms[form].syntax));
-        for (size_t j = 0; j < sizeof refused / sizeof *refused; j++) {
-            if (peltzivar_forms_read(forms, refused[j], strlen(refused[j]), &literal, &error)) continue;
-            STOPS_ALIKE(int64_t, i64)
-            STOPS_ALIKE(uint64_t, u64)
-            STOPS_ALIKE(double, f64)
-            STOPS_ALIKE(float, f32)
-            wrong[error.form]++;
-        }
+        for (size_t j = 0; j < sizeof texts / sizeof *texts; j++) read_alike(forms, &copied, texts[j], stops);
     }
-    CHECK(wrong[0] && wrong[1] && wrong[2] && wrong[3]);
+    CHECK(stops[0] && stops[1] && stops[2] && stops[3] && stops[255]);
     CHECK(!language("JSON")->specials.nan && !strcmp(language("TOML")->specials.inf, "inf") && !*peltzivar_language_name(SIZE_MAX));
     CHECK(peltzivar_forms_read(language("C"), "017", 3, &literal, &error) && literal.form == 1 && literal.integer.end == 3);
     CHECK(peltzivar_forms_read_prefix(language("C"), "0x1.8", 5, &literal, &error) && literal.form == 2 && literal.size == 3);
+    /* The decimal form goes as far, and its cause is a byte. */
+    CHECK(!peltzivar_forms_read(language("TOML"), "0XF", 3, &literal, &error) && error.form == 1 && peltzivar_explain(&error, &why) && why.kind == PELTZIVAR_KIND_CASE);
     CHECK(!peltzivar_forms_read(language("YAML"), "-.inf", 5, &literal, &error) && error.valid_up_to == 2 && error.form == 0);
     CHECK(peltzivar_forms_read_special(language("YAML"), "-.inf", 5, &special) && special.spelling == PELTZIVAR_SPELLING_INF && special.sign == '-');
     CHECK(!peltzivar_forms_read_special(language("YAML"), "1", SIZE_MAX, &special) && !peltzivar_forms_read_special(NULL, "-.inf", 5, &special));
-    CHECK(!peltzivar_forms_read(NULL, "1", 1, &literal, NULL) && !peltzivar_forms_read_prefix(NULL, "1", 1, &literal, &error));
-    CHECK(WRITES("the forms are null, not 1 to 64, or have reserved members", peltzivar_read_error_text(&error, text, sizeof text)) && error.valid_up_to == 0);
+}
+
+/* Forms of one's own, at any address. A literal comes before a special value. What a later version may read otherwise is refused. */
+static void test_forms(void) {
+    uint8_t memory[81 + 64 * sizeof(peltzivar_form)] = {0};
+    peltzivar_form list[65];
+    peltzivar_forms forms = forms_of((const peltzivar_form *)(memory + 1), 64), toml = *language("TOML"), most = forms_of(list, 64);
+    const peltzivar_forms *const moved = (const peltzivar_forms *)(memory + sizeof memory - sizeof forms);
+    peltzivar_syntax names;
+    peltzivar_special special;
+    peltzivar_literal literal;
+    peltzivar_read_error error;
+    int64_t value = 7;
+    double real = 7;
+    memset(list, 0, sizeof list);
+    CHECK(make_syntax("radix=36\nexponent=none\npoint=none", &names));
+    for (int i = 0; i < 65; i++) list[i].syntax = i % 64 ? names : first_form("TOML");
+    forms.specials.nan = "none", forms.specials.inf = "in f";
+    memcpy(memory + 1, list, 64 * sizeof *list), memcpy(memory + sizeof memory - sizeof forms, &forms, sizeof forms);
+    CHECK(peltzivar_forms_read(moved, "none", 4, &literal, NULL) && literal.form == 1 && !peltzivar_parse_i64(moved, "none", 4, &value, NULL) && value == 1105034);
+    CHECK(!peltzivar_forms_read(moved, "in f", 4, &literal, &error) && error.form == 1 && error.valid_up_to == 2);
+    CHECK(peltzivar_parse_i64(moved, "in f", 4, &value, NULL) == PELTZIVAR_VALUE_SPECIAL && !peltzivar_parse_f64(moved, "-in f", 5, &real, NULL) && real == -HUGE_VAL);
+    toml.specials.nan = "NA", toml.count = 1;
+    CHECK(peltzivar_forms_read_special(&toml, "NA", 2, &special) && !peltzivar_forms_read_special(&toml, "nan", 3, &special));
+    CHECK(peltzivar_forms_read(&toml, "1", 1, &literal, NULL) && !peltzivar_forms_read(&toml, "0x1", 3, &literal, NULL));
+    for (size_t i = 0; i < sizeof most.reserved + sizeof list->reserved + sizeof list->syntax.reserved + 4; i++) {
+        const size_t of_form = i - sizeof most.reserved, of_syntax = of_form - sizeof list->reserved;
+        const peltzivar_form kept = list[63];
+        peltzivar_forms refused = most;
+        if (i < sizeof most.reserved) ((uint8_t *)refused.reserved)[i] = 1;
+        else if (of_form < sizeof list->reserved) ((uint8_t *)list[63].reserved)[of_form] = 1;
+        else if (of_syntax < sizeof names.reserved) list[63].syntax.reserved[of_syntax] = 1;
+        else if (of_syntax == sizeof names.reserved) refused.count = 0;
+        else if (of_syntax == sizeof names.reserved + 1) refused.count = 65;
+        else if (of_syntax == sizeof names.reserved + 2) refused.forms = NULL;
+        const peltzivar_forms *const by = of_syntax == sizeof names.reserved + 3 ? NULL : &refused;
+        const int64_t offsets[] = {0, 1};
+        uint8_t status = 7;
+        CHECK(peltzivar_forms_read(&most, "1", 1, &literal, NULL) == (i < sizeof most.reserved || i >= sizeof most.reserved + sizeof list->reserved + sizeof names.reserved));
+        CHECK(!peltzivar_forms_read(by, "1", 1, &literal, NULL) && !peltzivar_forms_read_special(by, "nan", 3, &special));
+        CHECK(!peltzivar_forms_read_prefix(by, "1", 1, &literal, &error) && error.valid_up_to == 0 && !peltzivar_explain(&error, NULL));
+        CHECK(WRITES("the forms are null, not 1 to 64, or have reserved members", peltzivar_read_error_text(&error, text, sizeof text)));
+        CHECK(peltzivar_parse_f64(by, "1", 1, &real, &error) == PELTZIVAR_VALUE_REFUSED && !peltzivar_explain(&error, NULL));
+        CHECK(peltzivar_parse_i64_column(by, "1", offsets, 1, &value, &status) == 1 && status == PELTZIVAR_VALUE_REFUSED);
+        list[63] = kept;
+    }
+    CHECK(value == 1105034 && real == -HUGE_VAL && peltzivar_forms_read(&most, "1", 1, &literal, NULL));
 }
 
 /* A null pointer with a length of 0 is accepted as an empty array, and a null pointer to output is not written to. Input
@@ -423,6 +489,7 @@ static void test_misuse(void) {
         const uint8_t *const it = memory + shift;
         const peltzivar_syntax *const syntax = (const peltzivar_syntax *)it;
         const peltzivar_fields *const fields = (const peltzivar_fields *)it;
+        const peltzivar_forms *const forms = (const peltzivar_forms *)it;
         const peltzivar_style *const style = (const peltzivar_style *)it;
         const peltzivar_edit *const edits = (const peltzivar_edit *)it;
         const peltzivar_literal *const literal = (const peltzivar_literal *)it;
@@ -453,7 +520,9 @@ static void test_misuse(void) {
         sum += peltzivar_parse_word(bytes, len, (peltzivar_word *)(out + shift), NULL)
             + peltzivar_setter_of_name(bytes, len) + peltzivar_setting_error_text(bytes, len, text, 9);
         sum += (size_t)((peltzivar_language(bytes, len) != NULL)
-            + peltzivar_parse_f64(NULL, bytes, len, NULL, stopped) + peltzivar_parse_i64(peltzivar_language_c(), bytes, len, NULL, NULL));
+            + peltzivar_parse_f64(NULL, bytes, len, NULL, stopped) + peltzivar_parse_i64(peltzivar_language_c(), bytes, len, NULL, NULL)
+            + peltzivar_forms_read(forms, bytes, len, to, NULL) + peltzivar_forms_read_prefix(forms, bytes, len, NULL, stopped)
+            + peltzivar_forms_read_special(forms, bytes, len, NULL) + peltzivar_parse_u64(forms, bytes, len, NULL, stopped));
         sum += peltzivar_parse_u64_column(peltzivar_language_c(), bytes, (const int64_t *)(it + 99), 9, (uint64_t *)(out + shift), out);
     }
     CHECK(sum);
@@ -462,7 +531,7 @@ static void test_misuse(void) {
 static void *test_all(void *unused) {
     for (int i = 0; i < 5; i++) {
         test_constants(), test_setters(), test_words(), test_syntaxes(), test_errors(), test_groups(), test_values(), test_columns();
-        test_writing(), test_languages(), test_null(), test_misuse();
+        test_writing(), test_languages(), test_forms(), test_null(), test_misuse();
     }
     return unused;
 }
