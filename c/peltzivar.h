@@ -263,9 +263,12 @@ const char *peltzivar_value_description(peltzivar_value_status status);
 
 /* ERRORS */
 
-/* Writes why a text was refused as a sentence, such as "unexpected character 'x'", which may be in UTF-8.
- * EXPLANATIONS.md describes them. If no call has written *error, writes an empty string. */
+/* Write why a text was refused as a sentence, such as "expected a digit after the exponent character", which may be in
+ * UTF-8. peltzivar_read_error_full_text also names the flags and conditions to blame, if there are any, as in ", which
+ * required_exponent_digits requires". EXPLANATIONS.md describes them. If no call has written *error, they write an empty
+ * string. */
 size_t peltzivar_read_error_text(const peltzivar_read_error *error, char *text, size_t len);
+size_t peltzivar_read_error_full_text(const peltzivar_read_error *error, char *text, size_t len);
 
 /* The parts of a number, and the number of no part. */
 typedef uint8_t peltzivar_part;

@@ -23,7 +23,7 @@ also be texts, such as the lines of a file. Wrong ones raise a SettingsError:
     peltzivar.SettingsError: the base prefix 'b' is a digit in radix 16
     >>> prices.read("12.34")
     Traceback (most recent call last):
-    peltzivar.LiteralError: expected groups of 3 digits, which integer_group_size requires
+    peltzivar.LiteralError: expected groups of 3 digits
 
 A format is a 128-bit word. It is lawful if it satisfies all rules. A `FormatView` holds any word, and a `Format` a lawful
 one. In the repository, docs/FORMAT.md describes fields, rules and literals, and docs/C-AND-PYTHON.md this module. A
@@ -422,6 +422,7 @@ _CALLS: Dict[str, Tuple[Any, List[Any]]] = {
     "to_f32": (c_uint8, [POINTER(_Literal), POINTER(c_float)]),
     "value_description": (c_char_p, [c_uint8]),
     "read_error_text": (c_size_t, [POINTER(_ReadError), c_char_p, c_size_t]),
+    "read_error_full_text": (c_size_t, [POINTER(_ReadError), c_char_p, c_size_t]),
     "part_name": (c_char_p, [c_uint8]),
     "explain": (c_bool, [POINTER(_ReadError), POINTER(_Explanation)]),
     "read_special": (c_bool, [POINTER(_Syntax), POINTER(_Specials), c_char_p, c_size_t, POINTER(_Special)]),
@@ -778,7 +779,8 @@ class SettingsError(ReasonsError):
 
 
 class LiteralError(ValueError):
-    """Raised if a text is not a literal. `str` returns the cause as a sentence. If it is mended, another may follow.
+    """Raised if a text is not a literal. `str` returns the cause as a sentence, and `full_sentence` names the flags and
+    conditions to blame, too. If the cause is mended, another may follow.
 
     `valid_up_to` is the length of the longest beginning of the text that some literal begins with. If it is the
     length of the text, characters are missing. `span` is the first index and the end of the characters to show, maybe
@@ -789,6 +791,7 @@ class LiteralError(ValueError):
     """
 
     sentence: str
+    full_sentence: str
     text: Union[str, bytes]
     valid_up_to: int
     span: Tuple[int, int]
@@ -807,8 +810,10 @@ class LiteralError(ValueError):
         _library.explain(stopped, why)
         text, self.valid_up_to = self.text, stopped.valid_up_to
         index = self.valid_up_to
-        is_byte = isinstance(text, bytes) or text[index : index + 1].isascii()
-        self.sentence = _text(_library.read_error_text, stopped) if is_byte else f"unexpected character {text[index]!r}"
+        calls = _library.read_error_text, _library.read_error_full_text
+        self.sentence, self.full_sentence = (_text(it, stopped) for it in calls)
+        if not (isinstance(text, bytes) or text[index : index + 1].isascii()):
+            self.sentence = self.full_sentence = f"unexpected character {text[index]!r}"
         self.part = Part(why.part) if why.part != _NO_PART else None
         self.span, self.kind, self.mask = (why.span.start, why.span.end), ReadErrorKind(why.kind), _joined(why.mask)
         self.conditions = tuple(it for bit, it in enumerate(_CONDITIONS) if why.conditions >> bit & 1)

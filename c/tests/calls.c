@@ -181,7 +181,9 @@ static void test_errors(void) {
         CHECK(peltzivar_explain(&error, &why) && why.kind == kind && why.number == flag && !why.mask.low == (i >= 30));
         CHECK(why.conditions == (30 <= i && i < 35 ? conditions[i - 30] : 0));
         CHECK(why.part == (kind == PELTZIVAR_KIND_SEPARATOR ? i % 3 : kind == PELTZIVAR_KIND_MISSING ? i - 35 : PELTZIVAR_NO_PART));
-        CHECK(peltzivar_read_error_text(&error, sentences[i], sizeof sentences[i]));
+        CHECK(peltzivar_read_error_full_text(&error, sentences[i], sizeof sentences[i]) < sizeof sentences[i]);
+        const size_t len = peltzivar_read_error_text(&error, text, sizeof text);
+        CHECK(len && !strncmp(sentences[i], text, len) && !strncmp(sentences[i] + len, i < 35 ? ", which " : "", i < 35 ? 8 : 1));
         for (int j = 0; j < i; j++) CHECK(strcmp(sentences[i], sentences[j]));
     }
     memcpy(&copied, &error, sizeof error), memset(&error, 0, sizeof error);

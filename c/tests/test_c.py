@@ -80,7 +80,7 @@ class Programs(unittest.TestCase):
     def test_the_library_is_small_and_a_program_has_the_language_that_it_names(self):
         self.assertLessEqual(SHARED.stat().st_size, 300_000)
         sizes = []
-        for forms in ("language_c()", 'language("C", 1, NULL)'):
+        for forms in ("language_c()", 'language("C", 1)'):
             code = f'double it; return peltzivar_parse_f64(peltzivar_{forms}, "0x1.8p3", 7, &it, NULL) || it != 12;'
             self.folder.joinpath("one.c").write_text(f'#include "peltzivar.h"\nint main(void) {{ {code} }}\n')
             program = self.made("cc", *STRICT, self.folder / "one.c", ARCHIVE, "-Wl,--gc-sections", "-s")
@@ -187,7 +187,7 @@ class Header(unittest.TestCase):
     def test_each_language_has_the_call_with_its_name(self):
         names = [text.decode() for number in range(99) if (text := LIBRARY.peltzivar_language_name(number))]
         calls = [getattr(LIBRARY, f"peltzivar_language_{it.lower()}")() for it in names]
-        self.assertEqual(calls, [LIBRARY.peltzivar_language(it.encode(), len(it), None) for it in names])
+        self.assertEqual(calls, [LIBRARY.peltzivar_language(it.encode(), len(it)) for it in names])
         self.assertEqual(len({*calls}), len(re.findall(r"peltzivar_language_\w+\(void\)", HEADER)))
 
     def test_numbers_in_comments(self):

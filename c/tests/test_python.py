@@ -28,7 +28,7 @@ TESTS = pathlib.Path(__file__).resolve().parent
 TOP = TESTS.parent.parent
 sys.path.insert(0, str(TESTS.parent))
 import peltzivar
-from peltzivar import Edit, Error, Format, FormatError, FormatView, Language, LiteralError, OptionsError, Part, ReadErrorKind
+from peltzivar import Edit, Error, Format, FormatError, FormatView, Forms, Language, LiteralError, OptionsError, Part, ReadErrorKind
 from peltzivar import Role, Rule, Setter, SettingsError, Special, Specials, Spelling, Syntax, languages, notes_of
 
 PAGE = (TOP / "docs/FORMAT.md").read_text()
@@ -345,7 +345,8 @@ class Literals(unittest.TestCase):
                 Syntax.of(**fields, **{name: 3 if "group" in name else True}).read(text)
             except LiteralError as error:
                 blamed = (*(it.name for it in error.edits), *error.conditions)[: 2 if error.part else 1]
-                causes.add((error.kind, error.part, *blamed, str(error)))
+                causes.add((error.kind, error.part, *blamed, error.full_sentence))
+                self.assertRegex(error.full_sentence, f"^{re.escape(str(error))}{', which .*' + blamed[0] if blamed else ''}")
         self.assertEqual(({it[0] for it in causes}, {name for it in causes for name in it[2:-1]}), ({*ReadErrorKind}, names))
         for sentences in (descriptions, [it.description for it in Error], [it[-1] for it in causes], [it[:-1] for it in causes]):
             self.assertEqual((len({*sentences}), all(sentences)), (len(sentences), True), sentences)
@@ -380,6 +381,27 @@ class Literals(unittest.TestCase):
                 Language.PYTHON.read(text)
             error = pickle.loads(pickle.dumps(caught.exception))
             self.assertEqual((error.form, error.valid_up_to), (form, index), text)
+
+    def test_forms_of_ones_own(self):
+        names = Syntax.of(radix=36, exponent=None, point=None)
+        own = Forms([("decimal", Language.TOML.forms["decimal"]), ("", names)], nan="none", inf="in f")
+        for forms in (own, eval(repr(own)), pickle.loads(pickle.dumps(own)), copy.deepcopy(own), Forms(dict(own), **vars(own.specials))):
+            self.assertEqual((forms, hash(forms), {**forms}, len(forms)), (own, hash(own), {"decimal": own["decimal"], "": names}, 2))
+            # A literal comes before a special value.
+            read = [(it.value, getattr(it, "form", None)) for it in map(forms.read, ("1e1", "none", b"-in f"))]
+            self.assertEqual(read, [(10.0, "decimal"), (1105034, ""), (-math.inf, None)])
+            self.assertEqual((forms.parse("none", int), forms.parse("in f"), forms.column(["1", "in f"]).values.tolist()), (1105034, math.inf, [1, math.inf]))
+            self.assertEqual((forms.read_prefix("1z.")[0].syntax, forms.read("z"), forms.read("1")), (names, names.read("z"), own["decimal"].read("1")))
+            for text, form, index in (("1e+", "decimal", 3), ("a_", "", 1)):
+                with self.assertRaises(LiteralError) as caught:
+                    forms.read(text)
+                error = pickle.loads(pickle.dumps(caught.exception))
+                self.assertEqual((error.form, error.valid_up_to), (form, index))
+        self.assertNotEqual(own, Forms(own))
+        self.assertNotEqual(Forms(own), Forms(reversed(own.items())))
+        for language in Language:
+            copied = Forms(language.forms, **vars(language.specials))
+            self.assertEqual((copied, copied.specials), (language.forms, language.specials))
 
     def test_special_values(self):
         for text, wanted in (("+inf", "+INF"), (b"-nan", "-NAN"), ("inf", "INF")):
@@ -448,6 +470,12 @@ WRONG = [
     ("Language.JSON.column([None], int)", ValueError, "integers have no NaN: pass `fill`, the value of cells that are missing or wrong"),
     ("Language.JSON.column((b'12', array('q', [0, 3])))", ValueError, "offsets are not within the data, which has 2 bytes"),
     ("Language.JSON.column((b'12', array('q', [-1, 1])))", ValueError, "offsets are not within the data, which has 2 bytes"),
+    ("Forms([])", ValueError, "there are 1 to 64 forms, no two with the same name: []"),
+    ("Forms([('a', Syntax(Format())), ('a', Syntax(Format()))])", ValueError, "there are 1 to 64 forms, no two with the same name: ['a', 'a']"),
+    ("Forms({str(it): Syntax(Format()) for it in range(65)})", ValueError, "there are 1 to 64 forms, no two with the same name: ['0', '1', '2', '3', '4', '5', ...]"),
+    ("Forms({'a': Format()})", TypeError, "a form is a Syntax, not Format"),
+    ("Forms({1: Syntax(Format())})", TypeError, "a name is a str, not int"),
+    ("Forms({'a': Syntax(Format())}, nan='a\\0')", ValueError, "a spelling has a null character: Specials(nan='a\\x00', inf=None, infinity=None)"),
     ("Language.JSON.parse('1', bool)", TypeError, "type is float or int, not <class 'bool'>"),
     ("Specials('a\\0').read(Syntax(Format()), '')", ValueError, "a spelling has a null character: Specials(nan='a\\x00', inf=None, infinity=None)"),
 ]

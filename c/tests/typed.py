@@ -63,8 +63,8 @@ except ColumnError as refused:
 try:
     languages.JSON.read("1x")
 except LiteralError as why:
-    of_error: Tuple[str, Union[str, bytes], int, Tuple[int, int], ReadErrorKind, Optional[Part], int, Error, str] = (
-        why.sentence, why.text, why.valid_up_to, why.span, why.kind, why.part, why.mask, why.error, why.form)  # fmt: skip
+    of_error: Tuple[str, str, Union[str, bytes], int, Tuple[int, int], ReadErrorKind, Optional[Part], int, Error, str] = (
+        why.sentence, why.full_sentence, why.text, why.valid_up_to, why.span, why.kind, why.part, why.mask, why.error, why.form)  # fmt: skip
     blamed: Tuple[Tuple[str, ...], Tuple[Edit, ...]] = why.conditions, why.edits
 try:
     Format(0)

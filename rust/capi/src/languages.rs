@@ -6,7 +6,7 @@ use crate::names::{at, start, texts};
 use core::ffi::CStr;
 use core::mem::MaybeUninit;
 use core::{ptr, slice};
-use peltzivar::literal::{self, Language, Readers, Sign, Special, Spelling};
+use peltzivar::literal::{self, Language, Sign, Special, Spelling};
 
 /// The spellings of special values, as null-terminated strings. A null pointer is an absent one.
 #[repr(C)]
@@ -23,7 +23,7 @@ impl Specials {
         const fn place(spelling: Option<&[u8]>, texts: &'static [u8], index: usize) -> *const u8 {
             if spelling.is_some() { start(texts, index) } else { ptr::null() }
         }
-        let literal::Specials { nan, inf, infinity } = language.specials();
+        let literal::Specials { nan, inf, infinity } = language.forms().specials();
         Specials { nan: place(nan, texts, 0), inf: place(inf, texts, 1), infinity: place(infinity, texts, 2) }
     }
 
@@ -90,30 +90,31 @@ const MOST: usize = 64;
 #[repr(C)]
 struct LanguageForms {
     shown: Forms,
-    read: Readers<'static>,
+    read: literal::Forms<'static>,
 }
 
 // SAFETY: all pointers point to constants.
 unsafe impl Sync for LanguageForms {}
 
-/// The forms of a language as an array of C.
-#[repr(transparent)]
-struct List<const COUNT: usize>([Form; COUNT]);
+/// The forms of a language as an array of C, and as one of Rust, without names.
+struct Lists<const COUNT: usize>([Form; COUNT], [literal::Form; COUNT]);
 
 // SAFETY: all pointers point to constants.
-unsafe impl<const COUNT: usize> Sync for List<COUNT> {}
+unsafe impl<const COUNT: usize> Sync for Lists<COUNT> {}
 
-impl<const COUNT: usize> List<COUNT> {
+impl<const COUNT: usize> Lists<COUNT> {
     /// Returns the forms of a language, whose names are these texts.
-    const fn of(language: Language, names: &'static [u8]) -> List<COUNT> {
-        let mut list = [const { Form { name: ptr::null(), syntax: Syntax::NONE, reserved: [0; 2] } }; COUNT];
+    const fn of(language: Language, names: &'static [u8]) -> Self {
+        let forms = language.forms().as_slice();
+        let mut lists = Lists([Form { name: names.as_ptr(), syntax: Syntax::NONE, reserved: [0; 2] }; COUNT], [forms[0]; COUNT]);
         let mut form = 0;
         while form < COUNT {
-            list[form].name = start(names, form);
-            list[form].syntax = Syntax::of(language.forms()[form].syntax);
+            lists.0[form].name = start(names, form);
+            lists.0[form].syntax = Syntax::of(forms[form].syntax());
+            lists.1[form] = literal::Form::new("", forms[form].syntax());
             form += 1;
         }
-        List(list)
+        lists
     }
 }
 
@@ -123,7 +124,7 @@ impl<const COUNT: usize> List<COUNT> {
 ///
 /// `forms` must be null or forms that a C caller passes.
 #[inline(always)]
-pub unsafe fn by<R>(forms: *const Forms, then: impl FnOnce(&Readers<'_>) -> R) -> Option<R> {
+pub unsafe fn by<R>(forms: *const Forms, then: impl FnOnce(&literal::Forms<'_>) -> R) -> Option<R> {
     if forms.is_null() {
         return None;
     }
@@ -141,17 +142,18 @@ pub unsafe fn by<R>(forms: *const Forms, then: impl FnOnce(&Readers<'_>) -> R) -
 ///
 /// A C caller passes them.
 #[inline(never)]
-unsafe fn own<'a>(it: &Forms, list: &'a mut [MaybeUninit<literal::Syntax>; MOST]) -> Option<Readers<'a>> {
+unsafe fn own<'a>(it: &Forms, list: &'a mut [MaybeUninit<literal::Form>; MOST]) -> Option<literal::Forms<'a>> {
     if it.forms.is_null() || it.count > MOST || it.reserved != [0; 3] {
         return None;
     }
     for (index, to) in list.iter_mut().take(it.count).enumerate() {
         let form = it.forms.add(index).read_unaligned();
-        to.write(Syntax::given(Some(&form.syntax)).filter(|_| form.reserved == [0; 2])?);
+        let syntax = Syntax::given(Some(&form.syntax)).filter(|_| form.reserved == [0; 2])?;
+        to.write(literal::Form::new("", syntax));
     }
     // SAFETY: so many are written.
     let list = unsafe { slice::from_raw_parts(list.as_ptr().cast(), it.count) };
-    Some(Readers::new(list)?.with_specials(it.specials.spellings()))
+    Some(literal::Forms::new(list)?.with_specials(it.specials.spellings()))
 }
 
 /// Defines a call for each language, so that a program that calls one has the forms of this one alone.
@@ -161,24 +163,25 @@ macro_rules! languages {
             #[unsafe(no_mangle)]
             extern "C" fn $call() -> *const Forms {
                 const IT: Language = Language::$NAME;
-                const COUNT: usize = IT.forms().len();
+                const COUNT: usize = IT.forms().as_slice().len();
+                const SPELLED: literal::Specials<'static> = IT.forms().specials();
                 texts! {
-                    NAMES: [COUNT] = |index| IT.forms()[index].name.as_bytes();
-                    SPELLINGS: [3] = |index| match [IT.specials().nan, IT.specials().inf, IT.specials().infinity][index] {
+                    NAMES: [COUNT] = |index| IT.forms().as_slice()[index].name().as_bytes();
+                    SPELLINGS: [3] = |index| match [SPELLED.nan, SPELLED.inf, SPELLED.infinity][index] {
                         Some(spelling) => spelling,
                         None => b"",
                     };
                 }
-                static LIST: List<COUNT> = List::of(IT, NAMES);
+                static LISTS: Lists<COUNT> = Lists::of(IT, NAMES);
                 static FORMS: LanguageForms = LanguageForms {
                     shown: Forms {
-                        forms: (&raw const LIST).cast(),
+                        forms: LISTS.0.as_ptr(),
                         count: COUNT,
                         specials: Specials::of(IT, SPELLINGS),
                         language: (&raw const FORMS).cast(),
                         reserved: [0; 3],
                     },
-                    read: *IT.readers(),
+                    read: literal::Forms::new_or_panic(&LISTS.1).with_specials(SPELLED),
                 };
                 (&raw const FORMS).cast()
             }
@@ -230,7 +233,7 @@ calls! {
     }
 
     fn peltzivar_forms_read_special(forms: *const Forms, text: *const u8, len: usize, out: Out<NumberedSpecial>) -> bool {
-        let read = |forms: &Readers<'_>| forms.specials().read(&forms.as_slice()[0], input(text, len)?);
+        let read = |forms: &literal::Forms<'_>| forms.specials().read(&forms[0].syntax(), input(text, len)?);
         out.write_some(by(forms, read).flatten())
     }
 
