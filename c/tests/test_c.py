@@ -95,6 +95,12 @@ class Programs(unittest.TestCase):
         program = self.made("cc", *STRICT, self.folder / "first.c", self.folder / "second.c", ARCHIVE)
         self.assertEqual(run(program), ("1234.50\n", 0))
 
+    def test_forms_of_ones_own_on_the_page(self):
+        (code,) = re.findall(r"^    #include.*?^    }\n", (TOP / "docs/C-AND-PYTHON.md").read_text(), re.M | re.S)
+        self.folder.joinpath("forms.c").write_text(code)
+        program = self.made("cc", *STRICT, self.folder / "forms.c", ARCHIVE)
+        self.assertEqual(run(program), ("hexadecimal: 31\n", 0))
+
     def test_the_example(self):
         program = self.made("cc", *STRICT, *SANITIZERS, C / "example.c", ARCHIVE)
         rows = [
