@@ -49,9 +49,10 @@ impl Syntax {
 
     /// Returns the conditions, or `None` if a later version may have others.
     fn conditions(&self) -> Option<Conditions> {
-        let (numbers, rest) = self.numbers.split_at(Condition::ALL.len());
-        let all = Condition::ALL.iter().zip(numbers).fold(Conditions::NONE, |all, (&it, &number)| all.with(it, number));
-        Some(all).filter(|_| rest.iter().all(|&it| it == 0))
+        let [a, b, c, d, e, f, rest @ ..] = self.numbers;
+        let &[first, second, third, fourth, fifth, sixth] = Condition::ALL else { return None };
+        let all = Conditions::NONE.with(first, a).with(second, b).with(third, c).with(fourth, d).with(fifth, e).with(sixth, f);
+        (rest == [0; 8]).then_some(all)
     }
 
     /// Returns the syntax, which may not be lawful, or `None` if there is none or if a later version may read it otherwise.
