@@ -726,6 +726,7 @@ const char *peltzivar_role_name(peltzivar_role role);
 
 /* The setters: the bit of a flag, the lowest bit of a byte, and from 128 on the groups of flags. */
 enum {
+    /* Made by make_python.py: setters */
     PELTZIVAR_SET_REQUIRED_INTEGER_DIGITS = 0,
     PELTZIVAR_SET_REQUIRED_FRACTION_DIGITS = 1,
     PELTZIVAR_SET_REQUIRED_EXPONENT_DIGITS = 2,
@@ -772,6 +773,7 @@ enum {
     PELTZIVAR_SET_INTEGER_DIGIT_SEPARATOR_FLAGS = 134,
     PELTZIVAR_SET_FRACTION_DIGIT_SEPARATOR_FLAGS = 135,
     PELTZIVAR_SET_EXPONENT_DIGIT_SEPARATOR_FLAGS = 136
+    /* End */
 };
 
 /* The rules, in the order in which they are checked. Each comment states what the rule requires. The allowed ASCII
@@ -808,6 +810,7 @@ enum {
  * format errors. The other errors are for parsers and writers that use this library. Two rules share
  * PELTZIVAR_INVALID_SPECIAL. */
 enum {
+    /* Made by make_python.py: errors */
     PELTZIVAR_SUCCESS = 0,
     PELTZIVAR_OVERFLOW = 1,
     PELTZIVAR_UNDERFLOW = 2,
@@ -857,6 +860,7 @@ enum {
     PELTZIVAR_INVALID_FLOAT_PRECISION = 46,
     PELTZIVAR_INVALID_NEGATIVE_EXPONENT_BREAK = 47,
     PELTZIVAR_INVALID_POSITIVE_EXPONENT_BREAK = 48
+    /* End */
 };
 
 #endif
