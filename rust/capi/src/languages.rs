@@ -21,7 +21,10 @@ impl Specials {
     /// Returns the spellings of a language, one after another in these texts. One that it lacks is a null pointer.
     const fn of(language: Language, texts: &'static [u8]) -> Specials {
         const fn place(spelling: Option<&[u8]>, texts: &'static [u8], index: usize) -> *const u8 {
-            if spelling.is_some() { start(texts, index) } else { ptr::null() }
+            match spelling {
+                Some(_) => start(texts, index),
+                None => ptr::null(),
+            }
         }
         let literal::Specials { nan, inf, infinity } = language.forms().specials();
         Specials { nan: place(nan, texts, 0), inf: place(inf, texts, 1), infinity: place(infinity, texts, 2) }
@@ -106,7 +109,8 @@ impl<const COUNT: usize> Lists<COUNT> {
     /// Returns the forms of a language, whose names are these texts.
     const fn of(language: Language, names: &'static [u8]) -> Self {
         let forms = language.forms().as_slice();
-        let mut lists = Lists([Form { name: names.as_ptr(), syntax: Syntax::NONE, reserved: [0; 2] }; COUNT], [forms[0]; COUNT]);
+        let mut lists =
+            Lists([Form { name: names.as_ptr(), syntax: Syntax::NONE, reserved: [0; 2] }; COUNT], [forms[0]; COUNT]);
         let mut form = 0;
         while form < COUNT {
             lists.0[form].name = start(names, form);

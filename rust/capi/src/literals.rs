@@ -51,7 +51,13 @@ impl Syntax {
     fn conditions(&self) -> Option<Conditions> {
         let [a, b, c, d, e, f, rest @ ..] = self.numbers;
         let &[first, second, third, fourth, fifth, sixth] = Condition::ALL else { return None };
-        let all = Conditions::NONE.with(first, a).with(second, b).with(third, c).with(fourth, d).with(fifth, e).with(sixth, f);
+        let all = Conditions::NONE
+            .with(first, a)
+            .with(second, b)
+            .with(third, c)
+            .with(fourth, d)
+            .with(fifth, e)
+            .with(sixth, f);
         (rest == [0; 8]).then_some(all)
     }
 
@@ -255,7 +261,9 @@ unsafe fn number<'a>(
 ) -> Option<Number<'a>> {
     match input(text, len).ok_or("the text has more than PTRDIFF_MAX bytes").and_then(read) {
         Ok(Ok(number)) => return Some(number),
-        Ok(Err((why, form))) => error.write(Made::new(Stop { valid_up_to: why.valid_up_to(), form: form as u8 }, Refusal::Library(why))),
+        Ok(Err((why, form))) => {
+            error.write(Made::new(Stop { valid_up_to: why.valid_up_to(), form: form as u8 }, Refusal::Library(why)))
+        }
         Err(sentence) => error.write(Made::new(Stop { valid_up_to: 0, form: 0 }, Refusal::Argument(sentence))),
     }
     None
