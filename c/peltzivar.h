@@ -338,8 +338,8 @@ enum { PELTZIVAR_SPELLING_NAN = 1, PELTZIVAR_SPELLING_INF = 2, PELTZIVAR_SPELLIN
 PELTZIVAR_MUST_USE bool peltzivar_read_special(const peltzivar_syntax *syntax, const peltzivar_specials *specials,
     const char *text, size_t len, peltzivar_special *out);
 
-/* A form of numbers, such as `0x1F`: its name, which may be null, and its syntax. Members that an initialiser leaves out
- * are 0. A later version may have others in `reserved`, so forms are refused if any of it is not 0. */
+/* A form of numbers, such as `0x1F`: its name, which may be null, and its syntax. A later version may have other members
+ * in `reserved`, so forms are refused if it is not 0. */
 typedef struct {
     const char *name;
     peltzivar_syntax syntax;
@@ -348,9 +348,9 @@ typedef struct {
 
 /* Several forms of numbers, such as `10`, `0x1F` and `0b1`: an array of `count` forms, and the spellings of special
  * values. The first form of which a text is a literal decides its parts and its value. If it is one of none, a spelling
- * may match, by the flags of the first form. The forms of a language last as long as the program. To make your own, set
- * the first three members, and check each syntax, or copy those of a language and change the copy, but not
- * `language`, which is null otherwise. */
+ * may match, by the flags of the first form. To make your own, set the first three members, and check each syntax with
+ * peltzivar_check_syntax. Or copy the forms of a language, which last as long as the program, and change any of these
+ * members of the copy. Only such forms have a `language`, which is otherwise null. */
 typedef struct {
     const peltzivar_form *forms;
     size_t count; /* from 1 to PELTZIVAR_FORMS_MAX */
