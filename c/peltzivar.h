@@ -186,8 +186,8 @@ typedef struct {
 /* A literal: its text, which must last as long as the literal is used, and its parts, in the order of the text.
  * An absent part is empty. The prefix includes the zero before it. The three parts with digits include digit
  * separators, for which peltzivar_mantissa_digit and peltzivar_exponent_digit return PELTZIVAR_NO_DIGIT. `size`
- * is the length of the text. A float has a point or an exponent character, or both. `form` is the form of a
- * language, and otherwise 0. */
+ * is the length of the text. A float has a point or an exponent character, or both. `form` is the index of
+ * one of several forms, and otherwise 0. */
 typedef struct {
     PELTZIVAR_ALIGNED uint64_t magic;
     const char *text;
@@ -199,8 +199,8 @@ typedef struct {
 } peltzivar_literal;
 
 /* Where reading stopped. The first `valid_up_to` bytes are the longest beginning of the text that some literal begins
- * with. If these are all of its bytes, bytes are missing, and a longer text may be a literal. `form` is, for the forms
- * of a language, the one for which this beginning is the longest, and otherwise 0. Of several such forms, it is the
+ * with. If these are all of its bytes, bytes are missing, and a longer text may be a literal. `form` is, of several
+ * forms, the index of that for which this beginning is the longest, and otherwise 0. If it is so for several, it is the
  * first whose kind is not PELTZIVAR_KIND_BYTE, or the first if the kind of each is this one. */
 typedef struct {
     PELTZIVAR_ALIGNED uint64_t magic;
@@ -394,8 +394,8 @@ const peltzivar_forms *peltzivar_language_yaml(void);
 /* Returns the name of a language. The languages have the indices from 0 on, in alphabetical order. */
 const char *peltzivar_language_name(size_t index);
 
-/* Do what peltzivar_read, peltzivar_read_prefix and peltzivar_read_special do, by forms. `form` is the index of one.
- * peltzivar_forms_read_prefix finds the longest literal of any form. Forms are refused if they are null or have no
+/* Do what peltzivar_read, peltzivar_read_prefix and peltzivar_read_special do, by forms. peltzivar_forms_read refuses
+ * special values, and peltzivar_forms_read_prefix finds the longest literal of any form. Forms are refused if they are null or have no
  * array, too many elements, or reserved members that are not 0. A form may read a text that an earlier one reads
  * otherwise: C's octal form reads `17` as 15. */
 PELTZIVAR_MUST_USE bool peltzivar_forms_read(const peltzivar_forms *forms, const char *text, size_t len,
