@@ -263,10 +263,10 @@ const char *peltzivar_value_description(peltzivar_value_status status);
 
 /* ERRORS */
 
-/* Write why a text was refused as a sentence, such as "expected a digit after the exponent character", which may be in
- * UTF-8. peltzivar_read_error_full_text also names the flags and conditions to blame, if there are any, as in ", which
- * required_exponent_digits requires". EXPLANATIONS.md describes them. If no call has written *error, they write an empty
- * string. */
+/* Write why a text was refused as a sentence, such as "expected a digit after the exponent character", which may be
+ * in UTF-8. peltzivar_read_error_full_text also names the flags and conditions to blame, if there are any, as in ",
+ * which required_exponent_digits requires". EXPLANATIONS.md describes them. If no call has written *error, they
+ * write an empty string. */
 size_t peltzivar_read_error_text(const peltzivar_read_error *error, char *text, size_t len);
 size_t peltzivar_read_error_full_text(const peltzivar_read_error *error, char *text, size_t len);
 
@@ -338,8 +338,8 @@ enum { PELTZIVAR_SPELLING_NAN = 1, PELTZIVAR_SPELLING_INF = 2, PELTZIVAR_SPELLIN
 PELTZIVAR_MUST_USE bool peltzivar_read_special(const peltzivar_syntax *syntax, const peltzivar_specials *specials,
     const char *text, size_t len, peltzivar_special *out);
 
-/* A form of numbers, such as `0x1F`: its name, which may be null, and its syntax. A later version may have other members
- * in `reserved`, so forms are refused if it is not 0. */
+/* A form of numbers, such as `0x1F`: its name, which may be null, and its syntax. A later version may have other
+ * members in `reserved`, so forms are refused if it is not 0. */
 typedef struct {
     const char *name;
     peltzivar_syntax syntax;
@@ -347,10 +347,10 @@ typedef struct {
 } peltzivar_form;
 
 /* Several forms of numbers, such as `10`, `0x1F` and `0b1`: an array of `count` forms, and the spellings of special
- * values. The first form of which a text is a literal decides its parts and its value. If it is one of none, a spelling
- * may match, by the flags of the first form. To make your own, set the first three members, and check each syntax with
- * peltzivar_check_syntax. Or copy the forms of a language, which last as long as the program, and change any of these
- * members of the copy. Only such forms have a `language`, which is otherwise null. */
+ * values. The first form of which a text is a literal decides its parts and its value. If it is one of none, a
+ * spelling may match, by the flags of the first form. To make your own, set the first three members, and check each
+ * syntax with peltzivar_check_syntax. Or copy the forms of a language, which last as long as the program, and
+ * change any of these members of the copy. Only such forms have a `language`, which is otherwise null. */
 typedef struct {
     const peltzivar_form *forms;
     size_t count; /* from 1 to PELTZIVAR_FORMS_MAX */
@@ -394,10 +394,10 @@ const peltzivar_forms *peltzivar_language_yaml(void);
 /* Returns the name of a language. The languages have the indices from 0 on, in alphabetical order. */
 const char *peltzivar_language_name(size_t index);
 
-/* Do what peltzivar_read, peltzivar_read_prefix and peltzivar_read_special do, by forms. peltzivar_forms_read refuses
- * special values, and peltzivar_forms_read_prefix finds the longest literal of any form. Forms are refused if they are null or have no
- * array, too many elements, or reserved members that are not 0. A form may read a text that an earlier one reads
- * otherwise: C's octal form reads `17` as 15. */
+/* Do what peltzivar_read, peltzivar_read_prefix and peltzivar_read_special do, by forms. peltzivar_forms_read
+ * refuses special values, and peltzivar_forms_read_prefix finds the longest literal of any form. Forms are refused
+ * if they are null or have no array, too many elements, or reserved members that are not 0. A form may read a text
+ * that an earlier one reads otherwise: C's octal form reads `17` as 15. */
 PELTZIVAR_MUST_USE bool peltzivar_forms_read(const peltzivar_forms *forms, const char *text, size_t len,
     peltzivar_literal *literal, peltzivar_read_error *error);
 PELTZIVAR_MUST_USE bool peltzivar_forms_read_prefix(const peltzivar_forms *forms, const char *text, size_t len,
