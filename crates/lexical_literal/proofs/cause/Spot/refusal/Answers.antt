@@ -10,7 +10,7 @@ use Rattle.lexical_literal.proofs.cause.Spot.refusal.Goals as goal
 pub returns : goal.returns
 returns c =
     let spot = c.args.self in
-    let m = λ j. notation_of (c.grammar-grammar.ensures j) in
+    let m = ap notation_of c.grammar-grammar.ensures in
     let stop = c.stop-stop.ensures in
     let blamed = c.blame-kind.ensures ∙ ap (λ (t : Stop). blame (notation_of t.grammar) t.read t.group t.byte) stop in
     let kind = ap (λ (b : Blame). b.kind) blamed in
