@@ -5,39 +5,60 @@ use core::str::FromStr;
 
 use peltzivar::literal::{Condition, Conditions, Number, Readers, Specials, Syntax, ValueError};
 
-use crate::suggest::State;
+use crate::suggest::{lines_of, Line, State};
 
-/// The states of forms, their syntaxes, and the spellings of special values.
-pub struct Forms {
+/// The states of forms, at least one, and their syntaxes.
+pub struct List {
     pub states: Vec<State>,
     syntaxes: Vec<Syntax>,
-    specials: Specials<'static>,
 }
 
-impl Forms {
-    /// Reads states and, behind tabs, the spellings of special values. Returns `None` if a state is not a syntax.
+impl List {
+    /// Reads states as [`states_of`] does. Returns `None` if a state is not a syntax.
     pub fn new(line: &'static str) -> Option<Self> {
-        let mut spellings = line.split('\t').skip(1).map(str::as_bytes);
-        let [nan, inf, infinity] = [(); 3].map(|()| spellings.next());
-        let states: Vec<_> = states_of(line).collect();
-        let syntaxes = states.iter().map(|it| it.syntax()).collect::<Option<_>>()?;
-        Some(Forms { states, syntaxes, specials: Specials { nan, inf, infinity } })
+        Self::of(states_of(line).collect())
+    }
+
+    fn of(states: Vec<State>) -> Option<Self> {
+        let syntaxes: Vec<_> = states.iter().map(|it| it.syntax()).collect::<Option<_>>()?;
+        (!states.is_empty()).then_some(Self { states, syntaxes })
     }
 
     pub fn readers(&self) -> Readers<'_> {
-        Readers::new_or_panic(&self.syntaxes).with_specials(self.specials)
+        Readers::new_or_panic(&self.syntaxes).with_specials(self.states[0].specials)
+    }
+
+    /// Returns the list with another state of a form.
+    pub fn with(&self, form: usize, state: State) -> Option<Self> {
+        let mut states = self.states.clone();
+        states[form] = state;
+        Self::of(states)
+    }
+
+    /// Returns lines, each with whether a form other than this one reads its text.
+    pub fn lines<'a>(&self, form: usize, text: &'a [u8]) -> Vec<Line<'a>> {
+        let mut others = self.states.clone();
+        others.remove(form);
+        let others = Self::of(others);
+        let is_read = |text| others.as_ref().is_some_and(|it| it.readers().read(text).is_ok());
+        lines_of(text).map(|line| Line { is_read: is_read(line.text), ..line }).collect()
     }
 }
 
 /// Reads the states of a line. Each is its word and, behind a colon, a number of bytes, from the lowest: the exponent
-/// character, the decimal point, and then the number of each condition.
-pub fn states_of(line: &str) -> impl Iterator<Item = State> {
-    line.split('\t').take(1).flat_map(|it| it.split(' ')).map(|state| {
+/// character, the decimal point, and then the number of each condition. The first one has the spellings of special values,
+/// which are behind tabs.
+pub fn states_of(line: &'static str) -> impl Iterator<Item = State> {
+    let mut parts = line.split('\t');
+    let states = parts.next().unwrap_or("").split(' ');
+    let [nan, inf, infinity] = [(); 3].map(|()| parts.next().map(str::as_bytes));
+    states.enumerate().map(move |(form, state)| {
         let (word, options) = state.split_once(':').unwrap_or((state, ""));
         let [exponent, point, numbers @ ..] = u128::from_str(options).unwrap_or(0).to_le_bytes();
         let conditions =
             Condition::ALL.iter().zip(numbers).fold(Conditions::NONE, |all, (&it, number)| all.with(it, number));
-        State { word: u128::from_str(word).unwrap_or(0), exponent, point, conditions }
+        let specials = if form == 0 { Specials { nan, inf, infinity } } else { Specials::default() };
+        State { word: u128::from_str(word).unwrap_or(0), exponent, point, conditions, specials }
     })
 }
 

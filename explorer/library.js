@@ -1,5 +1,6 @@
 /* The library, which runs as WebAssembly. All calls of library.rs are here. A word is a BigInt, and its flags and bytes
- * are read and written by bit arithmetic. A state is a word with the options. */
+ * are read and written by bit arithmetic. A form is a word with the options, the conditions and a name. A list has the
+ * forms of numbers, and the spellings of special values unless these are the usual ones. */
 "use strict";
 
 /* How many bytes a text may have. */
@@ -10,7 +11,7 @@ const OPTIONS = [
     { name: "point", isByte: true, title: "decimal point", meaning: "an option of the parser, such as the `.` in `1.5`" },
 ];
 const STANDARD_OPTIONS = { exponent: 101, point: 46, conditions: 0n };
-/* The spellings of special values, unless a form has those of its language. */
+/* The usual spellings of special values. */
 const SPECIALS = ["NaN", "inf", "infinity"];
 
 class Library {
@@ -30,7 +31,7 @@ class Library {
         this.named = new Map([...this.fields, ...this.groups].map((field) => [field.name, field]));
         this.known = this.fields.reduce((all, { mask }) => all | mask, 0n);
         this.standard = this.build([]).word;
-        this.usual = { word: this.standard, ...STANDARD_OPTIONS };
+        this.usual = { word: this.standard, ...STANDARD_OPTIONS, name: "" };
     }
 
     /* Returns a library from its compressed WebAssembly. */
@@ -56,12 +57,11 @@ class Library {
         return answer.error ? answer : { ...answer, word: BigInt(answer.word) };
     }
 
-    /* Returns the languages, with what the page tells of each: their names, numbers and forms, each of which is a state. */
+    /* Returns the languages, with what the page tells of each: their names, numbers, and lists of forms. */
     languages(told) {
         return this.call("languages", "").map(({ name, specials, forms }, index) => {
             const short = /^(\S+?)'s /.exec(told[index].about)?.[1] ?? name;
-            const states = forms.map((form) => ({ ...this.stateOfSyntax(form.syntax), name: form.name, specials }));
-            return { ...told[index], short, forms: states };
+            return { ...told[index], short, specials, forms: forms.map((form) => this.form(`${form.syntax}:${form.name}`)) };
         });
     }
 
@@ -70,11 +70,11 @@ class Library {
         return this.call("readers", `\n${text}`);
     }
 
-    /* Returns all about a state: whether the word is built, its normal form, reasons and notes, and why options or conditions
-     * do not fit: each with its text and the fields that it blames. If the state is a syntax, this includes its sentence, its
+    /* Returns all about a form: whether the word is built, its normal form, reasons and notes, and why options or conditions
+     * do not fit: each with its text and the fields that it blames. If the form is a syntax, this includes its sentence, its
      * grammar and its regular expression. */
-    explain(state) {
-        const answer = this.call("explain", passed([state]));
+    explain(form) {
+        const answer = this.call("explain", passed({ forms: [form] }));
         const named = ({ text, mask }) => {
             const all = [...OPTIONS, ...this.conditions].filter(({ name, title = name }) => text.includes(title));
             return { text, fields: [...all.map(({ name }) => name), ...this.namesOf(BigInt(mask))] };
@@ -106,23 +106,34 @@ class Library {
     }
 
     /* Returns an object for each line of a text, as `numbers` of library.rs describes: none if a word is not lawful. */
-    numbers(states, text) {
-        const answers = this.call("numbers", `${passed(states)}\n${text}`);
+    numbers(list, text) {
+        const answers = this.call("numbers", `${passed(list)}\n${text}`);
         return answers.map((answer) => ({ ...answer, offers: answer.offers.map(withWord) }));
     }
 
-    /* Returns texts that tell the states of some forms from those of others, as `differ` of library.rs describes. */
-    differ(states, others) {
-        return this.call("differ", `${passed(states)}\n${passed(others)}`);
+    /* Returns texts that tell a list from another one, as `differ` of library.rs describes. */
+    differ(list, other) {
+        return this.call("differ", `${passed(list)}\n${passed(other)}`);
     }
 
-    /* Returns the state of a syntax as the library prints it: a word, two bytes unless numbers are integers alone, and the
-     * conditions as settings. */
-    stateOfSyntax(text) {
-        const [word, ...rest] = text.split(" ");
-        const [exponent = 0, point = 0] = rest.filter((it) => !it.includes("="));
-        const conditions = this.withConditions(0n, rest.filter((it) => it.includes("=")).join(" "));
-        return { word: BigInt(word), exponent: Number(exponent), point: Number(point), conditions };
+    /* Returns the form of a text: a syntax as the library prints it, which is a word, two bytes unless numbers are integers
+     * alone, and the conditions as settings; a colon; and the name. What is none of these is put into `lost`. */
+    form(text, lost = []) {
+        const [, syntax, name] = /^([^:]*):?(.*)$/.exec(text);
+        const [settings, [word = "", ...bytes]] = [true, false].map((it) => syntax.split(" ").filter((all) => all.includes("=") === it));
+        const found = { word: this.read(word).word, exponent: this.byte(bytes[0] ?? "0"), point: this.byte(bytes[1] ?? "0") };
+        if (Object.values(found).includes(undefined)) return void lost.push(text.slice(0, 40));
+        return { ...found, conditions: this.withConditions(0n, settings.join(" "), lost), name };
+    }
+
+    /* Returns the text of a form. */
+    formText(form) {
+        return `${wordText(form.word)} ${form.exponent} ${form.point} ${this.conditionsOf(form)}:${form.name}`;
+    }
+
+    /* Returns the conditions of a form as settings. */
+    conditionsOf({ conditions }) {
+        return this.differences({ ...this.usual, conditions }).map(({ text }) => text).join(" ");
     }
 
     /* Returns conditions with those that are set in a text. What is not the setting of a condition is put into `lost`. */
@@ -219,16 +230,21 @@ class Library {
     }
 }
 
-/* Returns the line by which states are passed to the library, with the spellings of the first. */
-function passed(states) {
-    const [{ specials = SPECIALS }] = states;
+/* Returns the line by which a list is passed to the library. */
+function passed({ forms, specials = SPECIALS }) {
     const options = ({ exponent, point, conditions }) => BigInt(exponent | (point << 8)) | (conditions << 16n);
-    return [states.map((state) => `${state.word}:${options(state)}`).join(" "), ...specials].join("\t");
+    return [forms.map((form) => `${form.word}:${options(form)}`).join(" "), ...specials].join("\t");
 }
 
-/* Returns the state of a form, without its name. */
+/* Returns a form without its name. */
 function stateOf({ word, exponent, point, conditions }) {
     return { word, exponent, point, conditions };
+}
+
+/* Returns whether two lists have the same forms with the same names. */
+function isSame(forms, others) {
+    const isEqual = (form, other) => Object.entries(form).every(([name, value]) => other[name] === value);
+    return forms.length === others.length && forms.every((form, index) => isEqual(form, others[index]));
 }
 
 /* Returns the value of a number, which the library computed, as text, or why it has none. */

@@ -11,11 +11,11 @@ use core::fmt::Display;
 use core::ops::Range;
 
 use examples::{other_value, refused};
-use forms::{states_of, value_of, Forms, Value};
+use forms::{states_of, value_of, List, Value};
 use peltzivar::edits::{apply, is_built, normal_form};
 use peltzivar::literal::{Condition, Conditions, FormError, Language, Number, Readers, Specials};
 use peltzivar::{Edit, FormatView, NumberFormatBuilder};
-use suggest::{lines_of, offers, Line, State, SPECIALS};
+use suggest::{lines_of, offers, Line, State};
 
 mod examples;
 mod forms;
@@ -145,7 +145,7 @@ pub extern "C" fn readers(length: usize) -> u64 {
 }
 
 /// Returns the parts of an object with a state.
-fn parts_of(State { word: format, exponent, point, conditions }: State) -> String {
+fn parts_of(State { word: format, exponent, point, conditions, .. }: State) -> String {
     let numbers = Condition::ALL.iter().rev().fold(0, |all, &it| all << 8 | u128::from(conditions.number(it)));
     let (format, conditions) = (word(format), word(numbers));
     format!(r#""word":{format},"exponent":{exponent},"point":{point},"conditions":{conditions}"#)
@@ -153,28 +153,26 @@ fn parts_of(State { word: format, exponent, point, conditions }: State) -> Strin
 
 /// Returns an object for each line but the first, which has the forms: the value and the parts of its number, or the parts
 /// of the longest front of a refused text that is a number; the form that accepts the text, or to which it is nearest; why
-/// and where it is refused, with the flags to blame and the bytes to mark; and, if it is not as expected, the states near
+/// and where it is refused, with the flags to blame and the bytes to mark; and, if it is not as expected, the states of
 /// this form that are offered, each with the same for the number in it and how many lines are as expected then. If a word
 /// is not lawful, returns an empty array.
 #[unsafe(no_mangle)]
 pub extern "C" fn numbers(length: usize) -> u64 {
     let (states, lines) = text_of(length);
-    let forms = Forms::new(states);
+    let forms = List::new(states);
     answer(list(forms.iter().flat_map(|forms| lines_of(lines).map(|line| number(forms, lines, line)))))
 }
 
-fn number(forms: &Forms, lines: &[u8], line: Line<'_>) -> String {
+fn number(forms: &List, lines: &[u8], line: Line<'_>) -> String {
     let read = forms.readers().read(line.text);
     let form = read.map_or_else(|error| error.form, |number| number.form().unwrap_or(0));
     let offers = match read.is_err() == line.is_refused {
         true => Vec::new(),
-        false => offers(forms.states[form], lines, line),
+        false => offers(forms.states[form], &forms.lines(form, lines), line),
     };
-    let offers = list(offers.into_iter().map(|(state, expected)| {
-        let syntax = state.syntax();
-        let readers = Readers::new(syntax.as_slice()).map(|it| it.with_specials(SPECIALS));
-        let reading = readers.map_or(String::new(), |it| reading(it, line.text));
-        format!(r#"{{{},"expected":{expected},{reading}}}"#, parts_of(state))
+    let offers = list(offers.into_iter().filter_map(|(state, expected)| {
+        let reading = reading(forms.with(form, state)?.readers(), line.text);
+        Some(format!(r#"{{{},"expected":{expected},{reading}}}"#, parts_of(state)))
     }));
     format!(r#"{{{},"offers":{offers}}}"#, reading(forms.readers(), line.text))
 }
@@ -208,7 +206,7 @@ fn reading(readers: Readers<'_>, text: &[u8]) -> String {
 #[unsafe(no_mangle)]
 pub extern "C" fn differ(length: usize) -> u64 {
     let (first, second) = text_of(length);
-    let (Some(first), Some(second)) = (Forms::new(first), Forms::new(utf8(second))) else {
+    let (Some(first), Some(second)) = (List::new(first), List::new(utf8(second))) else {
         return answer("[]".to_string());
     };
     let one_way = |first, second| {

@@ -7,12 +7,8 @@ const MOST_TEXTS = 6;
 class Report {
     constructor(library, languages, { use, edit, go, change }) {
         Object.assign(this, { library, languages, use, edit, go });
-        const others = [["", "nothing"], ["standard", "the standard format"]];
-        const all = languages.flatMap((language) => {
-            const forms = language.forms.map(({ name }) => ({ name: `${language.name}:${name}`, title: `${language.name}: ${name}` }));
-            return forms.length > 1 ? [language, ...forms] : [language];
-        });
-        find("compare").append(...choices([...others.map(([name, about]) => ({ name, about })), ...all]));
+        find("compare").append(...choices([["", "nothing"]], languages));
+        find("add").append(...choices([["", "Add a form"], ["copy", "a copy of this one"]], languages));
         find("compare").addEventListener("change", () => (this.compare(), change()));
     }
 
@@ -27,10 +23,10 @@ class Report {
 
     /* Shows why the format is not valid: a reason of the word, or an option or a condition that does not fit. */
     reason({ text, fields }) {
-        const buttons = this.library.repairs(this.state, { text, fields }).map((state) => {
-            const changes = this.library.differences(state, this.state);
+        const buttons = this.library.repairs(this.form, { text, fields }).map((form) => {
+            const changes = this.library.differences(form, this.form);
             const label = changes.map((it) => it.text).join(", ") || "clear the reserved bits";
-            return button("use", label, () => this.use(state), { "data-field": changes.map(({ name }) => name).join(" ") });
+            return button("use", label, () => this.use(stateOf(form)), { "data-field": changes.map(({ name }) => name).join(" ") });
         });
         const row = (key, all) => (all.length ? element("p", {}, element("span", { class: "key" }, key), all) : "");
         const rows = [row("To blame", this.links(fields)), row("Ends it", buttons)];
@@ -41,18 +37,24 @@ class Report {
         return element("li", { class: "note", "data-field": fields.join(" ") }, text, element("p", {}, this.links(fields)));
     }
 
-    /* Shows texts that tell the format apart from the standard one or from a language, and each field and option in which
-     * they differ, with a button that takes it from the other one. */
+    /* Returns the list of a choice: the standard format, a language, or one form of it. */
+    listOf(choice) {
+        const [chosen, form] = choice.split(":");
+        const { forms, specials } = this.languages.find(({ name }) => name === chosen) ?? { forms: [this.library.usual] };
+        return { specials, forms: forms.filter(({ name }) => !form || name === form) };
+    }
+
+    /* Shows texts that tell the list apart from the standard format or from a language, and each field and option in which
+     * the form differs, with a button that takes it from the other one. */
     compare() {
-        const [chosen, form] = find("compare").value.split(":");
-        find("comparison").hidden = !chosen;
-        if (!chosen) return;
-        setText(find("comparison-title"), `Compared with ${find("compare").selectedOptions[0].textContent}`);
-        const { forms } = this.languages.find(({ name }) => name === chosen) ?? { forms: [this.library.usual] };
-        const others = forms.filter(({ name }) => !form || name === form);
-        const texts = this.texts(this.library.differ(this.forms, others));
+        const { value, selectedOptions: [{ textContent }] } = find("compare");
+        find("comparison").hidden = !value;
+        if (!value) return;
+        setText(find("comparison-title"), `Compared with ${textContent}`);
+        const other = this.listOf(value);
+        const texts = this.texts(this.library.differ(this.list, other));
         find("texts").replaceChildren(...texts);
-        const changes = others.length === 1 ? this.library.differences(this.state, others[0]) : [];
+        const changes = other.forms.length === 1 ? this.library.differences(this.form, other.forms[0]) : [];
         const none = changes.length ? "None of the texts that were tried tells them apart." : "Same format.";
         setText(find("same"), texts.length ? "Not the same." : none);
         const chips = changes.map(({ name, text, before, old }) => {
@@ -76,13 +78,15 @@ class Report {
         });
     }
 
-    /* Shows all of this for a state and what explains it. */
-    show(state, { problems, notes }, forms) {
-        this.state = state;
-        this.forms = forms;
+    /* Shows all of this for a form of a list. */
+    show(form, list) {
+        Object.assign(this, { form, list });
+        const { problems, notes } = form;
+        const other = list.forms.find((it) => it.problems.length)?.name;
         const count = problems.length === 1 ? "1 reason" : `${problems.length} reasons`;
-        setText(find("verdict"), problems.length ? `Not valid: ${count}` : "Valid format");
-        find("verdict").className = problems.length ? "bad" : "good";
+        const bad = problems.length ? count : other;
+        setText(find("verdict"), bad === undefined ? "Valid format" : `Not valid: ${bad}`);
+        find("verdict").className = bad === undefined ? "good" : "bad";
         find("report").hidden = !problems.length && !notes.length;
         find("reasons").replaceChildren(...problems.map((it) => this.reason(it)));
         find("notes").replaceChildren(...notes.map((note) => this.note(note)));
@@ -90,8 +94,12 @@ class Report {
     }
 }
 
-/* Returns the choices of a select for formats, each with the first words of its comment. */
-function choices(formats) {
-    const short = (about) => about.replace(/[:.]? \(.*|, as .*| with .*|\.$/, "");
-    return formats.map(({ name, about, title = short(about) }) => element("option", { value: name }, title));
+/* Returns the choices of a select for lists of forms: some of their own, the standard format, and the languages, each with the
+ * first words of its comment, and with its forms if there are several. */
+function choices(own, languages) {
+    const all = languages.flatMap(({ name, about, forms }) => {
+        const each = forms.map((form) => [`${name}:${form.name}`, `${name}: ${form.name}`]);
+        return [[name, about.replace(/[:.]? \(.*|, as .*| with .*|\.$/, "")], ...(forms.length > 1 ? each : [])];
+    });
+    return [...own, ["standard", "the standard format"], ...all].map(([value, title]) => element("option", { value }, title));
 }

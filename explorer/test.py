@@ -49,24 +49,23 @@ TEXTS = r"""1 1\5 1'5 1"5 -0 12 1F inf nan 9007199254740993 12345678901234567 12
 # a language: its link, that of the page, its normal form, the code in three languages, and what is told of each text.
 SHOWN = """const [shown, tried] = arguments;
     const { library, trial, data } = page;
-    const states = shown.map(([word, exponent, point]) => [{ word: BigInt(word), exponent, point, conditions: 0n }, ""]);
+    const states = shown.map(([word, exponent, point]) => [[{ word: BigInt(word), exponent, point, conditions: 0n, name: "" }], ""]);
     const each = library.conditions.map(({ isNumber, shift }) => (isNumber ? 3n : 1n) << shift);
-    const all = [...each, each.reduce((all, it) => all | it)].map((conditions) => [{ ...states.at(-1)[0], conditions }, ""])
-        .filter(([state]) => !library.explain(state).problems.length);
-    const forms = data.languages.flatMap(({ name, forms }) => forms.map((form) => [stateOf(form), name]));
+    const all = [...each, each.reduce((all, it) => all | it)].map((conditions) => [[{ ...states.at(-1)[0][0], conditions }], ""])
+        .filter(([[form]]) => !library.explain(form).problems.length);
+    const forms = data.languages.flatMap(({ name, forms }) => [[forms, name], ...forms.map((form) => [[form], name])]);
     const texts = [...new Set([...tried, ...data.languages.flatMap((it) => it.numbers.replaceAll("!", "").split("\\n"))])];
-    return [texts, [...states, ...all, ...forms].map(([state, language]) => {
-        page.jump({ ...state, language, numbers: "1_0 %&\\n!+" });
+    return [texts, [...states, ...all, ...forms].map(([forms, language]) => {
+        page.jump({ forms, at: forms.length - 1, language, numbers: "1_0 %&\\n!+" });
         const link = page.fragment();
         history.replaceState(null, "", link);
         page.read();
-        const [form, again] = [{ ...page.state, specials: trial.forms[0].specials, name: "" }, page.fragment()];
-        trial.forms = [form];
+        const again = page.fragment();
         const answers = trial.read(texts.map((text, place) => ({ text, place })));
         const told = answers.map((answer) => trial.told(answer));
         const tests = answers.map(({ text, error }) => ({ text, isRefused: Boolean(error) }));
         const codes = ["rust", "c", "python"].map((tab) => (trial.answers = tests, page.chooseTab(tab), find("code").textContent));
-        return [link, again, wordText(page.shown.normal), codes, told];
+        return [link, again, wordText(trial.forms[0].normal), codes, told];
     })];"""
 # Programs that print what the code reads: of each text its value, `none` if it has none, or `refused`.
 RUST = """#![deny(warnings)]
@@ -84,13 +83,13 @@ C = r"""
 #include <stdio.h>
 typedef bool read(const peltzivar_syntax *, const char *, peltzivar_literal *, peltzivar_special *);
 static void print(uint64_t low, uint64_t high) { printf("0x%016llX%016llX\n", (long long)high, (long long)low); }
-static void show(bool (*make_syntax)(peltzivar_syntax *), read *read_number, bool (*test)(const peltzivar_syntax *)) {
-    static peltzivar_syntax syntax; peltzivar_literal literal; peltzivar_special special; peltzivar_i128 it; double value;
+static void show(bool (*make_syntaxes)(peltzivar_syntax *), read *read_number, bool (*test)(const peltzivar_syntax *)) {
+    static peltzivar_syntax all[9]; peltzivar_literal literal; peltzivar_special special; peltzivar_i128 it; double value;
     FILE *file = fopen("texts", "r");
-    if (make_syntax(&syntax) && test(&syntax)) print(syntax.format.low, syntax.format.high);
+    if (make_syntaxes(all) && test(all)) print(all->format.low, all->format.high);
     for (char text[256]; fgets(text, sizeof text, file);) {
         text[strcspn(text, "\n")] = 0;
-        if (!read_number(&syntax, text, &literal, &special)) puts("refused");
+        if (!read_number(all, text, &literal, &special)) puts("refused");
         else if (special.spelling) printf("%c%s\n", special.sign ? special.sign : '+', special.spelling == 1 ? "nan" : "inf");
         else if (!peltzivar_to_i128(&literal, &it)) print(it.low, it.high);
         else if (!peltzivar_to_f64(&literal, &value)) printf("%.17e\n", value);
@@ -280,7 +279,7 @@ class Walk(unittest.TestCase):
     def rust(self, folder, codes):
         codes = [code.replace("#[test]\nfn", "pub fn") for code in codes]
         modules = "".join(f"mod m{index} {{\n{code}}}\n" for index, code in enumerate(codes))
-        show = [("show(m{0}::FORMAT, m{0}::read); m{0}::numbers();" if "fn read" in it else 'println!("{{:#034X}}", m{0}::WORD);') for it in codes]
+        show = [("show(m{0}::FORMS.as_slice()[0].format(), m{0}::read); m{0}::numbers();" if "fn read" in it else 'println!("{{:#034X}}", m{0}::WORD);') for it in codes]
         calls = " ".join(call.format(index) for index, call in enumerate(show))
         (folder / "main.rs").write_text(f"{RUST}{modules}fn main() {{ {calls} }}\n")
         (folder / "Cargo.toml").write_text(
@@ -289,16 +288,16 @@ class Walk(unittest.TestCase):
         return run("cargo", "run", "--quiet", "--offline", "--target-dir", folder, cwd=folder)
 
     def c(self, folder, codes):
-        names = r"\b(SETTINGS|SPECIALS|WORD|make_syntax|read_number|test_numbers)\b"
+        names = r"\b(SETTINGS|SPECIALS|WORD|FORMS|make_syntaxes|read_number|test_numbers)\b"
         parts = [re.sub(names, rf"\1_{index}", code) for index, code in enumerate(codes)]
-        show = [("show(make_syntax_{0}, read_number_{0}, test_numbers_{0});" if "make" in it else "print(WORD_{0}.low, WORD_{0}.high);") for it in codes]
+        show = [("show(make_syntaxes_{0}, read_number_{0}, test_numbers_{0});" if "make" in it else "print(WORD_{0}.low, WORD_{0}.high);") for it in codes]
         calls = " ".join(call.format(index) for index, call in enumerate(show))
         (folder / "main.c").write_text("".join([*parts, C, f"int main(void) {{ {calls} }}\n"]))
         run("cc", "-Wall", "-Wextra", "-Werror", "-I", TOP / "c", "-o", folder / "main", folder / "main.c", BUILD / "release/libpeltzivar_c.a")
         return run(folder / "main", cwd=folder)
 
     def python(self, folder, codes):
-        calls = ((code, "show(syntax, read)\ntest_numbers()" if "def read" in code else "print(view)") for code in codes)
+        calls = ((code, "show(forms[0][1], read)\ntest_numbers()" if "def read" in code else "print(view)") for code in codes)
         (folder / "main.py").write_text(PYTHON + "".join(f"{code}{call}\n" for code, call in calls))
         variables = {"PELTZIVAR_LIBRARY": f"{BUILD}/release/libpeltzivar_c.so", "PYTHONPATH": str(TOP / "c"), "PYTHONDONTWRITEBYTECODE": "1"}
         return run(sys.executable, "main.py", cwd=folder, env={**os.environ, **variables})
