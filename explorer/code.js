@@ -19,6 +19,8 @@ function literalText(text, escape) {
     return `"${characters.map((it) => (/[^ -~]|["\\?]/.test(it) ? escape(it.codePointAt()) : it)).join("")}"`;
 }
 
+const rustEscape = (it) => `\\u{${it.toString(16)}}`;
+
 /* Returns the numbers that must be accepted and those that must be refused, as texts of a language between commas. */
 function tested(tests, escape) {
     const texts = (isRefused) => tests.filter((it) => it.isRefused === isRefused).map(({ text }) => literalText(text, escape)).join(", ");
@@ -60,16 +62,16 @@ class Code {
 
     rust(forms, specials, tests) {
         const [nan, inf, infinity] = specials.map((it) => (it === '""' ? "None" : `Some(b${it})`));
-        const syntaxes = forms.map((form) => `    // ${wordText(form.word)}\n${this.rustSyntax(form)},\n`).join("");
+        const all = forms.map((form) => this.rustForm(form)).join("");
         const isFloat = forms.some(({ exponent, point }) => exponent || point);
-        const used = (name) => syntaxes.includes(name) ? `${name}, ` : "";
-        const names = `${used("Conditions")}FormError, Number, Readers, ${nan ? "Specials, " : ""}Syntax`;
+        const used = (name) => (all.includes(`${name}::`) ? `${name}, ` : "");
+        const names = `${used("Conditions")}Form, FormError, Forms, Number, ${nan ? "Specials, " : ""}Syntax`;
         return [
             ...(used("NonZeroU8") ? ["use core::num::NonZeroU8;"] : []),
             `use peltzivar::literal::{${names}};`,
             "use peltzivar::NumberFormatBuilder;",
             "",
-            `pub static FORMS: Readers<'static> = Readers::new_or_panic(&[\n${syntaxes}])${nan ? "" : ";"}`,
+            `pub static FORMS: Forms<'static> = Forms::new_or_panic(&[\n${all}])${nan ? "" : ";"}`,
             ...(nan ? [`.with_specials(Specials { nan: ${nan}, inf: ${inf}, infinity: ${infinity} });`] : []),
             "",
             `/// Returns a number, whose value is ${isFloat ? "`f64::try_from(number)` or, of an integer, " : ""}\`i128::try_from(number)\`.`,
@@ -81,25 +83,27 @@ class Code {
         ].join("\n");
     }
 
-    /* Returns the syntax of a form as an expression. */
-    rustSyntax(form) {
-        const { exponent, point } = form;
+    /* Returns a form as an expression. */
+    rustForm(form) {
+        const { name, exponent, point } = form;
         const changes = this.library.differences(form);
         const calls = changes.filter(({ name }) => this.library.named.has(name)).map(({ name, isByte, isNumber, value }) => {
             const byte = isNumber ? String(value) : character(value, "b");
             const optional = value ? `NonZeroU8::new(${byte})` : "None";
-            return `\n            .${name}(${!isByte ? Boolean(value) : name === "mantissa_radix" ? byte : optional})`;
+            return `.${name}(${!isByte ? Boolean(value) : name === "mantissa_radix" ? byte : optional})`;
         });
-        const format = `\n        NumberFormatBuilder::new()${calls.join("")}\n            .build_format_or_panic(),\n    `;
-        const options = [exponent, point].map((it) => `    ${character(it, "b")},\n    `).join("");
-        const set = changes.filter(({ shift }) => shift !== undefined);
-        const conditions = set.map(({ name, isNumber, value }) => `.${name}(${isNumber ? `Some(${value})` : "true"})`);
-        const syntax = exponent || point ? `    Syntax::new_or_panic(${format}${options})` : `    Syntax::integers(${format})`;
-        return syntax + (set.length ? `\n    .with_conditions_or_panic(Conditions::NONE${conditions.join("")})` : "");
+        const format = ["NumberFormatBuilder::new()", ...calls, ".build_format_or_panic()"].join("\n            ");
+        const options = [exponent, point].map((it) => `, ${character(it, "b")}`).join("");
+        const syntax = exponent || point ? `new_or_panic(\n        ${format}${options}` : `integers(\n        ${format}`;
+        const conditions = changes.filter(({ shift }) => shift !== undefined).map(({ name, isNumber, value }) => {
+            return `\n            .${name}(${isNumber ? `Some(${value})` : "true"})`;
+        });
+        const set = conditions.length ? `\n        .with_conditions_or_panic(Conditions::NONE${conditions.join("")})` : "";
+        return `    // ${wordText(form.word)}\n    Form::new(${literalText(name, rustEscape)}, Syntax::${syntax})${set}),\n`;
     }
 
     rustTest(tests) {
-        const loops = tested(tests, (it) => `\\u{${it.toString(16)}}`).map((texts, index) => {
+        const loops = tested(tests, rustEscape).map((texts, index) => {
             return texts && `    [${texts}].iter().for_each(|it| assert!(read(it).is_${["ok", "err"][index]}(), "{it}"));\n`;
         });
         return tests.length ? [`#[test]\nfn numbers() {\n${loops.join("")}}\n`] : [];

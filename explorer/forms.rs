@@ -3,14 +3,14 @@
 use alloc::vec::Vec;
 use core::str::FromStr;
 
-use peltzivar::literal::{Condition, Conditions, Number, Readers, Specials, Syntax, ValueError};
+use peltzivar::literal::{Condition, Conditions, Form, Forms, Number, Specials, ValueError};
 
 use crate::suggest::{lines_of, Line, State};
 
-/// The states of forms, at least one, and their syntaxes.
+/// The states of forms, at least one, and the forms.
 pub struct List {
     pub states: Vec<State>,
-    syntaxes: Vec<Syntax>,
+    forms: Vec<Form>,
 }
 
 impl List {
@@ -20,12 +20,13 @@ impl List {
     }
 
     fn of(states: Vec<State>) -> Option<Self> {
-        let syntaxes: Vec<_> = states.iter().map(|it| it.syntax()).collect::<Option<_>>()?;
-        (!states.is_empty()).then_some(Self { states, syntaxes })
+        let forms: Vec<_> = states.iter().map(|it| Some(Form::new("", it.syntax()?))).collect::<Option<_>>()?;
+        Forms::new(&forms)?;
+        Some(Self { states, forms })
     }
 
-    pub fn readers(&self) -> Readers<'_> {
-        Readers::new_or_panic(&self.syntaxes).with_specials(self.states[0].specials)
+    pub fn forms(&self) -> Forms<'_> {
+        Forms::new_or_panic(&self.forms).with_specials(self.states[0].specials)
     }
 
     /// Returns the list with another state of a form.
@@ -40,7 +41,7 @@ impl List {
         let mut others = self.states.clone();
         others.remove(form);
         let others = Self::of(others);
-        let is_read = |text| others.as_ref().is_some_and(|it| it.readers().read(text).is_ok());
+        let is_read = |text| others.as_ref().is_some_and(|it| it.forms().read(text).is_ok());
         lines_of(text).map(|line| Line { is_read: is_read(line.text), ..line }).collect()
     }
 }

@@ -61,7 +61,7 @@ class Library {
     languages(told) {
         return this.call("languages", "").map(({ name, specials, forms }, index) => {
             const short = /^(\S+?)'s /.exec(told[index].about)?.[1] ?? name;
-            return { ...told[index], short, specials, forms: forms.map((form) => this.form(`${form.syntax}:${form.name}`)) };
+            return { ...told[index], short, specials, forms: forms.map((form) => this.form(form)) };
         });
     }
 

@@ -136,7 +136,12 @@ REPLACED += [
     ("short_text.rt", "#[derive(Drop)]\n#[doc(hidden)]", "#[derive(Clone,\nCopy)]"),
     ("big.rt", "#[derive(Drop)]\n", ""),
     ("long.rt", "#[derive(Drop)]\n", ""),
-    ("list.rt", "#[derive(Drop)]", "#[derive(Debug, Clone, Copy, PartialEq, Eq)]"),
+    ("list.rt", "#[derive(Clone, Copy)]", "#[derive(Debug, Clone, Copy, PartialEq, Eq, Hash)]"),
+    ("list.rt", "#[derive(Drop)]\npub struct", "#[derive(Debug, Clone, Copy, PartialEq, Eq)]\npub struct"),
+    ("list.rt", "#[derive(Drop)]\npub enum", "#[derive(Debug, Clone, Copy, PartialEq, Eq, Hash)]\npub enum"),
+    # Calls with these names are written by hand: they take a text or bytes.
+    ("list.rt", "fn read<", "fn read_bytes<"),
+    ("list.rt", "fn read_prefix<", "fn read_prefix_bytes<"),
     # Its other calls are written by hand. Their results depend on what is compared.
     ("lexical_literal/src/literal.rt", "#[derive(Drop)]", "#[derive(Clone, Copy, PartialEq, Eq, Hash)]"),
     ("lexical_literal/src/literal.rt", "    text: &'a [u8],\n    counts", "    pub(crate) text: &'a [u8],\n    pub(crate) counts"),

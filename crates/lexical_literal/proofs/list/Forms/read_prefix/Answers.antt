@@ -6,7 +6,7 @@ use Rattle.lexical_literal.specs.Notation.{notation_of}
 use Rattle.lexical_literal.specs.Additions.Longest.{IsCountedFront}
 use Rattle.lexical_literal.proofs.FormLemmas.{form_at}
 use Rattle.lexical_literal.proofs.PieceLemmas.{front_cut, front_read}
-use Rattle.lexical_literal.proofs.list.SyntaxList.read_prefix.Goals as goal
+use Rattle.lexical_literal.proofs.list.Forms.read_prefix.Goals as goal
 
 pub summed-literal-requires : goal.summed-literal-requires
 summed-literal-requires c =

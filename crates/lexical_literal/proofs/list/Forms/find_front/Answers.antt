@@ -3,7 +3,7 @@ use Rattle.std.proofs.Common.{◌+◌, sym, subst}
 use Rattle.lexical_literal.specs.Front.{NoFront}
 use Rattle.lexical_literal.specs.Notation.{notation_of}
 use Rattle.lexical_literal.proofs.FormLemmas.{IsBest, all_tried, best_more, fronts, fronts_more, furthest_is, goes, longest_is, none_whole}
-use Rattle.lexical_literal.proofs.list.SyntaxList.find_front.Goals as goal
+use Rattle.lexical_literal.proofs.list.Forms.find_front.Goals as goal
 
 pub loop-form-preserved : goal.loop-form-preserved
 loop-form-preserved c =

@@ -5,7 +5,7 @@ use Rattle.lexical_literal.specs.Front.{NoLiteral}
 use Rattle.lexical_literal.specs.Notation.{notation_of}
 use Rattle.lexical_literal.proofs.FormLemmas.{IsBest, all_tried, best_more, found_is, furthest_is, goes}
 use Rattle.lexical_literal.proofs.PieceLemmas.{measured_cut, whole_read}
-use Rattle.lexical_literal.proofs.list.SyntaxList.find.Goals as goal
+use Rattle.lexical_literal.proofs.list.Forms.find.Goals as goal
 
 pub literal-requires-clause-cut : goal.literal-requires-clause-cut
 literal-requires-clause-cut c = measured_cut _ c.args.text.now c.begin-counted.result.counts

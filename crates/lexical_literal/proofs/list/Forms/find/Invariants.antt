@@ -2,7 +2,7 @@ use Rattle.std.proofs.Common.{All, length, take, ◌-◌}
 use Rattle.lexical_literal.specs.Front.{NoLiteral}
 use Rattle.lexical_literal.specs.Notation.{notation_of}
 use Rattle.lexical_literal.proofs.FormLemmas.{IsBest, goes}
-use Rattle.lexical_literal.proofs.list.SyntaxList.find.Given as goal
+use Rattle.lexical_literal.proofs.list.Forms.find.Given as goal
 
 abbrev pub invariant-loop-form : goal.invariant-loop-form
 invariant-loop-form l = record {

@@ -1,6 +1,6 @@
 use Rattle.std.proofs.Common.{length, ◌-◌}
 use Rattle.lexical_literal.proofs.FormLemmas.{IsBest, fronts, goes}
-use Rattle.lexical_literal.proofs.list.SyntaxList.find_front.Given as goal
+use Rattle.lexical_literal.proofs.list.Forms.find_front.Given as goal
 
 abbrev pub invariant-loop-form : goal.invariant-loop-form
 invariant-loop-form l = record {

@@ -3,8 +3,8 @@ use Rattle.std.proofs.Common.{All, IsSomeAnd, slice_get, refl, sym, subst, arith
 use Rattle.std.proofs.lemmas.List.{take_all}
 use Rattle.lexical_literal.specs.Additions.Forms.{GoesTo, IsFurthestForm}
 use Rattle.lexical_literal.proofs.FormLemmas.{IsNoBetter, at_index, elsewhere, first_error, inside_at, none_before, other_error, wrong_byte}
-use Rattle.lexical_literal.proofs.list.SyntaxList.refuse.Goals as goal
-use Rattle.lexical_literal.proofs.list.SyntaxList.refuse.Goals.{then-reached-stop+else-not-is_byte-2, else-reached-stop}
+use Rattle.lexical_literal.proofs.list.Forms.refuse.Goals as goal
+use Rattle.lexical_literal.proofs.list.Forms.refuse.Goals.{then-reached-stop+else-not-is_byte-2, else-reached-stop}
 
 pub returns-then-not-is_byte : goal.returns-then-not-is_byte
 returns-then-not-is_byte c =

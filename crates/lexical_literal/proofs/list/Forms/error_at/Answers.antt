@@ -4,7 +4,7 @@ use Rattle.lexical_literal.specs.Additions.Longest.{IsStopped}
 use Rattle.lexical_literal.specs.Front.{NoLiteral}
 use Rattle.lexical_literal.specs.Notation.{notation_of}
 use Rattle.lexical_literal.proofs.FormLemmas.{all_at, at_index, form_at}
-use Rattle.lexical_literal.proofs.list.SyntaxList.error_at.Goals as goal
+use Rattle.lexical_literal.proofs.list.Forms.error_at.Goals as goal
 
 pub refuse-requires-clause-stopped : goal.refuse-requires-clause-stopped
 refuse-requires-clause-stopped c = grind (arith, form_at)
