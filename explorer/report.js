@@ -47,7 +47,7 @@ class Report {
     /* Shows texts that tell the list apart from the standard format or from a language, and each field and option in which
      * the form differs, with a button that takes it from the other one. */
     compare() {
-        const { value, selectedOptions: [{ textContent }] } = find("compare");
+        const [{ value = "", textContent } = {}] = find("compare").selectedOptions;
         find("comparison").hidden = !value;
         if (!value) return;
         setText(find("comparison-title"), `Compared with ${textContent}`);

@@ -53,14 +53,18 @@ SHOWN = """const [shown, tried] = arguments;
     const each = library.conditions.map(({ isNumber, shift }) => (isNumber ? 3n : 1n) << shift);
     const all = [...each, each.reduce((all, it) => all | it)].map((conditions) => [[{ ...states.at(-1)[0][0], conditions }], ""])
         .filter(([[form]]) => !library.explain(form).problems.length);
-    const forms = data.languages.flatMap(({ name, forms }) => [[forms, name], ...forms.map((form) => [[form], name])]);
+    const named = states.map(([[form]], index) => ({ ...form, name: ['"', "\\\\", "*/?", "\\u05d0'", "%s:{}", ""].at(index % 6) }))
+        .filter((form) => !library.explain(form).problems.length);
+    const forms = data.languages.flatMap(({ name, forms }) => [[forms, name], [forms, ""], ...forms.map((form) => [[form], name])]);
+    const json = ({ forms, at }) => JSON.stringify([forms, at], (_, it) => (typeof it === "bigint" ? String(it) : it));
     const texts = [...new Set([...tried, ...data.languages.flatMap((it) => it.numbers.replaceAll("!", "").split("\\n"))])];
-    return [texts, [...states, ...all, ...forms].map(([forms, language]) => {
+    return [texts, [...states, [named, ""], ...all, ...forms].map(([forms, language]) => {
         page.jump({ forms, at: forms.length - 1, language, numbers: "1_0 %&\\n!+" });
+        const before = json(page.state);
         const link = page.fragment();
         history.replaceState(null, "", link);
         page.read();
-        const again = page.fragment();
+        const again = json(page.state) === before ? page.fragment() : json(page.state);
         const answers = trial.read(texts.map((text, place) => ({ text, place })));
         const told = answers.map((answer) => trial.told(answer));
         const tests = answers.map(({ text, error }) => ({ text, isRefused: Boolean(error) }));
@@ -346,7 +350,7 @@ class Walk(unittest.TestCase):
         self.type("#point", "9" + Keys.TAB)
         self.assertEqual(self.value("#point"), "TAB")
         self.type("#point", "lf" + Keys.TAB)
-        self.assertEqual(self.run_script("return page.state.point"), 10)
+        self.assertEqual(self.run_script("return page.form.point"), 10)
         self.load("#word=0x0A0A0A000000002C000000000000000C&point=44&numbers=1,5")
         self.assertEqual((self.text("#verdict"), self.text("#count")), ("Valid format", "1 of 1 as expected"))
         self.assertIn("is_valid_options_punctuation refuses this, but a reader takes it", self.text("#notes"))
@@ -402,9 +406,6 @@ class Walk(unittest.TestCase):
         self.run_script("document.querySelectorAll('#texts details').forEach((it) => { it.open = true; })")
         self.assertEqual([int(it.split(": ")[1]) for it in heads], [
             self.run_script(f"return document.querySelectorAll('#texts > ul')[{index}].querySelectorAll('code').length") for index in (0, 1)])
-        told, held = self.run_script("""const more = [...document.querySelectorAll("#texts details")];
-            return [more.map((it) => parseInt(it.textContent)), more.map((it) => it.childElementCount - 1)];""")
-        self.assertEqual(told, held)
         self.assertIn("-1 unexpected minus sign, which no_negative_mantissa_sign forbids", self.texts("#texts ul:first-of-type li"))
         self.assertIn("0x1 unexpected character 'x'", self.texts("#texts ul:nth-of-type(2) li"))
         Select(self.find("#compare")).select_by_value("C:octal")
@@ -413,6 +414,12 @@ class Walk(unittest.TestCase):
         Select(self.find("#language")).select_by_value("ADA")
         Select(self.find("#compare")).select_by_value("TOML")
         self.assertNotIn("NaN", self.text("#texts"))
+        Select(self.find("#language")).select_by_value("RUST")
+        Select(self.find("#compare")).select_by_value("PYTHON")
+        told, held = self.run_script("""const more = [...document.querySelectorAll("#texts details")];
+            return [more.map((it) => parseInt(it.textContent)), more.map((it) => it.childElementCount - 1)];""")
+        self.assertTrue(held)
+        self.assertEqual(told, held)
 
     def test_forms_of_a_language_are_read_together(self):
         self.type("#literal", "0x1F\n0b12\n1_000\n!1u")
@@ -427,7 +434,7 @@ class Walk(unittest.TestCase):
         self.assertEqual((self.value("#exponent"), self.value("#point")), ("", ""))
         self.assertEqual(self.text("#count"), "3 of 4 as expected")
         self.click("#no_special")
-        self.assertEqual((self.value("#language"), self.text("#count")), ("", "2 of 4 as expected"))
+        self.assertEqual((self.value("#language"), self.text("#count")), ("", "3 of 4 as expected"))
         self.assertIn("The format is not that of Rust any more", self.text("#told"))
 
     def test_a_language_is_changed_in_the_form_that_goes_furthest(self):
@@ -435,8 +442,78 @@ class Walk(unittest.TestCase):
         Select(self.find("#language")).select_by_value("JAVA")
         self.click("#read p .link", "hexadecimal float")
         self.assertEqual(self.focused(), "required_exponent_notation")
-        self.click("#read .use", "set required_exponent_notation=false in hexadecimal float alone")
+        self.click("#read .use", "set required_exponent_notation=false in hexadecimal float")
         self.assertEqual((self.text("#count"), self.value("#language")), ("1 of 1 as expected", ""))
+
+    def test_offers_lead_to_what_they_tell(self):
+        """Each offer for a text that a language refuses changes one form, and what it tells of the text is so then."""
+        wrong = self.run_script("""const told = (it) => it.textContent.replace(/^(accepted|refused): /, "");
+            return page.data.languages.flatMap(({ name, forms, numbers }) => numbers.split("\\n").filter((it) => it[0] === "!").flatMap((text) => {
+                const start = () => page.jump({ forms, at: 0, language: name, numbers: `${text.slice(1)}\\n1` });
+                start();
+                return [...find("read").querySelectorAll(".use")].flatMap((_, index) => {
+                    start();
+                    const button = find("read").querySelectorAll(".use")[index];
+                    if (button.textContent.startsWith("try")) return [];
+                    const [then, counted] = button.parentElement.childNodes[1].textContent.replace(/^then /, "").split("; ");
+                    const isAdded = button.previousSibling;
+                    button.click();
+                    const kept = forms.filter((form, at) => isSame([form], [page.state.forms[at]])).length;
+                    const isAsTold = isAdded || (find("count").textContent === counted && find("read").querySelector("p").textContent === then);
+                    const isRight = kept === forms.length - !isAdded && page.state.forms.length === forms.length + Boolean(isAdded);
+                    return isAsTold && isRight && page.trial.answers[0].isExpected ? [] : [[name, text, button.textContent, then, kept]];
+                });
+            }));""")
+        self.assertEqual(wrong, [])
+
+    def shown_forms(self):
+        """Returns the names of the forms, that of the shown one, its word, and the names in the code of Python."""
+        self.click("#tab-python")
+        names = re.findall(r'\("(.*)", Syntax', self.text("#code"))
+        return self.texts("#forms button"), self.text("#forms [aria-pressed=true]"), self.value(), names
+
+    def test_forms_are_named_moved_and_removed(self):
+        words = {name: f"0x0000{radix:02X}0000000000000000000000000C" for name, radix in zip("abc", (10, 16, 2))}
+
+        def shows(name):
+            lines = [f":{it}" if it == name else f"{word} 112 46 :{it}" for it, word in words.items()]
+            self.load(f"#word={words[name]}&exponent=112&forms=" + "%0A".join(lines))
+
+        for at, name in enumerate(words):
+            for step, to in (("#earlier", at - 1), ("#later", at + 1), ("#remove", None)):
+                shows(name)
+                names = [it for it in words if it != name]
+                if to in (-1, 3):
+                    self.assertFalse(self.find(step).is_enabled())
+                    continue
+                shown = names[max(at - 1, 0)] if to is None else name
+                if to is not None:
+                    names.insert(to, name)
+                self.click(step)
+                self.assertEqual(self.shown_forms(), (names, shown, words[shown], names))
+                self.click("#undo")
+                self.assertEqual(self.shown_forms(), ([*words], name, words[name], [*words]))
+            self.type("#form-name", 'x"\\')
+            names = ['x"\\' if it == name else it for it in words]
+            self.assertEqual(self.texts("#forms button"), names)
+            self.click("#no_special")
+            before, after = self.run_script("return [page.past.at(-1), page.state].map(({ forms }) => forms.map((it) => wordText(it.word)))")
+            self.assertEqual([it for it, old, new in zip(words, before, after) if old != new], [name])
+
+    def test_forms_are_added(self):
+        """Each choice adds the forms that it names behind the last one."""
+        wrong = self.run_script("""return [...find("add").options].slice(1).filter(({ value }) => {
+                const usual = { ...page.library.usual, name: "a" };
+                page.jump({ forms: [{ ...usual, exponent: 112 }, usual], at: 0, language: "" });
+                find("add").value = value;
+                find("add").dispatchEvent(new Event("change"));
+                const [name, form] = value.split(":");
+                const all = page.data.languages.find((it) => it.name === name)?.forms ?? [{ ...page.library.usual }];
+                const added = name === "copy" ? [{ ...usual, exponent: 112, name: "" }] : all.filter((it) => !form || it.name === form);
+                const wanted = [{ ...usual, exponent: 112 }, usual, ...added];
+                return !isSame(page.state.forms, wanted) || page.state.at !== 2 || find("add").value !== "";
+            }).map((it) => it.value);""")
+        self.assertEqual(wrong, [])
 
     def test_conditions_are_offered_and_fit_the_format(self):
         self.load("#word=0x0A0210007800005F000000010000000C&exponent=112&numbers=!1F%0A0x1F%0A-0x1F")
@@ -583,7 +660,7 @@ class Walk(unittest.TestCase):
         self.assertEqual((self.value("#point"), self.text("#verdict")), (".", "Valid format"))
         self.type("#point", ",")
         self.type("#exponent", "")
-        self.assertEqual(self.run_script("return [page.state.exponent, page.state.point]"), [0, 0])
+        self.assertEqual(self.run_script("return [page.state.exponent, page.form.point]"), [0, 0])
         self.find("#exponent").send_keys("^")
         self.assertEqual(self.value("#point"), ",")
 
@@ -612,10 +689,10 @@ class Walk(unittest.TestCase):
 
     def test_what_a_link_has_in_vain_is_told(self):
         wrong = ["word=nonsense", "exponent=300", "point=", "language=NONE", "compare=NONE", "tab=none", "conditions=no_such=1",
-                 "conditions=integer_group_size=9", "unknown=1", 1000 * "a"]
+                 "conditions=integer_group_size=9", "forms=0x1 300 46:b", "forms=:a%0A0xg 101 46:b", "unknown=1", 1000 * "a"]
         for part in wrong:
             self.load(f"#{part}")
-            wanted = part[:30].replace("conditions=", "").replace("unknown=1", "unknown")
+            wanted = re.sub("conditions=|forms=(:a%0A)?|(?<=unknown)=1", "", part[:30])
             self.assertIn(wanted, self.text("#told"))
             self.assertEqual((self.value(), self.value("#exponent"), self.value("#point")), (STANDARD, "e", "."))
         self.click("#no_special")
@@ -690,7 +767,7 @@ class Walk(unittest.TestCase):
         self.type("#literal", "0x1F\n0x1_0.8p3\n!0x.8\n0x1h")
         self.assertEqual(self.texts("#read ul li")[0],
             "set base_prefix='x', mantissa_radix=16, exponent_base=2, exponent_radix=10, exponent='p'\n"
-            "then accepted: integer = 31; 1 of 4 as expected")
+            "then accepted: integer = 31; 1 of 4 as expected\nor add this form")
         for _ in range(4):
             self.find("#read .use").send_keys(Keys.ENTER)
         self.assertEqual((self.focused(), self.text("#count")), ("literal", "4 of 4 as expected"))
