@@ -22,7 +22,7 @@ SET = [(name.lower(), int(bit)) for name, bit in re.findall(r"\bPELTZIVAR_SET_(\
 TYPES = {"bool": "c_bool", "size_t": "c_size_t", "int64_t": "c_int64", "double": "c_double", "float": "c_float", **STRUCTS}
 TYPES |= {f"uint{bits}_t": f"c_uint{bits}" for bits in (8, 32, 64)}
 TYPES |= {name: TYPES[kind] for kind, name in re.findall(r"typedef (\w+) (\w+);", CODE)}
-POINTERS = {"char": "c_char_p", "peltzivar_forms": "c_void_p"}
+POINTERS = {"char": "c_char_p", "void": "c_void_p", "peltzivar_forms": "c_void_p"}
 
 
 def defined(name):
@@ -63,7 +63,7 @@ def constants():
     yield f"STANDARD = 0x{high:>016}{low:>016}"
     flags, others = re.fullmatch(r"\{UINT64_C\((\w+)\), (.*)\}", defined("NEW_FIELDS_INIT")).groups()
     yield f"_NEW_FIELDS = ({flags}, {others})"
-    yield from (f"_{name} = {defined(name)}" for name in ("FIELD_COUNT", "SOURCE_SIZE", "TEXT_SIZE", "NO_PART"))
+    yield from (f"_{name} = {defined(name)}" for name in ("FIELD_COUNT", "FORMS_MAX", "SOURCE_SIZE", "TEXT_SIZE", "NO_PART"))
     yield f"_NO_DIGIT = {2**32 - 1}"
     yield "_REFUSED = " + re.search(r"PELTZIVAR_VALUE_REFUSED = (\d+)", HEADER)[1]
     for row in (
@@ -143,7 +143,7 @@ def languages():
     yield '"""How a language, or a file, writes numbers. `languages` is another name of this class.'
     yield from ("", "`read(text)` returns a `Literal` of one of its forms, or a `Special`. Raises LiteralError if the text is neither.")
     yield "`read_prefix(text)` returns the longest literal that a text begins with, and the rest. Raises LiteralError if there"
-    yield "is none. `forms` has the syntax of each form by its name, and `specials` the spellings of NaN and infinity."
+    yield "is none. `forms` has the same forms, with the syntax of each by its name, and the spellings of NaN and infinity."
     for text, name, forms in documented:
         about = " ".join(text.replace("///", " ").replace("×", "*").split())
         names = "; ".join(re.findall(r'"([^"]+)":', forms))

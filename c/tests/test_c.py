@@ -80,7 +80,7 @@ class Programs(unittest.TestCase):
     def test_the_library_is_small_and_a_program_has_the_language_that_it_names(self):
         self.assertLessEqual(SHARED.stat().st_size, 300_000)
         sizes = []
-        for forms in ("language_c()", 'language("C", 1, NULL)'):
+        for forms in ("language_c()", 'language("C", 1)'):
             code = f'double it; return peltzivar_parse_f64(peltzivar_{forms}, "0x1.8p3", 7, &it, NULL) || it != 12;'
             self.folder.joinpath("one.c").write_text(f'#include "peltzivar.h"\nint main(void) {{ {code} }}\n')
             program = self.made("cc", *STRICT, self.folder / "one.c", ARCHIVE, "-Wl,--gc-sections", "-s")
@@ -94,6 +94,12 @@ class Programs(unittest.TestCase):
         self.folder.joinpath("second.c").write_text('#include "peltzivar.h"\n')
         program = self.made("cc", *STRICT, self.folder / "first.c", self.folder / "second.c", ARCHIVE)
         self.assertEqual(run(program), ("1234.50\n", 0))
+
+    def test_forms_of_ones_own_on_the_page(self):
+        (code,) = re.findall(r"^    #include.*?^    }\n", (TOP / "docs/C-AND-PYTHON.md").read_text(), re.M | re.S)
+        self.folder.joinpath("forms.c").write_text(code)
+        program = self.made("cc", *STRICT, self.folder / "forms.c", ARCHIVE)
+        self.assertEqual(run(program), ("hexadecimal: 31\n", 0))
 
     def test_the_example(self):
         program = self.made("cc", *STRICT, *SANITIZERS, C / "example.c", ARCHIVE)
@@ -187,7 +193,7 @@ class Header(unittest.TestCase):
     def test_each_language_has_the_call_with_its_name(self):
         names = [text.decode() for number in range(99) if (text := LIBRARY.peltzivar_language_name(number))]
         calls = [getattr(LIBRARY, f"peltzivar_language_{it.lower()}")() for it in names]
-        self.assertEqual(calls, [LIBRARY.peltzivar_language(it.encode(), len(it), None) for it in names])
+        self.assertEqual(calls, [LIBRARY.peltzivar_language(it.encode(), len(it)) for it in names])
         self.assertEqual(len({*calls}), len(re.findall(r"peltzivar_language_\w+\(void\)", HEADER)))
 
     def test_numbers_in_comments(self):

@@ -3,7 +3,6 @@
 use crate::arguments::{input, write_text, Out};
 use crate::languages::{by, Forms};
 use crate::numbers::{error_number, ErrorNumber, Setter, Word, NO_PART, NO_SETTER};
-use core::array;
 use core::fmt::{self, Display, Formatter};
 use core::mem::ManuallyDrop;
 use core::ops::Range;
@@ -13,6 +12,7 @@ use peltzivar::{Error, Format, FormatError};
 /// A word with an exponent character, a decimal point and conditions, of any values. If both are 0, literals are
 /// integers. A condition is 0 if there is none.
 #[repr(C)]
+#[derive(Clone, Copy)]
 pub struct Syntax {
     format: Word,
     exponent: u8,
@@ -22,6 +22,23 @@ pub struct Syntax {
 }
 
 impl Syntax {
+    /// No syntax.
+    pub const NONE: Syntax = Syntax { format: Word::of(0), exponent: 0, decimal_point: 0, numbers: [0; 14] };
+
+    /// Returns a syntax in C.
+    pub const fn of(syntax: literal::Syntax) -> Syntax {
+        let (mut numbers, mut at) = ([0; 14], 0);
+        while at < Condition::ALL.len() {
+            numbers[at] = syntax.conditions().number(Condition::ALL[at]);
+            at += 1;
+        }
+        let (exponent, decimal_point) = match (syntax.exponent(), syntax.point()) {
+            (Some(exponent), Some(point)) => (exponent, point),
+            _ => (0, 0),
+        };
+        Syntax { format: Word::of(syntax.format().word()), exponent, decimal_point, numbers }
+    }
+
     /// Returns the exponent character and the decimal point, unless literals are integers.
     fn options(&self) -> Option<(u8, u8)> {
         match (self.exponent, self.decimal_point) {
@@ -60,13 +77,7 @@ impl Syntax {
 
 impl From<literal::Syntax> for Syntax {
     fn from(syntax: literal::Syntax) -> Syntax {
-        let conditions = syntax.conditions();
-        Syntax {
-            format: Word::of(syntax.format().word()),
-            exponent: syntax.exponent().unwrap_or(0),
-            decimal_point: syntax.point().unwrap_or(0),
-            numbers: array::from_fn(|at| Condition::ALL.get(at).map_or(0, |&it| conditions.number(it))),
-        }
+        Syntax::of(syntax)
     }
 }
 
@@ -129,6 +140,15 @@ impl<E: Display> Display for Refusal<E> {
             Refusal::Argument(sentence) => f.write_str(sentence),
             Refusal::Library(error) => error.fmt(f),
         }
+    }
+}
+
+/// A refusal that prints flags and conditions, too.
+struct Full<'a>(&'a Refusal<literal::ReadError>);
+
+impl Display for Full<'_> {
+    fn fmt(&self, f: &mut Formatter<'_>) -> fmt::Result {
+        write!(f, "{:#}", self.0)
     }
 }
 
@@ -210,6 +230,7 @@ impl From<literal::ReadError> for Explanation {
     }
 }
 
+const FORMS: &str = "the forms are null, not 1 to 64, or have reserved members";
 const TOO_LONG: &str = "the text has more than PTRDIFF_MAX bytes";
 
 /// Where a call writes a literal or an error.
@@ -248,7 +269,7 @@ unsafe fn read_by_forms<'a>(
     let Some(text) = input(text, len) else { return refuse(TOO_LONG, outs.1) };
     match by(forms, |forms| read(&forms.with_specials(Default::default()), text)) {
         Some(number) => settle_number(number, outs),
-        None => refuse("the forms are a null pointer", outs.1),
+        None => refuse(FORMS, outs.1),
     }
 }
 
@@ -283,7 +304,7 @@ pub unsafe fn number<'a>(
     match by(forms, |forms| forms.read_bytes(text)) {
         Some(Ok(number)) => return Some(number),
         Some(Err(FormError { form, error: why, .. })) => stop(why, form, error),
-        None => refuse("the forms are a null pointer", error),
+        None => refuse(FORMS, error),
     };
     None
 }
@@ -358,5 +379,9 @@ calls! {
 
     fn peltzivar_read_error_text(error: &ReadError, text: *mut u8, len: usize) -> usize {
         write_text(text, len, error.value())
+    }
+
+    fn peltzivar_read_error_full_text(error: &ReadError, text: *mut u8, len: usize) -> usize {
+        write_text(text, len, error.value().map(Full))
     }
 }
