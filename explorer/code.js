@@ -9,7 +9,7 @@ function character(byte, prefix) {
 /* Comments with the reader of all forms of a language. */
 const COMMENTS = {
     rust: (name) => `// The reader of all forms is peltzivar::literal::Language::${name}.\n`,
-    c: (name) => `/* peltzivar_forms_read reads all forms, with peltzivar_language("${name}", ${name.length}, NULL). */\n`,
+    c: (name) => `/* peltzivar_forms_read reads all forms, with peltzivar_language("${name}", ${name.length}). */\n`,
     python: (name) => `# The reader of all forms is peltzivar.languages.${name}.\n`,
 };
 
@@ -19,7 +19,11 @@ function literalText(text, escape) {
     return `"${characters.map((it) => (/[^ -~]|["\\?]/.test(it) ? escape(it.codePointAt()) : it)).join("")}"`;
 }
 
+/* Each returns the escape of a character, which is a number. In C, it is that of each byte. */
 const rustEscape = (it) => `\\u{${it.toString(16)}}`;
+const pythonEscape = (it) => `\\U${it.toString(16).padStart(8, "0")}`;
+const octal = (byte) => `\\${byte.toString(8).padStart(3, "0")}`;
+const cEscape = (it) => [...new TextEncoder().encode(String.fromCodePoint(it))].map(octal).join("");
 
 /* Returns the numbers that must be accepted and those that must be refused, as texts of a language between commas. */
 function tested(tests, escape) {
@@ -110,80 +114,70 @@ class Code {
     }
 
     c(forms, specials, tests) {
-        const text = (form) => this.lines(form).map((line) => `\n        ${JSON.stringify(`${line}\n`)}`).join("") || '\n        ""';
-        const syntaxes = forms.map((form) => `    /* ${wordText(form.word)}${form.name && ` ${literalText(form.name, () => "?").replaceAll("*/", "* /")}`} */${text(form)},\n`);
-        const spelled = specials.length ? `\nstatic const peltzivar_specials SPECIALS = {${specials.join(", ")}};` : "";
-        const special = specials.length ? "peltzivar_read_special(syntaxes, &SPECIALS, text, strlen(text), special)" : "false";
+        const settings = (form) => this.lines(form).map((line) => `\n    ${JSON.stringify(`${line}\n`)}`).join("") || '\n    ""';
+        const all = forms.map((form) => `    /* ${wordText(form.word)} */${settings(form)},\n`).join("");
+        const names = forms.map(({ name }) => `{.name = ${literalText(name, cEscape)}}`).join(", ");
+        const spelled = specials.length ? `, .specials = {${specials.join(", ")}}` : "";
         return `#include "peltzivar.h"
 #include <string.h>
 
-enum { FORMS = ${forms.length} };
-static const char *const SETTINGS[FORMS] = {
-${syntaxes.join("")}};${spelled}
+static const char *const SETTINGS[] = {
+${all}};
+static peltzivar_form LIST[] = {${names}};
+static const peltzivar_forms FORMS = {.forms = LIST, .count = ${forms.length}${spelled}};
 
 /* Writes the syntax of each form, and returns whether the settings are right. Call this once, before a text is read. */
-bool make_syntaxes(peltzivar_syntax syntaxes[FORMS]) {
+bool make_forms(void) {
     bool are_right = true;
-    for (size_t it = 0; it < FORMS; it++)
-        are_right &= !peltzivar_read_settings(SETTINGS[it], strlen(SETTINGS[it]), &syntaxes[it]);
+    for (size_t it = 0; it < FORMS.count; it++)
+        are_right &= !peltzivar_read_settings(SETTINGS[it], strlen(SETTINGS[it]), &LIST[it].syntax);
     return are_right;
 }
 
 /* Returns whether the text is a number. If special->spelling is 0, it is a literal, and
  * peltzivar_to_i128 or, of a float, peltzivar_to_f64 makes its value. Otherwise, it is NaN or infinity. */
-bool read_number(const peltzivar_syntax syntaxes[FORMS], const char *text, peltzivar_literal *literal,
-    peltzivar_special *special) {
+bool read_number(const char *text, peltzivar_literal *literal, peltzivar_special *special) {
     peltzivar_read_error error;
     special->spelling = 0;
-    for (size_t it = 0; it < FORMS; it++)
-        if (peltzivar_read(&syntaxes[it], text, strlen(text), literal, &error))
-            return true;
-    return ${special};
+    return peltzivar_forms_read(&FORMS, text, strlen(text), literal, &error)
+        || peltzivar_forms_read_special(&FORMS, text, strlen(text), special);
 }
 ${this.cTest(tests)}`;
     }
 
     cTest(tests) {
-        const bytes = (it) => [...new TextEncoder().encode(String.fromCodePoint(it))];
-        const octal = (it) => bytes(it).map((byte) => `\\${byte.toString(8).padStart(3, "0")}`);
-        const texts = tests.map(({ text, isRefused }) => literalText(`${isRefused ? "!" : "="}${text}`, (it) => octal(it).join("")));
+        const texts = tests.map(({ text, isRefused }) => literalText(`${isRefused ? "!" : "="}${text}`, cEscape));
         return tests.length ? `
 /* Returns whether the numbers behind a = are read, and those behind a ! are not. */
-bool test_numbers(const peltzivar_syntax syntaxes[FORMS]) {
+bool test_numbers(void) {
     static const char *const texts[] = {${texts.join(", ")}, NULL};
     bool are_right = true;
     peltzivar_literal literal;
     peltzivar_special special;
     for (const char *const *it = texts; *it; it++)
-        are_right &= read_number(syntaxes, *it + 1, &literal, &special) == (**it == '=');
+        are_right &= read_number(*it + 1, &literal, &special) == (**it == '=');
     return are_right;
 }
 ` : "";
     }
 
     python(forms, specials, tests) {
-        const text = (form) => this.lines(form).map((line) => `\n        ${JSON.stringify(line)},`).join("");
-        const escape = (it) => `\\U${it.toString(16).padStart(8, "0")}`;
-        const syntaxes = forms.map((form) => `    # ${wordText(form.word)}\n    (${literalText(form.name, escape)}, Syntax.of(${text(form)}\n    )),\n`);
-        const [accepted, refused] = tested(tests, escape);
+        const settings = (form) => this.lines(form).map((line) => `\n        ${JSON.stringify(line)},`).join("");
+        const one = (form) => `    # ${wordText(form.word)}\n    (${literalText(form.name, pythonEscape)}, Syntax.of(${settings(form)}\n    )),\n`;
+        const spelled = specials.map((it, index) => (it === '""' ? "" : `, ${["nan", "inf", "infinity"][index]}=${it}`)).join("");
+        const [accepted, refused] = tested(tests, pythonEscape);
         const lines = (texts, body) => texts && `    for text in [${texts}]:\n        ${body}\n`;
         const raises = "try:\n            read(text)\n        except LiteralError:\n            continue\n        raise AssertionError(text)";
         const test = `\n\ndef test_numbers():\n${lines(accepted, "read(text)")}${lines(refused, raises)}`;
-        const spelled = specials.join(", ");
-        return `from peltzivar import LiteralError, ${spelled && "Specials, "}Syntax
+        return `from peltzivar import Forms, ${refused && "LiteralError, "}Syntax
 
-forms = [
-${syntaxes.join("")}]
-${spelled && `specials = Specials(${spelled})\n`}
+forms = Forms([
+${forms.map(one).join("")}]${spelled})
+
 
 def read(text):
     """Returns a literal${spelled && ", NaN or infinity"}, which has a \`value\`."""
-    for _, syntax in forms:
-        try:
-            return syntax.read(text)
-        except LiteralError as error:
-            refusal = error
-${spelled && "    if special := specials.read(forms[0][1], text):\n        return special\n"}    raise refusal
+    return forms.read(text)
 ${tests.length ? test : ""}`;
     }
 

@@ -85,15 +85,16 @@ fn show(format: Format, read: fn(&str) -> Result<Number<'_>, FormError>) {
 """
 C = r"""
 #include <stdio.h>
-typedef bool read(const peltzivar_syntax *, const char *, peltzivar_literal *, peltzivar_special *);
+typedef bool read(const char *, peltzivar_literal *, peltzivar_special *);
 static void print(uint64_t low, uint64_t high) { printf("0x%016llX%016llX\n", (long long)high, (long long)low); }
-static void show(bool (*make_syntaxes)(peltzivar_syntax *), read *read_number, bool (*test)(const peltzivar_syntax *)) {
-    static peltzivar_syntax all[9]; peltzivar_literal literal; peltzivar_special special; peltzivar_i128 it; double value;
+static void show(bool (*make_forms)(void), const peltzivar_forms *forms, read *read_number, bool (*test)(void)) {
+    peltzivar_literal literal; peltzivar_special special; peltzivar_i128 it; double value;
     FILE *file = fopen("texts", "r");
-    if (make_syntaxes(all) && test(all)) print(all->format.low, all->format.high);
+    const peltzivar_word *word = &forms->forms->syntax.format;
+    if (make_forms() && test()) print(word->low, word->high);
     for (char text[256]; fgets(text, sizeof text, file);) {
         text[strcspn(text, "\n")] = 0;
-        if (!read_number(all, text, &literal, &special)) puts("refused");
+        if (!read_number(text, &literal, &special)) puts("refused");
         else if (special.spelling) printf("%c%s\n", special.sign ? special.sign : '+', special.spelling == 1 ? "nan" : "inf");
         else if (!peltzivar_to_i128(&literal, &it)) print(it.low, it.high);
         else if (!peltzivar_to_f64(&literal, &value)) printf("%.17e\n", value);
@@ -292,16 +293,16 @@ class Walk(unittest.TestCase):
         return run("cargo", "run", "--quiet", "--offline", "--target-dir", folder, cwd=folder)
 
     def c(self, folder, codes):
-        names = r"\b(SETTINGS|SPECIALS|WORD|FORMS|make_syntaxes|read_number|test_numbers)\b"
+        names = r"\b(SETTINGS|SPECIALS|WORD|LIST|FORMS|make_forms|read_number|test_numbers)\b"
         parts = [re.sub(names, rf"\1_{index}", code) for index, code in enumerate(codes)]
-        show = [("show(make_syntaxes_{0}, read_number_{0}, test_numbers_{0});" if "make" in it else "print(WORD_{0}.low, WORD_{0}.high);") for it in codes]
+        show = [("show(make_forms_{0}, &FORMS_{0}, read_number_{0}, test_numbers_{0});" if "make" in it else "print(WORD_{0}.low, WORD_{0}.high);") for it in codes]
         calls = " ".join(call.format(index) for index, call in enumerate(show))
         (folder / "main.c").write_text("".join([*parts, C, f"int main(void) {{ {calls} }}\n"]))
         run("cc", "-Wall", "-Wextra", "-Werror", "-I", TOP / "c", "-o", folder / "main", folder / "main.c", BUILD / "release/libpeltzivar_c.a")
         return run(folder / "main", cwd=folder)
 
     def python(self, folder, codes):
-        calls = ((code, "show(forms[0][1], read)\ntest_numbers()" if "def read" in code else "print(view)") for code in codes)
+        calls = ((code, "show(next(iter(forms.values())), read)\ntest_numbers()" if "def read" in code else "print(view)") for code in codes)
         (folder / "main.py").write_text(PYTHON + "".join(f"{code}{call}\n" for code, call in calls))
         variables = {"PELTZIVAR_LIBRARY": f"{BUILD}/release/libpeltzivar_c.so", "PYTHONPATH": str(TOP / "c"), "PYTHONDONTWRITEBYTECODE": "1"}
         return run(sys.executable, "main.py", cwd=folder, env={**os.environ, **variables})
