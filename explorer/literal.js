@@ -33,8 +33,8 @@ class Trial {
         });
     }
 
-    /* Reads the numbers of a state, and shows what was read. Returns how many of them are as expected and how many are not
-     * read, in words, and what is told of the first number that is not as expected, or of all. */
+    /* Reads the numbers of a state, and shows what was read. Returns how many are as expected and how many are not read, in
+     * words, and what is told of the first that is not as expected, or of all. */
     show(state, list) {
         Object.assign(this, { state, list, forms: list.forms });
         const box = find("literal");
@@ -64,7 +64,7 @@ class Trial {
         const count = this.answers.length ? `${expected} of ${this.answers.length} as expected` : "";
         const values = this.answers.filter(({ error }) => !error).map((it) => `${it.text} = ${valueText(it)}`).slice(0, MOST_ROWS);
         const told = first ? `${first.text} ${this.told(first)}` : values.join(" \u00b7 ");
-        return { count: [count, left ? unread : ""].filter(Boolean).join("; "), isGood: !first && !left, told };
+        return { count: [count, left ? unread : ""].filter(Boolean).join("; "), isGood: !first && !left, first: told };
     }
 
     /* Returns what the library returns for lines, with what each line expects and what is offered in words. */

@@ -2,9 +2,9 @@
  * are. The fragment of the URL has it too, with the format to compare with and the tab of the code. */
 
 const TABS = { rust: "Rust", c: "C", python: "Python", settings: "Settings", grammar: "Grammar", regex: "Regex" };
-/* After how many milliseconds without an edit the fragment is written. */
+/* After how many milliseconds without an edit the fragment is written; the parts of a fragment; what is told without a
+ * language; and the numbers of a page without a fragment. */
 const PAUSE = 400;
-/* The parts of a fragment, what is told without a language, and the numbers of a page without a fragment. */
 const LINK = ["word", "exponent", "point", "conditions", "forms", "language", "numbers", "compare", "tab"];
 const ABOUT = "Type numbers of your language or file: the page finds their format, and the code that reads them.";
 const EXAMPLE = "1_000.5\n0x1F\n-2e-3\n!1__0";
@@ -19,17 +19,10 @@ class Page {
         this.data = { ...data, languages: library.languages(data.languages) };
         const { languages } = this.data;
         [this.past, this.future] = [[], []];
-        const [change, edit] = [this.change, this.edit].map((it) => it.bind(this));
-        const go = (name) => find(name)?.focus();
-        const use = (form) => {
-            this.put(form);
-            this.showAnew();
-            (find("reasons").querySelector(".use") ?? find("verdict")).focus();
-        };
-        this.controls = new Controls(library, edit);
-        this.report = new Report(library, languages, { use, edit, go, change: () => this.saveLater() });
-        const [put, add, start] = [this.put, this.add, this.start].map((it) => it.bind(this));
-        this.trial = new Trial(library, languages, { change, put, add, go, start });
+        const bound = (...names) => Object.fromEntries(names.map((name) => [name, this[name].bind(this)]));
+        this.controls = new Controls(library, bound("edit").edit);
+        this.report = new Report(library, languages, bound("use", "edit", "go", "saveLater"));
+        this.trial = new Trial(library, languages, bound("change", "put", "add", "go", "start"));
         this.code = new Code(library);
         setText(find("version"), data.version);
         this.listen();
@@ -50,10 +43,10 @@ class Page {
         click("standard", () => this.enter({ forms: [this.library.usual], at: 0, language: "" }));
         click("clear", () => (this.change({ numbers: "" }), find("literal").focus()));
         find("language").addEventListener("change", ({ target }) => this.start(target.value));
-        for (const { id, dataset } of document.querySelectorAll("[data-copies]")) {
+        for (const { id, dataset } of document.querySelectorAll("[data-copies]")) click(id, () => {
             const beside = find(dataset.copies);
-            click(id, () => copy(find(id), beside.value ?? beside.textContent, beside));
-        }
+            copy(find(id), beside.value ?? beside.textContent, beside);
+        });
         click("copy-link", async ({ target }) => {
             this.save();
             const isFile = location.protocol === "file:";
@@ -71,17 +64,29 @@ class Page {
         document.addEventListener("focusin", ({ target }) => (this.key = target.id === this.key ? this.key : ""));
     }
 
+    /* Goes to the control of a field. */
+    go(name) {
+        find(name)?.focus();
+    }
+
+    /* Takes a form that ends a reason. */
+    use(form) {
+        this.put(form);
+        this.showAnew();
+        (find("reasons").querySelector(".use") ?? find("verdict")).focus();
+    }
+
     /* The shown form has a name and a place, and another form can be behind it. */
     listenToForms() {
-        const click = (id, change) => find(id).addEventListener("click", () => {
+        const click = (id, places) => find(id).addEventListener("click", () => {
             const { forms, at } = this.state;
-            this.jump(change(forms, at));
-            (find(id).disabled || find("tools").hidden ? find("forms").querySelector("[aria-pressed=true]") ?? find("add") : find(id)).focus();
+            const [from, to] = places(at);
+            this.jump({ forms: forms.toSpliced(at, 1).toSpliced(to, 0, ...forms.slice(at, from)), at: to });
+            [find(id), find("forms").children[to], find("add")].find((it) => it.checkVisibility() && !it.disabled).focus();
         });
-        const moved = (forms, at, to) => ({ forms: forms.toSpliced(at, 1).toSpliced(to, 0, forms[at]), at: to });
-        click("earlier", (forms, at) => moved(forms, at, at - 1));
-        click("later", (forms, at) => moved(forms, at, at + 1));
-        click("remove", (forms, at) => ({ forms: forms.toSpliced(at, 1), at: Math.max(at - 1, 0) }));
+        click("earlier", (at) => [at + 1, at - 1]);
+        click("later", (at) => [at + 1, at + 1]);
+        click("remove", (at) => [at, Math.max(at - 1, 0)]);
         find("form-name").addEventListener("input", ({ target }) => this.put({ name: target.value }, "form-name"));
         find("add").addEventListener("change", ({ target }) => {
             this.add(target.value === "copy" ? [{ ...this.form, name: "" }] : this.report.listOf(target.value).forms);
@@ -98,8 +103,7 @@ class Page {
     /* Takes Ctrl+Z, Ctrl+Y and Ctrl+Shift+Z, except in the fields for texts. */
     undo(event) {
         const key = event.key?.toLowerCase();
-        const isUndo = (event.ctrlKey || event.metaKey) && ["z", "y"].includes(key);
-        if (!isUndo || event.target.id === "literal") return;
+        if (!(event.ctrlKey || event.metaKey) || !["z", "y"].includes(key) || event.target.id === "literal") return;
         event.preventDefault();
         find(key === "y" || event.shiftKey ? "redo" : "undo").click();
     }
@@ -165,27 +169,25 @@ class Page {
         this.enter({ forms, at: form ?? at, language: name, numbers: kept });
     }
 
-    /* Returns the language from which the forms of a state are. */
-    originOf(state) {
-        return this.data.languages.find(({ name }) => name === state.language);
+    /* Returns the language from which the forms of a state are, by default if they are as they were. */
+    languageOf({ language, forms }, isOrigin = false) {
+        return this.data.languages.find((it) => it.name === language && (isOrigin || isSame(it.forms, forms)));
     }
 
-    /* Returns the language of a state, if its forms are as they were. */
-    languageOf(state) {
-        return [this.originOf(state)].find((it) => it && isSame(it.forms, state.forms));
-    }
-
-    /* Shows the language and the forms, and returns the list, in which each form has a name if there are several. */
+    /* Shows the language and the forms, and returns the list, in which each form has a name of its own if there are several. */
     showForms() {
         const { forms, at } = this.state;
         const language = this.languageOf(this.state);
-        const origin = this.originOf(this.state);
+        const origin = this.languageOf(this.state, true);
         find("language").value = language?.name ?? "";
         const changed = origin ? `These forms are from ${origin.short}, and have its spellings of NaN and infinity.` : ABOUT;
         find("about").replaceChildren(...withCode(language?.about ?? changed));
         find("forms").hidden = find("tools").hidden = forms.length === 1;
-        const named = forms.map((form, index) => ({ ...form, name: form.name || (forms.length > 1 ? `form ${index + 1}` : "") }));
-        const all = named.map((form) => ({ ...this.library.explain(form), ...form }));
+        const names = forms.map((form, index) => form.name || (forms.length > 1 ? `form ${index + 1}` : ""));
+        const all = forms.map((form, index) => {
+            const name = names.indexOf(names[index]) < index ? `${names[index]} (${index + 1})` : names[index];
+            return { ...this.library.explain(form), ...form, name };
+        });
         refill(find("forms"), all.map(({ name, problems }, index) => {
             const attributes = { "aria-pressed": String(index === at) };
             return button(problems.length ? "form bad" : "form", name, () => this.jump({ at: index }), attributes);
@@ -198,8 +200,7 @@ class Page {
     /* Takes a text as the word, or shows why it is not one. */
     take(text) {
         const { word, options, notes = [], error } = this.library.read(text);
-        if (!error) this.put({ word, ...options });
-        if (!error) this.showAnew();
+        if (!error) (this.put({ word, ...options }), this.showAnew());
         const forms = "A word is `0x` and up to 32 hexadecimal digits, a decimal number, or settings such as `radix=16`.";
         this.tell(error ? `${error} ${forms}` : notes.join(". "), error);
     }
@@ -267,17 +268,14 @@ class Page {
     }
 
     fragment() {
-        const { forms: list, at, numbers, language } = this.state;
-        const { word, exponent, point } = this.form;
-        const conditions = this.library.conditionsOf(this.form);
-        const compare = find("compare").value;
-        const tab = this.tab === "rust" ? "" : this.tab;
-        const isOwn = !this.languageOf(this.state) && (list.length > 1 || language || this.form.name);
-        const lines = list.map((form, index) => (index === at ? `:${form.name}` : this.library.formText(form)));
-        const forms = isOwn ? lines.join("\n") : "";
-        const others = Object.entries({ conditions, forms, language, numbers, compare, tab }).filter(([, text]) => text);
-        const all = others.map(([name, text]) => `&${name}=${encodeURIComponent(text)}`).join("");
-        return `#word=${wordText(word)}&exponent=${exponent}&point=${point}${all}`;
+        const { form, state: { forms: list, at, numbers, language } } = this;
+        const conditions = this.library.conditionsOf(form);
+        const isOwn = !this.languageOf(this.state) && (list.length > 1 || language || form.name);
+        const lines = list.map((it, index) => (index === at ? `:${it.name}` : this.library.formText(it)));
+        const [forms, tab] = [isOwn ? lines.join("\n") : "", this.tab === "rust" ? "" : this.tab];
+        const others = Object.entries({ conditions, forms, language, numbers, compare: find("compare").value, tab });
+        const all = others.map(([name, text]) => text && `&${name}=${encodeURIComponent(text)}`).join("");
+        return `#word=${wordText(form.word)}&exponent=${form.exponent}&point=${form.point}${all}`;
     }
 
     /* Writes the fragment, at once or after a pause, with the steps that can be undone and done again. */
@@ -310,12 +308,13 @@ class Page {
         }
         const conditions = parts.has("conditions") ? library.withConditions(0n, parts.get("conditions"), lost) : usual.conditions;
         const numbers = (parts.get("numbers") ?? (hash ? "" : EXAMPLE)).replace(/\r\n?/g, "\n");
-        const state = this.stateOf({ ...found, conditions }, parts.get("forms"), language, lost);
+        const state = this.readForms({ ...found, conditions }, parts.get("forms"), language, lost);
         if (parts.get("language") && !state.language) lost.push(`language=${parts.get("language")}`);
         if (!(tab in TABS)) lost.push(`tab=${tab}`);
         find("compare").value = parts.get("compare") ?? "";
         if (find("compare").selectedIndex < 0) lost.push(`compare=${parts.get("compare").slice(0, 40)}`);
-        [this.past, this.future] = history.state ?? [this.state ? [...this.past, this.state] : [], []];
+        const isKept = history.state?.flat().every((it) => it.forms);
+        [this.past, this.future] = isKept ? history.state : [this.state ? [...this.past, this.state] : [], []];
         this.state = { ...state, numbers };
         this.key = "";
         this.chooseTab(tab in TABS ? tab : "rust");
@@ -325,8 +324,8 @@ class Page {
     }
 
     /* Returns the forms of a link: those of the language, or a line of each, that of the shown one with its name alone. */
-    stateOf(shown, text, language, lost) {
-        const place = text ? -1 : (language?.forms ?? []).findIndex((it) => isSame([stateOf(it)], [shown]));
+    readForms(shown, text, language, lost) {
+        const place = language?.forms.findIndex((it) => !text && isSame([stateOf(it)], [shown]));
         if (place >= 0) return { forms: language.forms, at: place, language: language.name };
         const lines = text ? text.split("\n") : [];
         const at = lines.findIndex((line) => line.startsWith(":"));
@@ -360,16 +359,16 @@ class Page {
         find("redo").disabled = !this.future.length;
         this.report.show(this.shown, list);
         this.controls.show(this.form);
-        const { count, isGood, told } = this.trial.show(this.state, list);
+        const { count, isGood, first } = this.trial.show(this.state, list);
         setText(find("count"), count);
         find("count").className = isGood ? "good" : "bad";
         find("clear").disabled = !this.state.numbers;
-        setText(find("first-error"), this.shown.problems[0]?.text ?? told);
+        setText(find("first-error"), this.shown.problems[0]?.text ?? first);
         const { name, sentence, problems } = this.shown;
-        const numbers = name ? `Numbers of the form ${name}` : "Numbers";
-        find("sentence").replaceChildren(...withCode(sentence ? `${numbers} are ${sentence}.` : ""));
+        const told = `Numbers${name && ` of the form ${name}`} are ${sentence}.`;
+        find("sentence").replaceChildren(...withCode(sentence ? told : ""));
         const blamed = problems.flatMap(({ fields }) => fields);
-        this.blame(new Set(blamed), new Set(this.library.differences(this.form).map(({ name }) => name)));
+        this.blame(new Set(blamed), new Set(this.library.differences(this.form).map((it) => it.name)));
         this.showCode();
         this.saveLater();
     }
@@ -386,9 +385,9 @@ class Page {
 
     /* Shows the code of all forms, with the numbers as a test. */
     showCode() {
-        const { name } = this.languageOf(this.state) ?? {};
-        const comment = (name && COMMENTS[this.tab]?.(name)) ?? "";
-        setText(find("code"), comment + this.code.text(this.tab, this.trial.list, this.shown, this.trial.answers));
+        const comment = this.languageOf(this.state) && COMMENTS[this.tab]?.(this.state.language);
+        const text = this.code.text(this.tab, this.trial.list, this.shown, this.trial.answers);
+        setText(find("code"), (comment ?? "") + text);
     }
 }
 

@@ -5,11 +5,11 @@
 const MOST_TEXTS = 6;
 
 class Report {
-    constructor(library, languages, { use, edit, go, change }) {
+    constructor(library, languages, { use, edit, go, saveLater }) {
         Object.assign(this, { library, languages, use, edit, go });
         find("compare").append(...choices([["", "nothing"]], languages));
         find("add").append(...choices([["", "Add a form"], ["copy", "a copy of this one"]], languages));
-        find("compare").addEventListener("change", () => (this.compare(), change()));
+        find("compare").addEventListener("change", () => (this.compare(), saveLater()));
     }
 
     /* Returns buttons that lead to the controls of fields. Reserved bits have none. */

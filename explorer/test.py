@@ -190,7 +190,7 @@ def run(*command, **options):
 
 def is_same(told, printed):
     """Returns whether a program prints what the page tells of a text: its value, a number without one, or a refusal."""
-    value = told.partition(" = ")[2].rstrip(", ")
+    value = told.partition(" = ")[2].partition(",")[0]
     if not value or printed in ("none", "refused"):
         return not value and told.startswith("accepted") == (printed != "refused")
     is_whole = re.fullmatch(r"-?\d+ (-?\d+|0x\w+)", f"{value} {printed}")
@@ -284,7 +284,7 @@ class Walk(unittest.TestCase):
     def rust(self, folder, codes):
         codes = [code.replace("#[test]\nfn", "pub fn") for code in codes]
         modules = "".join(f"mod m{index} {{\n{code}}}\n" for index, code in enumerate(codes))
-        show = [("show(m{0}::FORMS.as_slice()[0].format(), m{0}::read); m{0}::numbers();" if "fn read" in it else 'println!("{{:#034X}}", m{0}::WORD);') for it in codes]
+        show = [("show(m{0}::FORMS[0].syntax().format(), m{0}::read); m{0}::numbers();" if "fn read" in it else 'println!("{{:#034X}}", m{0}::WORD);') for it in codes]
         calls = " ".join(call.format(index) for index, call in enumerate(show))
         (folder / "main.rs").write_text(f"{RUST}{modules}fn main() {{ {calls} }}\n")
         (folder / "Cargo.toml").write_text(
