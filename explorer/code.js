@@ -27,11 +27,14 @@ const cEscape = (it) => [...new TextEncoder().encode(String.fromCodePoint(it))].
 
 /* Returns the numbers that must be accepted and those that must be refused, as texts of a language between commas. */
 function tested(tests, escape) {
-    const texts = (isRefused) => tests.filter((it) => it.isRefused === isRefused).map(({ text }) => literalText(text, escape)).join(", ");
-    return [texts(false), texts(true)];
+    const texts = (all) => all.map(({ text }) => literalText(text, escape)).join(", ");
+    return [false, true].map((isRefused) => texts(tests.filter((it) => it.isRefused === isRefused)));
 }
 
 class Code {
+    grammar = (forms) => forms.map(({ name, grammar }) => (name && `/* ${name.replaceAll("*/", "")} */\n`) + grammar).join("\n\n");
+    regex = (forms) => (forms.length > 1 ? `(?:${forms.map(({ regex }) => regex).join("|")})` : forms[0].regex);
+
     constructor(library) {
         this.library = library;
     }
@@ -43,48 +46,38 @@ class Code {
         // The normal form is the same format, and a builder makes it.
         const built = forms.map((form) => ({ ...form, word: form.isBuilt ? form.word : form.normal }));
         if (tab === "settings") return this.settings(shown);
-        if (bad) return this.problem[tab](`Nothing can be read: ${bad.problems[0].text}.`, bad.word);
+        if (bad) return this.problem(tab, `Nothing can be read: ${bad.problems[0].text}.`, bad.word);
         return this[tab](built, quoted, tests);
     }
 
-    /* What is shown if nothing can be read, for the reason and the word. */
-    problem = {
-        rust: (told, word) => `// ${told}\npub const WORD: u128 = ${wordText(word)};\n`,
-        c: (told, word) => `#include "peltzivar.h"\n\n/* ${told} */\nstatic const peltzivar_word WORD = {${[word, word >> 64n].map((it) => `UINT64_C(${BigInt.asUintN(64, it)})`).join(", ")}};\n`,
-        python: (told, word) => `from peltzivar import FormatView\n\n# ${told}\nview = FormatView(${wordText(word)})\n`,
-        grammar: (told) => told,
-        regex: (told) => told,
-    };
-
-    grammar(forms) {
-        return forms.map(({ name, grammar }) => `${forms.length > 1 ? `/* ${name} */\n` : ""}${grammar}`).join("\n\n");
-    }
-
-    regex(forms) {
-        return forms.length > 1 ? `(?:${forms.map(({ regex }) => regex).join("|")})` : forms[0].regex;
+    /* Returns the text of a tab if nothing can be read: the reason and the word. */
+    problem(tab, told, word) {
+        const [low, high] = [word, word >> 64n].map((it) => `UINT64_C(0x${BigInt.asUintN(64, it).toString(16).toUpperCase()})`);
+        return {
+            rust: `// ${told}\npub const WORD: u128 = ${wordText(word)};\n`,
+            c: `#include "peltzivar.h"\n\n/* ${told} */\nstatic const peltzivar_word WORD = {${low}, ${high}};\n`,
+            python: `from peltzivar import FormatView\n\n# ${told}\nview = FormatView(${wordText(word)})\n`,
+        }[tab] ?? told;
     }
 
     rust(forms, specials, tests) {
         const [nan, inf, infinity] = specials.map((it) => (it === '""' ? "None" : `Some(b${it})`));
+        const spelled = nan ? `\n.with_specials(Specials { nan: ${nan}, inf: ${inf}, infinity: ${infinity} })` : "";
         const all = forms.map((form) => this.rustForm(form)).join("");
-        const isFloat = forms.some(({ exponent, point }) => exponent || point);
         const used = (name) => (all.includes(`${name}::`) ? `${name}, ` : "");
         const names = `${used("Conditions")}Form, FormError, Forms, Number, ${nan ? "Specials, " : ""}Syntax`;
-        return [
-            ...(used("NonZeroU8") ? ["use core::num::NonZeroU8;"] : []),
-            `use peltzivar::literal::{${names}};`,
-            "use peltzivar::NumberFormatBuilder;",
-            "",
-            `pub static FORMS: Forms<'static> = Forms::new_or_panic(&[\n${all}])${nan ? "" : ";"}`,
-            ...(nan ? [`.with_specials(Specials { nan: ${nan}, inf: ${inf}, infinity: ${infinity} });`] : []),
-            "",
-            `/// Returns a number, whose value is ${isFloat ? "`f64::try_from(number)` or, of an integer, " : ""}\`i128::try_from(number)\`.`,
-            "pub fn read(text: &str) -> Result<Number<'_>, FormError> {",
-            "    FORMS.read(text)",
-            "}",
-            "",
-            ...this.rustTest(tests),
-        ].join("\n");
+        const float = forms.some(({ exponent, point }) => exponent || point) ? "`f64::try_from(number)` or, of an integer, " : "";
+        return `${used("NonZeroU8") && "use core::num::NonZeroU8;\n"}use peltzivar::literal::{${names}};
+use peltzivar::NumberFormatBuilder;
+
+pub static FORMS: Forms<'static> = Forms::new_or_panic(&[
+${all}])${spelled};
+
+/// Returns a number, whose value is ${float}\`i128::try_from(number)\`.
+pub fn read(text: &str) -> Result<Number<'_>, FormError> {
+    FORMS.read(text)
+}
+${this.rustTest(tests)}`;
     }
 
     /* Returns a form as an expression. */
@@ -110,7 +103,7 @@ class Code {
         const loops = tested(tests, rustEscape).map((texts, index) => {
             return texts && `    [${texts}].iter().for_each(|it| assert!(read(it).is_${["ok", "err"][index]}(), "{it}"));\n`;
         });
-        return tests.length ? [`#[test]\nfn numbers() {\n${loops.join("")}}\n`] : [];
+        return tests.length ? `\n#[test]\nfn numbers() {\n${loops.join("")}}\n` : "";
     }
 
     c(forms, specials, tests) {
