@@ -661,7 +661,7 @@ class Walk(unittest.TestCase):
         self.assertEqual((self.value("#point"), self.text("#verdict")), (".", "Valid format"))
         self.type("#point", ",")
         self.type("#exponent", "")
-        self.assertEqual(self.run_script("return [page.state.exponent, page.form.point]"), [0, 0])
+        self.assertEqual(self.run_script("return [page.form.exponent, page.form.point]"), [0, 0])
         self.find("#exponent").send_keys("^")
         self.assertEqual(self.value("#point"), ",")
 
