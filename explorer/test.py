@@ -539,6 +539,27 @@ class Walk(unittest.TestCase):
         self.click(".reason .use", "integer_group_size=none")
         self.assertEqual(self.text("#verdict"), "Valid format")
 
+    def test_sizes_of_groups_are_offered(self):
+        """Numbers show each size of each kind of groups. If any would do, the usual size is offered."""
+        wrong = self.run_script("""const { library } = page;
+            const word = library.build(["internal_digit_separator=true", "digit_separator=','"]).word;
+            const zeros = (size) => "0".repeat(size);
+            const texts = { integer: (it) => `1,${zeros(it)}`, higher: (it) => `1,${zeros(it)},000`, fraction: (it) => `0.${zeros(it)},0` };
+            const offered = (settings, ...numbers) => {
+                const form = { ...library.usual, word, conditions: library.withConditions(0n, settings) };
+                page.jump({ forms: [form], at: 0, language: "", numbers: numbers.join("\\n") });
+                return [...find("read").querySelectorAll(".use")].map((it) => it.textContent);
+            };
+            return library.conditions.filter((it) => it.isNumber).flatMap(({ name, limits: [least, most] }) => {
+                const [kind, text] = Object.entries(texts).find(([it]) => name.startsWith(it));
+                const [others, last] = kind === "higher" ? ["integer_group_size=3", 3] : ["", 0];
+                const sizes = Array.from({ length: most - least + 1 }, (_, it) => it + least).filter((it) => it !== last);
+                const lost = sizes.filter((it) => offered(others, `!${text(it + 1)}`, `!${text(it - 1)}`, text(it))[0] !== `set ${name}=${it}`);
+                const usual = offered("", `!${text(20)}`, "1", "-1", "1e5").join(" ");
+                return [...lost, ...(usual.includes(`${name}=3`) && !/group_size=[^3]/.test(usual) ? [] : [usual])].map((it) => [name, it]);
+            });""")
+        self.assertEqual(wrong, [])
+
     def test_groups_of_separator_flags_and_a_note(self):
         self.type("#digit_separator", "_")
         self.assertIn("no flag allows the digit separator '_'", self.text("#notes"))
@@ -824,11 +845,11 @@ class Walk(unittest.TestCase):
         wrong = self.run_script("""const { library, data: { languages } } = page;
             const texts = [...new Set(languages.flatMap((it) => it.numbers.replaceAll("!", "").split("\\n")))];
             const found = library.readers(texts.join("\\n"));
-            return languages.flatMap(({ name, forms }, language) => library.numbers(forms, texts.join("\\n")).map((answer, index) => {
+            return languages.flatMap((list, language) => library.numbers(list, texts.join("\\n")).map((answer, index) => {
                 const reader = found[index].find((it) => it.language === language);
                 const told = (it) => (it ? `${it.form} ${valueText(it)}` : "refused");
                 const there = told(answer.error ? undefined : answer);
-                return told(reader) === there ? [] : [name, texts[index], told(reader), there];
+                return told(reader) === there ? [] : [list.name, texts[index], told(reader), there];
             }).filter((it) => it.length));""")
         self.assertEqual([it for it in wrong if "undefined" not in it[2]], [])
 
