@@ -29,18 +29,16 @@ impl List {
         Forms::new_or_panic(&self.forms).with_specials(self.states[0].specials)
     }
 
-    /// Returns the list with another state of a form.
-    pub fn with(&self, form: usize, state: State) -> Option<Self> {
+    /// Returns the list with another state of a form, or without the form.
+    pub fn with(&self, form: usize, state: Option<State>) -> Option<Self> {
         let mut states = self.states.clone();
-        states[form] = state;
+        states.splice(form..=form, state);
         Self::of(states)
     }
 
     /// Returns lines, each with whether a form other than this one reads its text.
     pub fn lines<'a>(&self, form: usize, text: &'a [u8]) -> Vec<Line<'a>> {
-        let mut others = self.states.clone();
-        others.remove(form);
-        let others = Self::of(others);
+        let others = self.with(form, None);
         let is_read = |text| others.as_ref().is_some_and(|it| it.forms().read(text).is_ok());
         lines_of(text).map(|line| Line { is_read: is_read(line.text), ..line }).collect()
     }

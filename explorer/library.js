@@ -23,15 +23,12 @@ class Library {
         });
         this.flags = flags.map((flag) => ({ ...flag, mask: 1n << BigInt(flag.bit) }));
         this.bytes = bytes.map((byte) => ({ ...byte, isByte: true, mask: 255n << BigInt(byte.bit) }));
-        this.groups = groups.map((group) => {
-            return { ...group, mask: group.bits.reduce((mask, bit) => mask | (1n << BigInt(bit)), 0n) };
-        });
+        this.groups = groups.map((it) => ({ ...it, mask: it.bits.reduce((mask, bit) => mask | (1n << BigInt(bit)), 0n) }));
         /* The fields in the order of their bits, and all that has a setter by its name. */
         this.fields = [...this.flags, ...this.bytes];
         this.named = new Map([...this.fields, ...this.groups].map((field) => [field.name, field]));
         this.known = this.fields.reduce((all, { mask }) => all | mask, 0n);
-        this.standard = this.build([]).word;
-        this.usual = { word: this.standard, ...STANDARD_OPTIONS, name: "" };
+        this.usual = { word: this.build([]).word, ...STANDARD_OPTIONS, name: "" };
     }
 
     /* Returns a library from its compressed WebAssembly. */
@@ -70,9 +67,8 @@ class Library {
         return this.call("readers", `\n${text}`);
     }
 
-    /* Returns all about a form: whether the word is built, its normal form, reasons and notes, and why options or conditions
-     * do not fit: each with its text and the fields that it blames. If the form is a syntax, this includes its sentence, its
-     * grammar and its regular expression. */
+    /* Returns what `explain` of library.rs describes, with its problems: reasons, and why options and conditions do not fit,
+     * each with its text and the fields that it blames. */
     explain(form) {
         const answer = this.call("explain", passed({ forms: [form] }));
         const named = ({ text, mask }) => {
@@ -85,8 +81,7 @@ class Library {
         return { ...answer, normal: BigInt(answer.normal), problems: [...reasons, ...options, ...conditions], notes };
     }
 
-    /* Returns the states in which a problem has ended, also with another byte, and there are no more of them: one of its fields
-     * is absent, cleared, set or a usual character. */
+    /* Returns forms with fewer problems and without this one: one of its fields is absent, cleared, set or a usual character. */
     repairs(state, { text, fields }) {
         const usual = { exponent: [101, 112, 94], point: [46, 44], mantissa_radix: [10], integer_group_size: [0, 3] };
         const kind = (it) => it.replace(/'.'|\d+/g, "");
@@ -107,8 +102,9 @@ class Library {
 
     /* Returns an object for each line of a text, as `numbers` of library.rs describes: none if a word is not lawful. */
     numbers(list, text) {
+        const numbered = (it) => ({ ...it, word: BigInt(it.word), conditions: BigInt(it.conditions) });
         const answers = this.call("numbers", `${passed(list)}\n${text}`);
-        return answers.map((answer) => ({ ...answer, offers: answer.offers.map(withWord) }));
+        return answers.map((answer) => ({ ...answer, offers: answer.offers.map(numbered) }));
     }
 
     /* Returns texts that tell a list from another one, as `differ` of library.rs describes. */
@@ -119,9 +115,11 @@ class Library {
     /* Returns the form of a text: a syntax as the library prints it, which is a word, two bytes unless numbers are integers
      * alone, and the conditions as settings; a colon; and the name. What is none of these is put into `lost`. */
     form(text, lost = []) {
-        const [, syntax, name] = /^([^:]*):?(.*)$/.exec(text);
-        const [settings, [word = "", ...bytes]] = [true, false].map((it) => syntax.split(" ").filter((all) => all.includes("=") === it));
-        const found = { word: this.read(word).word, exponent: this.byte(bytes[0] ?? "0"), point: this.byte(bytes[1] ?? "0") };
+        const [, syntax, name] = /^([^:]*):?([^]*)$/.exec(text);
+        const [settings, [word = "", exponent = "0", point = "0"]] = [true, false].map((isSetting) => {
+            return syntax.split(" ").filter((it) => it.includes("=") === isSetting);
+        });
+        const found = { word: this.read(word).word, exponent: this.byte(exponent), point: this.byte(point) };
         if (Object.values(found).includes(undefined)) return void lost.push(text.slice(0, 40));
         return { ...found, conditions: this.withConditions(0n, settings.join(" "), lost), name };
     }
@@ -252,11 +250,6 @@ function valueText({ integer, float, unknown }) {
     if (float === undefined) return integer ?? unknown;
     const [value] = new Float64Array(BigUint64Array.of(BigInt(float)).buffer);
     return Object.is(value, -0) ? "-0" : String(value);
-}
-
-/* Returns an answer with its word and its conditions as numbers. */
-function withWord(answer) {
-    return { ...answer, word: BigInt(answer.word), conditions: BigInt(answer.conditions) };
 }
 
 /* Returns a word as text. */

@@ -171,7 +171,7 @@ fn number(all: &List, lines: &[u8], line: Line<'_>) -> String {
         false => offers(all.states[form], &all.lines(form, lines), line),
     };
     let offers = list(offers.into_iter().filter_map(|(state, expected)| {
-        let reading = reading(all.with(form, state)?.forms(), line.text);
+        let reading = reading(all.with(form, Some(state))?.forms(), line.text);
         Some(format!(r#"{{{},"expected":{expected},{reading}}}"#, parts_of(state)))
     }));
     format!(r#"{{{},"offers":{offers}}}"#, reading(all.forms(), line.text))

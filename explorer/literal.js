@@ -21,8 +21,8 @@ const LEGEND = [["sign", "sign"], ["prefix, suffix", "base"], ["digits", "digits
 const [MOST_ROWS, MOST_LINES, MOST_CHARACTERS] = [8, 100, 200];
 
 class Trial {
-    constructor(library, languages, { change, put, add, start, go }) {
-        Object.assign(this, { library, languages, change, put, add, start, go, isOpen: matchMedia("(min-width: 561px)").matches });
+    constructor(library, languages, { change, put, add, start }) {
+        Object.assign(this, { library, languages, change, put, add, start, isOpen: matchMedia("(min-width: 561px)").matches });
         find("literal").addEventListener("input", ({ target }) => change({ numbers: target.value }, "literal"));
         find("literal").addEventListener("focus", ({ target }) => target.value === EXAMPLE && target.select());
         find("legend").append(...LEGEND.map(([name, part]) => element("span", { class: part }, name)));
@@ -33,8 +33,7 @@ class Trial {
         });
     }
 
-    /* Reads the numbers of a state, and shows what was read. Returns how many are as expected and how many are not read, in
-     * words, and what is told of the first that is not as expected, or of all. */
+    /* Shows what is read. Returns in words how many are as expected, and what is told of the first that is not, or of all. */
     show(state, list) {
         Object.assign(this, { state, list, forms: list.forms });
         const box = find("literal");
@@ -100,7 +99,7 @@ class Trial {
         const told = element("p", { class: isExpected ? "good" : "bad" }, this.told(answer));
         const fields = this.library.namesOf(BigInt(mask));
         if (this.forms.length > 1 && answer.error) {
-            const go = () => (this.change({ at: form }), this.go(fields[0] ?? "digit_separator"));
+            const go = () => (this.change({ at: form }), find(fields[0] ?? "digit_separator")?.focus());
             told.append(" ", button("link", this.forms[form].name, go, { title: "shows the settings of this form" }));
         }
         const line = element("div", {}, element("span", { class: "written" }, this.pieces(answer)), told);
@@ -171,7 +170,7 @@ class Trial {
         });
     }
 
-    /* Returns a state that is offered, as a button with its settings, with what the number is then. */
+    /* Returns a form that is offered, as a button with its settings, with what the number is then. */
     offer(answer, offer) {
         const { label, then, changes, expected } = offer;
         const click = (change) => () => (change(), (find("read").querySelector(".use") ?? find("literal")).focus());

@@ -21,14 +21,11 @@ class Page {
         [this.past, this.future] = [[], []];
         const bound = (...names) => Object.fromEntries(names.map((name) => [name, this[name].bind(this)]));
         this.controls = new Controls(library, bound("edit").edit);
-        this.report = new Report(library, languages, bound("use", "edit", "go", "saveLater"));
-        this.trial = new Trial(library, languages, bound("change", "put", "add", "go", "start"));
+        this.report = new Report(library, languages, bound("use", "edit", "saveLater"));
+        this.trial = new Trial(library, languages, bound("change", "put", "add", "start"));
         this.code = new Code(library);
         setText(find("version"), data.version);
-        this.listen();
-        this.listenToWord();
-        this.makeTabs();
-        this.listenToForms();
+        for (const listen of [this.listen, this.listenToWord, this.listenToForms, this.makeTabs]) listen.call(this);
         find("language").append(...choices([["", "none"]], languages).filter(({ value }) => !/:|standard/.test(value)));
         this.read();
     }
@@ -64,11 +61,6 @@ class Page {
         document.addEventListener("focusin", ({ target }) => (this.key = target.id === this.key ? this.key : ""));
     }
 
-    /* Goes to the control of a field. */
-    go(name) {
-        find(name)?.focus();
-    }
-
     /* Takes a form that ends a reason. */
     use(form) {
         this.put(form);
@@ -96,8 +88,7 @@ class Page {
 
     /* Puts forms behind the last one, and shows the first of them. */
     add(added) {
-        const { forms } = this.state;
-        this.jump({ forms: [...forms, ...added], at: forms.length });
+        this.jump({ forms: [...this.state.forms, ...added], at: this.state.forms.length });
     }
 
     /* Takes Ctrl+Z, Ctrl+Y and Ctrl+Shift+Z, except in the fields for texts. */
@@ -112,8 +103,7 @@ class Page {
     travel(from, to) {
         if (!from.length) return;
         to.push(this.state);
-        this.state = from.pop();
-        this.key = "";
+        [this.state, this.key] = [from.pop(), ""];
         setText(find("told"), "");
         this.showAnew();
     }
@@ -124,10 +114,8 @@ class Page {
         box.addEventListener("change", () => this.take(box.value));
         box.addEventListener("paste", (event) => {
             const text = event.clipboardData.getData("text");
-            if (!text.includes("\n")) return setTimeout(() => this.take(box.value));
-            event.preventDefault();
-            box.value = text.replace(/(#.*)?\s+/g, " ").trim();
-            return this.take(box.value);
+            if (text.includes("\n")) (event.preventDefault(), (box.value = text.replace(/(#.*)?\s+/g, " ").trim()));
+            setTimeout(() => this.take(box.value));
         });
         box.addEventListener("keydown", ({ key }) => key === "Escape" && this.showWord());
     }
@@ -140,10 +128,8 @@ class Page {
             this.chooseTab(names.at((names.indexOf(this.tab) + step) % names.length));
             find(`tab-${this.tab}`).focus();
         };
-        find("tabs").append(...names.map((name) => {
-            const attributes = { id: `tab-${name}`, role: "tab", "aria-controls": "code", keydown };
-            return button("", TABS[name], () => this.chooseTab(name), attributes);
-        }));
+        const attributes = (name) => ({ id: `tab-${name}`, role: "tab", "aria-controls": "code", keydown });
+        find("tabs").append(...names.map((name) => button("", TABS[name], () => this.chooseTab(name), attributes(name))));
     }
 
     /* Shows the code of a tab. */
@@ -159,8 +145,7 @@ class Page {
         this.saveLater();
     }
 
-    /* Starts from a language: from one of its forms with the numbers as they are, or from the first with its own numbers in
-     * place of those of another language or of the example. */
+    /* Starts from a form of a language, or from the first with its own numbers in place of those of others or the example. */
     start(name, form) {
         const { languages } = this.data;
         const { forms, numbers, at = 0 } = languages.find((it) => it.name === name) ?? this.state;
@@ -177,17 +162,14 @@ class Page {
     /* Shows the language and the forms, and returns the list, in which each form has a name of its own if there are several. */
     showForms() {
         const { forms, at } = this.state;
-        const language = this.languageOf(this.state);
-        const origin = this.languageOf(this.state, true);
+        const [language, origin] = [false, true].map((isOrigin) => this.languageOf(this.state, isOrigin));
         find("language").value = language?.name ?? "";
         const changed = origin ? `These forms are from ${origin.short}, and have its spellings of NaN and infinity.` : ABOUT;
         find("about").replaceChildren(...withCode(language?.about ?? changed));
         find("forms").hidden = find("tools").hidden = forms.length === 1;
         const names = forms.map((form, index) => form.name || (forms.length > 1 ? `form ${index + 1}` : ""));
-        const all = forms.map((form, index) => {
-            const name = names.indexOf(names[index]) < index ? `${names[index]} (${index + 1})` : names[index];
-            return { ...this.library.explain(form), ...form, name };
-        });
+        const own = names.map((name, index) => (names.indexOf(name) < index ? `${name} (${index + 1})` : name));
+        const all = forms.map((form, index) => ({ ...this.library.explain(form), ...form, name: own[index] }));
         refill(find("forms"), all.map(({ name, problems }, index) => {
             const attributes = { "aria-pressed": String(index === at) };
             return button(problems.length ? "form bad" : "form", name, () => this.jump({ at: index }), attributes);
@@ -201,8 +183,8 @@ class Page {
     take(text) {
         const { word, options, notes = [], error } = this.library.read(text);
         if (!error) (this.put({ word, ...options }), this.showAnew());
-        const forms = "A word is `0x` and up to 32 hexadecimal digits, a decimal number, or settings such as `radix=16`.";
-        this.tell(error ? `${error} ${forms}` : notes.join(". "), error);
+        const whole = "A word is `0x` and up to 32 hexadecimal digits, a decimal number, or settings such as `radix=16`.";
+        this.tell(error ? `${error} ${whole}` : notes.join(". "), error);
     }
 
     /* Tells why a typed text is refused, or what is lost of it. */
@@ -240,9 +222,7 @@ class Page {
             const lost = this.languageOf(state) ? undefined : this.languageOf(this.state)?.short;
             setText(find("told"), lost ? `The format is not that of ${lost} any more. Undo brings it back.` : "");
             if (!key || key !== this.key) this.past.push(this.state);
-            this.future = [];
-            this.key = key;
-            this.state = state;
+            [this.future, this.key, this.state] = [[], key, state];
         }
         this.show();
     }
@@ -264,7 +244,7 @@ class Page {
     showAnew() {
         this.show();
         this.showWord();
-        this.controls.fillAll();
+        for (const name of this.controls.inputs.keys()) this.controls.fill(name);
     }
 
     fragment() {
@@ -315,8 +295,7 @@ class Page {
         if (find("compare").selectedIndex < 0) lost.push(`compare=${parts.get("compare").slice(0, 40)}`);
         const isKept = history.state?.flat().every((it) => it.forms);
         [this.past, this.future] = isKept ? history.state : [this.state ? [...this.past, this.state] : [], []];
-        this.state = { ...state, numbers };
-        this.key = "";
+        [this.state, this.key] = [{ ...state, numbers }, ""];
         this.chooseTab(tab in TABS ? tab : "rust");
         this.showAnew();
         const told = `The page cannot read this of the link, and shows what is usual in its place: ${lost.join(", ")}.`;
@@ -355,13 +334,11 @@ class Page {
         this.shown = list.forms[this.state.at];
         const isKept = isRefused(find("word")) && this.wordTold === this.form.word;
         if (document.activeElement !== find("word") && !isKept) this.showWord();
-        find("undo").disabled = !this.past.length;
-        find("redo").disabled = !this.future.length;
+        [find("undo").disabled, find("redo").disabled] = [!this.past.length, !this.future.length];
         this.report.show(this.shown, list);
         this.controls.show(this.form);
         const { count, isGood, first } = this.trial.show(this.state, list);
-        setText(find("count"), count);
-        find("count").className = isGood ? "good" : "bad";
+        Object.assign(find("count"), { textContent: count, className: isGood ? "good" : "bad" });
         find("clear").disabled = !this.state.numbers;
         setText(find("first-error"), this.shown.problems[0]?.text ?? first);
         const { name, sentence, problems } = this.shown;

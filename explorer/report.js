@@ -1,12 +1,11 @@
-/* The report on a state: its reasons, with what ends them, its notes, and the comparison with another state, which is
- * hidden until it is asked for. */
+/* The report on a form: its reasons, with what ends them, its notes, and the comparison of the list with another one. */
 
 /* How many texts of a list are shown before it is opened. */
 const MOST_TEXTS = 6;
 
 class Report {
-    constructor(library, languages, { use, edit, go, saveLater }) {
-        Object.assign(this, { library, languages, use, edit, go });
+    constructor(library, languages, { use, edit, saveLater }) {
+        Object.assign(this, { library, languages, use, edit });
         find("compare").append(...choices([["", "nothing"]], languages));
         find("add").append(...choices([["", "Add a form"], ["copy", "a copy of this one"]], languages));
         find("compare").addEventListener("change", () => (this.compare(), saveLater()));
@@ -17,7 +16,7 @@ class Report {
         return fields.map((name) => {
             if (name === "reserved") return element("code", { "data-field": name }, "reserved bits");
             const title = OPTIONS.find((option) => option.name === name)?.title ?? name;
-            return button("link", title, () => this.go(name), { "data-field": name });
+            return button("link", title, () => find(name)?.focus(), { "data-field": name });
         });
     }
 

@@ -101,22 +101,16 @@ impl State {
 
     /// Returns how many of the lines are as expected.
     pub fn as_expected(self, lines: &[Line<'_>]) -> usize {
-        let syntax = self.syntax();
-        let is_accepted = |text| syntax.is_some_and(|it| self.reads(it, text).is_ok());
-        lines.iter().filter(|line| (line.is_read || is_accepted(line.text)) != line.is_refused).count()
+        lines.iter().filter(|line| (line.is_read || self.read(line.text).is_ok()) != line.is_refused).count()
     }
 
-    /// Returns why a text is neither a number of this syntax nor a special value.
-    fn reads(self, syntax: Syntax, text: &[u8]) -> Result<(), ReadError> {
+    /// Returns why a text is neither a number nor a special value, or no error if this is not a syntax.
+    pub fn read(self, text: &[u8]) -> Result<(), Option<ReadError>> {
+        let syntax = self.syntax().ok_or(None)?;
         match syntax.read(text) {
-            Err(error) if self.specials.read(&syntax, text).is_none() => Err(error),
+            Err(error) if self.specials.read(&syntax, text).is_none() => Err(Some(error)),
             _ => Ok(()),
         }
-    }
-
-    /// Returns the same, or no error if this is not a syntax.
-    pub fn read(self, text: &[u8]) -> Result<(), Option<ReadError>> {
-        self.syntax().map_or(Err(None), |it| self.reads(it, text).map_err(Some))
     }
 
     /// Returns the first of some states with which the most lines are as expected.

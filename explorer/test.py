@@ -121,6 +121,10 @@ BEYOND = """return [...document.querySelectorAll(".panel *, header *, .bar *, fo
         const [panel, box] = [it.closest(".panel, header, .bar, footer"), it].map((it) => it.getBoundingClientRect());
         return box.width && (box.left < panel.left - 1 || box.right > panel.right + 1);
     }).map((it) => it.outerHTML.slice(0, 99));"""
+# Returns the long texts that are squeezed into a few letters a line.
+NARROW = """return [...document.querySelectorAll("body :not(option)")].filter((it) => it.checkVisibility({ opacityProperty: true })
+        && [...it.childNodes].some((node) => node.nodeType === 3 && node.data.trim()) && it.textContent.trim().length > 20
+        && it.getBoundingClientRect().width < 50).map((it) => it.outerHTML.slice(0, 99));"""
 # Returns the parts of numbers in another colour than the dots of their fields, and what is good in red or bad in green.
 MISLEADING = """const colour = (it, name = "color") => getComputedStyle(it)[name];
     const dots = (it) => it.dataset.field.split(" ").map((name) => document.querySelector(`[data-field=${name}] .dot`));
@@ -386,6 +390,17 @@ class Walk(unittest.TestCase):
         Select(self.find("#language")).select_by_value("JSON")
         self.driver.back()
         self.wait(lambda: state() == both)
+
+    def test_a_change_leaves_nothing_to_be_done_again(self):
+        for step in (lambda: self.click("#no_special"), lambda: self.click("#read .use"), lambda: self.click("#standard"),
+                     lambda: self.type("#exponent", "d"), lambda: self.type("#literal", "1"), lambda: self.type("#word", MIXED + Keys.TAB),
+                     lambda: Select(self.find("#language")).select_by_value("C"), lambda: Select(self.find("#add")).select_by_value("C")):
+            self.load(f"#word={STANDARD}&exponent=112&numbers=0x1F")
+            self.click("#no_exponent_notation")
+            self.click("#undo")
+            self.assertTrue(self.find("#redo").is_enabled())
+            step()
+            self.assertFalse(self.find("#redo").is_enabled())
 
     def test_two_formats_are_compared(self):
         def shown():
@@ -808,7 +823,7 @@ class Walk(unittest.TestCase):
             self.emulate(width, 700, True)
             for link in self.links():
                 whole = self.run_script("return document.documentElement.scrollWidth")
-                self.assertEqual((self.run_script(BEYOND), whole), ([], width), link)
+                self.assertEqual((self.run_script(BEYOND), self.run_script(NARROW), whole), ([], [], width), link)
         self.load(f"#word={MIXED}")
         self.assertTrue(self.run_script("""const tops = ["#literal", "#read", "#code"].map((it) => find(it.slice(1)).getBoundingClientRect().top);
             return tops.every((it, index) => !index || tops[index - 1] < it);"""))
