@@ -1,5 +1,4 @@
-/* The code of a list, with its spellings of special values in quotes, and with numbers as a test. If nothing can be read, it
- * is the word, and says why. */
+/* The code of a list, with numbers as a test. If nothing can be read, it is the word, and says why. */
 
 /* Returns a byte as a character of Rust or C. */
 function character(byte, prefix) {

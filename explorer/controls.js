@@ -139,8 +139,7 @@ class Controls {
         }
     }
 
-    /* Shows a byte. Beside it are its name and its numbers, or the number that takes the place of an absent byte. A
-     * refused text stays until its byte changes. */
+    /* Shows a byte, its name and numbers, or what an absent one means. A refused text stays until its byte changes. */
     showByte(name, byte, effective) {
         const input = this.inputs.get(name);
         const { box, other, isNumber } = input;

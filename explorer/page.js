@@ -2,8 +2,7 @@
  * are. The fragment of the URL has it too, with the format to compare with and the tab of the code. */
 
 const TABS = { rust: "Rust", c: "C", python: "Python", settings: "Settings", grammar: "Grammar", regex: "Regex" };
-/* After how many milliseconds without an edit the fragment is written; the parts of a fragment; what is told without a
- * language; and the numbers of a page without a fragment. */
+/* The milliseconds before the fragment is written, its parts, what is told without a language, and the first numbers. */
 const PAUSE = 400;
 const LINK = ["word", "exponent", "point", "conditions", "forms", "language", "numbers", "compare", "tab"];
 const ABOUT = "Type numbers of your language or file: the page finds their format, and the code that reads them.";

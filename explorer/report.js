@@ -93,8 +93,7 @@ class Report {
     }
 }
 
-/* Returns the choices of a select for lists of forms: some of their own, the standard format, and the languages, each with the
- * first words of its comment, and with its forms if there are several. */
+/* Returns choices of a select: some of its own, the standard format, and the languages, each with its forms if several. */
 function choices(own, languages) {
     const all = languages.flatMap(({ name, about, forms }) => {
         const each = forms.map((form) => [`${name}:${form.name}`, `${name}: ${form.name}`]);
