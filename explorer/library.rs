@@ -212,7 +212,8 @@ pub extern "C" fn differ(length: usize) -> u64 {
     };
     let one_way = |first, second| {
         let texts = refused(first, second).into_iter();
-        list(texts.map(|(text, error)| format!(r#"{{"text":{},"error":{}}}"#, quoted(utf8(&text)), quoted(error.full_text().as_str()))))
+        let texts = texts.map(|(text, error)| (quoted(utf8(&text)), quoted(error.full_text().as_str())));
+        list(texts.map(|(text, error)| format!(r#"{{"text":{text},"error":{error}}}"#)))
     };
     let others = list(other_value(&first, &second).into_iter().map(|(text, [here, there])| {
         format!(r#"{{"text":{},"here":{{{}}},"there":{{{}}}}}"#, quoted(utf8(&text)), value(here), value(there))

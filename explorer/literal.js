@@ -176,10 +176,11 @@ class Trial {
         const click = (change) => () => (change(), (find("read").querySelector(".use") ?? find("literal")).focus());
         const use = click(() => this.put(stateOf(offer), "", answer.form));
         const add = click(() => this.add([{ ...stateOf(offer), name: "" }]));
-        const isLoss = !answer.isRefused && expected <= this.answers.filter(({ isExpected }) => isExpected).length;
+        const isBetter = expected > this.answers.filter((it) => it.isExpected).length;
+        const isOther = !answer.isRefused && (!isBetter || changes.some(({ name }) => name === "mantissa_radix"));
         const [names, meanings] = ["name", "meaning"].map((key) => changes.map((it) => it[key]));
         const attributes = { "data-field": names.join(" "), title: meanings.join("; ") };
-        return element("li", {}, button("use", label, use, attributes), then, isLoss ? button("use", "or add this form", add) : "");
+        return element("li", {}, button("use", label, use, attributes), then, isOther ? button("use", "or add this form", add) : "");
     }
 
     /* Returns what must be replaced in a number, with a button that does. */

@@ -875,9 +875,33 @@ class Walk(unittest.TestCase):
             stars = ["all" in it.get_attribute("class") for it in row.find_elements(By.CSS_SELECTOR, "button")]
             self.assertEqual(stars, sorted(stars, reverse=True))
         self.assertIn("31, hexadecimal:", self.text(".readers"))
-        self.click(".readers button", "★Ruby" if False else self.texts(".readers .all")[0])
+        self.click(".readers button", self.texts(".readers .all")[0])
         self.assertEqual((self.text("#count"), self.value("#literal")), ("3 of 3 as expected", "0x1F\n1_0\n!010"))
         self.assertEqual(self.text("#forms [aria-pressed=true]"), "hexadecimal")
+
+    def test_each_language_is_below_what_it_reads(self):
+        """Each is behind its value and its form, and leads to that form. Those with a star read all, and are counted."""
+        wrong = self.run_script("""const { languages } = page.data;
+            const numbers = ["010", "0x1F", "1_0", "NaN", "1e5"];
+            page.change({ numbers: numbers.join("\\n") });
+            const nodes = [...document.querySelectorAll(".readers")];
+            page.trial.showReaders(nodes);
+            return nodes.flatMap((node, index) => {
+                let title = "";
+                const shown = [...node.children].slice(1).flatMap((it) => {
+                    if (it.tagName === "SPAN") title = it.textContent;
+                    return it.tagName === "SPAN" ? [] : [`${title} ${it.textContent} ${it.matches(".all")}`];
+                });
+                const reads = (list, text) => page.library.numbers(list, text)[0];
+                const told = languages.map((list) => [list, reads(list, numbers[index])]).filter(([, it]) => !it.error).map(([list, it]) => {
+                    const form = it.parts.some(({ kind }) => kind === "special") ? "special value" : list.forms[it.form].name;
+                    return `${valueText(it)}, ${form}: ${list.short} ${numbers.every((text) => !reads(list, text).error)}`;
+                });
+                const count = `Read by ${told.length || "none"} of ${languages.length} languages`;
+                return [...shown.filter((it) => !told.includes(it)), ...told.filter((it) => !shown.includes(it)),
+                    ...(node.firstChild.textContent.startsWith(count) ? [] : [count])];
+            });""")
+        self.assertEqual(wrong, [])
 
     def test_what_no_format_has_is_replaced(self):
         rows = {"1\u2019000": "1'000", "1\u00a0000": "1 000", "1\u202f000": "1 000", "\u22125": "-5", "12 %": "12", "\u20ac5": "5",
