@@ -115,7 +115,7 @@ fn an_error_states_its_cause() {
 #[cfg(target_pointer_width = "64")]
 fn values_are_small() {
     let sizes = [size_of::<Syntax>(), size_of::<Literal>(), size_of::<ReadError>(), size_of::<FormError>()];
-    assert!(sizes.into_iter().zip([32, 160, 96, 128]).all(|(size, most)| size <= most), "{sizes:?}");
+    assert!(sizes.into_iter().zip([32, 160, 80, 112]).all(|(size, most)| size <= most), "{sizes:?}");
 }
 
 /// Returns the name of a type, and an error that has it.

@@ -93,6 +93,7 @@ REPLACED = [
     ("syntax.rt", "pub const fn options(&self)", "pub(crate) const fn options(&self)"),
     ("cause.rt", "pub const fn span(&self)", "#[doc(hidden)] pub const fn bounds(&self)"),
     ("syntax.rt", "pub(crate) const fn grammar(&self)", "pub(crate) const fn as_grammar(&self)"),
+    ("cause.rt", "const fn grammar(self)", "const fn as_grammar(self)"),
 ]
 
 # Files in which each function is const in plain Rust. Rattle's `split_at` is not, nor is what calls it.

@@ -1,6 +1,6 @@
 -- Several forms: what has been found in the first of them, and what one form more adds.
 use Rattle.std.proofs.Common.{ℕ, ◌≡◌, ◌*◌, Bool, true, false, if◌then◌else◌, ◌<◌, ◌≤◌, ◌+◌, List, Ok, Option, Some, None, All, IsSomeAnd}
-use Rattle.std.proofs.Common.{length, take, get_or, slice_get, IsNone, refl, sym, subst, arith}
+use Rattle.std.proofs.Common.{[], ◌∷◌, length, take, get_or, slice_get, IsNone, refl, sym, subst, arith}
 use Rattle.std.specs.Option.{ForSome}
 use Rattle.std.proofs.lemmas.Bool.Decides.{nat_tests}
 use Rattle.std.proofs.lemmas.Bool.{false≢true}
@@ -27,10 +27,10 @@ use Rattle.std.proofs.lemmas.Grind.{common_steps}
 some_of : {X : Type 0} (P : X → Type 0) (o : Option X) → IsSomeAnd o P → (x : X) × (o ≡ Some x) × P x
 some_of P x1 holds = grind arith
 
--- The form at an index, where a list of readers has the reader `g`.
-pub form_at : (P : Form → Type 0) (forms readers : List Form) (g : Form) (i : ℕ) → readers ≡ forms → g ≡ get_or readers i g
-    → IsSomeAnd (slice_get forms i) P → (slice_get forms i ≡ Some g) × P g
-form_at P forms readers g i same is holds = grind (arith, slice_get_within, slice_get-get_or)
+-- The form at an index, of a list that is the same.
+pub form_at : (P : Form → Type 0) (forms list : List Form) (g : Form) (i : ℕ) → list ≡ forms
+    → IsSomeAnd (slice_get forms i) P → (slice_get forms i ≡ Some (get_or list i g)) × P (get_or list i g)
+form_at P forms list g i same holds = grind (arith, slice_get_within, slice_get-get_or)
 
 -- What holds of all forms holds of the form at an index.
 pub all_at : (P : Form → Type 0) (forms : List Form) (i : ℕ) (g : Form) → slice_get forms i ≡ Some g → All P forms → P g
@@ -45,9 +45,9 @@ inside_at P forms i holds = let here = some_of P (slice_get forms i) holds in sl
 here_at : (P : Form → Type 0) (forms : List Form) (i : ℕ) (d : Form) → IsSomeAnd (slice_get forms i) P → P (get_or forms i d)
 here_at P forms i d holds = grind (arith, common_steps, some_of, slice_get-get_or, slice_get_within)
 
-pub at_index : (P : Form → Type 0) (forms readers : List Form) (g : Form) (i : ℕ) → readers ≡ forms → g ≡ get_or readers i g → i < length readers → P g
+pub at_index : (P : Form → Type 0) (forms list : List Form) (g : Form) (i : ℕ) → list ≡ forms → i < length list → P (get_or list i g)
     → IsSomeAnd (slice_get forms i) P
-at_index P forms readers g i same is inside holds = grind (arith, common_steps, slice_get-get_or)
+at_index P forms list g i same inside holds = grind (arith, common_steps, slice_get-get_or)
 
 -- A text has one longest front that some literal begins with, and one that is a literal.
 pub one_size : (m : Notation) (text : List ℕ) (a b : ℕ) → IsValidUpTo m text a → IsValidUpTo m text b → a ≤ b
@@ -161,6 +161,7 @@ module _ (forms : List Form) (text : List ℕ) (i : ℕ) (end : length forms ≤
   pub furthest_is : 0 < length forms → (furthest : Option (ℕ × At)) → IsBest (goes text) forms i furthest → IsFurthestForm forms text furthest
   furthest_is some None is = none_of forms some (subst (All (λ g. ⊥)) (take_all i forms end) is) where
     none_of : (forms : List Form) → 0 < length forms → All (λ g. ⊥) forms → ⊥
+    none_of [] some all = omega (arith, some)
     none_of (form ∷ forms) some all = all 0 form some
   furthest_is some (Some best) is = (greatest (goes text) forms i end best.0 best.1 is, is.here)
 
@@ -178,21 +179,13 @@ module _ (forms : List Form) (text : List ℕ) (first size : ℕ) (furthest : Is
   IsNoBetter g = (n : ℕ) → Reaches text g n → n ≤ 2 * size
 
   pub none_before : All IsNoBetter (take first forms)
-  none_before k d below n reaches = let less = reach_below _ text size (furthest.before k d below) n reaches in omega (arith, less)
+  none_before k d below n reaches = let less = reach_below (get_or (take first forms) k d) text size (furthest.before k d below) n reaches in omega (arith, less)
 
   one_more : (form : ℕ) → IsSomeAnd (slice_get forms form) IsNoBetter → All IsNoBetter (take form forms) → All IsNoBetter (take (form + 1) forms)
   one_more form is before = let here = some_of IsNoBetter (slice_get forms form) is in
       All-more IsNoBetter forms form here.0 (slice_get_within forms form here.0 here.1) before (here_at IsNoBetter forms form here.0 is)
 
-  -- A form that goes up to `size`, where a byte is wrong, and one that goes elsewhere.
-  pub wrong_byte : (form : ℕ) (error : FormError) → IsSomeAnd (slice_get forms form) (IsErrorOfForm text error)
-      → IsSomeAnd (slice_get forms form) (λ g. GoesTo text g size) → is_byte error.error.refusal.kind ≡ true → All IsNoBetter (take form forms)
-      → All IsNoBetter (take (form + 1) forms)
-  wrong_byte form error is valid byte = one_more form (go (slice_get forms form) is valid) where
-    go : (o : Option Form) → IsSomeAnd o (IsErrorOfForm text error) → IsSomeAnd o (λ g. GoesTo text g size) → IsSomeAnd o IsNoBetter
-    go None is valid = is
-    go (Some g) is valid = λ n reaches. omega (arith, reach_of g text error.error.refusal size true is.refusal valid byte n reaches)
-
+  -- A form that goes elsewhere.
   pub elsewhere : (form other : ℕ) → IsSomeAnd (slice_get forms form) (λ g. GoesTo text g other) → (other ≡ size → ⊥) → All IsNoBetter (take form forms)
       → All IsNoBetter (take (form + 1) forms)
   elsewhere form other valid apart = one_more form (go (slice_get forms form) refl valid) where
@@ -205,24 +198,40 @@ module _ (forms : List Form) (text : List ℕ) (first size : ℕ) (furthest : Is
         omega (arith, less)
 
   -- The error of a form that goes up to `size`.
-  module _ (error : FormError) (is : IsSomeAnd (slice_get forms error.form) (IsErrorOfForm text error))
-      (valid : IsSomeAnd (slice_get forms error.form) (λ g. GoesTo text g size)) where
+  module _ (form : ℕ) (error : FormError) (same : error.form ≡ form) (is : IsSomeAnd (slice_get forms error.form) (IsErrorOfForm text error))
+      (valid : IsSomeAnd (slice_get forms form) (λ g. GoesTo text g size)) where
     reach_is : (b : Bool) → is_byte error.error.refusal.kind ≡ b → reach error.error.refusal ≡ 2 * size + (if b then 0 else 1)
     reach_is b byte = let here = some_of (IsErrorOfForm text error) (slice_get forms error.form) is in
-        reach_of here.0 text error.error.refusal size b here.2.refusal (subst (λ o. IsSomeAnd o (λ g. GoesTo text g size)) here.1 valid) byte _
+        let goes = subst (λ k. IsSomeAnd (slice_get forms k) (λ g. GoesTo text g size)) (sym same) valid in
+        reach_of here.0 text error.error.refusal size b here.2.refusal (subst (λ o. IsSomeAnd o (λ g. GoesTo text g size)) here.1 goes) byte _
         (error.error.refusal, here.2.refusal, refl)
 
-    error_from : All (λ g. (n : ℕ) → Reaches text g n → n < reach error.error.refusal) (take error.form forms)
+    error_from : All (λ g. (n : ℕ) → Reaches text g n → n < reach error.error.refusal) (take form forms)
         → All (λ g. (n : ℕ) → Reaches text g n → n ≤ reach error.error.refusal) forms → IsFormError forms text error
-    error_from before others = grind arith
+    error_from before others = record {
+      furthest = record {
+        here = let here = some_of (IsErrorOfForm text error) (slice_get forms error.form) is in
+            subst (λ o. IsSomeAnd o (λ g. Reaches text g (reach error.error.refusal))) (sym here.1) (error.error.refusal, here.2.refusal, refl);
+        before = subst (λ k. All (λ g. (n : ℕ) → Reaches text g n → n < reach error.error.refusal) (take k forms)) (sym same) before;
+        others = others;
+      };
+      refusal = is;
+    }
 
-    pub other_error : is_byte error.error.refusal.kind ≡ false → All IsNoBetter (take error.form forms) → IsFormError forms text error
+    pub other_error : is_byte error.error.refusal.kind ≡ false → All IsNoBetter (take form forms) → IsFormError forms text error
     other_error right before = let size_is = reach_is false right in error_from
         (λ k d below n reaches. let less = before k d below n reaches in omega (arith, less, size_is))
-        (λ k d below n reaches. let less = reach_up_to _ text size (furthest.others k d below) n reaches in omega (arith, less, size_is))
+        (λ k d below n reaches. let less = reach_up_to (get_or forms k d) text size (furthest.others k d below) n reaches in omega (arith, less, size_is))
 
-    pub first_error : error.form ≡ first → is_byte error.error.refusal.kind ≡ true → All IsNoBetter forms → IsFormError forms text error
-    first_error same byte others = let size_is = reach_is true byte in error_from
-        (subst (λ k. All (λ g. (n : ℕ) → Reaches text g n → n < reach error.error.refusal) (take k forms)) (sym same)
-        (λ k d below n reaches. let less = reach_below _ text size (furthest.before k d below) n reaches in omega (arith, less, size_is)))
+    pub first_error : form ≡ first → is_byte error.error.refusal.kind ≡ true → All IsNoBetter forms → IsFormError forms text error
+    first_error is_first byte others = let size_is = reach_is true byte in error_from
+        (subst (λ k. All (λ g. (n : ℕ) → Reaches text g n → n < reach error.error.refusal) (take k forms)) (sym is_first)
+        (λ k d below n reaches. let less = reach_below (get_or (take first forms) k d) text size (furthest.before k d below) n reaches in omega (arith, less, size_is)))
         (λ k d below n reaches. let less = others k d below n reaches in omega (arith, less, size_is))
+
+    -- Its cause is a wrong byte.
+    pub wrong_byte : is_byte error.error.refusal.kind ≡ true → All IsNoBetter (take form forms) → All IsNoBetter (take (form + 1) forms)
+    wrong_byte byte = one_more form (go (slice_get forms form) (subst (λ k. IsSomeAnd (slice_get forms k) (IsErrorOfForm text error)) same is) valid) where
+      go : (o : Option Form) → IsSomeAnd o (IsErrorOfForm text error) → IsSomeAnd o (λ g. GoesTo text g size) → IsSomeAnd o IsNoBetter
+      go None is valid = is
+      go (Some g) is valid = λ n reaches. omega (arith, reach_of g text error.error.refusal size true is.refusal valid byte n reaches)

@@ -17,6 +17,7 @@ use Rattle.lexical_literal.specs.declared.list.FormError.{FormError}
 use Rattle.lexical_literal.specs.declared.list.Number.{Number}
 use Rattle.lexical_literal.specs.declared.list.Number.TheVariants as numbers
 use Rattle.lexical_literal.specs.declared.specials.Special.{Special}
+use Rattle.lexical_literal.specs.declared.specials.Specials.{Specials}
 
 -- `ReadsForm text read form` holds if `text` is the literal `read` of `form`.
 abbrev pub ReadsForm : List ℕ → Read → Form → Type 0
@@ -57,7 +58,7 @@ HasFront text form size = (l : Literal) × ReadsFront (notation_of form.syntax) 
 
 -- `IsErrorOfForm text error form` holds if `error` has the name of `form`, and says why `text` is not a literal of it.
 pub record IsErrorOfForm (text : List ℕ) (error : FormError) (form : Form) : Type 0 where
-  pub name : error.name ≡ form.name
+  pub name : error.name.now ≡ form.name.now
   pub refusal : IsRefusal (notation_of form.syntax) text error.error.refusal
 
 -- `IsFormError forms text error` holds if `error` is that of the form that goes furthest in `text`. Of several, it is the first
@@ -66,12 +67,14 @@ pub record IsFormError (forms : List Form) (text : List ℕ) (error : FormError)
   pub furthest : IsGreatest (Reaches text) forms error.form (reach error.error.refusal)
   pub refusal : IsSomeAnd (slice_get forms error.form) (IsErrorOfForm text error)
 
--- `special_by list text` is the special value that `text` is by the flags and conditions of the first form, or `None`.
+-- `special_in specials text form` is the special value that `text` is by the flags and conditions of `form`, or `None`, and
+-- `special_by list text` is that of the first form.
+abbrev pub special_in : Specials → List ℕ → Option Form → Option Special
+special_in specials text None = None
+special_in specials text (Some form) = special_of (notation_of form.syntax) specials text
+
 abbrev pub special_by : FormList → List ℕ → Option Special
-special_by list text = go (slice_get list.forms 0) where
-  abbrev go : Option Form → Option Special
-  go None = None
-  go (Some first) = special_of (notation_of first.syntax) list.specials text
+special_by list text = special_in list.specials text (slice_get list.forms 0)
 
 -- `IsNumber list text number` holds if `number` is the literal `text` of the first form that has it, and the index of this form, or
 -- the special value `text`, if `text` is a literal of no form.

@@ -27,7 +27,7 @@ impl Form {
     /// Returns the form with a name, which may be empty, and a syntax.
     #[must_use]
     pub const fn new(name: &'static str, syntax: Syntax) -> Form
-        ensures name { result.name ≡ name }
+        ensures name { result.name.now ≡ name.now }
         ensures syntax { result.syntax ≡ syntax }
     {
         Form { name, syntax }
@@ -36,7 +36,7 @@ impl Form {
     /// Returns the name.
     #[must_use]
     pub const fn name(&self) -> &'static str
-        ensures { result ≡ self.now.name }
+        ensures { result.now ≡ self.now.name.now }
     {
         self.name
     }
@@ -118,7 +118,7 @@ impl<'a> Forms<'a> {
     /// Returns the same forms with these special values. The format of the first form decides what flags say of them.
     #[must_use]
     pub const fn with_specials(self, specials: Specials<'a>) -> Forms<'a>
-        ensures { result ≡ record self { specials = specials } }
+        ensures { result ≡ record self.entry { specials = specials.entry } }
     {
         Forms {
             forms: self.forms,
@@ -267,15 +267,15 @@ impl<'a> Forms<'a> {
         requires stopped { IsSomeAnd (slice_get self.now.forms form) (λ form. IsStopped (notation_of form.syntax) text.now stop) }
         requires none { All (λ form. NoLiteral (notation_of form.syntax) text.now) self.now.forms }
         ensures index { result.form ≡ form }
-        ensures error { IsSomeAnd (slice_get self.now.forms form) (IsErrorOfForm text.now result) }
+        ensures error { IsSomeAnd (slice_get self.now.forms result.form) (IsErrorOfForm text.now result) }
     {
-        let forms = self.as_slice();
-        let Err(error) = forms[form].syntax.refuse::<()>(text, stop) else {
+        let it = &self.as_slice()[form];
+        let Err(error) = it.syntax.refuse::<()>(text, stop) else {
             unreachable!()
         };
         FormError {
             form,
-            name: forms[form].name,
+            name: it.name,
             error,
         }
     }

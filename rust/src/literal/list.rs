@@ -205,9 +205,9 @@ impl<'a> Forms<'a> {
     // Returns why `text` is not a literal of the form with the index `form`, which stops at `stop`.
     #[inline(always)]
     const fn error_at(&self, text: &[u8], form: usize, stop: At) -> FormError {
-        let forms = self.as_slice();
-        let Err(error) = forms[form].syntax.refuse::<()>(text, stop) else { unreachable!() };
-        FormError { form, name: forms[form].name, error }
+        let it = &self.as_slice()[form];
+        let Err(error) = it.syntax.refuse::<()>(text, stop) else { unreachable!() };
+        FormError { form, name: it.name, error }
     }
 }
 

@@ -126,7 +126,7 @@ impl Refusal {
 impl ReadError {
     /// Returns the sentence for a condition.
     const fn unmet(&self, condition: Condition) -> ShortText {
-        let Grammar { word, conditions, .. } = self.spot.grammar;
+        let Grammar { word, conditions, .. } = self.spot.as_grammar();
         let groups = ShortText::of("expected groups of ");
         match condition {
             Condition::BasePrefix => shown(ShortText::of("expected the prefix 0"), base_prefix(word)),

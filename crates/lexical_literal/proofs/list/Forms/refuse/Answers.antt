@@ -8,15 +8,15 @@ use Rattle.lexical_literal.proofs.list.Forms.refuse.Goals.{then-reached-stop+els
 
 pub returns-then-not-is_byte : goal.returns-then-not-is_byte
 returns-then-not-is_byte c =
-    let a = subst (IsFurthestForm c.args.self.now c.args.text.now) c.in-Some.is c.requires.furthest in
-    other_error c.args.self.now c.args.text.now c.in-Some.first c.in-Some.stop.size a.0 c.in-Some.first c.error_at-error.result c.error_at-error.ensures
-    a.0.here (sym c.if-not-is_byte.ensures) (none_before c.args.self.now c.args.text.now c.in-Some.first c.in-Some.stop.size a.0)
+    let a = subst (IsFurthestForm c.args.self.now.forms c.args.text.now) c.in-Some.is c.requires.furthest in
+    other_error c.args.self.now.forms c.args.text.now c.in-Some.first c.in-Some.stop.size a.0 c.in-Some.first c.error_at-error.result c.error_at-error.ensures.index c.error_at-error.ensures.error a.0.here
+    (sym c.if-not-is_byte.ensures) (none_before c.args.self.now.forms c.args.text.now c.in-Some.first c.in-Some.stop.size a.0)
 
 pub loop-form-init : goal.loop-form-init
 loop-form-init c =
-    let a = subst (IsFurthestForm c.args.self.now c.args.text.now) c.in-Some.is c.requires.furthest in
-    wrong_byte c.args.self.now c.args.text.now c.in-Some.first c.in-Some.stop.size a.0 c.in-Some.first c.error_at-error.result.refusal
-    c.error_at-error.ensures a.0.here (sym c.if-not-is_byte.ensures) (none_before c.args.self.now c.args.text.now c.in-Some.first c.in-Some.stop.size a.0)
+    let a = subst (IsFurthestForm c.args.self.now.forms c.args.text.now) c.in-Some.is c.requires.furthest in
+    wrong_byte c.args.self.now.forms c.args.text.now c.in-Some.first c.in-Some.stop.size a.0 c.in-Some.first c.error_at-error.result c.error_at-error.ensures.index c.error_at-error.ensures.error a.0.here
+    (sym c.if-not-is_byte.ensures) (none_before c.args.self.now.forms c.args.text.now c.in-Some.first c.in-Some.stop.size a.0)
 
 pub overflow_add-form : goal.overflow_add-form
 overflow_add-form c = grind (arith, inside_at)
@@ -26,33 +26,39 @@ error_at-other-requires-clause-stopped c = grind (arith, at_index)
 
 pub loop-form-preserved : goal.loop-form-preserved
 loop-form-preserved c =
-    let a = subst (IsFurthestForm c.args.self.now c.args.text.now) c.in-Some.is c.requires.furthest in
-    let goes = at_index (λ g. GoesTo c.args.text.now g c.walk-reached.result.size) c.args.self.now c.syntaxes-syntaxes.result.now
-    c.index-syntaxes-form.result c.loop-form.form c.syntaxes-syntaxes.ensures.list c.index-syntaxes-form.is c.loop-form-test.true
+    let a = subst (IsFurthestForm c.args.self.now.forms c.args.text.now) c.in-Some.is c.requires.furthest in
+    let forms = c.args.self.now.forms in
+    let text = c.args.text.now in
+    let form = c.loop-form.form in
+    let goes = at_index (λ g. GoesTo text g c.walk-reached.result.size) forms c.as_slice-forms.result.now
+    c.index-forms-form.result form c.as_slice-forms.ensures.list c.loop-form-test.true
     c.walk-reached.ensures.valid in
     elim c.if-reached-stop.branch [
       | then-reached-stop+else-not-is_byte-2 w ↦
-          wrong_byte c.args.self.now c.args.text.now c.in-Some.first c.in-Some.stop.size a.0 c.loop-form.form w.error_at-other.result.refusal
-          w.error_at-other.ensures (subst (λ n. IsSomeAnd (slice_get c.args.self.now c.loop-form.form) (λ g. GoesTo c.args.text.now g n))
-          w.if-reached-stop.true goes) (sym w.if-not-is_byte-2.ensures) c.loop-form.invariant
-      | else-reached-stop w ↦ elsewhere c.args.self.now c.args.text.now c.in-Some.first c.in-Some.stop.size a.0 c.loop-form.form
+          wrong_byte c.args.self.now.forms c.args.text.now c.in-Some.first c.in-Some.stop.size a.0 form w.error_at-other.result w.error_at-other.ensures.index w.error_at-other.ensures.error
+          (subst (λ n. IsSomeAnd (slice_get forms form) (λ g. GoesTo text g n)) w.if-reached-stop.true goes) (sym w.if-not-is_byte-2.ensures)
+          c.loop-form.invariant
+      | else-reached-stop w ↦ elsewhere c.args.self.now.forms c.args.text.now c.in-Some.first c.in-Some.stop.size a.0 form
           c.walk-reached.result.size goes w.if-reached-stop.false c.loop-form.invariant
     ]
 
 pub returns-then-not-is_byte-2 : goal.returns-then-not-is_byte-2
 returns-then-not-is_byte-2 c =
-    let a = subst (IsFurthestForm c.args.self.now c.args.text.now) c.in-Some.is c.requires.furthest in
-    let goes = at_index (λ g. GoesTo c.args.text.now g c.walk-reached.result.size) c.args.self.now c.syntaxes-syntaxes.result.now
-    c.index-syntaxes-form.result c.loop-form.form c.syntaxes-syntaxes.ensures.list c.index-syntaxes-form.is c.loop-form-test.true
+    let a = subst (IsFurthestForm c.args.self.now.forms c.args.text.now) c.in-Some.is c.requires.furthest in
+    let forms = c.args.self.now.forms in
+    let text = c.args.text.now in
+    let form = c.loop-form.form in
+    let goes = at_index (λ g. GoesTo text g c.walk-reached.result.size) forms c.as_slice-forms.result.now
+    c.index-forms-form.result form c.as_slice-forms.ensures.list c.loop-form-test.true
     c.walk-reached.ensures.valid in
-    other_error c.args.self.now c.args.text.now c.in-Some.first c.in-Some.stop.size a.0 c.loop-form.form c.error_at-other.result c.error_at-other.ensures
-    (subst (λ n. IsSomeAnd (slice_get c.args.self.now c.loop-form.form) (λ g. GoesTo c.args.text.now g n)) c.if-reached-stop.true goes)
+    other_error c.args.self.now.forms c.args.text.now c.in-Some.first c.in-Some.stop.size a.0 form c.error_at-other.result c.error_at-other.ensures.index c.error_at-other.ensures.error
+    (subst (λ n. IsSomeAnd (slice_get forms form) (λ g. GoesTo text g n)) c.if-reached-stop.true goes)
     (sym c.if-not-is_byte-2.ensures) c.loop-form.invariant
 
 pub returns : goal.returns
 returns c =
-    let a = subst (IsFurthestForm c.args.self.now c.args.text.now) c.in-Some.is c.requires.furthest in
-    first_error c.args.self.now c.args.text.now c.in-Some.first c.in-Some.stop.size a.0 c.in-Some.first c.error_at-error.result c.error_at-error.ensures
-    a.0.here refl (sym c.if-not-is_byte.ensures)
-    (subst (All (IsNoBetter c.args.self.now c.args.text.now c.in-Some.first c.in-Some.stop.size a.0))
-    (take_all c.loop-form.form c.args.self.now (rw (← c.syntaxes-syntaxes.ensures.list) c.loop-form-test.false)) c.loop-form.invariant)
+    let a = subst (IsFurthestForm c.args.self.now.forms c.args.text.now) c.in-Some.is c.requires.furthest in
+    first_error c.args.self.now.forms c.args.text.now c.in-Some.first c.in-Some.stop.size a.0 c.in-Some.first c.error_at-error.result c.error_at-error.ensures.index c.error_at-error.ensures.error a.0.here
+    refl (sym c.if-not-is_byte.ensures)
+    (subst (All (IsNoBetter c.args.self.now.forms c.args.text.now c.in-Some.first c.in-Some.stop.size a.0))
+    (take_all c.loop-form.form c.args.self.now.forms (rw (← c.as_slice-forms.ensures.list) c.loop-form-test.false)) c.loop-form.invariant)

@@ -3,7 +3,7 @@ use Rattle.lexical_literal.specs.Forms.{Reaches}
 use Rattle.lexical_literal.proofs.list.Forms.refuse.Given as goal
 
 abbrev pub invariant-loop-form : goal.invariant-loop-form
-invariant-loop-form l = All (λ g. (n : ℕ) → Reaches l.text g n → n ≤ 2 * l.stop.size) (take l.form l.self)
+invariant-loop-form l = All (λ g. (n : ℕ) → Reaches l.text g n → n ≤ 2 * l.stop.size) (take l.form l.self.forms)
 
 abbrev pub decreases-loop-form : goal.decreases-loop-form
-decreases-loop-form l = length l.self - l.form
+decreases-loop-form l = length l.self.forms - l.form
