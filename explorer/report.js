@@ -43,8 +43,7 @@ class Report {
         return { specials, forms: forms.filter(({ name }) => !form || name === form) };
     }
 
-    /* Shows texts that tell the list apart from the standard format or from a language, and each field and option in which
-     * the form differs, with a button that takes it from the other one. */
+    /* Shows texts that tell the list from a chosen one, and each field in which the form differs, with a button for it. */
     compare() {
         const [{ value = "", textContent } = {}] = find("compare").selectedOptions;
         find("comparison").hidden = !value;
