@@ -341,8 +341,8 @@ class Page {
         find("clear").disabled = !this.state.numbers;
         setText(find("first-error"), this.shown.problems[0]?.text ?? first);
         const { name, sentence, problems } = this.shown;
-        const told = `Numbers${name && ` of the form ${name}`} are ${sentence}.`;
-        find("sentence").replaceChildren(...withCode(sentence ? told : ""));
+        const told = [name ? `${name}: ` : "Numbers are ", ...withCode(`${sentence}.`)];
+        find("sentence").replaceChildren(...(sentence ? told : []));
         const blamed = problems.flatMap(({ fields }) => fields);
         this.blame(new Set(blamed), new Set(this.library.differences(this.form).map((it) => it.name)));
         this.showCode();
