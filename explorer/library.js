@@ -116,12 +116,12 @@ class Library {
      * alone, and the conditions as settings; a colon; and the name. What is none of these is put into `lost`. */
     form(text, lost = []) {
         const [, syntax, name] = /^([^:]*):?([^]*)$/.exec(text);
-        const [settings, [word = "", exponent = "0", point = "0"]] = [true, false].map((isSetting) => {
+        const [settings, [word = "", exponent = "0", point = "0", ...others]] = [true, false].map((isSetting) => {
             return syntax.split(" ").filter((it) => it.includes("=") === isSetting);
         });
         const found = { word: this.read(word).word, exponent: this.byte(exponent), point: this.byte(point) };
-        if (Object.values(found).includes(undefined)) return void lost.push(text.slice(0, 40));
-        return { ...found, conditions: this.withConditions(0n, settings.join(" "), lost), name };
+        if (Object.values(found).includes(undefined)) return void lost.push(`forms=${text.slice(0, 40)}`);
+        return { ...found, conditions: this.withConditions(0n, [...settings, ...others].join(" "), lost), name };
     }
 
     /* Returns the text of a form. */

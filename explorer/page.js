@@ -173,7 +173,7 @@ class Page {
             const attributes = { "aria-pressed": String(index === at) };
             return button(problems.length ? "form bad" : "form", name, () => this.jump({ at: index }), attributes);
         }));
-        if (document.activeElement !== find("form-name")) find("form-name").value = forms[at].name;
+        if (find("form-name").value !== forms[at].name) find("form-name").value = forms[at].name;
         [find("earlier").disabled, find("later").disabled] = [at === 0, at === forms.length - 1];
         return { forms: all, specials: origin?.specials };
     }

@@ -512,9 +512,24 @@ class Walk(unittest.TestCase):
             self.type("#form-name", 'x"\\')
             names = ['x"\\' if it == name else it for it in words]
             self.assertEqual(self.texts("#forms button"), names)
+            self.find("#form-name").send_keys(Keys.CONTROL, "z")
+            self.assertEqual((self.texts("#forms button"), self.value("#form-name")), ([*words], name))
             self.click("#no_special")
             before, after = self.run_script("return [page.past.at(-1), page.state].map(({ forms }) => forms.map((it) => wordText(it.word)))")
             self.assertEqual([it for it, old, new in zip(words, before, after) if old != new], [name])
+
+    def test_an_unlawful_form_is_told_wherever_it_is(self):
+        for shown in (0, 1):
+            for at in (0, 1):
+                words = [STANDARD, STANDARD]
+                words[at] = "0x000010006200005F00000000000000CC"
+                lines = [f":{name}" if index == shown else f"{words[index]} 101 46 :{name}" for index, name in enumerate("ab")]
+                self.load(f"#word={words[shown]}&numbers=1&forms=" + "%0A".join(lines))
+                self.assertEqual((self.text("#verdict")[:9], self.texts("#forms .bad")), ("Not valid", ["ab"[at]]))
+                self.assertIn("Nothing can be read", self.text("#code"))
+                self.assertIn("not read", self.text("#read"))
+                self.click("#verdict")
+                self.assertEqual((self.text("#forms [aria-pressed=true]"), self.focused()), ("ab"[at], "report-title"))
 
     def test_forms_are_added(self):
         """Each choice adds the forms that it names behind the last one."""
@@ -732,6 +747,8 @@ class Walk(unittest.TestCase):
             wanted = re.sub("conditions=|forms=(:a%0A)?|(?<=unknown)=1", "", part[:30])
             self.assertIn(wanted, self.text("#told"))
             self.assertEqual((self.value(), self.value("#exponent"), self.value("#point")), (STANDARD, "e", "."))
+        self.load("#forms=0xC 101 46 integer_group_size=9 other:b")
+        self.assertIn(": integer_group_size=9, other.", self.text("#told"))
         self.click("#no_special")
         self.assertEqual(self.text("#told"), "")
 
