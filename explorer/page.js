@@ -7,7 +7,8 @@ const PAUSE = 400;
 const LINK = ["word", "exponent", "point", "conditions", "forms", "language", "numbers", "compare", "tab"];
 const ABOUT = "Type numbers of your language or file: the page finds their format, and the code that reads them.";
 const EXAMPLE = "1_000.5\n0x1F\n-2e-3\n!1__0";
-/* What is told of a link that is copied from a file, which others cannot open. */
+/* The names of forms without one, by their radix, and what is told of a link from a file, which others cannot open. */
+const RADIXES = { 2: "binary", 8: "octal", 10: "decimal", 16: "hexadecimal" };
 const OF_FILE = "Copied from # on: paste it behind the address of the page.";
 /* How many steps are kept for a page that is loaded again, and how long the numbers of each may be. */
 const [MOST_STEPS, MOST_KEPT] = [100, 2000];
@@ -166,14 +167,15 @@ class Page {
         const changed = origin ? `These forms are from ${origin.short}, and have its spellings of NaN and infinity.` : ABOUT;
         find("about").replaceChildren(...withCode(language?.about ?? changed));
         find("forms").hidden = find("tools").hidden = forms.length === 1;
-        const names = forms.map((form, index) => form.name || (forms.length > 1 ? `form ${index + 1}` : ""));
+        const usual = (word) => (forms.length > 1 ? (RADIXES[this.library.get(word, "mantissa_radix")] ?? "form") : "");
+        const names = forms.map(({ name, word }) => name || usual(word));
         const own = names.map((name, index) => (names.indexOf(name) < index ? `${name} (${index + 1})` : name));
         const all = forms.map((form, index) => ({ ...this.library.explain(form), ...form, name: own[index] }));
         refill(find("forms"), all.map(({ name, problems }, index) => {
             const attributes = { "aria-pressed": String(index === at) };
             return button(problems.length ? "form bad" : "form", name, () => this.jump({ at: index }), attributes);
         }));
-        if (find("form-name").value !== forms[at].name) find("form-name").value = forms[at].name;
+        Object.assign(find("form-name"), { value: forms[at].name, placeholder: own[at] });
         [find("earlier").disabled, find("later").disabled] = [at === 0, at === forms.length - 1];
         return { forms: all, specials: origin?.specials };
     }

@@ -836,9 +836,12 @@ class Walk(unittest.TestCase):
         self.addCleanup(self.driver.execute_cdp_cmd, "Emulation.clearDeviceMetricsOverride", {})
 
     def test_texts_fit_a_phone(self):
+        shown = "return [...document.querySelectorAll('button, input, select')].filter((it) => it.id && it.checkVisibility()).map((it) => it.id);"
+        wide = [self.run_script(shown) for _ in self.links()]
         for width in (360, 320):
             self.emulate(width, 700, True)
-            for link in self.links():
+            for controls, link in zip(wide, self.links()):
+                self.assertEqual(self.run_script(shown), controls)
                 whole = self.run_script("return document.documentElement.scrollWidth")
                 self.assertEqual((self.run_script(BEYOND), self.run_script(NARROW), whole), ([], [], width), link)
         self.load(f"#word={MIXED}")
