@@ -531,6 +531,19 @@ class Walk(unittest.TestCase):
                 self.click("#verdict")
                 self.assertEqual((self.text("#forms [aria-pressed=true]"), self.focused()), ("ab"[at], "report-title"))
 
+    def test_a_changed_language_keeps_its_special_values(self):
+        lost = self.run_script("""const told = () => page.trial.answers.map(({ text, error, float }) => `${text} ${error ?? float}`).join();
+            return page.data.languages.flatMap(({ name, forms, specials }) => {
+                page.jump({ forms, at: 0, language: name, numbers: [...new Set([...specials, ...SPECIALS])].join("\\n") });
+                const before = told();
+                page.put({ name: "other" });
+                const changed = told();
+                history.replaceState(null, "", page.fragment());
+                page.read();
+                return changed === before && told() === before ? [] : [name];
+            });""")
+        self.assertEqual(lost, [])
+
     def test_forms_are_added(self):
         """Each choice adds the forms that it names behind the last one."""
         wrong = self.run_script("""return [...find("add").options].slice(1).filter(({ value }) => {
