@@ -342,9 +342,9 @@ class Page {
         Object.assign(find("count"), { textContent: count, className: isGood ? "good" : "bad" });
         find("clear").disabled = !this.state.numbers;
         setText(find("first-error"), this.shown.problems[0]?.text ?? first);
-        const { name, sentence, problems } = this.shown;
-        const told = [name ? `${name}: ` : "Numbers are ", ...withCode(`${sentence}.`)];
-        find("sentence").replaceChildren(...(sentence ? told : []));
+        const { sentence, problems } = this.shown;
+        const numbers = list.forms.length > 1 ? "Numbers of this form" : "Numbers";
+        find("sentence").replaceChildren(...withCode(sentence ? `${numbers} are ${sentence}.` : ""));
         const blamed = problems.flatMap(({ fields }) => fields);
         this.blame(new Set(blamed), new Set(this.library.differences(this.form).map((it) => it.name)));
         this.showCode();
