@@ -113,7 +113,7 @@ def show(syntax, read):
 """
 # Links with all parts of a number, several forms, reasons, notes, offers, and a condition that does not fit.
 LINKS = [f"#word={MIXED}&exponent=112&point=44&numbers=-0x1_0%2C8p%2B1h%0A!0x1h%0A1k&compare=JSON&tab=settings",
-         "#word=0x0A02100078000027000000070000441C&exponent=112&language=C" + f"&numbers={60 * '1'}%0A0xg&compare=standard",
+         f"#language=C&numbers={60 * '1'}%0A0xg%0A0b1.5&compare=standard",
          "#word=0x000010006200005F00000000000000CC&exponent=112&compare=standard&tab=regex",
          f"#word={STANDARD}&conditions=integer_group_size%3D3&numbers=-inf%0A1_0%0A0x1F&compare=standard&tab=python"]
 # Returns what is beyond an edge of its panel.
@@ -236,6 +236,7 @@ class Walk(unittest.TestCase):
         """Loads each of LINKS, opens all that is closed, and returns the link."""
         for link in LINKS:
             self.load(link)
+            self.assertEqual(self.text("#told"), "")
             self.run_script("document.querySelectorAll('details').forEach((it) => { it.open = true; })")
             yield link
 
