@@ -1,7 +1,7 @@
 #!/usr/bin/env python3
 """Writes parts of peltzivar/__init__.py: the constants, enumerations, structures and calls of peltzivar.h, and the
 attributes of a view, the parameters of calls that take fields, and the languages, with their documentation in rust/src;
-and the calls of languages in peltzivar.h and in rust/capi.
+and the calls of languages in peltzivar.h and in rust/capi, and the numbers of setters and errors in peltzivar.h.
 
     c/make_python.py            writes each part between the lines `Made by make_python.py: PART` and `End`
     c/make_python.py --check    ends with status 1 if a part is not up to date
@@ -14,11 +14,15 @@ import textwrap
 HERE = pathlib.Path(__file__).resolve().parent
 HEADER = HERE.joinpath("peltzivar.h").read_text()
 SETTERS = HERE.parent.joinpath("rust/src/format_builder/setters.rs").read_text()
+ERRORS = HERE.parent.joinpath("rust/src/error.rs").read_text()
+FORMAT = HERE.parent.joinpath("docs/FORMAT.md").read_text()
 LANGUAGES = HERE.parent.joinpath("rust/src/literal/language/tables.rs").read_text()
 CODE = " ".join(re.sub(r"/\*.*?\*/|^#.*?$", "", HEADER, flags=re.S | re.M).split())
 LANGUAGE_NAMES = re.findall(r"^    (\w+) = \{", LANGUAGES, re.M)
 STRUCTS = {name: f"_{name[10:].title().replace('_', '')}" for name in re.findall(r"} (peltzivar_\w+);", CODE)}
-SET = [(name.lower(), int(bit)) for name, bit in re.findall(r"\bPELTZIVAR_SET_(\w+) = (\d+)", HEADER)]
+# The setters, by the lowest bits of fields, and from 128 on by the order of groups.
+SET = [(name, int(bit)) for bit, name in re.findall(r"^\| (\d+)(?: to \d+)? \| `(\w+)` \|", FORMAT, re.M)]
+SET += [(name, number) for number, name in enumerate(re.findall(r"^\| `(\w+)` \| \d[\d ]* \|", FORMAT, re.M), 128)]
 TYPES = {"bool": "c_bool", "size_t": "c_size_t", "int64_t": "c_int64", "double": "c_double", "float": "c_float", **STRUCTS}
 TYPES |= {f"uint{bits}_t": f"c_uint{bits}" for bits in (8, 32, 64)}
 TYPES |= {name: TYPES[kind] for kind, name in re.findall(r"typedef (\w+) (\w+);", CODE)}
@@ -125,6 +129,23 @@ def settings():
     yield from (re.sub("= .*", "= _KEPT,", it) for it in conditions())
 
 
+def numbered(pairs):
+    """Returns the lines of an enumeration of C. Old compilers want no comma behind the last."""
+    return (",\n".join(f"PELTZIVAR_{name.upper()} = {number}" for name, number in pairs)).splitlines()
+
+
+def setters():
+    """Returns the lines."""
+    return numbered((f"SET_{name}", number) for name, number in SET)
+
+
+def errors():
+    """Returns the lines. Success is 0, and the errors have the order of the variants."""
+    variants = re.findall(r"^    (\w+)\b", re.search(r"^pub enum Error \{(.*?)^\}", ERRORS, re.M | re.S)[1], re.M)
+    names = ["Success", *(it for it in variants if it != "Success")]
+    return numbered((re.sub("(?<=[a-z])(?=[A-Z])", "_", it), number) for number, it in enumerate(names))
+
+
 def language_calls():
     """Returns the lines."""
     return (f"const peltzivar_forms *peltzivar_language_{name.lower()}(void);" for name in LANGUAGE_NAMES)
@@ -163,6 +184,7 @@ def made(text):
 
 
 if __name__ == "__main__":
+    HEADER = made(HEADER)
     for path in (HERE / "peltzivar.h", HERE.parent / "rust/capi/src/languages.rs", HERE / "peltzivar/__init__.py"):
         old = path.read_text()
         if "--check" in sys.argv[1:]:

@@ -186,8 +186,8 @@ typedef struct {
 /* A literal: its text, which must last as long as the literal is used, and its parts, in the order of the text.
  * An absent part is empty. The prefix includes the zero before it. The three parts with digits include digit
  * separators, for which peltzivar_mantissa_digit and peltzivar_exponent_digit return PELTZIVAR_NO_DIGIT. `size`
- * is the length of the text. A float has a point or an exponent character, or both. `form` is the form of a
- * language, and otherwise 0. */
+ * is the length of the text. A float has a point or an exponent character, or both. `form` is the index of
+ * one of several forms, and otherwise 0. */
 typedef struct {
     PELTZIVAR_ALIGNED uint64_t magic;
     const char *text;
@@ -199,8 +199,8 @@ typedef struct {
 } peltzivar_literal;
 
 /* Where reading stopped. The first `valid_up_to` bytes are the longest beginning of the text that some literal begins
- * with. If these are all of its bytes, bytes are missing, and a longer text may be a literal. `form` is, for the forms
- * of a language, the one for which this beginning is the longest, and otherwise 0. Of several such forms, it is the
+ * with. If these are all of its bytes, bytes are missing, and a longer text may be a literal. `form` is, of several
+ * forms, the index of that for which this beginning is the longest, and otherwise 0. If it is so for several, it is the
  * first whose kind is not PELTZIVAR_KIND_BYTE, or the first if the kind of each is this one. */
 typedef struct {
     PELTZIVAR_ALIGNED uint64_t magic;
@@ -263,10 +263,10 @@ const char *peltzivar_value_description(peltzivar_value_status status);
 
 /* ERRORS */
 
-/* Write why a text was refused as a sentence, such as "expected a digit after the exponent character", which may be in
- * UTF-8. peltzivar_read_error_full_text also names the flags and conditions to blame, if there are any, as in ", which
- * required_exponent_digits requires". EXPLANATIONS.md describes them. If no call has written *error, they write an empty
- * string. */
+/* Write why a text was refused as a sentence, such as "expected a digit after the exponent character", which may be
+ * in UTF-8. peltzivar_read_error_full_text also names the flags and conditions to blame, if there are any, as in ",
+ * which required_exponent_digits requires". EXPLANATIONS.md describes them. If no call has written *error, they
+ * write an empty string. */
 size_t peltzivar_read_error_text(const peltzivar_read_error *error, char *text, size_t len);
 size_t peltzivar_read_error_full_text(const peltzivar_read_error *error, char *text, size_t len);
 
@@ -338,8 +338,8 @@ enum { PELTZIVAR_SPELLING_NAN = 1, PELTZIVAR_SPELLING_INF = 2, PELTZIVAR_SPELLIN
 PELTZIVAR_MUST_USE bool peltzivar_read_special(const peltzivar_syntax *syntax, const peltzivar_specials *specials,
     const char *text, size_t len, peltzivar_special *out);
 
-/* A form of numbers, such as `0x1F`: its name, which may be null, and its syntax. Members that an initialiser leaves out
- * are 0. A later version may have others in `reserved`, so forms are refused if any of it is not 0. */
+/* A form of numbers, such as `0x1F`: its name, which may be null, and its syntax. A later version may have other
+ * members in `reserved`, so forms are refused if it is not 0. */
 typedef struct {
     const char *name;
     peltzivar_syntax syntax;
@@ -347,10 +347,10 @@ typedef struct {
 } peltzivar_form;
 
 /* Several forms of numbers, such as `10`, `0x1F` and `0b1`: an array of `count` forms, and the spellings of special
- * values. The first form of which a text is a literal decides its parts and its value. If it is one of none, a spelling
- * may match, by the flags of the first form. The forms of a language last as long as the program. To make your own, set
- * the first three members, and check each syntax, or copy those of a language and change the copy, but not
- * `language`, which is null otherwise. */
+ * values. The first form of which a text is a literal decides its parts and its value. If it is one of none, a
+ * spelling may match, by the flags of the first form. To make your own, set the first three members, and check each
+ * syntax with peltzivar_check_syntax. Or copy the forms of a language, which last as long as the program, and
+ * change any of these members of the copy. Only such forms have a `language`, which is otherwise null. */
 typedef struct {
     const peltzivar_form *forms;
     size_t count; /* from 1 to PELTZIVAR_FORMS_MAX */
@@ -394,10 +394,10 @@ const peltzivar_forms *peltzivar_language_yaml(void);
 /* Returns the name of a language. The languages have the indices from 0 on, in alphabetical order. */
 const char *peltzivar_language_name(size_t index);
 
-/* Do what peltzivar_read, peltzivar_read_prefix and peltzivar_read_special do, by forms. `form` is the index of one.
- * peltzivar_forms_read_prefix finds the longest literal of any form. Forms are refused if they are null or have no
- * array, too many elements, or reserved members that are not 0. A form may read a text that an earlier one reads
- * otherwise: C's octal form reads `17` as 15. */
+/* Do what peltzivar_read, peltzivar_read_prefix and peltzivar_read_special do, by forms. peltzivar_forms_read
+ * refuses special values, and peltzivar_forms_read_prefix finds the longest literal of any form. Forms are refused
+ * if they are null or have no array, too many elements, or reserved members that are not 0. A form may read a text
+ * that an earlier one reads otherwise: C's octal form reads `17` as 15. */
 PELTZIVAR_MUST_USE bool peltzivar_forms_read(const peltzivar_forms *forms, const char *text, size_t len,
     peltzivar_literal *literal, peltzivar_read_error *error);
 PELTZIVAR_MUST_USE bool peltzivar_forms_read_prefix(const peltzivar_forms *forms, const char *text, size_t len,
@@ -726,6 +726,7 @@ const char *peltzivar_role_name(peltzivar_role role);
 
 /* The setters: the bit of a flag, the lowest bit of a byte, and from 128 on the groups of flags. */
 enum {
+    /* Made by make_python.py: setters */
     PELTZIVAR_SET_REQUIRED_INTEGER_DIGITS = 0,
     PELTZIVAR_SET_REQUIRED_FRACTION_DIGITS = 1,
     PELTZIVAR_SET_REQUIRED_EXPONENT_DIGITS = 2,
@@ -772,6 +773,7 @@ enum {
     PELTZIVAR_SET_INTEGER_DIGIT_SEPARATOR_FLAGS = 134,
     PELTZIVAR_SET_FRACTION_DIGIT_SEPARATOR_FLAGS = 135,
     PELTZIVAR_SET_EXPONENT_DIGIT_SEPARATOR_FLAGS = 136
+    /* End */
 };
 
 /* The rules, in the order in which they are checked. Each comment states what the rule requires. The allowed ASCII
@@ -808,6 +810,7 @@ enum {
  * format errors. The other errors are for parsers and writers that use this library. Two rules share
  * PELTZIVAR_INVALID_SPECIAL. */
 enum {
+    /* Made by make_python.py: errors */
     PELTZIVAR_SUCCESS = 0,
     PELTZIVAR_OVERFLOW = 1,
     PELTZIVAR_UNDERFLOW = 2,
@@ -857,6 +860,7 @@ enum {
     PELTZIVAR_INVALID_FLOAT_PRECISION = 46,
     PELTZIVAR_INVALID_NEGATIVE_EXPONENT_BREAK = 47,
     PELTZIVAR_INVALID_POSITIVE_EXPONENT_BREAK = 48
+    /* End */
 };
 
 #endif

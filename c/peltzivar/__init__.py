@@ -14,9 +14,9 @@
 
 `read` returns a `Literal`, or raises a LiteralError, whose `span` has the position. `parse` returns the value alone, and
 `column` those of many texts, several times as fast. A `Language`, such as `languages.CSV_DE`, reads the numbers of a
-language or a file, and `Syntax.of` takes settings: a keyword argument for each field of a format, the exponent
-character, the decimal point and the conditions of `Syntax`. Each field is an attribute of `FormatView`. Settings can
-also be texts, such as the lines of a file. Wrong ones raise a SettingsError:
+language or a file, and `Forms` those of several syntaxes. `Syntax.of` takes settings: a keyword argument for each field
+of a format, the exponent character, the decimal point and the conditions of `Syntax`. Each field is an attribute of
+`FormatView`. Settings can also be texts, such as the lines of a file. Wrong ones raise a SettingsError:
 
     >>> Syntax.of("radix = 16", "base_prefix = 'b'")
     Traceback (most recent call last):
@@ -1336,8 +1336,10 @@ class Literal(Generic[AnyStr]):
 
     def _short(self) -> Optional[str]:
         """Returns the text as Python writes floats, if all radixes are 10 and it is not long."""
-        plain, size = self._owner._plains[self._found.form], len(self._text)
-        return None if plain is None or size > 400 else self._data[:size].translate(*plain).decode()
+        plain, text = self._owner._plains[self._found.form], self._text
+        if plain is None or (size := len(text)) > 400:
+            return None
+        return text if plain[0] is None and isinstance(text, str) else self._data[:size].translate(*plain).decode()
 
     def _scaled(self) -> Tuple[str, int, int]:
         """Returns the sign with the digits of the integer and the fraction, the number of the latter, and the exponent."""
@@ -1455,13 +1457,14 @@ class _Reader:
     read: Any
 
     @functools.cached_property
-    def _plains(self) -> List[Optional[Tuple[bytes, bytes]]]:
+    def _plains(self) -> List[Optional[Tuple[Optional[bytes], bytes]]]:
         """For each syntax, what `bytes.translate` takes to make its texts those of Python, or None if a radix is not 10."""
-        found: List[Optional[Tuple[bytes, bytes]]] = []
+        found: List[Optional[Tuple[Optional[bytes], bytes]]] = []
         for of, by in ((it._fields, it._by) for it in self._named.values()):
             is_plain = of.mantissa_radix == of.exponent_base == of.exponent_radix == 10 and not (of.base_prefix or of.base_suffix)
             marks = bytes([by.exponent]).lower() + bytes([by.exponent]).upper() + bytes([by.decimal_point])
-            found.append((bytes.maketrans(marks, b"ee."), bytes([of.digit_separator or 255])) if is_plain else None)
+            table = None if marks == b"eE." and not of.digit_separator else bytes.maketrans(marks, b"ee.")
+            found.append((table, bytes([of.digit_separator or 255])) if is_plain else None)
         return found
 
     def _read(self, call: Any, text: AnyStr) -> Optional[Literal[AnyStr]]:

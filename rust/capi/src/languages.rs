@@ -21,7 +21,10 @@ impl Specials {
     /// Returns the spellings of a language, one after another in these texts. One that it lacks is a null pointer.
     const fn of(language: Language, texts: &'static [u8]) -> Specials {
         const fn place(spelling: Option<&[u8]>, texts: &'static [u8], index: usize) -> *const u8 {
-            if spelling.is_some() { start(texts, index) } else { ptr::null() }
+            match spelling {
+                Some(_) => start(texts, index),
+                None => ptr::null(),
+            }
         }
         let literal::Specials { nan, inf, infinity } = language.forms().specials();
         Specials { nan: place(nan, texts, 0), inf: place(inf, texts, 1), infinity: place(infinity, texts, 2) }
@@ -32,7 +35,7 @@ impl Specials {
     /// # Safety
     ///
     /// A C caller passes the strings, or null pointers.
-    unsafe fn spellings<'a>(&self) -> literal::Specials<'a> {
+    pub unsafe fn spellings<'a>(&self) -> literal::Specials<'a> {
         // SAFETY: the caller guarantees the string.
         let [nan, inf, infinity] = [self.nan, self.inf, self.infinity]
             .map(|it| (!it.is_null()).then(|| unsafe { CStr::from_ptr(it.cast()) }.to_bytes()));
@@ -106,7 +109,8 @@ impl<const COUNT: usize> Lists<COUNT> {
     /// Returns the forms of a language, whose names are these texts.
     const fn of(language: Language, names: &'static [u8]) -> Self {
         let forms = language.forms().as_slice();
-        let mut lists = Lists([Form { name: names.as_ptr(), syntax: Syntax::NONE, reserved: [0; 2] }; COUNT], [forms[0]; COUNT]);
+        let mut lists =
+            Lists([Form { name: names.as_ptr(), syntax: Syntax::NONE, reserved: [0; 2] }; COUNT], [forms[0]; COUNT]);
         let mut form = 0;
         while form < COUNT {
             lists.0[form].name = start(names, form);
@@ -118,22 +122,26 @@ impl<const COUNT: usize> Lists<COUNT> {
     }
 }
 
-/// Returns what `then` returns for the forms, or `None` if they are null or refused.
+/// What calls read by, or why they are refused.
+pub type Given<'a> = Result<&'a literal::Forms<'a>, &'static str>;
+
+/// Returns what `then` returns for the forms.
 ///
 /// # Safety
 ///
 /// `forms` must be null or forms that a C caller passes.
 #[inline(always)]
-pub unsafe fn by<R>(forms: *const Forms, then: impl FnOnce(&literal::Forms<'_>) -> R) -> Option<R> {
-    if forms.is_null() {
-        return None;
-    }
-    let it = forms.read_unaligned();
-    if ptr::eq(it.language, forms) {
+pub unsafe fn by<R>(forms: *const Forms, then: impl FnOnce(Given<'_>) -> R) -> R {
+    let mut list = [const { MaybeUninit::uninit() }; MOST];
+    let found = if forms.is_null() {
+        None
+    } else if ptr::eq((&raw const (*forms).language).read_unaligned(), forms) {
         // SAFETY: only the forms of languages have their own address.
-        return Some(then(unsafe { &(*forms.cast::<LanguageForms>()).read }));
-    }
-    own(&it, &mut [const { MaybeUninit::uninit() }; MOST]).map(|it| then(&it))
+        Some(unsafe { (*forms.cast::<LanguageForms>()).read })
+    } else {
+        own(&forms.read_unaligned(), &mut list)
+    };
+    then(found.as_ref().ok_or("the forms are null, not 1 to 64, or have reserved members"))
 }
 
 /// Returns forms that are not those of a language, or `None` if they are refused.
@@ -233,8 +241,8 @@ calls! {
     }
 
     fn peltzivar_forms_read_special(forms: *const Forms, text: *const u8, len: usize, out: Out<NumberedSpecial>) -> bool {
-        let read = |forms: &literal::Forms<'_>| forms.specials().read(&forms[0].syntax(), input(text, len)?);
-        out.write_some(by(forms, read).flatten())
+        let read = |forms: Given<'_>| forms.ok().and_then(|it| it.specials().read(&it[0].syntax(), input(text, len)?));
+        out.write_some(by(forms, read))
     }
 
     fn peltzivar_language(name: *const u8, len: usize) -> *const Forms {
