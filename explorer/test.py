@@ -545,6 +545,19 @@ class Walk(unittest.TestCase):
             });""")
         self.assertEqual(lost, [])
 
+    def test_parts_are_those_of_the_form_that_reads(self):
+        wrong = self.run_script("""const marks = ["_", "'", ",", " "];
+            const form = (mark, ...settings) => {
+                const all = ["internal_digit_separator=true", `digit_separator='${mark}'`, ...settings];
+                return { ...page.library.usual, word: page.library.build(all).word, exponent: 112, name: mark };
+            };
+            return marks.flatMap((first) => marks.map((second) => {
+                const forms = [form(first), form(second, "mantissa_radix=16", "exponent_base=16", "exponent_radix=16", "base_prefix='x'")];
+                page.jump({ forms, at: 0, language: "", numbers: `1${first}0.5\\n0x1${second}F` });
+                return [first, second, ...document.querySelectorAll("#read .separator")].map((it) => it.textContent ?? it).join("|");
+            })).filter((it) => it.split("|").slice(0, 2).join() !== it.split("|").slice(2).join());""")
+        self.assertEqual(wrong, [])
+
     def test_forms_are_added(self):
         """Each choice adds the forms that it names behind the last one."""
         wrong = self.run_script("""return [...find("add").options].slice(1).filter(({ value }) => {
