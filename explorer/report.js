@@ -46,14 +46,14 @@ class Report {
     /* Shows texts that tell the list from a chosen one, and each field in which the form differs, with a button for it. */
     compare() {
         const [{ value = "", textContent } = {}] = find("compare").selectedOptions;
-        find("comparison").hidden = !value;
-        if (!value) return;
+        if ((find("comparison").hidden = !value)) return;
         setText(find("comparison-title"), `Compared with ${textContent}`);
         const other = this.listOf(value);
         const texts = this.texts(this.library.differ(this.list, other));
         find("texts").replaceChildren(...texts);
         const changes = other.forms.length === 1 ? this.library.differences(this.form, other.forms[0]) : [];
-        const none = changes.length ? "None of the texts that were tried tells them apart." : "Same format.";
+        const [forms, others] = [this.list, other].map((it) => it.forms.map(stateOf));
+        const none = isSame(forms, others) ? "Same format." : "None of the texts that were tried tells them apart.";
         setText(find("same"), texts.length ? "Not the same." : none);
         const chips = changes.map(({ name, text, before, old }) => {
             const set = button("set", `set ${old.slice(name.length + 1)}`, () => this.edit(name, before), { "aria-label": `set ${old}` });

@@ -139,17 +139,22 @@ IDLE = """const [link, done] = arguments;
     const not = ":not(#undo, #redo, .readers button, [aria-pressed=true], [aria-selected=true])";
     const buttons = () => [...document.querySelectorAll(`button:enabled${not}`)].filter((it) => it.checkVisibility());
     navigator.clipboard.writeText = async (text) => { window.copied = text; };
+    const start = () => {
+        history.replaceState(null, "", link);
+        page.read();
+        document.activeElement.blur();
+        page.change({ numbers: `${page.state.numbers}\\n1` });
+    };
     (async () => {
         const idle = [];
+        start();
         for (const index of buttons().keys()) {
-            history.replaceState(null, "", link);
-            page.read();
-            document.activeElement.blur();
+            start();
             const [button, before] = [buttons()[index], page.fragment()];
             button.click();
             await new Promise((resolve) => setTimeout(resolve));
             const [beside, hasMoved] = [find(button.dataset.copies), ![document.body, button].includes(document.activeElement)];
-            const isCopied = window.copied === (beside ? beside.value ?? beside.textContent : location.hash);
+            const isCopied = window.copied === (beside ? beside.value ?? beside.textContent : before);
             if (!(button.id.startsWith("copy") ? isCopied : page.fragment() !== before || hasMoved)) idle.push(button.outerHTML);
         }
         done(idle);
@@ -414,6 +419,8 @@ class Walk(unittest.TestCase):
         self.assertEqual(shown(), ("Not the same.", ["exponent='p'"]))
         self.click("#changes button")
         self.assertEqual((shown(), self.value("#exponent")), (("Same format.", []), "e"))
+        Select(self.find("#add")).select_by_value("copy")
+        self.assertEqual(shown(), ("None of the texts that were tried tells them apart.", []))
 
     def test_texts_tell_two_languages_apart(self):
         Select(self.find("#language")).select_by_value("JSON")
@@ -969,6 +976,12 @@ class Walk(unittest.TestCase):
         self.find("#tab-regex").send_keys(Keys.ARROW_LEFT)
         self.assertEqual(self.focused(), "tab-grammar")
         self.assertIn('Integer  ::= [1-9] Digit* | "0"', self.text("#code"))
+
+    def test_good_and_bad_have_marks(self):
+        wrong = self.run_script("""page.change({ numbers: "1\\n0x\\n!1\\n!x" });
+            const shows = (it) => getComputedStyle(it, "::before").content[1] === (it.matches(".good") ? "\\u2713" : "\\u2717");
+            return [...document.querySelectorAll(".good, .bad")].filter((it) => it.textContent && !shows(it)).map((it) => it.outerHTML);""")
+        self.assertEqual(wrong, [])
 
     def test_parts_differ_by_more_than_colour(self):
         for style in ("[it.textDecorationStyle, it.textDecorationLine].join()", "it.color"):
