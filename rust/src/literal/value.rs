@@ -3,7 +3,7 @@
 use core::fmt::{self, Write};
 
 use crate::format_flags::Part;
-use crate::literal::plain::At;
+use crate::literal::plain::{At, Sums};
 use crate::literal::{Literal, Number, ReadError, Sign, Special, Spelling, Syntax};
 
 mod float;
@@ -302,18 +302,30 @@ impl Syntax {
     /// If `text` is not a literal, or if its value is not one of the type, returns why.
     pub fn parse<T: FromLiteral>(&self, text: impl AsRef<[u8]>) -> Result<T, ParseError> {
         let text = text.as_ref();
-        // A decimal literal need not be in memory to have a value.
+        // A decimal literal of few digits need not be in memory to have a value.
         if self.is_decimal() {
             let counted = self.begin(true, text, false);
             if self.is_whole(text, counted) {
-                if let Ok(value) = T::try_from(self.literal(text, counted.counts, counted.sums)) {
-                    return Ok(value);
+                if counted.sums.mantissa.digits <= 19 && counted.sums.exponent.digits <= 19 {
+                    if let Ok(value) = T::try_from(self.literal(text, counted.counts, counted.sums)) {
+                        return Ok(value);
+                    }
+                } else if T::TARGET.largest > u64::MAX as u128 {
+                    if let Ok(value) = self.long_value(text, counted.counts, counted.sums) {
+                        return Ok(value);
+                    }
                 }
             } else if counted.exact {
                 return self.refuse_value(text, counted.at);
             }
         }
         self.parse_generally(text)
+    }
+
+    // Returns the value of a literal of many digits. Were it inlined, those of few digits would take longer.
+    #[inline(never)]
+    fn long_value<T: FromLiteral>(&self, text: &[u8], counts: [usize; 9], sums: Sums) -> Result<T, ValueError> {
+        T::try_from(self.literal(text, counts, sums))
     }
 
     // Returns what `parse` returns for any text.
