@@ -1,6 +1,6 @@
 //! Numbers of several forms: which form has a text, and which has its error.
 
-use peltzivar::literal::{Form, Forms, Language, Number, Special, Specials, Spelling, Syntax};
+use peltzivar::literal::{Form, Forms, Language, Number, ParseError, Special, Specials, Spelling, Syntax};
 use peltzivar::{Format, NumberFormatBuilder};
 
 /// Asserts that a text has a value, by a form.
@@ -80,6 +80,31 @@ fn special_values_come_after_all_forms() {
     assert_eq!(both.read("nan").unwrap().form(), Some(1));
     assert_eq!(first.read("na?").unwrap_err().error, float.read("na?").unwrap_err());
     assert!(Forms::new(&[]).is_none());
+}
+
+/// What a lexer gets of the text that begins with a number: its value and the rest, or the bytes to blame.
+#[test]
+fn a_front_has_a_value_and_each_error_a_span() {
+    assert_eq!(Language::C.parse_prefix("0x1Fu;"), Ok((31, &b"u;"[..])));
+    assert_eq!(Language::TOML.forms()[0].syntax().parse_prefix("1_000.5]"), Ok((1000.5, &b"]"[..])));
+    let where_of = |error: ParseError| (error.span(), error.form(), error.valid_up_to());
+    assert_eq!(where_of(Language::C.parse_prefix::<u8>("256;").unwrap_err()), (0..3, None, 3));
+    assert_eq!(where_of(Language::TOML.parse::<u8>("+nan").unwrap_err()), (0..4, None, 4));
+    assert_eq!(where_of(Language::C.parse::<u8>("0b12").unwrap_err()), (3..4, Some(3), 3));
+    let printed = ["1_0", "-inf", "nan"].map(|text| format!("{:>5}", Language::TOML.read(text).unwrap()));
+    assert_eq!(printed, ["  1_0", " -inf", "  NaN"]);
+}
+
+#[test]
+fn languages_are_found_by_name() {
+    const C_SHARP: Language = Language::from_name("c_sharp").unwrap();
+    for language in Language::ALL {
+        assert_eq!(language.name().to_lowercase().parse(), Ok(*language));
+    }
+    assert_eq!((C_SHARP, Language::from_name("C_SHAR")), (Language::C_SHARP, None));
+    let error = |name: &str| name.parse::<Language>().unwrap_err().to_string();
+    assert_eq!(error("javascrip"), "unknown language; did you mean `JAVASCRIPT`?");
+    assert_eq!(error("D"), "unknown language");
 }
 
 /// Groups decide which of two forms has a text, and where a front of it ends: `1,234.50` is English, and `1.234,50` German.

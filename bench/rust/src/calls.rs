@@ -21,6 +21,8 @@ calls! {
     reader: |group| { let it = of(group); move |text| black_box(it.read(text.as_bytes())).is_ok() };
     refuses: |group| { let it = of(group); move |text| black_box(it.read(text.as_bytes())).is_err() };
     listed: |group| { let it = group.language; move |text| black_box(it.read(text.as_bytes())).is_ok() };
+    list_refuses: |group| { let it = group.language; move |text| black_box(it.read(text.as_bytes())).is_err() };
+    list_value: |group| { let it = group.language; move |text| black_box(it.parse::<i64>(text)).is_ok() };
     value: |group| { let it = of(group); move |text| black_box(it.parse::<i64>(text)).is_ok() };
     float: |group| { let it = of(group); move |text| black_box(it.parse::<f64>(text)).is_ok() };
     prints: |group| {

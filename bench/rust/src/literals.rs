@@ -189,6 +189,11 @@ pub fn rows() -> Vec<Row> {
     let hexadecimal = of_form(Language::C, 4, || format!("0x1.{}p{}", fixed(random, 13), random.below(100)));
     let form = |form| Group::new((Language::C, form), 20_000, || of_c(random, form), |_, _| true);
     let forms = Vec::from([0, 1, 2, 3, 4].map(form)).leak();
+    let wrong_form = |form| {
+        let is_refused = |group: &Group, text: &str| list_refuses(group)(text);
+        Group::new((Language::C, form), 20_000, || of_c(random, form) + random.pick(&[";", " ", "x"]), is_refused)
+    };
+    let wrong_forms = Vec::from([0, 1, 2, 3, 4].map(wrong_form)).leak();
     let long_integers = of_form(Language::JSON, 0, || 1.to_string() + &fixed(random, 17));
     let wrong_integers = of_form(Language::JSON, 0, || {
         let mut text = integer(random, None);
@@ -216,7 +221,9 @@ pub fn rows() -> Vec<Row> {
         "Syntax::read, 17 digits, over parse", exponents.reader, exponents.parse;
         "Syntax::read, grouped, over 17 digits", grouped.reader, exponents.reader;
         "Syntax::read, prefixed, over 17 digits", prefixed.reader, exponents.reader;
-        "Readers::read, 5 forms of C, over Syntax::read", forms.listed, forms.reader;
+        "Forms::read, 5 forms of C, over Syntax::read", forms.listed, forms.reader;
+        "Forms::read, refused, over Syntax::read", wrong_forms.list_refuses, wrong_forms.refuses;
+        "Forms::parse, prefixed, over Syntax::parse", prefixed.list_value, prefixed.value;
         "Syntax::read, byte inserted, over accepted", inserted.refuses, accepted.reader;
         "Syntax::read, byte appended, over accepted", appended.refuses, accepted.reader;
         "Syntax::read and text, inserted, over accepted", inserted.prints, accepted.reader;
