@@ -5,6 +5,7 @@
 #![tactic(auto)]
 
 pub mod digits;
+pub mod float;
 pub mod integer;
 pub mod layout;
 pub mod literal;

@@ -6,7 +6,7 @@ use crate::format_flags::Part;
 use crate::literal::plain::At;
 use crate::literal::{Literal, Number, ReadError, Sign, Special, Spelling, Syntax};
 
-mod float;
+pub(crate) mod float;
 mod integer;
 
 pub use integer::ValueErrorKind;
