@@ -1,7 +1,7 @@
 -- The digits of a float as the literal that they are.
 use Rattle.std.specs.Prelude.{ℕ, ◌-◌, Bool, if◌then◌else◌, List, [], ◌∷◌, drop, take}
 use Rattle.lexical_literal.specs.Literal.{Literal}
-use Rattle.lexical_writer.specs.declared.float.FloatDigits.{FloatDigits}
+use Rattle.lexical_writer.specs.declared.float_digits.FloatDigits.{FloatDigits}
 
 -- `minus negative` is a minus sign if `negative` is true, and nothing otherwise.
 abbrev pub minus : Bool → List ℕ

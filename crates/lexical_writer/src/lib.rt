@@ -6,6 +6,7 @@
 
 pub mod digits;
 pub mod float;
+pub mod float_digits;
 pub mod integer;
 pub mod layout;
 pub mod literal;

@@ -9,6 +9,7 @@ use crate::number::integer::Integer;
 
 mod digits;
 mod float;
+mod float_digits;
 mod integer;
 mod layout;
 #[allow(clippy::module_inception, clippy::needless_lifetimes, reason = "as it is proved")]
@@ -20,7 +21,7 @@ mod sink;
 
 pub use layout::{Grouping, Style, WriteError};
 
-use float::FloatDigits;
+use float_digits::FloatDigits;
 use layout::Layout;
 use sink::Sink;
 
@@ -109,9 +110,9 @@ impl Syntax {
     /// [`WriteError::Special`] for NaN and infinity, [`WriteError::Radix`] if the mantissa radix and the exponent base are
     /// neither both 10 nor both powers of two, and otherwise why no literal has the value.
     pub fn format_float<T: WriteFloat>(&self, value: T, style: Style) -> Result<Written<'static>, WriteError> {
-        let mut digits = FloatDigits::new();
-        float::format_float(self, value, style, &mut digits)?;
-        Ok(Written(Content::Float(digits, *self, style)))
+        let (mut digits, mut text) = (FloatDigits::new(), [0; 32]);
+        let length = float::format_float(self, value, style, &mut digits)?.write(&mut text);
+        Ok(Written(Content::Float(Text { digits, syntax: *self, style, text, length })))
     }
 
     /// Returns a literal, which may be of another syntax, as a literal of this syntax with the same value.
@@ -144,11 +145,22 @@ impl Syntax {
 #[derive(Clone, Copy)]
 pub struct Written<'a>(Content<'a>);
 
-/// A layout, or the digits of a float that has one.
+/// A layout, or a float.
 #[derive(Clone, Copy)]
+#[allow(clippy::large_enum_variant, reason = "nothing is allocated")]
 enum Content<'a> {
     Layout(Layout<'a>),
-    Float(FloatDigits, Syntax, Style),
+    Float(Text),
+}
+
+/// The digits of a float, which can be laid out, and the beginning of the text with its length.
+#[derive(Clone, Copy)]
+struct Text {
+    digits: FloatDigits,
+    syntax: Syntax,
+    style: Style,
+    text: [u8; 32],
+    length: usize,
 }
 
 impl Written<'_> {
@@ -193,14 +205,20 @@ impl fmt::Display for Written<'_> {
 impl Written<'_> {
     /// Writes the text to the beginning of a buffer, and returns its length.
     fn write(&self, buffer: &mut [u8]) -> usize {
-        self.with(|layout| layout.write(buffer))
+        match &self.0 {
+            Content::Float(Text { text, length, .. }) if *length <= 32.min(buffer.len()) => {
+                buffer[..*length].copy_from_slice(&text[..*length]);
+                *length
+            }
+            _ => self.with(|layout| layout.write(buffer)),
+        }
     }
 
     /// Calls `then` with the layout.
     fn with<T>(&self, then: impl FnOnce(&Layout<'_>) -> T) -> T {
         match &self.0 {
             Content::Layout(layout) => then(layout),
-            Content::Float(digits, syntax, style) => match digits.lay_out(syntax, *style) {
+            Content::Float(float) => match float.digits.lay_out(&float.syntax, float.style) {
                 Ok(layout) => then(&layout),
                 Err(_) => unreachable!("the float has been laid out"),
             },

@@ -111,23 +111,42 @@ const fn leading_of(literal: &Literal, radix: u32) -> Leading {
 /// the mantissa radix and the exponent base are neither both 10 nor both powers of two.
 #[inline(always)]
 pub fn parts_to_float<F: Float>(format: FormatView, parts: &Parts) -> Option<F> {
-    let negative = matches!(parts.exponent_sign, [b'-', ..]);
-    let exponent = saturating(parts.exponent, format.exponent_radix());
     let size = if has_decimal_floats(format) {
-        decimal_to_float(parts.integer, parts.fraction, negative, exponent)
+        decimal_parts(format, parts)
+    } else if let Some(bits) = binary_parts(F::DOUBLE, format, parts) {
+        F::from_magnitude(bits)
     } else {
-        F::from_magnitude(binary_parts(F::DOUBLE, format, parts, negative, exponent)?)
+        return None;
     };
-    Some(signed(size, matches!(parts.sign, [b'-', ..])))
+    Some(signed(size, is_minus(parts.sign)))
+}
+
+// Returns whether a sign is a minus sign.
+const fn is_minus(sign: &[u8]) -> bool {
+    matches!(sign, [b'-', ..])
+}
+
+// Returns the float nearest to a decimal literal with these parts, without its sign.
+#[inline(always)]
+fn decimal_parts<F: Float>(format: FormatView, parts: &Parts) -> F {
+    let exponent = saturating(parts.exponent, format.exponent_radix());
+    decimal_to_float(parts.integer, parts.fraction, is_minus(parts.exponent_sign), exponent)
 }
 
 // Returns the bits of the float nearest to a literal with these parts, without its sign, or `None` if a radix is not a power of two.
-fn binary_parts(double: bool, format: FormatView, parts: &Parts, negative: bool, exponent: u128) -> Option<u64> {
+fn binary_parts(double: bool, format: FormatView, parts: &Parts) -> Option<u64> {
     let radix = format.mantissa_radix();
-    let radix_bits = bits_of(radix)?;
-    let base_bits = bits_of(format.exponent_base())?;
+    let Some(radix_bits) = bits_of(radix) else {
+        return None;
+    };
+    let base = format.exponent_base();
+    let Some(base_bits) = bits_of(base) else {
+        return None;
+    };
     let integer = push_all(Leading::ZERO, radix, parts.integer);
     let leading = push_all(integer, radix, parts.fraction);
     let places = count(parts.fraction, radix) as u64;
+    let negative = is_minus(parts.exponent_sign);
+    let exponent = saturating(parts.exponent, format.exponent_radix());
     Some(raised_bits(double, leading, radix_bits, places, negative, exponent, base_bits))
 }
