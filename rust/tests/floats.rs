@@ -2,14 +2,14 @@
 
 use peltzivar::format::FLAG_MASK;
 use peltzivar::literal::{
-    Condition, Conditions, FromLiteral, Language, ParseError, Style, Syntax, ValueErrorKind, WriteError, WriteFloat,
+    Condition, Conditions, FromLiteral, Language, Style, Syntax, WriteError, WriteFloat,
 };
 use peltzivar::Format;
 use std::fmt::{Debug, LowerExp};
 
 /// How many floats are written: `FLOATS=1000000 cargo test --release --test floats` writes more.
 fn count() -> usize {
-    std::env::var("FLOATS").map_or(20_000, |count| count.parse().unwrap())
+    std::env::var("FLOATS").map_or(8_000, |count| count.parse().unwrap())
 }
 
 /// Returns the next pseudo-random number.
@@ -85,10 +85,7 @@ fn is_reason<F: Bits>(error: WriteError, value: F, syntax: &Syntax) -> bool {
     let moves = syntax.point().is_none() || format.no_exponent_notation();
     match error {
         WriteError::Special => !format!("{value:?}").contains(char::is_numeric),
-        WriteError::Radix => syntax.parse::<F>("1").is_err_and(|error| match error {
-            ParseError::Value(error) => error.kind() == ValueErrorKind::UnsupportedRadix,
-            _ => true,
-        }),
+        WriteError::Radix => format.mantissa_radix() == 10 && format.exponent_base() != 10,
         WriteError::Negative => syntax.conditions().has(Condition::NegativeSign) && format!("{value:e}").starts_with('-'),
         WriteError::Fraction => syntax.point().is_none(),
         WriteError::Exponent => moves && format.exponent_base() != format.mantissa_radix(),
@@ -118,7 +115,7 @@ fn floats_are_read_back_in_the_decimal_form_of_each_language() {
     let state = &mut 20_261_128;
     for _ in 0..count() {
         for language in Language::ALL {
-            let syntax = language.forms()[0].syntax;
+            let syntax = language.forms()[0].syntax();
             is_read_back::<f64>(float(state), &syntax, Style::PLAIN);
             is_read_back::<f32>(float(state), &syntax, Style::PLAIN);
         }
@@ -150,7 +147,7 @@ fn floats_are_read_back_or_refused_in_any_syntax() {
     let state = &mut 20_261_129;
     for _ in 0..1000 {
         let syntax = random_syntax(state);
-        for index in 0..count() / 200 {
+        for index in 0..count() / 400 {
             let style = [Style::PLAIN, Style::PLAIN.without_base(), Style::PLAIN.group(3)][index % 3];
             is_read_back::<f64>(float(state), &syntax, style);
             is_read_back::<f32>(float(state), &syntax, style);

@@ -72,8 +72,9 @@ impl Syntax {
     /// ```
     /// use peltzivar::literal::{Language, Style, WriteError};
     ///
-    /// let form = Language::C.forms().iter().find(|form| form.name == "hexadecimal").unwrap();
-    /// let text = form.syntax.format_integer(0xC0FFEE, Style::PLAIN.group(4))?;
+    /// let forms = Language::C.forms().as_slice();
+    /// let form = forms.iter().find(|form| form.name() == "hexadecimal").unwrap();
+    /// let text = form.syntax().format_integer(0xC0FFEE, Style::PLAIN.group(4))?;
     /// assert_eq!(text.to_string(), "0xC0'FFEE");
     /// assert_eq!(Language::C.parse(text.to_string()), Ok(0xC0FFEE));
     /// # Ok::<(), WriteError>(())
@@ -98,7 +99,7 @@ impl Syntax {
     /// ```
     /// use peltzivar::literal::{Language, Style, WriteError};
     ///
-    /// let syntax = Language::CSV_DE.forms()[0].syntax;
+    /// let syntax = Language::CSV_DE.forms()[0].syntax();
     /// assert_eq!(syntax.format_float(1234.56, Style::PLAIN)?.to_string(), "1.234,56");
     /// assert_eq!(syntax.format_float(1e-7_f32, Style::PLAIN)?.to_string(), "0,0000001");
     /// assert_eq!(syntax.format_float(f64::NAN, Style::PLAIN).unwrap_err(), WriteError::Special);
