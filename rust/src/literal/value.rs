@@ -7,6 +7,7 @@ use crate::format_flags::Part;
 use crate::literal::plain::At;
 use crate::literal::{FormError, Literal, Number, ReadError, Sign, Special, Spelling, Syntax};
 
+#[allow(clippy::question_mark, reason = "as it is proved")]
 pub(crate) mod float;
 mod integer;
 
