@@ -1,5 +1,5 @@
 -- Literals of the same value are read as the same float.
-use Rattle.std.proofs.Common.{ℕ, ◌≡◌, ◌*◌, ◌<◌, ◌≤◌, ◌^◌, ◌||◌, if◌then◌else◌, Bool, true, false, ap, ◌∙◌, arith, zero, suc, Result, Ok, Err, IfOk}
+use Rattle.std.proofs.Common.{ℕ, ◌≡◌, ◌*◌, ◌<◌, ◌^◌, ◌||◌, if◌then◌else◌, Bool, true, false, ap, ◌∙◌, arith, zero, suc, Result, Ok, Err, IfOk}
 use Rattle.std.proofs.lemmas.Bool.Decides.{nat_tests}
 use lib.Ieee.{Format, round}
 use lib.Ieee.Scale.{round_same}
