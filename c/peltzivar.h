@@ -456,7 +456,7 @@ typedef struct {
 typedef uint8_t peltzivar_write_status;
 enum {
     PELTZIVAR_WRITE_OK = 0,
-    PELTZIVAR_WRITE_RADIX = 1, /* The radixes differ or, for a double, the exponent bases, or an exponent is too long. */
+    PELTZIVAR_WRITE_RADIX = 1, /* The radixes differ, no float has a value in them, or an exponent is too long. */
     PELTZIVAR_WRITE_NEGATIVE = 2, /* No literal has the sign `-`. */
     PELTZIVAR_WRITE_FRACTION = 3, /* Literals are integers, and the number is not whole. */
     PELTZIVAR_WRITE_EXPONENT = 4, /* No literal has the exponent, which does not move the point by whole digits. */
@@ -469,7 +469,7 @@ enum {
 
 /* The sizes of buffers for any integer of the next three calls, and for any float of peltzivar_format_f64. */
 #define PELTZIVAR_INTEGER_SIZE 260
-#define PELTZIVAR_FLOAT_SIZE 622
+#define PELTZIVAR_FLOAT_SIZE 1601
 
 /* Write an integer, with its digits in the mantissa radix. */
 PELTZIVAR_MUST_USE peltzivar_write_status peltzivar_format_i64(const peltzivar_syntax *syntax, int64_t value,
@@ -479,8 +479,8 @@ PELTZIVAR_MUST_USE peltzivar_write_status peltzivar_format_u64(const peltzivar_s
 PELTZIVAR_MUST_USE peltzivar_write_status peltzivar_format_i128(const peltzivar_syntax *syntax, peltzivar_i128 value,
     const peltzivar_style *style, char *text, size_t len, size_t *needed);
 
-/* Writes the shortest decimal digits that are read as this float, if the mantissa radix and the exponent base are 10. A
- * very large or very small one has an exponent, if the syntax has one. */
+/* Writes a float, so that it is read as the same float. In radix 10, it has the fewest digits that are, and in a radix that is
+ * a power of two, it is exact. Below 1e-4 and from 1e16 up it has an exponent, if the syntax has one. */
 PELTZIVAR_MUST_USE peltzivar_write_status peltzivar_format_f64(const peltzivar_syntax *syntax, double value,
     const peltzivar_style *style, char *text, size_t len, size_t *needed);
 

@@ -1905,8 +1905,8 @@ class Syntax(_Reader):
         `group`, also 0, for which there are no groups otherwise. `without_base` leaves out the base prefix and the base
         suffix, unless conditions require them. Raises ValueError for NaN and infinity, for a sign `-` if no literal has one, for a number that is
         not whole if literals are integers, for an int if each literal has an exponent, for an int of more than 4300
-        digits in radix 10, as `str` does, for another mantissa radix than that of the syntax, which is 10 for a float
-        and a Decimal, and, of a float, for another exponent base. A `Literal` keeps its exponent, and a Decimal has one
+        digits in radix 10, as `str` does, for another mantissa radix than that of the syntax, which is 10 for a Decimal,
+        and, of a float, for radixes that are neither both 10 nor both powers of two. A `Literal` keeps its exponent, and a Decimal has one
         from 1E+401 on and below 1E-400. Where no exponent is allowed, the point moves, and the text has at most 800
         bytes.
         """

@@ -313,7 +313,7 @@ static void test_writing(void) {
     memset(&literal, 0, sizeof literal);
     CHECK(make_syntax("radix=2" LONGEST, &other) && !peltzivar_format_i128(&other, least, &ones, integer, sizeof integer, &needed));
     CHECK(needed == sizeof integer && make_syntax("no_exponent_notation=true" LONGEST, &other));
-    CHECK(!peltzivar_format_f64(&other, -DBL_MAX, &ones, real, sizeof real, &needed) && needed == sizeof real);
+    CHECK(!peltzivar_format_f64(&other, -DBL_MAX, &ones, real, sizeof real, &needed) && needed == 622);
     CHECK(!peltzivar_format_u64(&hexadecimal, UINT64_MAX, NULL, text, sizeof text, NULL) && !strcmp(text, "0xFFFFFFFFFFFFFFFF"));
     CHECK(!peltzivar_format_u64(&hexadecimal, 31, &bare, text, 3, &needed) && !strcmp(text, "1F") && needed == 3);
     CHECK(peltzivar_format_f64(&english, 5e-324, NULL, NULL, 0, &needed) == PELTZIVAR_WRITE_BUFFER && needed == 327);
@@ -327,7 +327,8 @@ static void test_writing(void) {
         && peltzivar_format_literal(&english, &literal, NULL, text, sizeof text, NULL) == PELTZIVAR_WRITE_LONG);
     memset(&literal, 0, sizeof literal);
     CHECK(peltzivar_format_f64(&json, HUGE_VAL, NULL, text, sizeof text, &needed) == PELTZIVAR_WRITE_SPECIAL && needed == 327);
-    CHECK(peltzivar_format_f64(&hexadecimal, 0.5, NULL, text, sizeof text, NULL) == PELTZIVAR_WRITE_RADIX);
+    CHECK(!peltzivar_format_f64(&hexadecimal, -0x1.8p-70, NULL, text, sizeof text, NULL) && !strcmp(text, "-0x6p-12"));
+    CHECK(make_syntax("radix=3", &other) && peltzivar_format_f64(&other, 0.5, NULL, text, sizeof text, NULL) == PELTZIVAR_WRITE_RADIX);
     CHECK(peltzivar_format_i64(&c, -1, NULL, text, sizeof text, NULL) == PELTZIVAR_WRITE_NEGATIVE);
     CHECK(peltzivar_format_literal(&json, &literal, NULL, text, sizeof text, NULL) == PELTZIVAR_WRITE_ARGUMENT);
     CHECK(peltzivar_read(&german, "-1.234,50", 9, &literal, NULL));

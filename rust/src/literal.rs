@@ -42,11 +42,9 @@
 //! // In Python, the `-` of `-1` is an operator.
 //! assert_eq!(python.format_integer(-1, Style::PLAIN).unwrap_err(), WriteError::Negative);
 //!
-//! // A float is written from its shortest digits, which std prints.
-//! let digits = format!("{:?}", 0.1_f64 + 0.2);
-//! let number = Language::RUST.read(&digits).unwrap();
+//! // A float is written by the fewest digits that are read as this float.
 //! let comma = Language::CSV_DE.forms()[0].syntax();
-//! assert_eq!(comma.format_literal(&number.literal().unwrap(), Style::PLAIN)?.to_string(), "0,30000000000000004");
+//! assert_eq!(comma.format_float(0.1 + 0.2, Style::PLAIN)?.to_string(), "0,30000000000000004");
 //! # Ok::<(), WriteError>(())
 //! ```
 
@@ -130,4 +128,4 @@ pub use number::Digits;
 pub use specials::{Sign, Special, Specials, Spelling};
 pub use syntax::{Condition, Conditions, ConditionsError, ConditionsErrorKind, Syntax};
 pub use value::{FromLiteral, ParseError, Plain, Target, ValueError, ValueErrorKind};
-pub use writer::{Grouping, Style, WriteError, WriteInteger, Written};
+pub use writer::{Grouping, Style, WriteError, WriteFloat, WriteInteger, Written};

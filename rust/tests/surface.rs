@@ -601,6 +601,7 @@ const _: () = { fn call<T: FromLiteral>(it: &'static Syntax, text: &'static (imp
 const _: () = { fn call<T: FromLiteral>(it: &'static Syntax, text: impl AsRef<[u8]>) -> Result<T, ParseError> { <Syntax>::parse(it, text) } };
 const _: () = { fn call<T: FromLiteral>(it: Number<'static>) -> Result<T, ValueError> { <Number<'static>>::value(it) } };
 const _: () = { fn call<T: FromLiteral>(literal: Literal<'static>) -> Result<T, ValueErrorKind> { <T>::from_literal(literal) } };
+const _: () = { fn call<T: WriteFloat>(it: &'static Syntax, value: T, style: Style) -> Result<Written<'static>, WriteError> { <Syntax>::format_float(it, value, style) } };
 const _: () = { fn call<T: WriteInteger>(it: &'static Syntax, value: T, style: Style) -> Result<Written<'static>, WriteError> { <Syntax>::format_integer(it, value, style) } };
 const _: () = { fn has() where &'static Forms<'static>: IntoIterator {} };
 const _: () = { fn has() where ArgumentKind: Clone {} };
@@ -1632,6 +1633,7 @@ use peltzivar::literal::Target as _;
 use peltzivar::literal::ValueError as _;
 use peltzivar::literal::ValueErrorKind as _;
 use peltzivar::literal::WriteError as _;
+use peltzivar::literal::WriteFloat as _;
 use peltzivar::literal::WriteInteger as _;
 use peltzivar::literal::Written as _;
 use peltzivar::source::BuilderExpression as _;

@@ -13,6 +13,8 @@ use lexical_util::format::{Format, NonZeroU8, NumberFormat, STANDARD};
 use lexical_value::float::to_float;
 use lexical_value::integer::ValueErrorKind;
 use lexical_value::parse::{ParseError, parse_float, parse_integer};
+use lexical_writer::float::format_float;
+use lexical_writer::float_digits::FloatDigits;
 use lexical_writer::integer::format_integer;
 use lexical_writer::layout::{Grouping, Style, WriteError};
 use lexical_writer::literal::format_literal;
@@ -286,6 +288,33 @@ fn numbers_are_written(rt: HostRuntime) -> Result<(), Fail> {
     assert_eq!(rt; layout.write(&mut buffer), 8);
     assert_eq!(rt; buffer.as_slice(), b"-12.50E3".as_slice());
     Ok(())
+}
+
+// Returns whether a float is written as a text in the standard format, or refused.
+fn is_float_text(value: f64, wanted: Result<&[u8], WriteError>) -> Option<bool> {
+    let format = Format::new(STANDARD).ok()?;
+    let syntax = Syntax::new(format, b'e', b'.').ok()?;
+    let (mut digits, mut buffer) = (FloatDigits::new(), [0u8; 24]);
+    match (format_float(&syntax, value, PLAIN, &mut digits), wanted) {
+        (Ok(layout), Ok(text)) => {
+            let length = layout.write(&mut buffer);
+            Some(buffer.get(..length) == Some(text))
+        }
+        (Err(error), Err(wanted)) => Some(error == wanted),
+        _ => Some(false),
+    }
+}
+
+#[test]
+fn floats_are_written_by_their_shortest_digits(rt: HostRuntime) {
+    assert_eq!(rt; is_float_text(-0.3, Ok(b"-0.3")), Some(true));
+    assert_eq!(rt; is_float_text(-0.0, Ok(b"-0.0")), Some(true));
+    assert_eq!(rt; is_float_text(1234.5, Ok(b"1234.5")), Some(true));
+    assert_eq!(rt; is_float_text(1e16, Ok(b"1e16")), Some(true));
+    assert_eq!(rt; is_float_text(1e-7, Ok(b"1e-7")), Some(true));
+    assert_eq!(rt; is_float_text(5e-324, Ok(b"5e-324")), Some(true));
+    assert_eq!(rt; is_float_text(1.7976931348623157e308, Ok(b"1.7976931348623157e308")), Some(true));
+    assert_eq!(rt; is_float_text(f64::INFINITY, Err(WriteError::Special)), Some(true));
 }
 
 // Returns what is written of a text of the standard format as an integer.

@@ -39,7 +39,7 @@ pub fn format_literal<'a>(
 }
 
 // Returns how a literal of `format` with these parts is written as a literal of `syntax`, or why it cannot be.
-fn convert<'a>(
+pub(crate) fn convert<'a>(
     format: NumberFormat,
     parts: &Parts<'a>,
     syntax: &Syntax,

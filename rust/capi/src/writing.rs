@@ -4,10 +4,7 @@ use crate::arguments::{write_text, Out};
 use crate::literals::{Literal, Syntax};
 use crate::names::{at, texts};
 use crate::values::I128;
-use core::fmt::{self, Write};
-use peltzivar::format::STANDARD;
 use peltzivar::literal::{self, WriteError, Written};
-use peltzivar::Format;
 
 /// Whether a number is written: the index of one of [`DESCRIPTIONS`].
 type WriteStatus = u8;
@@ -36,33 +33,6 @@ pub struct Style {
     group: u8,
     without_base: u8,
 }
-
-/// The text of a float: at most 17 digits, a point, two signs, and an exponent of 3 digits, or zeros for up to 16 digits.
-struct Shortest {
-    bytes: [u8; 32],
-    len: usize,
-}
-
-impl Shortest {
-    fn of(value: f64) -> Shortest {
-        let mut shortest = Shortest { bytes: [0; 32], len: 0 };
-        // There is room for the text, and nothing else can fail.
-        let _ = write!(shortest, "{value:?}");
-        shortest
-    }
-}
-
-impl Write for Shortest {
-    fn write_str(&mut self, piece: &str) -> fmt::Result {
-        let room = self.bytes.get_mut(self.len..self.len + piece.len()).ok_or(fmt::Error)?;
-        room.copy_from_slice(piece.as_bytes());
-        self.len += piece.len();
-        Ok(())
-    }
-}
-
-/// The syntax of the texts of floats.
-const FLOATS: literal::Syntax = literal::Syntax::new_or_panic(Format::of::<STANDARD>(), b'e', b'.');
 
 /// Returns a syntax in whose radixes calls can write, and the style.
 fn given(syntax: Option<&Syntax>, style: Option<&Style>) -> Option<(literal::Syntax, literal::Style)> {
@@ -134,16 +104,7 @@ calls! {
     fn peltzivar_format_f64(
         syntax: Option<&Syntax>, value: f64, style: Option<&Style>, text: *mut u8, len: usize, needed: Out<usize>
     ) -> WriteStatus {
-        let digits = Shortest::of(value);
-        write((syntax, style), (text, len, needed), |syntax, style| {
-            // With a second caller, `read_bytes` would not be inlined in `peltzivar_read`.
-            let (literal, _) = FLOATS.read_prefix_bytes(&digits.bytes[..digits.len]).map_err(|_| WriteError::Special)?;
-            match syntax.format().exponent_base() {
-                10 => syntax.format_literal(&literal, style),
-                // No float type has a value of a literal with these digits and another exponent base.
-                _ => Err(WriteError::Radix),
-            }
-        })
+        write((syntax, style), (text, len, needed), |syntax, style| syntax.format_float(value, style))
     }
 
     fn peltzivar_format_literal(

@@ -7,7 +7,8 @@ use crate::format_flags::Part;
 use crate::literal::plain::{At, Sums};
 use crate::literal::{FormError, Literal, Number, ReadError, Sign, Special, Spelling, Syntax};
 
-mod float;
+#[allow(clippy::question_mark, reason = "as it is proved")]
+pub(crate) mod float;
 mod integer;
 
 pub use integer::ValueErrorKind;

@@ -4,9 +4,12 @@ use core::fmt::{self, Write};
 use core::str;
 
 use crate::literal::{Literal, Syntax};
+use crate::number::float::Float;
 use crate::number::integer::Integer;
 
 mod digits;
+mod float;
+mod float_digits;
 mod integer;
 mod layout;
 #[allow(clippy::module_inception, clippy::needless_lifetimes, reason = "as it is proved")]
@@ -18,6 +21,7 @@ mod sink;
 
 pub use layout::{Grouping, Style, WriteError};
 
+use float_digits::FloatDigits;
 use layout::Layout;
 use sink::Sink;
 
@@ -25,6 +29,11 @@ use sink::Sink;
 pub trait WriteInteger: Integer {}
 
 impl<T: Integer> WriteInteger for T {}
+
+/// A type that can be [written][Syntax::format_float]: `f32` and `f64`.
+pub trait WriteFloat: Float {}
+
+impl<T: Float> WriteFloat for T {}
 
 impl Style {
     /// The integer digits in groups where a condition of the syntax has a size, with the base prefix and the base suffix if
@@ -77,7 +86,34 @@ impl Syntax {
     /// has an exponent.
     #[inline(always)]
     pub fn format_integer<T: WriteInteger>(&self, value: T, style: Style) -> Result<Written<'static>, WriteError> {
-        integer::format_integer(self, value, style).map(|layout| Written { layout })
+        integer::format_integer(self, value, style).map(|layout| Written(Content::Layout(layout)))
+    }
+
+    /// Returns the value of a float as a literal of this syntax. [Parsing][Syntax::parse] the text returns the same value, also
+    /// for `-0`.
+    ///
+    /// In radix 10, the digits are the fewest that are read as this value, the nearest of these. In a radix that is a power of two, the
+    /// literal is exact. There is an exponent where `{:?}` of std has one, below `1e-4` and from `1e16`, unless the syntax
+    /// allows no exponent, or each literal has one.
+    ///
+    /// ```
+    /// use peltzivar::literal::{Language, Style, WriteError};
+    ///
+    /// let syntax = Language::CSV_DE.forms()[0].syntax();
+    /// assert_eq!(syntax.format_float(1234.56, Style::PLAIN)?.to_string(), "1.234,56");
+    /// assert_eq!(syntax.format_float(1e-7_f32, Style::PLAIN)?.to_string(), "0,0000001");
+    /// assert_eq!(syntax.format_float(f64::NAN, Style::PLAIN).unwrap_err(), WriteError::Special);
+    /// # Ok::<(), WriteError>(())
+    /// ```
+    ///
+    /// # Errors
+    ///
+    /// [`WriteError::Special`] for NaN and infinity, [`WriteError::Radix`] if the mantissa radix and the exponent base are
+    /// neither both 10 nor both powers of two, and otherwise why no literal has the value.
+    pub fn format_float<T: WriteFloat>(&self, value: T, style: Style) -> Result<Written<'static>, WriteError> {
+        let (mut digits, mut text) = (FloatDigits::new(), [0; 32]);
+        let length = float::format_float(self, value, style, &mut digits)?.write(&mut text);
+        Ok(Written(Content::Float(Text { digits, syntax: *self, style, text, length })))
     }
 
     /// Returns a literal, which may be of another syntax, as a literal of this syntax with the same value.
@@ -102,14 +138,30 @@ impl Syntax {
     ///
     /// If the literal cannot be written, returns why.
     pub fn format_literal<'a>(&self, literal: &Literal<'a>, style: Style) -> Result<Written<'a>, WriteError> {
-        literal::format_literal(literal, self, style).map(|layout| Written { layout })
+        literal::format_literal(literal, self, style).map(|layout| Written(Content::Layout(layout)))
     }
 }
 
 /// A number as a literal of a syntax, which prints the text. Nothing is allocated.
 #[derive(Clone, Copy)]
-pub struct Written<'a> {
-    layout: Layout<'a>,
+pub struct Written<'a>(Content<'a>);
+
+/// A layout, or a float.
+#[derive(Clone, Copy)]
+#[allow(clippy::large_enum_variant, reason = "nothing is allocated")]
+enum Content<'a> {
+    Layout(Layout<'a>),
+    Float(Text),
+}
+
+/// The digits of a float, which can be laid out, and the beginning of the text with its length.
+#[derive(Clone, Copy)]
+struct Text {
+    digits: FloatDigits,
+    syntax: Syntax,
+    style: Style,
+    text: [u8; 32],
+    length: usize,
 }
 
 impl Written<'_> {
@@ -130,7 +182,7 @@ impl Written<'_> {
     /// [`WriteError::Buffer`] with the length of the text if it does not fit. The content of the buffer is then
     /// unspecified.
     pub fn write_into<'b>(&self, buffer: &'b mut [u8]) -> Result<&'b str, WriteError> {
-        let length = self.layout.write(buffer);
+        let length = self.write(buffer);
         let text = buffer.get(..length).and_then(|text| str::from_utf8(text).ok());
         text.ok_or(WriteError::Buffer(length))
     }
@@ -142,23 +194,45 @@ impl Written<'_> {
 impl fmt::Display for Written<'_> {
     fn fmt(&self, f: &mut fmt::Formatter<'_>) -> fmt::Result {
         let mut text = [0; 40];
-        let length = self.layout.write(&mut text);
+        let length = self.write(&mut text);
         let text = text.get(..length).and_then(|text| str::from_utf8(text).ok());
         match text {
             Some(text) if f.width().is_none() && !f.sign_plus() => f.write_str(text),
-            _ => self.pad(f, length),
+            _ => self.with(|layout| Written::pad(f, layout, length)),
         }
     }
 }
 
 impl Written<'_> {
+    /// Writes the text to the beginning of a buffer, and returns its length.
+    fn write(&self, buffer: &mut [u8]) -> usize {
+        match &self.0 {
+            Content::Float(Text { text, length, .. }) if *length <= 32.min(buffer.len()) => {
+                buffer[..*length].copy_from_slice(&text[..*length]);
+                *length
+            }
+            _ => self.with(|layout| layout.write(buffer)),
+        }
+    }
+
+    /// Calls `then` with the layout.
+    fn with<T>(&self, then: impl FnOnce(&Layout<'_>) -> T) -> T {
+        match &self.0 {
+            Content::Layout(layout) => then(layout),
+            Content::Float(float) => match float.digits.lay_out(&float.syntax, float.style) {
+                Ok(layout) => then(&layout),
+                Err(_) => unreachable!("the float has been laid out"),
+            },
+        }
+    }
+
     /// Prints the text, of which the length is known, with what the formatter adds.
     #[cold]
-    fn pad(&self, f: &mut fmt::Formatter<'_>, length: usize) -> fmt::Result {
-        let (sign, prefix) = (self.layout.sign, self.layout.prefix);
+    fn pad(f: &mut fmt::Formatter<'_>, layout: &Layout<'_>, length: usize) -> fmt::Result {
+        let (sign, prefix) = (layout.sign, layout.prefix);
         let sign = sign.or(if f.sign_plus() { Some(b'+') } else { None });
-        let front = usize::from(self.layout.sign.is_some()) + 2 * usize::from(prefix.is_some());
-        let added = usize::from(sign != self.layout.sign);
+        let front = usize::from(layout.sign.is_some()) + 2 * usize::from(prefix.is_some());
+        let added = usize::from(sign != layout.sign);
         let missing = f.width().unwrap_or(0).saturating_sub(length.saturating_add(added));
         let (before, zeros) = match f.align() {
             _ if f.sign_aware_zero_pad() => (0, missing),
@@ -172,7 +246,7 @@ impl Written<'_> {
         bytes.into_iter().flatten().try_for_each(|byte| f.write_char(byte.into()))?;
         (0..zeros).try_for_each(|_| f.write_char('0'))?;
         let mut printer = Printer { f, skip: front, result: Ok(()) };
-        self.layout.put(&mut printer);
+        layout.put(&mut printer);
         printer.result?;
         (before + zeros..missing).try_for_each(|_| f.write_char(fill))
     }
