@@ -127,27 +127,35 @@ languages! {
     // Made by make_python.py: language_list
     ADA peltzivar_language_ada
     C peltzivar_language_c
+    CSS peltzivar_language_css
     CSV_DE peltzivar_language_csv_de
     CSV_EN peltzivar_language_csv_en
     C_PLUS_PLUS peltzivar_language_c_plus_plus
     C_SHARP peltzivar_language_c_sharp
+    ELIXIR peltzivar_language_elixir
     FORTRAN peltzivar_language_fortran
     GO peltzivar_language_go
     HASKELL peltzivar_language_haskell
+    HASKELL_GHC2021 peltzivar_language_haskell_ghc2021
     JAVA peltzivar_language_java
     JAVASCRIPT peltzivar_language_javascript
     JSON peltzivar_language_json
     JULIA peltzivar_language_julia
     KOTLIN peltzivar_language_kotlin
+    LUA peltzivar_language_lua
     NASM peltzivar_language_nasm
     OCAML peltzivar_language_ocaml
+    PHP peltzivar_language_php
     PYTHON peltzivar_language_python
+    R peltzivar_language_r
     RUBY peltzivar_language_ruby
     RUST peltzivar_language_rust
     SQL peltzivar_language_sql
     SWIFT peltzivar_language_swift
     TOML peltzivar_language_toml
+    XML_SCHEMA peltzivar_language_xml_schema
     YAML peltzivar_language_yaml
+    YAML_1_1 peltzivar_language_yaml_1_1
     // End
 }
 
