@@ -60,7 +60,7 @@ class Code {
         const hasBytes = calls.some((call) => call.includes("NonZeroU8"));
         const syntax = isFloat ? `Syntax::new_or_panic(FORMAT, ${options})` : "Syntax::integers(FORMAT)";
         const [nan, inf, infinity] = state.specials.map((it) => (it === '""' ? "None" : `Some(b${it})`));
-        const names = `${conditions.length ? "Conditions, " : ""}FormError, Number, Readers, ${nan ? "Specials, " : ""}Syntax`;
+        const names = `${conditions.length ? "Conditions, " : ""}Form, FormError, Forms, Number, ${nan ? "Specials, " : ""}Syntax`;
         return [
             ...(hasBytes ? ["use core::num::NonZeroU8;"] : []),
             `use peltzivar::literal::{${names}};`,
@@ -70,12 +70,12 @@ class Code {
             `pub const FORMAT: Format = NumberFormatBuilder::new()\n${calls.join("")}    .build_format_or_panic();`,
             `pub const SYNTAX: Syntax = ${syntax}${conditions.length ? "" : ";"}`,
             ...(conditions.length ? [`    .with_conditions_or_panic(Conditions::NONE${conditions.join("")});`] : []),
-            `pub static READERS: Readers<'static> = Readers::new_or_panic(&[SYNTAX])${nan ? "" : ";"}`,
+            `pub static FORMS: Forms<'static> = Forms::new_or_panic(&[Form::new("", SYNTAX)])${nan ? "" : ";"}`,
             ...(nan ? [`    .with_specials(Specials { nan: ${nan}, inf: ${inf}, infinity: ${infinity} });`] : []),
             "",
             `/// Returns a number, whose value is ${isFloat ? "`f64::try_from(number)` or, of an integer, " : ""}\`i128::try_from(number)\`.`,
             "pub fn read(text: &str) -> Result<Number<'_>, FormError> {",
-            "    READERS.read(text)",
+            "    FORMS.read(text)",
             "}",
             "",
             ...this.rustTest(state.tests),

@@ -64,8 +64,8 @@ fn texts(state: State) -> impl Iterator<Item = Vec<u8>> {
 pub fn refused(forms: &Forms, others: &Forms) -> Vec<(Vec<u8>, ReadError)> {
     let mut found: Vec<(_, (Vec<u8>, ReadError))> = Vec::new();
     for text in forms.states.iter().flat_map(|&it| texts(it)) {
-        let (Ok(number), Err(refusal)) = (forms.readers().read(&text), others.readers().read(&text)) else { continue };
-        let (error, syntax) = (refusal.error, forms.readers().as_slice()[number.form().unwrap_or(0)]);
+        let (Ok(number), Err(refusal)) = (forms.list().read(&text), others.list().read(&text)) else { continue };
+        let (error, syntax) = (refusal.error, forms.list()[number.form().unwrap_or(0)].syntax());
         let shown = (error.kind(), error.mask(), error.byte().and_then(|byte| syntax.role_of(byte)));
         match found.iter_mut().find(|it| it.0 == shown) {
             Some((_, old)) if text.len() < old.0.len() => *old = (text, error),
@@ -80,8 +80,8 @@ pub fn refused(forms: &Forms, others: &Forms) -> Vec<(Vec<u8>, ReadError)> {
 /// Returns the first text to which forms and others give different values, with both values.
 pub fn other_value(forms: &Forms, others: &Forms) -> Option<(Vec<u8>, [Value; 2])> {
     forms.states.iter().flat_map(|&it| texts(it)).find_map(|text| {
-        let number = forms.readers().read(&text).ok()?;
-        let values = [value_of(number), value_of(others.readers().read(&text).ok()?)];
+        let number = forms.list().read(&text).ok()?;
+        let values = [value_of(number), value_of(others.list().read(&text).ok()?)];
         (values[0] != values[1]).then_some((text, values))
     })
 }

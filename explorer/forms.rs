@@ -3,14 +3,14 @@
 use alloc::vec::Vec;
 use core::str::FromStr;
 
-use peltzivar::literal::{Condition, Conditions, Number, Readers, Specials, Syntax, ValueError};
+use peltzivar::literal::{self, Condition, Conditions, Form, Number, Specials, ValueError};
 
 use crate::suggest::State;
 
-/// The states of forms, their syntaxes, and the spellings of special values.
+/// The states of forms, the forms, and the spellings of special values.
 pub struct Forms {
     pub states: Vec<State>,
-    syntaxes: Vec<Syntax>,
+    forms: Vec<Form>,
     specials: Specials<'static>,
 }
 
@@ -20,12 +20,12 @@ impl Forms {
         let mut spellings = line.split('\t').skip(1).map(str::as_bytes);
         let [nan, inf, infinity] = [(); 3].map(|()| spellings.next());
         let states: Vec<_> = states_of(line).collect();
-        let syntaxes = states.iter().map(|it| it.syntax()).collect::<Option<_>>()?;
-        Some(Forms { states, syntaxes, specials: Specials { nan, inf, infinity } })
+        let forms = states.iter().map(|it| Some(Form::new("", it.syntax()?))).collect::<Option<_>>()?;
+        Some(Forms { states, forms, specials: Specials { nan, inf, infinity } })
     }
 
-    pub fn readers(&self) -> Readers<'_> {
-        Readers::new_or_panic(&self.syntaxes).with_specials(self.specials)
+    pub fn list(&self) -> literal::Forms<'_> {
+        literal::Forms::new_or_panic(&self.forms).with_specials(self.specials)
     }
 }
 

@@ -13,7 +13,7 @@ use core::ops::Range;
 use examples::{other_value, refused};
 use forms::{states_of, value_of, Forms, Value};
 use peltzivar::edits::{apply, is_built, normal_form};
-use peltzivar::literal::{Condition, Conditions, FormError, Language, Number, Readers, Specials};
+use peltzivar::literal::{self, Condition, Conditions, Form, FormError, Language, Number, Specials};
 use peltzivar::{Edit, FormatView, NumberFormatBuilder};
 use suggest::{lines_of, offers, Line, State, SPECIALS};
 
@@ -121,9 +121,10 @@ pub extern "C" fn explain(length: usize) -> u64 {
 #[unsafe(no_mangle)]
 pub extern "C" fn languages(_: usize) -> u64 {
     answer(list(Language::ALL.iter().map(|language| {
-        let Specials { nan, inf, infinity } = language.specials();
+        let Specials { nan, inf, infinity } = language.forms().specials();
         let specials = list([nan, inf, infinity].map(|it| quoted(utf8(it.unwrap_or_default()))).into_iter());
-        let forms = language.forms().iter().map(|it| format!(r#"{{"name":"{}","syntax":"{}"}}"#, it.name, it.syntax));
+        let forms = language.forms().as_slice().iter();
+        let forms = forms.map(|it| format!(r#"{{"name":"{}","syntax":"{}"}}"#, it.name(), it.syntax()));
         format!(r#"{{"name":"{language}","specials":{specials},"forms":{}}}"#, list(forms))
     })))
 }
@@ -164,40 +165,40 @@ pub extern "C" fn numbers(length: usize) -> u64 {
 }
 
 fn number(forms: &Forms, lines: &[u8], line: Line<'_>) -> String {
-    let read = forms.readers().read(line.text);
+    let read = forms.list().read(line.text);
     let form = read.map_or_else(|error| error.form, |number| number.form().unwrap_or(0));
     let offers = match read.is_err() == line.is_refused {
         true => Vec::new(),
         false => offers(forms.states[form], lines, line),
     };
     let offers = list(offers.into_iter().map(|(state, expected)| {
-        let syntax = state.syntax();
-        let readers = Readers::new(syntax.as_slice()).map(|it| it.with_specials(SPECIALS));
-        let reading = readers.map_or(String::new(), |it| reading(it, line.text));
+        let form = state.syntax().map(|syntax| Form::new("", syntax));
+        let forms = literal::Forms::new(form.as_slice()).map(|it| it.with_specials(SPECIALS));
+        let reading = forms.map_or(String::new(), |it| reading(it, line.text));
         format!(r#"{{{},"expected":{expected},{reading}}}"#, parts_of(state))
     }));
-    format!(r#"{{{},"offers":{offers}}}"#, reading(forms.readers(), line.text))
+    format!(r#"{{{},"offers":{offers}}}"#, reading(forms.list(), line.text))
 }
 
 /// Returns the value and the parts of a text, or the parts of its longest front that is a number, and why and where it is
 /// refused, as parts of an object.
-fn reading(readers: Readers<'_>, text: &[u8]) -> String {
+fn reading(forms: literal::Forms<'_>, text: &[u8]) -> String {
     let part = |(kind, bytes): (&str, &[u8])| format!(r#"{{"kind":"{kind}","size":{}}}"#, bytes.len());
-    let parts = match readers.read(text) {
+    let parts = match forms.read(text) {
         Ok(Number::Special(special)) => {
             let (sign, rest) = text.split_at(special.sign.map_or(0, |_| 1));
             list([("sign", sign), ("special", rest)].into_iter().filter(|it| !it.1.is_empty()).map(part))
         }
         _ => {
-            let front = readers.read_prefix(text).ok().and_then(|(number, _)| number.literal());
+            let front = forms.read_prefix(text).ok().and_then(|(number, _)| number.literal());
             list(front.iter().flat_map(|it| it.parts()).map(part))
         }
     };
-    let told = match readers.read(text) {
+    let told = match forms.read(text) {
         Ok(number) => format!(r#"{},"form":{}"#, value(value_of(number)), number.form().unwrap_or(0)),
         Err(FormError { form, error, .. }) => {
-            let (error, mask, Range { start, end }) = (quoted(error), word(error.mask()), error.span());
-            format!(r#""form":{form},"error":{error},"mask":{mask},"start":{start},"end":{end}"#)
+            let (text, mask, Range { start, end }) = (quoted(error.full_text().as_str()), word(error.mask()), error.span());
+            format!(r#""form":{form},"error":{text},"mask":{mask},"start":{start},"end":{end}"#)
         }
     };
     format!(r#""parts":{parts},{told}"#)
@@ -213,7 +214,7 @@ pub extern "C" fn differ(length: usize) -> u64 {
     };
     let one_way = |first, second| {
         let texts = refused(first, second).into_iter();
-        list(texts.map(|(text, error)| format!(r#"{{"text":{},"error":{}}}"#, quoted(utf8(&text)), quoted(error))))
+        list(texts.map(|(text, error)| format!(r#"{{"text":{},"error":{}}}"#, quoted(utf8(&text)), quoted(error.full_text().as_str()))))
     };
     let others = list(other_value(&first, &second).into_iter().map(|(text, [here, there])| {
         format!(r#"{{"text":{},"here":{{{}}},"there":{{{}}}}}"#, quoted(utf8(&text)), value(here), value(there))

@@ -12,8 +12,8 @@ fn convert(number: Number<'_>, target: Language) -> Result<String, WriteError> {
         Number::Special(special) => return spell(special, target),
     };
     let mut result = Err(WriteError::Radix);
-    for (index, form) in target.forms().iter().enumerate() {
-        match form.syntax.format_literal(&literal, Style::PLAIN).map(|text| text.to_string()) {
+    for (index, form) in target.forms().as_slice().iter().enumerate() {
+        match form.syntax().format_literal(&literal, Style::PLAIN).map(|text| text.to_string()) {
             Ok(text) if target.read(&text).is_ok_and(|it| it.form() == Some(index)) => return Ok(text),
             Ok(_) => (),
             Err(error) => result = Err(error),
@@ -24,7 +24,7 @@ fn convert(number: Number<'_>, target: Language) -> Result<String, WriteError> {
 
 /// Returns a special value with the first spelling that a language has for it.
 fn spell(special: Special, target: Language) -> Result<String, WriteError> {
-    let specials = target.specials();
+    let specials = target.forms().specials();
     let word = match special.spelling {
         Spelling::Nan => specials.nan,
         _ => specials.inf.or(specials.infinity),
@@ -36,7 +36,7 @@ fn spell(special: Special, target: Language) -> Result<String, WriteError> {
 }
 
 fn main() -> io::Result<()> {
-    let language = |name: Option<String>| Language::ALL.iter().find(|it| Some(it.name()) == name.as_deref());
+    let language = |name: Option<String>| Language::from_name(&name?);
     let mut names = std::env::args().skip(1);
     let (Some(source), Some(target)) = (language(names.next()), language(names.next())) else {
         eprintln!("usage: convert SOURCE TARGET, two of {:?}", Language::ALL);
@@ -46,7 +46,7 @@ fn main() -> io::Result<()> {
     for line in io::stdin().lock().lines() {
         let line = line?;
         match source.read(&line) {
-            Ok(number) => match convert(number, *target) {
+            Ok(number) => match convert(number, target) {
                 Ok(text) => writeln!(output, "{text}")?,
                 Err(error) => writeln!(output, "{line}: not in {target}: {error}")?,
             },

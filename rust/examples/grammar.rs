@@ -15,8 +15,8 @@ fn print(name: &str, syntax: Syntax) {
 
 fn main() -> ExitCode {
     let text = Vec::from_iter(std::env::args().skip(1)).join(" ");
-    if let Some(language) = Language::ALL.iter().find(|language| language.name() == text) {
-        language.forms().iter().for_each(|form| print(form.name, form.syntax));
+    if let Some(language) = Language::from_name(&text) {
+        language.forms().as_slice().iter().for_each(|form| print(form.name(), form.syntax()));
         return ExitCode::SUCCESS;
     }
     match text.parse() {

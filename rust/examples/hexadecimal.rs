@@ -19,7 +19,7 @@ fn main() {
             Err(ParseError::Value(error)) => println!("{text} is {error}"),
             Err(ParseError::Read(error)) => {
                 let (start, len) = (error.span().start, text[error.span()].chars().count().max(1));
-                println!("{text}\n{:start$}{:^<len$} {error:#}", "", "");
+                println!("{text}\n{:start$}{:^<len$} {error}", "", "");
             }
         }
     }

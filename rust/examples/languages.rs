@@ -8,14 +8,14 @@
 use peltzivar::literal::{Language, Number};
 
 fn answer(language: Language, text: &[u8]) -> String {
-    let form = |index: usize| language.forms()[index].name;
+    let form = |index: usize| language.forms()[index].name();
     match language.read(text) {
         Ok(Number::Literal { literal, form: index }) => match literal.to_i128() {
             Ok(value) => format!("{value}, {}", form(index)),
             Err(_) => format!("{:?}, {}", literal.to_f64().unwrap_or(f64::NAN), form(index)),
         },
         Ok(special) => format!("{:?}", special.to_f64()),
-        Err(error) => format!("none: {:#}, {}", error, form(error.form)),
+        Err(error) => format!("none: {error}, {}", error.name),
     }
 }
 
@@ -28,8 +28,8 @@ fn main() {
     }
     for language in Language::ALL {
         for form in language.forms() {
-            let settings = Vec::from_iter(form.syntax.format().edits().map(|edit| edit.to_string()));
-            println!("{language}\t{}\t{}\t{}", form.name, form.syntax, settings.join(" "));
+            let settings = Vec::from_iter(form.syntax().format().edits().map(|edit| edit.to_string()));
+            println!("{language}\t{}\t{}\t{}", form.name(), form.syntax(), settings.join(" "));
         }
     }
 }

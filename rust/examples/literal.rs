@@ -29,7 +29,7 @@ fn main() -> io::Result<ExitCode> {
             Ok(ExitCode::SUCCESS)
         }
         Err(error) => {
-            writeln!(out, "{}: {error}", error.valid_up_to())?;
+            writeln!(out, "{}: {error:#}", error.valid_up_to())?;
             Ok(ExitCode::FAILURE)
         }
     }

@@ -4,7 +4,7 @@
 //!     cargo run --example tokenizer -- 'x1 = 0xFF + 1_000'
 
 use core::num::NonZeroU8;
-use peltzivar::literal::{Conditions, FormError, Readers, Syntax};
+use peltzivar::literal::{Conditions, Form, FormError, Forms, Syntax};
 use peltzivar::NumberFormatBuilder;
 
 const PLAIN: NumberFormatBuilder = NumberFormatBuilder::new()
@@ -18,7 +18,7 @@ const PREFIXED: NumberFormatBuilder = PLAIN.mantissa_radix(16).base_prefix(NonZe
 const HEXADECIMAL: Syntax = Syntax::integers(PREFIXED.build_format_or_panic())
     .with_conditions_or_panic(Conditions::NONE.required_base_prefix(true));
 
-static NUMBERS: Readers = Readers::new_or_panic(&[DECIMAL, HEXADECIMAL]);
+static NUMBERS: Forms = Forms::new_or_panic(&[Form::new("number", DECIMAL), Form::new("integer", HEXADECIMAL)]);
 
 /// Returns the kind and the length of the number that `text` begins with. Letters, digits, `_` and `.` behind a number
 /// belong to it.
@@ -53,7 +53,7 @@ fn main() {
                 start = end;
             }
             Err(error) => {
-                let (first, end) = (start + error.error.span().start, start + error.error.span().end);
+                let (first, end) = (start + error.span().start, start + error.span().end);
                 println!("{first}..{end}: {error}");
                 std::process::exit(1);
             }

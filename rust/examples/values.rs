@@ -16,7 +16,7 @@ fn main() {
     for text in std::env::args().skip(1) {
         match value(&text) {
             Ok(value) => println!("{text} is {value}"),
-            Err(error) => println!("{text}: {error:#}"),
+            Err(error) => println!("{text}: {error}"),
         }
     }
 }

@@ -3,7 +3,7 @@
 //! A [`Syntax`] is a lawful format with an exponent character and a decimal point or, for integers alone, without both,
 //! and [`Conditions`]. It reads its literals. A [`Literal`] has the parts of a text and, if it is an integer, its value
 //! in any integer type of Rust. A [`ReadError`] finds the cause of a refusal, and the flags to blame.
-//! NaN and infinity are not literals: [`Specials`] reads them. [`Readers`] read numbers that have several forms, such as
+//! NaN and infinity are not literals: [`Specials`] reads them. [`Forms`] read numbers that have several forms, such as
 //! `10` and `0x1F`, and a [`Language`] has those of a language.
 //!
 //! ```
@@ -35,7 +35,7 @@
 //! use peltzivar::literal::{Language, Style, WriteError};
 //!
 //! let number = Language::C.read("1'000.5e3").unwrap();
-//! let python = Language::PYTHON.forms()[0].syntax;
+//! let python = Language::PYTHON.forms()[0].syntax();
 //! let text = python.format_literal(&number.literal().unwrap(), Style::PLAIN.group(3))?;
 //! assert_eq!(text.to_string(), "1_000.5e3");
 //! assert_eq!(python.format_integer(1_234_567, Style::PLAIN)?.to_string(), "1234567");
@@ -45,7 +45,7 @@
 //! // A float is written from its shortest digits, which std prints.
 //! let digits = format!("{:?}", 0.1_f64 + 0.2);
 //! let number = Language::RUST.read(&digits).unwrap();
-//! let comma = Language::CSV_DE.forms()[0].syntax;
+//! let comma = Language::CSV_DE.forms()[0].syntax();
 //! assert_eq!(comma.format_literal(&number.literal().unwrap(), Style::PLAIN)?.to_string(), "0,30000000000000004");
 //! # Ok::<(), WriteError>(())
 //! ```
@@ -53,9 +53,10 @@
 #[allow(clippy::redundant_pattern_matching, reason = "as it is proved")]
 mod cause;
 mod conditions;
+mod forms;
 mod groups;
 mod language;
-#[allow(clippy::len_zero, reason = "as it is proved")]
+#[allow(clippy::len_zero, clippy::exhaustive_enums, reason = "as it is proved, and numbers are of two kinds")]
 mod list;
 #[allow(clippy::module_inception, reason = "as it is proved")]
 mod literal;
@@ -64,7 +65,6 @@ mod number;
 mod plain;
 #[allow(clippy::needless_lifetimes, dead_code, reason = "as it is proved")]
 mod read;
-mod readers;
 mod sentence;
 #[allow(clippy::redundant_pattern_matching, reason = "as it is proved")]
 mod span;
@@ -83,8 +83,28 @@ mod value;
 mod writer;
 
 pub use cause::{Place, ReadError, ReadErrorKind};
-pub use language::{Form, Language};
-pub use list::FormError;
+pub use language::{Language, LanguageError};
+/// A text is a number if it is a literal of one of the forms, or a special value. The first such form gives its parts and its
+/// value, so the order matters where forms overlap, as here in `10`:
+///
+/// ```
+/// use peltzivar::literal::{Form, Forms, Syntax};
+/// use peltzivar::NumberFormatBuilder;
+///
+/// const DECIMAL: NumberFormatBuilder = NumberFormatBuilder::new().no_integer_leading_zeros(true);
+/// const OCTAL: NumberFormatBuilder = NumberFormatBuilder::new().mantissa_radix(8);
+/// static FORMS: Forms<'static> = Forms::new_or_panic(&[
+///     Form::new("decimal", Syntax::integers(DECIMAL.build_format_or_panic())),
+///     Form::new("octal", Syntax::integers(OCTAL.build_format_or_panic())),
+/// ]);
+///
+/// assert_eq!((FORMS.parse("10"), FORMS.parse("017")), (Ok(10), Ok(15)));
+/// assert_eq!(FORMS.read("017").unwrap().form(), Some(1));
+/// let error = FORMS.read("0178").unwrap_err();
+/// assert_eq!((error.form, error.name, error.to_string()), (1, "octal", "unexpected character '8'".into()));
+/// ```
+pub use list::Forms;
+pub use list::{Form, FormError, Number};
 /// A part that is absent has no bytes. All bytes are ASCII. Two literals are equal if they have the same format, up to
 /// its [normal form][crate::Format::normal_form], and the same parts.
 ///
@@ -107,8 +127,7 @@ pub use list::FormError;
 /// ```
 pub use literal::Literal;
 pub use number::Digits;
-pub use readers::{Number, Readers};
 pub use specials::{Sign, Special, Specials, Spelling};
 pub use syntax::{Condition, Conditions, ConditionsError, ConditionsErrorKind, Syntax};
-pub use value::{FromLiteral, ParseError, ValueError, ValueErrorKind};
+pub use value::{FromLiteral, ParseError, Plain, Target, ValueError, ValueErrorKind};
 pub use writer::{Grouping, Style, WriteError, WriteInteger, Written};

@@ -1,12 +1,12 @@
 //! Numbers of several forms: which form has a text, and which has its error.
 
-use peltzivar::literal::{Language, Number, Readers, Special, Specials, Spelling, Syntax};
+use peltzivar::literal::{Form, Forms, Language, Number, Special, Specials, Spelling, Syntax};
 use peltzivar::{Format, NumberFormatBuilder};
 
 /// Asserts that a text has a value, by a form.
 fn is(language: Language, text: &str, form: &str, value: f64) {
     let number = language.read(text).expect(text);
-    let name = language.forms()[number.form().unwrap()].name;
+    let name = language.forms()[number.form().unwrap()].name();
     assert_eq!((name, number.to_f64(), language.parse(text)), (form, value, Ok(value)), "{language}: {text}");
     assert_eq!(language.read_prefix(&[text, ";"].concat()), Ok((number, &b";"[..])), "{text}");
 }
@@ -14,8 +14,9 @@ fn is(language: Language, text: &str, form: &str, value: f64) {
 /// Asserts that a text has the error of a form, which says how far the text is right.
 fn is_refused(language: Language, text: &str, form: &str, valid_up_to: usize, sentence: &str) {
     let error = language.read(text).expect_err(text);
-    let (name, printed) = (language.forms()[error.form].name, format!("{error:#}"));
-    assert_eq!((name, error.error.valid_up_to(), printed.as_str()), (form, valid_up_to, sentence), "{text}");
+    let (name, printed) = (error.name, error.to_string());
+    assert_eq!(language.forms()[error.form].name(), name, "{text}");
+    assert_eq!((name, error.valid_up_to(), printed.as_str()), (form, valid_up_to, sentence), "{text}");
     assert_eq!(language.parse::<i64>(text).unwrap_err().to_string(), error.to_string(), "{text}");
 }
 
@@ -71,21 +72,21 @@ fn special_values_come_after_all_forms() {
     let float = Syntax::new_or_panic(Format::default(), b'e', b'.');
     let letters = Syntax::integers(NumberFormatBuilder::new().mantissa_radix(36).build_format_or_panic());
     let specials = Specials { nan: Some(b"nan"), inf: Some(b"-"), infinity: None };
-    let forms = [float, letters];
-    let [first, both] = [&forms[..1], &forms].map(|forms| Readers::new(forms).unwrap().with_specials(specials));
+    let forms = [float, letters].map(|it| Form::new("", it));
+    let [first, both] = [&forms[..1], &forms].map(|forms| Forms::new(forms).unwrap().with_specials(specials));
     let nan = Special { sign: None, spelling: Spelling::Nan };
     assert_eq!(first.read("nan"), Ok(Number::Special(nan)));
     assert_eq!(first.parse::<f32>("nan").map(f32::is_nan), Ok(true));
     assert_eq!(both.read("nan").unwrap().form(), Some(1));
     assert_eq!(first.read("na?").unwrap_err().error, float.read("na?").unwrap_err());
-    assert!(Readers::new(&[]).is_none());
+    assert!(Forms::new(&[]).is_none());
 }
 
 /// Groups decide which of two forms has a text, and where a front of it ends: `1,234.50` is English, and `1.234,50` German.
 #[test]
 fn cells_are_in_groups() {
-    let forms = [Language::CSV_EN, Language::CSV_DE].map(|it| it.forms()[0].syntax);
-    let both = Readers::new(&forms).unwrap();
+    let forms = [Language::CSV_EN, Language::CSV_DE].map(|it| it.forms()[0]);
+    let both = Forms::new(&forms).unwrap();
     for (text, form, value) in
         [("1234", 0, 1234.0), ("-12,345,678.50", 0, -12_345_678.5), ("1.234,5", 1, 1234.5), ("12,34", 1, 12.34)]
     {
@@ -93,5 +94,6 @@ fn cells_are_in_groups() {
         assert_eq!((number.form(), number.to_f64(), both.parse(text)), (Some(form), value, Ok(value)), "{text}");
         assert_eq!(both.read_prefix(&[text, ";"].concat()), Ok((number, &b";"[..])), "{text}");
     }
-    assert_eq!(forms[0].read_prefix("12,34;"), Ok((forms[0].read("12").unwrap(), &b",34;"[..])));
+    let english = forms[0].syntax();
+    assert_eq!(english.read_prefix("12,34;"), Ok((english.read("12").unwrap(), &b",34;"[..])));
 }

@@ -129,7 +129,7 @@ fn flags_accept_and_reject_the_texts_of_the_page() {
                     true => syntax.format().word() & DIGIT_SEPARATOR_FLAG_MASK != 0,
                     false => mask & (NO_SPECIAL | CASE_SENSITIVE_SPECIAL) == 0,
                 };
-                let blames = |error: ReadError| error.mask() & mask != 0 && error.to_string().contains(name);
+                let blames = |error: ReadError| error.mask() & mask != 0 && error.full_text().as_str().contains(name);
                 let is_blamed = result.map_or_else(blames, |_| true);
                 let is_changed = is_accepted == allows && can_be_blamed;
                 assert!(is_blamed || wanted || !is_changed, "{name}={value}: {text}: {result:?}");
@@ -215,8 +215,8 @@ fn sentences_name_what_is_seen() {
     ];
     for (settings, text, sentence, shown) in rows {
         let error = read(syntax_of(settings), text).unwrap_err();
-        assert_eq!((error.to_string().as_str(), &text[error.span()]), (sentence, shown), "{text}");
-        assert_eq!(Some(&*format!("{error:#}")), sentence.split(", which").next(), "{text}");
+        assert_eq!((format!("{error:#}").as_str(), &text[error.span()]), (sentence, shown), "{text}");
+        assert_eq!(Some(error.to_string().as_str()), sentence.split(", which").next(), "{text}");
     }
 }
 
@@ -283,7 +283,7 @@ fn languages_answer_as_their_grammars_and_tools_do() {
         let text = cells[2];
         let result = language.read(text);
         assert_eq!(result.is_ok(), is_accepted, "{row}: {result:?}");
-        for (form, Form { syntax, .. }) in language.forms().iter().enumerate() {
+        for (form, syntax) in language.forms().as_slice().iter().map(Form::syntax).enumerate() {
             let is_furthest = |size: usize| size > 1 && result.is_err_and(|it| it.error.valid_up_to() == size);
             let is_refused = syntax.read(text).is_err_and(|it| is_furthest(it.valid_up_to()));
             let is_given = result.is_ok_and(|it| it.form() == Some(form));
@@ -293,7 +293,7 @@ fn languages_answer_as_their_grammars_and_tools_do() {
             assert!(has_value(number, value), "{row}: not {number:?}");
         }
     }
-    let forms = Language::ALL.iter().flat_map(|it| (0..it.forms().len()).map(move |form| (it, form)));
+    let forms = Language::ALL.iter().flat_map(|it| (0..it.forms().as_slice().len()).map(move |form| (it, form)));
     let mut wanted = forms.flat_map(|(it, form)| [(it, form, true), (it, form, false)]);
     assert_eq!(wanted.find(|it| !seen.contains(it)), None, "a form without a row");
 }

@@ -6,7 +6,7 @@
 //!     cargo test --release --test recogniser -- --ignored
 
 use core::{array, iter, mem, ops::Range};
-use peltzivar::literal::{self, Condition, Conditions, Language, Literal, Place, ReadError, ReadErrorKind};
+use peltzivar::literal::{self, Condition, Conditions, Form, Language, Literal, Place, ReadError, ReadErrorKind};
 use peltzivar::{format::FLAG_MASK, Error, Format, Part, Role};
 use std::collections::BTreeSet;
 use {Error::*, Piece::*};
@@ -403,7 +403,7 @@ fn sized(flags: u64, sizes: [u64; 3]) -> u128 {
 /// Compares the syntaxes of the languages, with their conditions and with all that are possible, random words with random
 /// conditions, and with random options and without, and syntaxes of groups.
 fn compare_all(longest: usize, words: usize, eighths: u64) {
-    let syntaxes = Language::ALL.iter().flat_map(Language::forms).map(|form| form.syntax).collect::<BTreeSet<_>>();
+    let syntaxes = Language::ALL.iter().flat_map(Language::forms).map(Form::syntax).collect::<BTreeSet<_>>();
     for syntax in syntaxes {
         let (word, options) = (syntax.format().word(), syntax.exponent().zip(syntax.point()));
         let own =

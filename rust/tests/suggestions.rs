@@ -109,6 +109,7 @@ fn the_first_offers_lead_to_a_format_of_each_language() {
     let numbers = |rows: &[(&str, &str)]| rows.iter().map(|row| row.1).collect::<Vec<_>>().join("\n");
     let failed: Vec<_> = languages.filter(|rows| walk(&numbers(rows)).is_none()).map(|rows| rows[0].0).collect();
     // A language of several forms has numbers that no one format accepts.
-    let has_one_form = |name: &&str| Language::ALL.iter().any(|it| it.name() == *name && it.forms().len() == 1);
+    let has_one_form =
+        |name: &&str| Language::ALL.iter().any(|it| it.name() == *name && it.forms().as_slice().len() == 1);
     assert_eq!(failed.into_iter().filter(has_one_form).collect::<Vec<_>>(), [""; 0]);
 }

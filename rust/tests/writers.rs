@@ -11,7 +11,7 @@ const LITERALS: &str = include_str!("literals.txt");
 
 /// Writes a value in each syntax of the languages, and reads it back.
 fn is_read_back<T: WriteInteger + FromLiteral + PartialEq + Copy + Debug>(value: T) {
-    for Form { syntax, .. } in Language::ALL.iter().flat_map(Language::forms) {
+    for syntax in Language::ALL.iter().flat_map(Language::forms).map(Form::syntax) {
         for style in [Style::PLAIN, Style::PLAIN.group(3), Style::PLAIN.without_base()] {
             match syntax.format_integer(value, style) {
                 Ok(text) => assert_eq!(syntax.parse::<T>(text.to_string()), Ok(value), "{text}"),
@@ -93,23 +93,23 @@ fn literals_are_written_in_other_languages() {
     for (language, text) in rows() {
         let number = language.read(text).unwrap();
         let (literal, form) = (number.literal().unwrap(), number.form().unwrap());
-        let source = language.forms()[form].syntax;
+        let source = language.forms()[form].syntax();
         for target in Language::ALL {
             for form in target.forms() {
                 let style = Style::PLAIN.group(text.len() % 5);
-                let key = match form.syntax.format_literal(&literal, style) {
+                let key = match form.syntax().format_literal(&literal, style) {
                     Ok(written) => {
                         let back = written.to_string();
-                        let read = form.syntax.read(&back).unwrap_or_else(|error| {
-                            panic!("{language} {text:?} in {target} {}: {back:?}: {error}", form.name)
+                        let read = form.syntax().read(&back).unwrap_or_else(|error| {
+                            panic!("{language} {text:?} in {target} {}: {back:?}: {error}", form.name())
                         });
-                        let same = value(&read, &form.syntax) == value(&literal, &source);
+                        let same = value(&read, &form.syntax()) == value(&literal, &source);
                         assert!(same, "{language} {text:?} in {target}: {back:?}");
                         "written".to_string()
                     }
                     Err(error) => {
                         assert!(
-                            is_reason(error, &literal, &source, &form.syntax),
+                            is_reason(error, &literal, &source, &form.syntax()),
                             "{language} {text:?} in {target}: {error:?}"
                         );
                         format!("{error:?}")
@@ -219,11 +219,11 @@ fn the_point_moves_where_no_exponent_is_allowed() {
 
 #[test]
 fn texts_are_printed() {
-    let toml = Language::TOML.forms()[0].syntax;
+    let toml = Language::TOML.forms()[0].syntax();
     let text = toml.format_integer(-1_234_567, Style::PLAIN.group(3)).unwrap();
     let printed = format!("{text:>12}|{text:*^14.2}|{text:11}|{text:?}");
     assert_eq!(printed, "  -1_234_567|**-1_234_567**| -1_234_567|\"-1_234_567\"");
-    let hexadecimal = Language::C.forms().iter().find(|form| form.name == "hexadecimal").unwrap().syntax;
+    let hexadecimal = Language::C.forms()[2].syntax();
     let (short, long) = (hexadecimal.format_integer(255, Style::PLAIN).unwrap(), "7".repeat(60));
     let literal = toml.read(&long).unwrap();
     let long = toml.format_literal(&literal, Style::PLAIN).unwrap();

@@ -93,6 +93,7 @@ REPLACED = [
     ("syntax.rt", "pub const fn options(&self)", "pub(crate) const fn options(&self)"),
     ("cause.rt", "pub const fn span(&self)", "#[doc(hidden)] pub const fn bounds(&self)"),
     ("syntax.rt", "pub(crate) const fn grammar(&self)", "pub(crate) const fn as_grammar(&self)"),
+    ("cause.rt", "const fn grammar(self)", "const fn as_grammar(self)"),
 ]
 
 # Files in which each function is const in plain Rust. Rattle's `split_at` is not, nor is what calls it.
@@ -136,7 +137,12 @@ REPLACED += [
     ("short_text.rt", "#[derive(Drop)]\n#[doc(hidden)]", "#[derive(Clone,\nCopy)]"),
     ("big.rt", "#[derive(Drop)]\n", ""),
     ("long.rt", "#[derive(Drop)]\n", ""),
-    ("list.rt", "#[derive(Drop)]", "#[derive(Debug, Clone, Copy, PartialEq, Eq)]"),
+    ("list.rt", "#[derive(Clone, Copy)]", "#[derive(Debug, Clone, Copy, PartialEq, Eq, Hash)]"),
+    ("list.rt", "#[derive(Drop)]\npub struct", "#[derive(Debug, Clone, Copy, PartialEq, Eq)]\npub struct"),
+    ("list.rt", "#[derive(Drop)]\npub enum", "#[derive(Debug, Clone, Copy, PartialEq, Eq, Hash)]\npub enum"),
+    # Calls with these names are written by hand: they take a text or bytes.
+    ("list.rt", "fn read<", "fn read_bytes<"),
+    ("list.rt", "fn read_prefix<", "fn read_prefix_bytes<"),
     # Its other calls are written by hand. Their results depend on what is compared.
     ("lexical_literal/src/literal.rt", "#[derive(Drop)]", "#[derive(Clone, Copy, PartialEq, Eq, Hash)]"),
     ("lexical_literal/src/literal.rt", "    text: &'a [u8],\n    counts", "    pub(crate) text: &'a [u8],\n    pub(crate) counts"),

@@ -22,7 +22,7 @@ HEAD = """// Made by rust/tools/surface.py from what `cargo doc` shows: run that
 
 use peltzivar::{edits::*, error::*, feature_format::*, format::STANDARD, format_builder::*, literal::*, source::*, *};
 use std::fmt::{Debug, Display, LowerHex, UpperHex};
-use std::{hash::Hash, iter::FusedIterator, num::NonZero, ops::Range, str::FromStr};
+use std::{hash::Hash, iter::FusedIterator, num::NonZero, ops::Index, ops::Range, slice::Iter, str::FromStr};
 
 // rustfmt leaves what is in braces as it is.
 macro_rules! items {
@@ -82,6 +82,10 @@ def statements(path, page):
             variants.append(variant)
             if f" {variant} {{" not in declared:
                 yield f"const _: {types and f'fn({types} -> '}{own} = <{own}>::{variant};"
+        elif kind == "method" and declared.startswith("pub trait"):
+            found = FUNCTION.search("pub " + re.sub("^const (.*): (.*)", r"fn \1() -> \2", member))
+            call = function("<T>", "T", found).replace("fn call(", f"fn call<T: {name}>(")
+            yield call.replace(f"{found[2]}()", found[2]) if member.startswith("const") else call
         elif kind == "method" and own:
             yield function(f"<{own}>", own, FUNCTION.search(member))
         elif kind == "associatedconstant":

@@ -10,14 +10,17 @@ use peltzivar::literal::Syntax;
 use peltzivar::literal::{Language, Style};
 use std::hint::black_box;
 
-fn of(group: &Group) -> &'static Syntax {
-    &group.language.readers().as_slice()[group.form]
+fn of(group: &Group) -> Syntax {
+    #[cfg(old)]
+    return group.language.readers().as_slice()[group.form];
+    #[cfg(not(old))]
+    group.language.forms()[group.form].syntax()
 }
 
 calls! {
     reader: |group| { let it = of(group); move |text| black_box(it.read(text.as_bytes())).is_ok() };
     refuses: |group| { let it = of(group); move |text| black_box(it.read(text.as_bytes())).is_err() };
-    listed: |group| { let it = group.language.readers(); move |text| black_box(it.read(text.as_bytes())).is_ok() };
+    listed: |group| { let it = group.language; move |text| black_box(it.read(text.as_bytes())).is_ok() };
     value: |group| { let it = of(group); move |text| black_box(it.parse::<i64>(text)).is_ok() };
     float: |group| { let it = of(group); move |text| black_box(it.parse::<f64>(text)).is_ok() };
     prints: |group| {
@@ -28,7 +31,10 @@ calls! {
 
 /// Writes an integer of JSON, and returns the number of bytes.
 pub fn writer() -> impl Fn(i64) -> usize {
+    #[cfg(old)]
     let syntax = Language::JSON.forms()[0].syntax;
+    #[cfg(not(old))]
+    let syntax = Language::JSON.forms()[0].syntax();
     move |value| {
         let written = syntax.format_integer(value, Style::PLAIN).expect("an integer");
         black_box(written.write_into(&mut [0; 20]).expect("20 bytes")).len()

@@ -299,7 +299,9 @@ module _ (g : Grammar) (text : List ℕ) (s : Summary) (separated : Bool) (tail 
   n = notation_of g
 
   abbrev spot : Option ℕ → Spot
-  spot next = record { grammar = g; read = s; byte = next; tail = tail; marks = k; separated = separated }
+  spot next = record {
+    word = g.word; options = g.options; conditions = g.conditions; read = s; byte = next; tail = tail; marks = k; separated = separated
+  }
 
   abbrev last : Group
   last = group_at (spot None)

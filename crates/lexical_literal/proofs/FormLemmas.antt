@@ -1,6 +1,6 @@
 -- Several forms: what has been found in the first of them, and what one form more adds.
 use Rattle.std.proofs.Common.{ℕ, ◌≡◌, ◌*◌, Bool, true, false, if◌then◌else◌, ◌<◌, ◌≤◌, ◌+◌, List, Ok, Option, Some, None, All, IsSomeAnd}
-use Rattle.std.proofs.Common.{length, take, get_or, slice_get, IsNone, refl, sym, subst, arith}
+use Rattle.std.proofs.Common.{[], ◌∷◌, length, take, get_or, slice_get, IsNone, refl, sym, subst, arith}
 use Rattle.std.specs.Option.{ForSome}
 use Rattle.std.proofs.lemmas.Bool.Decides.{nat_tests}
 use Rattle.std.proofs.lemmas.Bool.{false≢true}
@@ -9,16 +9,17 @@ use Rattle.std.proofs.lemmas.List.Elements.{All-more}
 use Rattle.std.proofs.lemmas.Option.{slice_get-get_or, slice_get_within}
 use Rattle.lexical_literal.specs.Additions.Forms.{GoesTo, IsFoundForm, IsFoundFrontForm, IsFurthestForm, greater, longer}
 use Rattle.lexical_literal.specs.Additions.Longest.{IsCountedFront, IsStopped}
-use Rattle.lexical_literal.specs.Cause.{Explained, IsRefusal}
+use Rattle.lexical_literal.specs.Cause.{IsRefusal}
 use Rattle.lexical_literal.specs.declared.cause.Refusal.{Refusal}
-use Rattle.lexical_literal.specs.Forms.{HasFront, IsFormError, IsGreatest, Reaches, is_byte, reach}
+use Rattle.lexical_literal.specs.Forms.{HasFront, IsErrorOfForm, IsFormError, IsGreatest, NoForm, Reaches, ReadsForm, is_byte, reach}
 use Rattle.lexical_literal.specs.Front.{IsValidUpTo, NoFront, NoLiteral, ReadsFront}
 use Rattle.lexical_literal.specs.Literal.{Literal, Reads}
-use Rattle.lexical_literal.specs.Notation.{Notation, no_conditions, notation_of}
+use Rattle.lexical_literal.specs.Notation.{Notation, notation_of}
 use Rattle.lexical_literal.specs.Read.{Read}
 use Rattle.lexical_literal.specs.declared.read.Found.{Found}
 use Rattle.lexical_literal.specs.declared.plain.At.{At}
-use Rattle.lexical_literal.specs.declared.syntax.Grammar.{Grammar}
+use Rattle.lexical_literal.specs.declared.list.Form.{Form}
+use Rattle.lexical_literal.specs.declared.list.FormError.{FormError}
 use Rattle.lexical_literal.proofs.OneCauseLemmas.{one_refusal}
 use Rattle.std.proofs.lemmas.Grind.{common_steps}
 
@@ -26,27 +27,27 @@ use Rattle.std.proofs.lemmas.Grind.{common_steps}
 some_of : {X : Type 0} (P : X → Type 0) (o : Option X) → IsSomeAnd o P → (x : X) × (o ≡ Some x) × P x
 some_of P x1 holds = grind arith
 
--- The form at an index, where a list of readers has the reader `g`.
-pub form_at : (P : Grammar → Type 0) (forms readers : List Grammar) (g : Grammar) (i : ℕ) → readers ≡ forms → g ≡ get_or readers i g
-    → IsSomeAnd (slice_get forms i) P → (slice_get forms i ≡ Some g) × P g
-form_at P forms readers g i same is holds = grind (arith, slice_get_within, slice_get-get_or)
+-- The form at an index, of a list that is the same.
+pub form_at : (P : Form → Type 0) (forms list : List Form) (g : Form) (i : ℕ) → list ≡ forms
+    → IsSomeAnd (slice_get forms i) P → (slice_get forms i ≡ Some (get_or list i g)) × P (get_or list i g)
+form_at P forms list g i same holds = grind (arith, slice_get_within, slice_get-get_or)
 
 -- What holds of all forms holds of the form at an index.
-pub all_at : (P : Grammar → Type 0) (forms : List Grammar) (i : ℕ) (g : Grammar) → slice_get forms i ≡ Some g → All P forms → P g
+pub all_at : (P : Form → Type 0) (forms : List Form) (i : ℕ) (g : Form) → slice_get forms i ≡ Some g → All P forms → P g
 all_at P forms i g at all =
     let inside = slice_get_within forms i g at in
     let here = slice_get-get_or forms i g inside in
     let same : get_or forms i g ≡ g = cc in subst P same (all i g inside)
 
-pub inside_at : (P : Grammar → Type 0) (forms : List Grammar) (i : ℕ) → IsSomeAnd (slice_get forms i) P → i < length forms
+pub inside_at : (P : Form → Type 0) (forms : List Form) (i : ℕ) → IsSomeAnd (slice_get forms i) P → i < length forms
 inside_at P forms i holds = let here = some_of P (slice_get forms i) holds in slice_get_within forms i here.0 here.1
 
-here_at : (P : Grammar → Type 0) (forms : List Grammar) (i : ℕ) (d : Grammar) → IsSomeAnd (slice_get forms i) P → P (get_or forms i d)
+here_at : (P : Form → Type 0) (forms : List Form) (i : ℕ) (d : Form) → IsSomeAnd (slice_get forms i) P → P (get_or forms i d)
 here_at P forms i d holds = grind (arith, common_steps, some_of, slice_get-get_or, slice_get_within)
 
-pub at_index : (P : Grammar → Type 0) (forms readers : List Grammar) (g : Grammar) (i : ℕ) → readers ≡ forms → g ≡ get_or readers i g → i < length readers → P g
+pub at_index : (P : Form → Type 0) (forms list : List Form) (g : Form) (i : ℕ) → list ≡ forms → i < length list → P (get_or list i g)
     → IsSomeAnd (slice_get forms i) P
-at_index P forms readers g i same is inside holds = grind (arith, common_steps, slice_get-get_or)
+at_index P forms list g i same inside holds = grind (arith, common_steps, slice_get-get_or)
 
 -- A text has one longest front that some literal begins with, and one that is a literal.
 pub one_size : (m : Notation) (text : List ℕ) (a b : ℕ) → IsValidUpTo m text a → IsValidUpTo m text b → a ≤ b
@@ -59,7 +60,7 @@ one_front m text l k a b is other = let longer = λ (below : b < a). other.no_lo
 pub none_whole : (m : Notation) (text : List ℕ) → NoFront m text → NoLiteral m text
 none_whole m text none l reads = none (length text) (omega arith) l (subst (Reads m l) (sym (take_all (length text) text (omega arith))) reads)
 
-module _ (g : Grammar) (text : List ℕ) where
+module _ (g : Form) (text : List ℕ) where
   reach_within : (error : Refusal) → reach error ≤ 2 * error.valid_up_to + 1
   reach_within error = grind arith
 
@@ -71,21 +72,21 @@ module _ (g : Grammar) (text : List ℕ) where
   reach_below size up n is = omega (arith, up is.0.valid_up_to is.1.valid_up_to, reach_within is.0, is.2)
 
   -- Its reach is that of its error.
-  pub reach_of : (error : Refusal) (size : ℕ) (b : Bool) → IsRefusal (notation_of g) text error → IsValidUpTo (notation_of g) text size → is_byte error.kind ≡ b
+  pub reach_of : (error : Refusal) (size : ℕ) (b : Bool) → IsRefusal (notation_of g.syntax) text error → IsValidUpTo (notation_of g.syntax) text size → is_byte error.kind ≡ b
       → (n : ℕ) → Reaches text g n → n ≡ 2 * size + (if b then 0 else 1)
   reach_of error size b is valid byte n other = grind (arith, one_refusal)
 
 -- `Measure X` has what is compared: values with a size. It tells which sizes and values a form has, and whether it has none.
 pub record Measure (X : Type 0) : Type 1 where
   pub size : X → ℕ
-  pub IsSize : Grammar → ℕ → Type 0
-  pub IsValue : Grammar → X → Type 0
-  pub IsNot : Grammar → Type 0
-  pub one : (g : Grammar) (a b : ℕ) → IsSize g a → IsSize g b → a ≤ b
-  pub sized : (g : Grammar) (x : X) → IsValue g x → IsSize g (size x)
-  pub none : (g : Grammar) (a : ℕ) → IsNot g → IsSize g a → ⊥
+  pub IsSize : Form → ℕ → Type 0
+  pub IsValue : Form → X → Type 0
+  pub IsNot : Form → Type 0
+  pub one : (g : Form) (a b : ℕ) → IsSize g a → IsSize g b → a ≤ b
+  pub sized : (g : Form) (x : X) → IsValue g x → IsSize g (size x)
+  pub none : (g : Form) (a : ℕ) → IsNot g → IsSize g a → ⊥
 
-module _ {X : Type 0} (M : Measure X) (forms : List Grammar) where
+module _ {X : Type 0} (M : Measure X) (forms : List Form) where
   -- `IsBestOf i form x` holds if, of the first `i` forms, `form` is the first with the greatest value, which is `x`.
   pub record IsBestOf (i form : ℕ) (x : X) : Type 0 where
     pub here : IsSomeAnd (slice_get forms form) (λ g. M.IsValue g x)
@@ -97,8 +98,8 @@ module _ {X : Type 0} (M : Measure X) (forms : List Grammar) where
   IsBest i None = All M.IsNot (take i forms)
   IsBest i (Some best) = IsBestOf i best.0 best.1
 
-  module _ (i : ℕ) (d : Grammar) (inside : i < length forms) where
-    abbrev g : Grammar
+  module _ (i : ℕ) (d : Form) (inside : i < length forms) where
+    abbrev g : Form
     g = get_or forms i d
 
     -- The form at `i` has no value.
@@ -124,9 +125,9 @@ abbrev pub goes : List ℕ → Measure At
 goes text = record {
   size = λ stop. stop.size;
   IsSize = GoesTo text;
-  IsValue = λ g stop. IsStopped (notation_of g) text stop;
+  IsValue = λ g stop. IsStopped (notation_of g.syntax) text stop;
   IsNot = λ g. ⊥;
-  one = λ g a b is other. one_size (notation_of g) text a b is other;
+  one = λ g a b is other. one_size (notation_of g.syntax) text a b is other;
   sized = λ g stop is. is.valid;
   none = λ g a none is. none;
 }
@@ -135,91 +136,102 @@ abbrev pub fronts : List ℕ → Measure Found
 fronts text = record {
   size = λ found. found.size;
   IsSize = HasFront text;
-  IsValue = λ g found. IsCountedFront (notation_of g) text found;
-  IsNot = λ g. NoFront (notation_of g) text;
-  one = λ g a b is other. one_front (notation_of g) text is.0 other.0 a b is.1 other.1;
+  IsValue = λ g found. IsCountedFront (notation_of g.syntax) text found;
+  IsNot = λ g. NoFront (notation_of g.syntax) text;
+  one = λ g a b is other. one_front (notation_of g.syntax) text is.0 other.0 a b is.1 other.1;
   sized = λ g found is. (is.literal, is.reads);
   none = λ g a none is. none a is.1.within is.0 is.1.reads;
 }
 
 -- One form more, with its longest front, or none.
-pub fronts_more : (text : List ℕ) (forms : List Grammar) (i : ℕ) (d : Grammar) → i < length forms
+pub fronts_more : (text : List ℕ) (forms : List Form) (i : ℕ) (d : Form) → i < length forms
     → (longest : Option (ℕ × Found)) → IsBest (fronts text) forms i longest → (found : Option Found)
-    → ForSome found (IsCountedFront (notation_of (get_or forms i d)) text) → (IsNone found → NoFront (notation_of (get_or forms i d)) text)
+    → ForSome found (IsCountedFront (notation_of (get_or forms i d).syntax) text) → (IsNone found → NoFront (notation_of (get_or forms i d).syntax) text)
     → IsBest (fronts text) forms (i + 1) (longer longest i found)
 fronts_more text forms i d inside longest old None has none = best_stays (fronts text) forms i d inside (none refl) longest old
 fronts_more text forms i d inside longest old (Some found) has none = best_more (fronts text) forms i d inside found (has found refl) longest old
 
 -- The first form that reads the text.
-pub found_is : (forms : List Grammar) (text : List ℕ) (i : ℕ) (d : Grammar) (read : Read) → i < length forms
-    → (read.format ≡ (get_or forms i d).word) × Reads (notation_of (get_or forms i d)) read.literal text
-    → All (λ g. NoLiteral (notation_of g) text) (take i forms) → IsFoundForm forms text (Ok (i, read))
+pub found_is : (forms : List Form) (text : List ℕ) (i : ℕ) (d : Form) (read : Read) → i < length forms
+    → ReadsForm text read (get_or forms i d) → NoForm (take i forms) text → IsFoundForm forms text (Ok (i, read))
 found_is forms text i d read inside is before = grind (arith, slice_get-get_or)
 
 -- All forms have been tried.
-module _ (forms : List Grammar) (text : List ℕ) (i : ℕ) (end : length forms ≤ i) where
+module _ (forms : List Form) (text : List ℕ) (i : ℕ) (end : length forms ≤ i) where
   pub furthest_is : 0 < length forms → (furthest : Option (ℕ × At)) → IsBest (goes text) forms i furthest → IsFurthestForm forms text furthest
-  furthest_is some None is = subst (All (λ g. ⊥)) (take_all i forms end) is 0 (record { word = 0; options = None; conditions = no_conditions }) some
+  furthest_is some None is = none_of forms some (subst (All (λ g. ⊥)) (take_all i forms end) is) where
+    none_of : (forms : List Form) → 0 < length forms → All (λ g. ⊥) forms → ⊥
+    none_of [] some all = omega (arith, some)
+    none_of (form ∷ forms) some all = all 0 form some
   furthest_is some (Some best) is = (greatest (goes text) forms i end best.0 best.1 is, is.here)
 
   pub longest_is : (form : ℕ) (found : Found) → IsBest (fronts text) forms i (Some (form, found)) → IsFoundFrontForm forms text (Ok (form, found))
   longest_is form found is =
       record { longest = greatest (fronts text) forms i end form found is; found = is.here; none = λ err. absurd (false≢true err); error = tt }
 
-  pub all_tried : (P : Grammar → Type 0) → All P (take i forms) → All P forms
+  pub all_tried : (P : Form → Type 0) → All P (take i forms) → All P forms
   all_tried P all = subst (All P) (take_all i forms end) all
 
 -- The forms that go up to `size`, of which `first` is the first.
-module _ (forms : List Grammar) (text : List ℕ) (first size : ℕ) (furthest : IsGreatest (GoesTo text) forms first size) where
+module _ (forms : List Form) (text : List ℕ) (first size : ℕ) (furthest : IsGreatest (GoesTo text) forms first size) where
   -- `IsNoBetter g` holds if no error of the form `g` goes further than one that goes up to `size` and whose cause is a wrong byte.
-  abbrev pub IsNoBetter : Grammar → Type 0
+  abbrev pub IsNoBetter : Form → Type 0
   IsNoBetter g = (n : ℕ) → Reaches text g n → n ≤ 2 * size
 
   pub none_before : All IsNoBetter (take first forms)
-  none_before k d below n reaches = let less = reach_below _ text size (furthest.before k d below) n reaches in omega (arith, less)
+  none_before k d below n reaches = let less = reach_below (get_or (take first forms) k d) text size (furthest.before k d below) n reaches in omega (arith, less)
 
   one_more : (form : ℕ) → IsSomeAnd (slice_get forms form) IsNoBetter → All IsNoBetter (take form forms) → All IsNoBetter (take (form + 1) forms)
   one_more form is before = let here = some_of IsNoBetter (slice_get forms form) is in
       All-more IsNoBetter forms form here.0 (slice_get_within forms form here.0 here.1) before (here_at IsNoBetter forms form here.0 is)
 
-  -- A form that goes up to `size`, where a byte is wrong, and one that goes elsewhere.
-  pub wrong_byte : (form : ℕ) (error : Refusal) → IsSomeAnd (slice_get forms form) (λ g. IsRefusal (notation_of g) text error)
-      → IsSomeAnd (slice_get forms form) (λ g. GoesTo text g size) → is_byte error.kind ≡ true → All IsNoBetter (take form forms)
-      → All IsNoBetter (take (form + 1) forms)
-  wrong_byte form error is valid byte = one_more form (go (slice_get forms form) is valid) where
-    go : (o : Option Grammar) → IsSomeAnd o (λ g. IsRefusal (notation_of g) text error) → IsSomeAnd o (λ g. GoesTo text g size) → IsSomeAnd o IsNoBetter
-    go None is valid = is
-    go (Some g) is valid = λ n reaches. omega (arith, reach_of g text error size true is valid byte n reaches)
-
+  -- A form that goes elsewhere.
   pub elsewhere : (form other : ℕ) → IsSomeAnd (slice_get forms form) (λ g. GoesTo text g other) → (other ≡ size → ⊥) → All IsNoBetter (take form forms)
       → All IsNoBetter (take (form + 1) forms)
   elsewhere form other valid apart = one_more form (go (slice_get forms form) refl valid) where
-    go : (o : Option Grammar) → slice_get forms form ≡ o → IsSomeAnd o (λ g. GoesTo text g other) → IsSomeAnd o IsNoBetter
+    go : (o : Option Form) → slice_get forms form ≡ o → IsSomeAnd o (λ g. GoesTo text g other) → IsSomeAnd o IsNoBetter
     go None at valid = valid
     go (Some g) at valid = λ n reaches.
         let up = all_at (λ g. (other : ℕ) → GoesTo text g other → other ≤ size) forms form g at furthest.others other valid in
         let other_is : other < size = grind (arith, nat_tests) in
-        let less = reach_below g text size (λ k goes. let most = one_size (notation_of g) text k other goes valid in omega (arith, most, other_is)) n reaches in
+        let less = reach_below g text size (λ k goes. let most = one_size (notation_of g.syntax) text k other goes valid in omega (arith, most, other_is)) n reaches in
         omega (arith, less)
 
   -- The error of a form that goes up to `size`.
-  module _ (form : ℕ) (error : Explained) (is : IsSomeAnd (slice_get forms form) (λ g. IsRefusal (notation_of g) text error.refusal))
+  module _ (form : ℕ) (error : FormError) (same : error.form ≡ form) (is : IsSomeAnd (slice_get forms error.form) (IsErrorOfForm text error))
       (valid : IsSomeAnd (slice_get forms form) (λ g. GoesTo text g size)) where
-    reach_is : (b : Bool) → is_byte error.refusal.kind ≡ b → reach error.refusal ≡ 2 * size + (if b then 0 else 1)
-    reach_is b byte = let here = some_of (λ g. IsRefusal (notation_of g) text error.refusal) (slice_get forms form) is in
-        reach_of here.0 text error.refusal size b here.2 (subst (λ o. IsSomeAnd o (λ g. GoesTo text g size)) here.1 valid) byte _ (error.refusal, here.2, refl)
+    reach_is : (b : Bool) → is_byte error.error.refusal.kind ≡ b → reach error.error.refusal ≡ 2 * size + (if b then 0 else 1)
+    reach_is b byte = let here = some_of (IsErrorOfForm text error) (slice_get forms error.form) is in
+        let goes = subst (λ k. IsSomeAnd (slice_get forms k) (λ g. GoesTo text g size)) (sym same) valid in
+        reach_of here.0 text error.error.refusal size b here.2.refusal (subst (λ o. IsSomeAnd o (λ g. GoesTo text g size)) here.1 goes) byte _
+        (error.error.refusal, here.2.refusal, refl)
 
-    error_from : All (λ g. (n : ℕ) → Reaches text g n → n < reach error.refusal) (take form forms)
-        → All (λ g. (n : ℕ) → Reaches text g n → n ≤ reach error.refusal) forms → IsFormError forms text (record { form = form; error = error })
-    error_from before others = grind arith
+    error_from : All (λ g. (n : ℕ) → Reaches text g n → n < reach error.error.refusal) (take form forms)
+        → All (λ g. (n : ℕ) → Reaches text g n → n ≤ reach error.error.refusal) forms → IsFormError forms text error
+    error_from before others = record {
+      furthest = record {
+        here = let here = some_of (IsErrorOfForm text error) (slice_get forms error.form) is in
+            subst (λ o. IsSomeAnd o (λ g. Reaches text g (reach error.error.refusal))) (sym here.1) (error.error.refusal, here.2.refusal, refl);
+        before = subst (λ k. All (λ g. (n : ℕ) → Reaches text g n → n < reach error.error.refusal) (take k forms)) (sym same) before;
+        others = others;
+      };
+      refusal = is;
+    }
 
-    pub other_error : is_byte error.refusal.kind ≡ false → All IsNoBetter (take form forms) → IsFormError forms text (record { form = form; error = error })
+    pub other_error : is_byte error.error.refusal.kind ≡ false → All IsNoBetter (take form forms) → IsFormError forms text error
     other_error right before = let size_is = reach_is false right in error_from
         (λ k d below n reaches. let less = before k d below n reaches in omega (arith, less, size_is))
-        (λ k d below n reaches. let less = reach_up_to _ text size (furthest.others k d below) n reaches in omega (arith, less, size_is))
+        (λ k d below n reaches. let less = reach_up_to (get_or forms k d) text size (furthest.others k d below) n reaches in omega (arith, less, size_is))
 
-    pub first_error : form ≡ first → is_byte error.refusal.kind ≡ true → All IsNoBetter forms → IsFormError forms text (record { form = form; error = error })
-    first_error same byte others = let size_is = reach_is true byte in error_from
-        (subst (λ k. All (λ g. (n : ℕ) → Reaches text g n → n < reach error.refusal) (take k forms)) (sym same)
-        (λ k d below n reaches. let less = reach_below _ text size (furthest.before k d below) n reaches in omega (arith, less, size_is)))
+    pub first_error : form ≡ first → is_byte error.error.refusal.kind ≡ true → All IsNoBetter forms → IsFormError forms text error
+    first_error is_first byte others = let size_is = reach_is true byte in error_from
+        (subst (λ k. All (λ g. (n : ℕ) → Reaches text g n → n < reach error.error.refusal) (take k forms)) (sym is_first)
+        (λ k d below n reaches. let less = reach_below (get_or (take first forms) k d) text size (furthest.before k d below) n reaches in omega (arith, less, size_is)))
         (λ k d below n reaches. let less = others k d below n reaches in omega (arith, less, size_is))
+
+    -- Its cause is a wrong byte.
+    pub wrong_byte : is_byte error.error.refusal.kind ≡ true → All IsNoBetter (take form forms) → All IsNoBetter (take (form + 1) forms)
+    wrong_byte byte = one_more form (go (slice_get forms form) (subst (λ k. IsSomeAnd (slice_get forms k) (IsErrorOfForm text error)) same is) valid) where
+      go : (o : Option Form) → IsSomeAnd o (IsErrorOfForm text error) → IsSomeAnd o (λ g. GoesTo text g size) → IsSomeAnd o IsNoBetter
+      go None is valid = is
+      go (Some g) is valid = λ n reaches. omega (arith, reach_of g text error.error.refusal size true is.refusal valid byte n reaches)

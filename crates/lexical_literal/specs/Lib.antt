@@ -9,5 +9,6 @@ pub mod Readings
 pub mod Syntax
 pub mod Specials
 pub mod Cause
+pub mod FormList
 pub mod Forms
 pub mod Additions

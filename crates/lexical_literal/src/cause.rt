@@ -5,7 +5,7 @@ ghost use Rattle.lexical_util.specs.Layout.{Flag, bit};
 ghost use Rattle.lexical_util.specs.Record.{raw};
 ghost use Rattle.lexical_util.specs.Roles.{other_case};
 ghost use Rattle.lexical_literal.specs.Additions.Causes.{is_at_gap, lets, place_of};
-ghost use Rattle.lexical_literal.specs.Additions.Explained.{alone, blame, cases, group_at, mask_of, refusal_of, requirements, separators, unmet, zeros};
+ghost use Rattle.lexical_literal.specs.Additions.Explained.{alone, blame, cases, grammar_at, group_at, mask_of, refusal_of, requirements, separators, unmet, zeros};
 ghost use Rattle.lexical_literal.specs.Additions.Sizes.{fits, goes, role_next, unsized};
 ghost use Rattle.lexical_literal.specs.Additions.Summary.{part_of, role_at};
 ghost use Rattle.lexical_literal.specs.Cause.{adding, bare, binds, case_set, first_unmet, with_rules};
@@ -17,7 +17,7 @@ use crate::span::{error, span};
 use crate::steps::{
     Summary, has_digit, is_complete, is_exponent_character, moved, needs_exponent, part_of, role_at,
 };
-use crate::syntax::{CONDITIONS, Condition, Conditions, Grammar};
+use crate::syntax::{CONDITIONS, Condition, Conditions, Grammar, Options};
 use lexical_util::error::Error;
 use lexical_util::format as masks;
 use lexical_util::format::{Part, Role};
@@ -62,10 +62,13 @@ pub struct Marks {
 }
 
 // Where reading stopped: what has been read, the byte that cannot follow, or `None` if bytes are missing, the bytes that
-// follow it in its character, or 0 for each that does not, and whether a separator is before the last group of digits.
+// follow it in its character, or 0 for each that does not, and whether a separator is before the last group of digits. The
+// fields of the grammar are apart, which takes 16 bytes less.
 #[derive(Debug, Clone, Copy, PartialEq, Eq, Hash)]
 pub struct Spot {
-    pub(crate) grammar: Grammar,
+    pub(crate) word: u128,
+    pub(crate) options: Option<Options>,
+    pub(crate) conditions: Conditions,
     pub(crate) read: Summary,
     pub(crate) byte: Option<u8>,
     pub(crate) tail: [u8; 3],
@@ -191,19 +194,29 @@ impl ReadError {
 }
 
 impl Spot {
+    // Returns the grammar.
+    pub(crate) const fn grammar(self) -> Grammar
+        ensures { result ≡ grammar_at self }
+    {
+        Grammar {
+            word: self.word,
+            options: self.options,
+            conditions: self.conditions,
+        }
+    }
+
     // Returns whether the cause is a wrong byte. It takes less time than all answers.
     const fn is_byte(self) -> bool
-        ensures { result ≡ is_byte (refusal_of (notation_of self.grammar) self).kind }
+        ensures { result ≡ is_byte (refusal_of (notation_of (grammar_at self)) self).kind }
     {
         matches!(self.stop().blame().kind, ReadErrorKind::Byte)
     }
 
     // Returns what has been read, and the byte that cannot follow.
     const fn stop(self) -> Stop
-        ensures { result ≡ record { grammar = self.grammar; read = self.read; group = group_at self; byte = self.byte } }
+        ensures { result ≡ record { grammar = grammar_at self; read = self.read; group = group_at self; byte = self.byte } }
     {
         let Spot {
-            grammar,
             read,
             byte,
             separated,
@@ -211,7 +224,7 @@ impl Spot {
             ..
         } = self;
         Stop {
-            grammar,
+            grammar: self.grammar(),
             read,
             group: Group {
                 part: part_of(read.stage),
@@ -225,15 +238,12 @@ impl Spot {
     // Returns the answers of a text with which no literal goes on.
     const fn refusal(self) -> Refusal
         requires { self.marks.size < 2 ^ 63 }
-        ensures { result ≡ refusal_of (notation_of self.grammar) self }
+        ensures { result ≡ refusal_of (notation_of (grammar_at self)) self }
     {
         let Spot {
-            grammar,
-            byte,
-            tail,
-            marks,
-            ..
+            byte, tail, marks, ..
         } = self;
+        let grammar = self.grammar();
         let stop = self.stop();
         let Blame { kind, mask } = stop.blame();
         let conditions = stop.unmet();

@@ -1,10 +1,9 @@
-//! Lists of syntaxes: the numbers of a language that has several forms, such as `10`, `0x1F` and `0b1`.
+//! Numbers that have several forms, such as `10`, `0x1F` and `0b1`.
 
 ghost use Rattle.std.specs.Prelude.{◌≡◌, ◌<◌, All, IsSomeAnd, SomeIff, length, slice_get};
 ghost use Rattle.lexical_literal.specs.Additions.Forms.{IsFoundForm, IsFoundFrontForm, IsFurthestForm, further, longer};
 ghost use Rattle.lexical_literal.specs.Additions.Longest.{IsStopped};
-ghost use Rattle.lexical_literal.specs.Cause.{IsRefusal};
-ghost use Rattle.lexical_literal.specs.Forms.{IsFormError};
+ghost use Rattle.lexical_literal.specs.Forms.{IsErrorOfForm, IsFormError, IsFrontByForms, IsReadByForms, special_by};
 ghost use Rattle.lexical_literal.specs.Front.{NoLiteral};
 ghost use Rattle.lexical_literal.specs.Notation.{notation_of};
 
@@ -13,24 +12,75 @@ use crate::groups::FIRST;
 use crate::literal::Literal;
 use crate::plain::{At, BEGIN};
 use crate::read::Found;
+use crate::specials::{Special, Specials};
 use crate::syntax::Syntax;
 use std::marker::Model;
 
-/// The syntaxes of the forms of numbers, at least one. The first form of which a text is a literal decides what number it is.
-#[derive(Drop)]
-pub struct SyntaxList<'a> {
-    syntaxes: &'a [Syntax],
+/// A form of numbers: its name, such as `hexadecimal`, and its syntax.
+#[derive(Clone, Copy)]
+pub struct Form {
+    name: &'static str,
+    syntax: Syntax,
 }
 
-impl<'a> Model for SyntaxList<'a> {
-    ghost use Rattle.std.specs.Prelude.{◌<◌, List, length};
-    ghost use Rattle.lexical_literal.specs.declared.syntax.Grammar.{Grammar};
+impl Form {
+    /// Returns the form with a name, which may be empty, and a syntax.
+    #[must_use]
+    pub const fn new(name: &'static str, syntax: Syntax) -> Form
+        ensures name { result.name.now ≡ name.now }
+        ensures syntax { result.syntax ≡ syntax }
+    {
+        Form { name, syntax }
+    }
 
-    ghost Value = { List Grammar };
+    /// Returns the name.
+    #[must_use]
+    pub const fn name(&self) -> &'static str
+        ensures { result.now ≡ self.now.name.now }
+    {
+        self.name
+    }
 
-    ghost view = { λ list. list.syntaxes.now };
+    /// Returns the syntax.
+    #[must_use]
+    pub const fn syntax(&self) -> Syntax
+        ensures { result ≡ self.now.syntax }
+    {
+        self.syntax
+    }
+}
 
-    ghost invariant = { λ list. 0 < length list.syntaxes.now };
+/// The forms of numbers, at least one, and the spellings of NaN and infinity. The first form of which a text is a literal decides
+/// what number it is.
+#[derive(Drop)]
+pub struct Forms<'a> {
+    forms: &'a [Form],
+    specials: Specials<'a>,
+}
+
+impl<'a> Model for Forms<'a> {
+    ghost use Rattle.std.specs.Prelude.{◌<◌, length};
+    ghost use Rattle.lexical_literal.specs.FormList.{FormList};
+
+    ghost Value = { FormList };
+
+    ghost view = { λ it. record { forms = it.forms.now; specials = it.specials } };
+
+    ghost invariant = { λ it. 0 < length it.forms.now };
+}
+
+/// A number that has one of several forms.
+#[derive(Drop)]
+pub enum Number<'a> {
+    /// A literal.
+    Literal {
+        /// The literal.
+        literal: Literal<'a>,
+        /// The index of its form.
+        form: usize,
+    },
+    /// NaN or infinity.
+    Special(Special),
 }
 
 /// Why a text is not a number of any form: the error of the form that goes furthest in the text. Of several, it is the
@@ -39,40 +89,113 @@ impl<'a> Model for SyntaxList<'a> {
 pub struct FormError {
     /// The index of the form.
     pub form: usize,
+    /// The name of the form.
+    pub name: &'static str,
     /// Why the text is not a literal of this form.
     pub error: ReadError,
 }
 
-impl<'a> SyntaxList<'a> {
-    /// Returns the list of `syntaxes`, or `None` if there are none.
+impl<'a> Forms<'a> {
+    /// Returns the list of `forms` without special values, or `None` if there are no forms.
     #[must_use]
-    pub const fn new(syntaxes: &'a [Syntax]) -> Option<SyntaxList<'a>>
-        ensures { SomeIff result (0 < length syntaxes.now) syntaxes.now }
+    pub const fn new(forms: &'a [Form]) -> Option<Forms<'a>>
+        ensures { SomeIff result (0 < length forms.now) (record {
+          forms = forms.now;
+          specials = record { nan = None; inf = None; infinity = None };
+        }) }
     {
-        if syntaxes.len() == 0 {
-            None
-        } else {
-            Some(SyntaxList { syntaxes })
+        if forms.len() == 0 {
+            return None;
+        }
+        let specials = Specials {
+            nan: None,
+            inf: None,
+            infinity: None,
+        };
+        Some(Forms { forms, specials })
+    }
+
+    /// Returns the same forms with these special values. The format of the first form decides what flags say of them.
+    #[must_use]
+    pub const fn with_specials(self, specials: Specials<'a>) -> Forms<'a>
+        ensures { result ≡ record self.entry { specials = specials.entry } }
+    {
+        Forms {
+            forms: self.forms,
+            specials,
         }
     }
 
-    /// Returns the syntaxes.
+    /// Returns the forms.
     #[must_use]
-    pub const fn syntaxes(&self) -> &'a [Syntax]
-        ensures list { result.now ≡ self.now }
-        ensures some { 0 < length self.now }
+    pub const fn as_slice(&self) -> &'a [Form]
+        ensures list { result.now ≡ self.now.forms }
+        ensures some { 0 < length self.now.forms }
     {
-        self.syntaxes
+        self.forms
+    }
+
+    /// Returns the spellings of special values.
+    #[must_use]
+    pub const fn specials(&self) -> Specials<'a>
+        ensures { result ≡ self.now.specials }
+    {
+        self.specials
+    }
+
+    /// Returns the number that `text` is: a literal of the first form of which it is one, or otherwise a special value.
+    ///
+    /// # Errors
+    ///
+    /// If `text` is neither, returns the error of the form for which most of it is right. Of several, it is the first whose
+    /// cause is not a wrong byte, or the first if the cause of each is one. So `0b12` has the error of the binary form.
+    pub fn read<'t>(&self, text: &'t [u8]) -> Result<Number<'t>, FormError>
+        ensures { IsReadByForms self.now text.now result }
+    {
+        match self.find(text) {
+            Ok((form, literal)) => Ok(Number::Literal { literal, form }),
+            Err(error) => match self.special(text) {
+                Some(special) => Ok(Number::Special(special)),
+                None => Err(error),
+            },
+        }
+    }
+
+    /// Returns the longest literal of any form that `text` begins with, of the first form if several have it, and the rest
+    /// of `text`, which may be anything. It does not find special values.
+    ///
+    /// # Errors
+    ///
+    /// If `text` does not begin with a literal, returns why it is not one.
+    pub fn read_prefix<'t>(&self, text: &'t [u8]) -> Result<(Number<'t>, &'t [u8]), FormError>
+        ensures { IsFrontByForms self.now text.now result }
+    {
+        match self.find_front(text) {
+            Ok((form, found)) => {
+                let Found { size, counts } = found;
+                let (front, rest) = text.split_at(size);
+                let literal = self.as_slice()[form].syntax.summed(front, counts);
+                Ok((Number::Literal { literal, form }, rest))
+            }
+            Err(error) => Err(error),
+        }
+    }
+
+    // Returns the special value that `text` is, if it is one.
+    fn special(&self, text: &[u8]) -> Option<Special>
+        ensures { result ≡ special_by self.now text.now }
+    {
+        self.specials.read(&self.forms[0].syntax, text)
     }
 
     // Returns the index of the first form of which `text` is a literal, and the literal, or why it is one of no form.
-    pub(crate) fn find<'t>(&self, text: &'t [u8]) -> Result<(usize, Literal<'t>), FormError>
-        ensures { IsFoundForm self.now text.now result }
+    fn find<'t>(&self, text: &'t [u8]) -> Result<(usize, Literal<'t>), FormError>
+        ensures { IsFoundForm self.now.forms text.now result }
     {
         let mut furthest = None;
         let mut form = 0;
-        while form < self.syntaxes.len() {
-            let syntax = &self.syntaxes[form];
+        while form < self.forms.len() {
+            let syntax = &self.forms[form].syntax;
             let counted = syntax.begin(false, text, false);
             if syntax.is_whole(text, counted) {
                 return Ok((form, syntax.literal(text, counted.counts, counted.sums)));
@@ -89,14 +212,14 @@ impl<'a> SyntaxList<'a> {
 
     // Returns the longest front of `text` that is a literal of a form, with the index of the form, the first of equals, or
     // why there is none.
-    pub(crate) fn find_front(&self, text: &[u8]) -> Result<(usize, Found), FormError>
-        ensures { IsFoundFrontForm self.now text.now result }
+    fn find_front(&self, text: &[u8]) -> Result<(usize, Found), FormError>
+        ensures { IsFoundFrontForm self.now.forms text.now result }
     {
         let mut furthest = None;
         let mut longest = None;
         let mut form = 0;
-        while form < self.syntaxes.len() {
-            let (stop, found) = self.syntaxes[form].front(text);
+        while form < self.forms.len() {
+            let (stop, found) = self.forms[form].syntax.front(text);
             furthest = further(furthest, form, stop);
             longest = longer(longest, form, found);
             form += 1;
@@ -111,45 +234,50 @@ impl<'a> SyntaxList<'a> {
     // goes as far and has another cause.
     #[cold]
     fn refuse(&self, text: &[u8], furthest: Option<(usize, At)>) -> FormError
-        requires furthest { IsFurthestForm self.now text.now furthest }
-        requires none { All (λ g. NoLiteral (notation_of g) text.now) self.now }
-        ensures { IsFormError self.now text.now result }
+        requires furthest { IsFurthestForm self.now.forms text.now furthest }
+        requires none { All (λ form. NoLiteral (notation_of form.syntax) text.now) self.now.forms }
+        ensures { IsFormError self.now.forms text.now result }
     {
         let Some((first, stop)) = furthest else {
             unreachable!()
         };
         let error = self.error_at(text, first, stop);
-        if !error.is_byte() {
-            return FormError { form: first, error };
+        if !error.error.is_byte() {
+            return error;
         }
-        let syntaxes = self.syntaxes();
+        let forms = self.as_slice();
         let mut form = first + 1;
-        while form < syntaxes.len() {
-            let reached = syntaxes[form].walk(text, BEGIN, FIRST);
+        while form < forms.len() {
+            let reached = forms[form].syntax.walk(text, BEGIN, FIRST);
             if reached.size == stop.size {
                 let other = self.error_at(text, form, reached);
-                if !other.is_byte() {
-                    return FormError { form, error: other };
+                if !other.error.is_byte() {
+                    return other;
                 }
             }
             form += 1;
         }
-        FormError { form: first, error }
+        error
     }
 
     // Returns why `text` is not a literal of the form with the index `form`, which stops at `stop`.
     #[inline(always)]
-    fn error_at(&self, text: &[u8], form: usize, stop: At) -> ReadError
-        requires inside { form < length self.now }
-        requires stopped { IsSomeAnd (slice_get self.now form) (λ g. IsStopped (notation_of g) text.now stop) }
-        requires none { All (λ g. NoLiteral (notation_of g) text.now) self.now }
-        ensures { IsSomeAnd (slice_get self.now form) (λ g. IsRefusal (notation_of g) text.now result.refusal) }
+    fn error_at(&self, text: &[u8], form: usize, stop: At) -> FormError
+        requires inside { form < length self.now.forms }
+        requires stopped { IsSomeAnd (slice_get self.now.forms form) (λ form. IsStopped (notation_of form.syntax) text.now stop) }
+        requires none { All (λ form. NoLiteral (notation_of form.syntax) text.now) self.now.forms }
+        ensures index { result.form ≡ form }
+        ensures error { IsSomeAnd (slice_get self.now.forms result.form) (IsErrorOfForm text.now result) }
     {
-        let syntaxes = self.syntaxes();
-        let Err(error) = syntaxes[form].refuse::<()>(text, stop) else {
+        let it = &self.as_slice()[form];
+        let Err(error) = it.syntax.refuse::<()>(text, stop) else {
             unreachable!()
         };
-        error
+        FormError {
+            form,
+            name: it.name,
+            error,
+        }
     }
 }
 

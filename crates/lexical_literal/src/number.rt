@@ -3,11 +3,9 @@
 ghost use Rattle.lexical_literal.specs.Additions.Longest.{IsUnderway};
 ghost use Rattle.lexical_literal.specs.declared.groups.Group.{Group};
 ghost use Rattle.lexical_literal.specs.Notation.{notation_of};
-ghost use Rattle.lexical_literal.specs.Forms.{IsFrontByForms, IsReadByForms};
 ghost use Rattle.lexical_literal.specs.Parts.{IsRead, IsReadPrefix};
 
 use crate::cause::ReadError;
-use crate::list::{FormError, SyntaxList};
 use crate::literal::Literal;
 use crate::plain::At;
 use crate::read::{Found, front_of};
@@ -71,66 +69,6 @@ impl Syntax {
                 let literal = self.summed(front_of(text, size), counts);
                 Ok(Front { literal, size })
             }
-        }
-    }
-}
-
-/// A literal of one of several forms.
-#[derive(Drop)]
-pub struct FormLiteral<'a> {
-    /// The index of the form.
-    pub form: usize,
-    /// The literal.
-    pub literal: Literal<'a>,
-}
-
-/// A leading piece of a text that is a literal of one of several forms.
-#[derive(Drop)]
-pub struct FormFront<'a> {
-    /// The index of the form.
-    pub form: usize,
-    /// The literal.
-    pub literal: Literal<'a>,
-    /// The number of bytes of the literal.
-    pub size: usize,
-}
-
-impl<'s> SyntaxList<'s> {
-    /// Returns `text` as a literal of the first form of which it is one, and the index of this form.
-    ///
-    /// # Errors
-    ///
-    /// If `text` is not a literal of any form, returns the error of the form for which most of it is right. Of several, it is
-    /// the first whose cause is not a wrong byte, or the first if the cause of each is one.
-    pub fn read<'a>(&self, text: &'a [u8]) -> Result<FormLiteral<'a>, FormError>
-        ensures { IsReadByForms self.now text.now result }
-    {
-        match self.find(text) {
-            Ok((form, literal)) => Ok(FormLiteral { form, literal }),
-            Err(error) => Err(error),
-        }
-    }
-
-    /// Returns the longest front of `text` that is a literal of any form, the first of equals. What follows it may be
-    /// anything.
-    ///
-    /// # Errors
-    ///
-    /// If no front of `text` is a literal of any form, returns the error of [`read`][Self::read].
-    pub fn read_prefix<'a>(&self, text: &'a [u8]) -> Result<FormFront<'a>, FormError>
-        ensures { IsFrontByForms self.now text.now result }
-    {
-        match self.find_front(text) {
-            Ok((form, found)) => {
-                let Found { size, counts } = found;
-                let literal = self.syntaxes()[form].summed(front_of(text, size), counts);
-                Ok(FormFront {
-                    form,
-                    literal,
-                    size,
-                })
-            }
-            Err(error) => Err(error),
         }
     }
 }

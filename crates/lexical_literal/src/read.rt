@@ -256,11 +256,18 @@ impl Syntax {
         ensures { IsErrAnd result (λ error. IsRefusal (notation_of self.now) text.now error.refusal) }
     {
         let grammar = self.grammar();
+        let Grammar {
+            word,
+            options,
+            conditions,
+        } = grammar;
         let size = stop.size;
         let byte = byte_at(text, size);
         Err(ReadError {
             spot: Spot {
-                grammar,
+                word,
+                options,
+                conditions,
                 read: stop.read,
                 byte,
                 tail: tail_at(text, size, byte),

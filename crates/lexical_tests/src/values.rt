@@ -4,7 +4,7 @@
 ghost use Rattle.std.specs.Prelude.{◌-◌, ◌<◌, ◌^◌, ◌≤◌};
 
 use callers::formats::read_decimal;
-use lexical_literal::list::{FormError, SyntaxList};
+use lexical_literal::list::{Form, FormError, Forms};
 use lexical_literal::syntax::Syntax;
 use lexical_number::integer::Integer;
 use lexical_util::edits::{Edit, FlagSetter};
@@ -167,12 +167,15 @@ fn integers_have_both_ends(rt: HostRuntime) {
 fn an_error_is_that_of_the_form_that_goes_furthest(rt: HostRuntime) -> Result<(), Fail> {
     let decimal = Format::new(STANDARD).ok().ok_or("a format")?;
     let prefixed = Format::new(PREFIXED).ok().ok_or("a format")?;
-    let syntaxes = [Syntax::integers(decimal), Syntax::integers(prefixed)];
-    let list = SyntaxList::new(&syntaxes).ok_or("syntaxes")?;
-    assert!(rt; matches!(list.read(b"0xZ"), Err(FormError { form: 1, .. })));
+    let forms = [
+        Form::new("decimal", Syntax::integers(decimal)),
+        Form::new("hexadecimal", Syntax::integers(prefixed)),
+    ];
+    let forms = Forms::new(&forms).ok_or("forms")?;
+    assert!(rt; matches!(forms.read(b"0xZ"), Err(FormError { form: 1, .. })));
     // Both go as far. The cause is a wrong byte, and the case of the prefix.
-    assert!(rt; matches!(list.read(b"0XF"), Err(FormError { form: 1, .. })));
-    assert!(rt; matches!(list.read(b"0ZF"), Err(FormError { form: 0, .. })));
+    assert!(rt; matches!(forms.read(b"0XF"), Err(FormError { form: 1, .. })));
+    assert!(rt; matches!(forms.read(b"0ZF"), Err(FormError { form: 0, .. })));
     Ok(())
 }
 

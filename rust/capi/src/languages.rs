@@ -5,7 +5,7 @@ use crate::literals::Syntax;
 use crate::names::{at, texts};
 use core::ffi::CStr;
 use core::ptr;
-use peltzivar::literal::{self, Language, Readers, Sign, Special, Spelling};
+use peltzivar::literal::{self, Form, Language, Sign, Special, Spelling};
 
 /// The spellings of special values, as null-terminated strings. A null pointer is an absent one.
 #[repr(C)]
@@ -85,17 +85,17 @@ unsafe fn given<'a>(forms: *const Forms) -> (Option<&'a LanguageForms>, Option<&
 ///
 /// That of [`given`].
 #[inline(always)]
-pub unsafe fn by<R>(forms: *const Forms, then: impl FnOnce(&Readers<'_>) -> R) -> Option<R> {
+pub unsafe fn by<R>(forms: *const Forms, then: impl FnOnce(&literal::Forms<'_>) -> R) -> Option<R> {
     // SAFETY: the caller guarantees the forms.
     let (language, syntax) = unsafe { given(forms) };
-    let own = Syntax::given(syntax);
-    let readers = language.map(|it| *it.language.readers()).or_else(|| Readers::new(own.as_slice()));
-    readers.as_ref().map(then)
+    let own = Syntax::given(syntax).map(|syntax| Form::new("", syntax));
+    let forms = language.map(|it| *it.language.forms()).or_else(|| literal::Forms::new(own.as_slice()));
+    forms.as_ref().map(then)
 }
 
 /// Returns the spelling with an index, or an empty text if a language lacks it.
 const fn spelling_of(language: Language, index: usize) -> &'static [u8] {
-    let specials = language.specials();
+    let specials = language.forms().specials();
     match [specials.nan, specials.inf, specials.infinity][index] {
         Some(spelling) => spelling,
         None => b"",
@@ -110,7 +110,7 @@ macro_rules! languages {
             extern "C" fn $call() -> *const Forms {
                 const IT: Language = Language::$NAME;
                 texts! {
-                    NAMES: [IT.forms().len()] = |index| IT.forms()[index].name.as_bytes();
+                    NAMES: [IT.forms().as_slice().len()] = |index| IT.forms().as_slice()[index].name().as_bytes();
                     SPECIALS: [3] = |index| spelling_of(IT, index);
                 }
                 static FORMS: LanguageForms = LanguageForms { magic: MAGIC, language: IT, names: NAMES, specials: SPECIALS };
@@ -174,7 +174,7 @@ calls! {
     }
 
     fn peltzivar_forms_read_special(forms: *const Forms, text: *const u8, len: usize, out: Out<NumberedSpecial>) -> bool {
-        let read = |forms: &Readers<'_>| forms.specials().read(&forms.as_slice()[0], input(text, len)?);
+        let read = |forms: &literal::Forms<'_>| forms.specials().read(&forms[0].syntax(), input(text, len)?);
         out.write_some(by(forms, read).flatten())
     }
 
@@ -193,7 +193,7 @@ calls! {
     }
 
     fn peltzivar_form_syntax(forms: *const Forms, form: usize, out: Out<Syntax>) -> bool {
-        out.write_some(given(forms).0.and_then(|it| it.language.forms().get(form)).map(|form| form.syntax))
+        out.write_some(given(forms).0.and_then(|it| it.language.forms().as_slice().get(form)).map(Form::syntax))
     }
 
     fn peltzivar_forms_of(syntax: Option<&Syntax>) -> *const Forms {

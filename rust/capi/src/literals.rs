@@ -7,7 +7,7 @@ use core::array;
 use core::fmt::{self, Display, Formatter};
 use core::mem::ManuallyDrop;
 use core::ops::Range;
-use peltzivar::literal::{self, Condition, Conditions, FormError, Number, ReadErrorKind, Readers};
+use peltzivar::literal::{self, Condition, Conditions, Form, FormError, Number, ReadErrorKind};
 use peltzivar::{Error, Format, FormatError};
 
 /// A word with an exponent character, a decimal point and conditions, of any values. If both are 0, literals are
@@ -243,10 +243,10 @@ fn settle<'a>(read: Result<literal::Literal<'a>, literal::ReadError>, (literal, 
 unsafe fn read_by_forms<'a>(
     (forms, text, len): (*const Forms, *const u8, usize),
     outs: Outs<'a>,
-    read: impl FnOnce(&Readers<'_>, &'a [u8]) -> Result<Number<'a>, FormError>,
+    read: impl FnOnce(&literal::Forms<'_>, &'a [u8]) -> Result<Number<'a>, FormError>,
 ) -> bool {
     let Some(text) = input(text, len) else { return refuse(TOO_LONG, outs.1) };
-    match by(forms, |readers| read(&readers.with_specials(Default::default()), text)) {
+    match by(forms, |forms| read(&forms.with_specials(Default::default()), text)) {
         Some(number) => settle_number(number, outs),
         None => refuse("the forms are a null pointer", outs.1),
     }
@@ -264,8 +264,8 @@ fn settle_number<'a>(read: Result<Number<'a>, FormError>, (literal, error): Outs
 
 /// Returns the longest literal that a text begins with. It is called in several places, and is large.
 #[inline(never)]
-fn front<'a>(readers: &Readers<'_>, text: &'a [u8]) -> Result<Number<'a>, FormError> {
-    Ok(readers.read_prefix_bytes(text)?.0)
+fn front<'a>(forms: &literal::Forms<'_>, text: &'a [u8]) -> Result<Number<'a>, FormError> {
+    Ok(forms.read_prefix_bytes(text)?.0)
 }
 
 /// Returns the number that a text is, or writes why it is not one.
@@ -280,7 +280,7 @@ pub unsafe fn number<'a>(
         refuse(TOO_LONG, error);
         return None;
     };
-    match by(forms, |readers| readers.read_bytes(text)) {
+    match by(forms, |forms| forms.read_bytes(text)) {
         Some(Ok(number)) => return Some(number),
         Some(Err(FormError { form, error: why, .. })) => stop(why, form, error),
         None => refuse("the forms are a null pointer", error),
@@ -336,7 +336,7 @@ calls! {
         syntax: Option<&Syntax>, text: *const u8, len: usize, literal: Out<Literal>, error: Out<ReadError>
     ) -> bool {
         read_by((syntax, text, len), (literal, error), |syntax, text, outs| {
-            Readers::new(&[syntax]).is_some_and(|it| settle_number(front(&it, text), outs))
+            literal::Forms::new(&[Form::new("", syntax)]).is_some_and(|it| settle_number(front(&it, text), outs))
         })
     }
 

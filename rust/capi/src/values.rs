@@ -73,7 +73,7 @@ unsafe fn parse<T: FromLiteral>(
     out: Out<T>,
     error: Out<ReadError>,
 ) -> ValueStatus {
-    number(forms, text, len, error).map_or(6, |number| write_value(T::try_from(number), out))
+    number(forms, text, len, error).map_or(6, |number| write_value(number.value::<T>(), out))
 }
 
 /// Writes the value of each text, and whether it has one, and returns how many have none.

@@ -8,7 +8,7 @@ use crate::literal::span::{error, span};
 use crate::literal::steps::{
     has_digit, is_complete, is_exponent_character, moved, needs_exponent, part_of, role_at, Summary,
 };
-use crate::literal::syntax::{Condition, Conditions, Grammar, CONDITIONS};
+use crate::literal::syntax::{Condition, Conditions, Grammar, Options, CONDITIONS};
 use crate::word as masks;
 use crate::word::{Part, Role};
 
@@ -53,10 +53,13 @@ pub struct Marks {
 }
 
 // Where reading stopped: what has been read, the byte that cannot follow, or `None` if bytes are missing, the bytes that
-// follow it in its character, or 0 for each that does not, and whether a separator is before the last group of digits.
+// follow it in its character, or 0 for each that does not, and whether a separator is before the last group of digits. The
+// fields of the grammar are apart, which takes 16 bytes less.
 #[derive(Debug, Clone, Copy, PartialEq, Eq, Hash)]
 pub struct Spot {
-    pub(crate) grammar: Grammar,
+    pub(crate) word: u128,
+    pub(crate) options: Option<Options>,
+    pub(crate) conditions: Conditions,
     pub(crate) read: Summary,
     pub(crate) byte: Option<u8>,
     pub(crate) tail: [u8; 3],
@@ -150,6 +153,11 @@ impl ReadError {
 }
 
 impl Spot {
+    // Returns the grammar.
+    pub(crate) const fn as_grammar(self) -> Grammar {
+        Grammar { word: self.word, options: self.options, conditions: self.conditions }
+    }
+
     // Returns whether the cause is a wrong byte. It takes less time than all answers.
     const fn is_byte(self) -> bool {
         matches!(self.stop().blame().kind, ReadErrorKind::Byte)
@@ -157,9 +165,9 @@ impl Spot {
 
     // Returns what has been read, and the byte that cannot follow.
     const fn stop(self) -> Stop {
-        let Spot { grammar, read, byte, separated, marks, .. } = self;
+        let Spot { read, byte, separated, marks, .. } = self;
         Stop {
-            grammar,
+            grammar: self.as_grammar(),
             read,
             group: Group { part: part_of(read.stage), separated, digits: marks.size.saturating_sub(marks.group) },
             byte,
@@ -168,7 +176,8 @@ impl Spot {
 
     // Returns the answers of a text with which no literal goes on.
     const fn refusal(self) -> Refusal {
-        let Spot { grammar, byte, tail, marks, .. } = self;
+        let Spot { byte, tail, marks, .. } = self;
+        let grammar = self.as_grammar();
         let stop = self.stop();
         let Blame { kind, mask } = stop.blame();
         let conditions = stop.unmet();

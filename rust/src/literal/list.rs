@@ -1,18 +1,62 @@
 // Made by rust/tools/erase.py from crates/lexical_literal/src/list.rt: change that file.
 
-//! Lists of syntaxes: the numbers of a language that has several forms, such as `10`, `0x1F` and `0b1`.
+//! Numbers that have several forms, such as `10`, `0x1F` and `0b1`.
 
 use crate::literal::cause::ReadError;
 use crate::literal::groups::FIRST;
 use crate::literal::literal::Literal;
 use crate::literal::plain::{At, BEGIN};
 use crate::literal::read::Found;
+use crate::literal::specials::{Special, Specials};
 use crate::literal::syntax::Syntax;
 
-/// The syntaxes of the forms of numbers, at least one. The first form of which a text is a literal decides what number it is.
+/// A form of numbers: its name, such as `hexadecimal`, and its syntax.
+#[derive(Debug, Clone, Copy, PartialEq, Eq, Hash)]
+pub struct Form {
+    name: &'static str,
+    syntax: Syntax,
+}
+
+impl Form {
+    /// Returns the form with a name, which may be empty, and a syntax.
+    #[must_use]
+    pub const fn new(name: &'static str, syntax: Syntax) -> Form {
+        Form { name, syntax }
+    }
+
+    /// Returns the name.
+    #[must_use]
+    pub const fn name(&self) -> &'static str {
+        self.name
+    }
+
+    /// Returns the syntax.
+    #[must_use]
+    pub const fn syntax(&self) -> Syntax {
+        self.syntax
+    }
+}
+
+/// The forms of numbers, at least one, and the spellings of NaN and infinity. The first form of which a text is a literal decides
+/// what number it is.
 #[derive(Debug, Clone, Copy, PartialEq, Eq)]
-pub struct SyntaxList<'a> {
-    syntaxes: &'a [Syntax],
+pub struct Forms<'a> {
+    forms: &'a [Form],
+    specials: Specials<'a>,
+}
+
+/// A number that has one of several forms.
+#[derive(Debug, Clone, Copy, PartialEq, Eq, Hash)]
+pub enum Number<'a> {
+    /// A literal.
+    Literal {
+        /// The literal.
+        literal: Literal<'a>,
+        /// The index of its form.
+        form: usize,
+    },
+    /// NaN or infinity.
+    Special(Special),
 }
 
 /// Why a text is not a number of any form: the error of the form that goes furthest in the text. Of several, it is the
@@ -22,33 +66,86 @@ pub struct SyntaxList<'a> {
 pub struct FormError {
     /// The index of the form.
     pub form: usize,
+    /// The name of the form.
+    pub name: &'static str,
     /// Why the text is not a literal of this form.
     pub error: ReadError,
 }
 
-impl<'a> SyntaxList<'a> {
-    /// Returns the list of `syntaxes`, or `None` if there are none.
+impl<'a> Forms<'a> {
+    /// Returns the list of `forms` without special values, or `None` if there are no forms.
     #[must_use]
-    pub const fn new(syntaxes: &'a [Syntax]) -> Option<SyntaxList<'a>> {
-        if syntaxes.len() == 0 {
-            None
-        } else {
-            Some(SyntaxList { syntaxes })
+    pub const fn new(forms: &'a [Form]) -> Option<Forms<'a>> {
+        if forms.len() == 0 {
+            return None;
+        }
+        let specials = Specials { nan: None, inf: None, infinity: None };
+        Some(Forms { forms, specials })
+    }
+
+    /// Returns the same forms with these special values. The format of the first form decides what flags say of them.
+    #[must_use]
+    pub const fn with_specials(self, specials: Specials<'a>) -> Forms<'a> {
+        Forms { forms: self.forms, specials }
+    }
+
+    /// Returns the forms.
+    #[must_use]
+    pub const fn as_slice(&self) -> &'a [Form] {
+        self.forms
+    }
+
+    /// Returns the spellings of special values.
+    #[must_use]
+    pub const fn specials(&self) -> Specials<'a> {
+        self.specials
+    }
+
+    /// Returns the number that `text` is: a literal of the first form of which it is one, or otherwise a special value.
+    ///
+    /// # Errors
+    ///
+    /// If `text` is neither, returns the error of the form for which most of it is right. Of several, it is the first whose
+    /// cause is not a wrong byte, or the first if the cause of each is one. So `0b12` has the error of the binary form.
+    pub const fn read_bytes<'t>(&self, text: &'t [u8]) -> Result<Number<'t>, FormError> {
+        match self.find(text) {
+            Ok((form, literal)) => Ok(Number::Literal { literal, form }),
+            Err(error) => match self.special(text) {
+                Some(special) => Ok(Number::Special(special)),
+                None => Err(error),
+            },
         }
     }
 
-    /// Returns the syntaxes.
-    #[must_use]
-    pub const fn syntaxes(&self) -> &'a [Syntax] {
-        self.syntaxes
+    /// Returns the longest literal of any form that `text` begins with, of the first form if several have it, and the rest
+    /// of `text`, which may be anything. It does not find special values.
+    ///
+    /// # Errors
+    ///
+    /// If `text` does not begin with a literal, returns why it is not one.
+    pub const fn read_prefix_bytes<'t>(&self, text: &'t [u8]) -> Result<(Number<'t>, &'t [u8]), FormError> {
+        match self.find_front(text) {
+            Ok((form, found)) => {
+                let Found { size, counts } = found;
+                let (front, rest) = text.split_at(size);
+                let literal = self.as_slice()[form].syntax.summed(front, counts);
+                Ok((Number::Literal { literal, form }, rest))
+            }
+            Err(error) => Err(error),
+        }
+    }
+
+    // Returns the special value that `text` is, if it is one.
+    const fn special(&self, text: &[u8]) -> Option<Special> {
+        self.specials.read(&self.forms[0].syntax, text)
     }
 
     // Returns the index of the first form of which `text` is a literal, and the literal, or why it is one of no form.
-    pub(crate) const fn find<'t>(&self, text: &'t [u8]) -> Result<(usize, Literal<'t>), FormError> {
+    const fn find<'t>(&self, text: &'t [u8]) -> Result<(usize, Literal<'t>), FormError> {
         let mut furthest = None;
         let mut form = 0;
-        while form < self.syntaxes.len() {
-            let syntax = &self.syntaxes[form];
+        while form < self.forms.len() {
+            let syntax = &self.forms[form].syntax;
             let counted = syntax.begin_any(text, false);
             if syntax.is_whole(text, counted) {
                 return Ok((form, syntax.literal(text, counted.counts, counted.sums)));
@@ -65,12 +162,12 @@ impl<'a> SyntaxList<'a> {
 
     // Returns the longest front of `text` that is a literal of a form, with the index of the form, the first of equals, or
     // why there is none.
-    pub(crate) const fn find_front(&self, text: &[u8]) -> Result<(usize, Found), FormError> {
+    const fn find_front(&self, text: &[u8]) -> Result<(usize, Found), FormError> {
         let mut furthest = None;
         let mut longest = None;
         let mut form = 0;
-        while form < self.syntaxes.len() {
-            let (stop, found) = self.syntaxes[form].front(text);
+        while form < self.forms.len() {
+            let (stop, found) = self.forms[form].syntax.front(text);
             furthest = further(furthest, form, stop);
             longest = longer(longest, form, found);
             form += 1;
@@ -87,30 +184,30 @@ impl<'a> SyntaxList<'a> {
     const fn refuse(&self, text: &[u8], furthest: Option<(usize, At)>) -> FormError {
         let Some((first, stop)) = furthest else { unreachable!() };
         let error = self.error_at(text, first, stop);
-        if !error.is_byte() {
-            return FormError { form: first, error };
+        if !error.error.is_byte() {
+            return error;
         }
-        let syntaxes = self.syntaxes();
+        let forms = self.as_slice();
         let mut form = first + 1;
-        while form < syntaxes.len() {
-            let reached = syntaxes[form].walk(text, BEGIN, FIRST);
+        while form < forms.len() {
+            let reached = forms[form].syntax.walk(text, BEGIN, FIRST);
             if reached.size == stop.size {
                 let other = self.error_at(text, form, reached);
-                if !other.is_byte() {
-                    return FormError { form, error: other };
+                if !other.error.is_byte() {
+                    return other;
                 }
             }
             form += 1;
         }
-        FormError { form: first, error }
+        error
     }
 
     // Returns why `text` is not a literal of the form with the index `form`, which stops at `stop`.
     #[inline(always)]
-    const fn error_at(&self, text: &[u8], form: usize, stop: At) -> ReadError {
-        let syntaxes = self.syntaxes();
-        let Err(error) = syntaxes[form].refuse::<()>(text, stop) else { unreachable!() };
-        error
+    const fn error_at(&self, text: &[u8], form: usize, stop: At) -> FormError {
+        let it = &self.as_slice()[form];
+        let Err(error) = it.syntax.refuse::<()>(text, stop) else { unreachable!() };
+        FormError { form, name: it.name, error }
     }
 }
 

@@ -26,7 +26,7 @@ impl Syntax {
     ///
     /// ```
     /// let json = "decimal; digits required before `.`; digits required after `.`; no `+`; no leading zeros";
-    /// assert_eq!(peltzivar::literal::Language::JSON.forms()[0].syntax.sentence().to_string(), json);
+    /// assert_eq!(peltzivar::literal::Language::JSON.forms()[0].syntax().sentence().to_string(), json);
     /// ```
     #[must_use]
     pub fn sentence(&self) -> impl Display {
@@ -44,7 +44,7 @@ impl Syntax {
     /// Exponent ::= [Ee] [+-]? Digit+
     /// Digit    ::= [0-9]
     /// "#;
-    /// assert_eq!(format!("\n{}", peltzivar::literal::Language::JSON.forms()[0].syntax.grammar()), json);
+    /// assert_eq!(format!("\n{}", peltzivar::literal::Language::JSON.forms()[0].syntax().grammar()), json);
     /// ```
     #[must_use]
     pub fn grammar(&self) -> impl Display {
@@ -63,7 +63,7 @@ impl Syntax {
     ///
     /// ```
     /// let json = "[-]?(?:[1-9][0-9]*|[0])(?:[.][0-9]+)?(?:[Ee][+-]?[0-9]+)?";
-    /// assert_eq!(peltzivar::literal::Language::JSON.forms()[0].syntax.regex().to_string(), json);
+    /// assert_eq!(peltzivar::literal::Language::JSON.forms()[0].syntax().regex().to_string(), json);
     /// ```
     #[must_use]
     pub fn regex(&self) -> impl Display {

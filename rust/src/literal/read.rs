@@ -192,11 +192,14 @@ impl Syntax {
     #[cold]
     pub(crate) const fn refuse<T>(&self, text: &[u8], stop: At) -> Result<T, ReadError> {
         let grammar = self.as_grammar();
+        let Grammar { word, options, conditions } = grammar;
         let size = stop.size;
         let byte = byte_at(text, size);
         Err(ReadError {
             spot: Spot {
-                grammar,
+                word,
+                options,
+                conditions,
                 read: stop.read,
                 byte,
                 tail: tail_at(text, size, byte),

@@ -53,8 +53,16 @@ impl ReadError {
         blamed.map(move |flag| Edit::Flag(flag, is_separator))
     }
 
-    /// Returns the text that `Display` prints. A `const fn` can panic with it, so that a constant that is not a literal
-    /// does not compile, and the compiler prints why:
+    /// Returns the text that `{}` prints, for users of a language, who know no flags, such as `unexpected plus sign`.
+    #[must_use]
+    pub const fn text(&self) -> ShortText {
+        self.sentence(&self.explain())
+    }
+
+    /// Returns the text that `{:#}` prints, with the flags to blame, such as
+    /// `unexpected plus sign, which no_positive_mantissa_sign forbids`. If several flags are to blame for a requirement, it
+    /// names the lowest, or both flags on leading zeros. If only conditions are, it names the first. A `const fn` can panic
+    /// with it, so that a constant that is not a literal does not compile, and the compiler prints why:
     ///
     /// ```compile_fail,E0080
     /// use peltzivar::literal::{Literal, Syntax};
@@ -63,21 +71,43 @@ impl ReadError {
     /// const SYNTAX: Syntax = Syntax::new_or_panic(Format::of::<STANDARD>(), b'e', b'.');
     /// const LITERAL: Literal = match SYNTAX.read_bytes(b"1e") {
     ///     Ok(literal) => literal,
-    ///     Err(error) => panic!("{}", error.text().as_str()), // expected a digit after the exponent character, ..
+    ///     Err(error) => panic!("{}", error.full_text().as_str()), // expected a digit after the exponent character, ..
     /// };
     /// ```
     #[must_use]
-    pub const fn text(&self) -> ShortText {
+    pub const fn full_text(&self) -> ShortText {
         let refusal = self.explain();
         let Refusal { kind, mask, conditions, .. } = refusal;
+        let text = self.sentence(&refusal);
+        if let Some(condition) = first_unmet(mask, conditions) {
+            let verb = if matches!(condition, Condition::NegativeSign) { " forbids" } else { " requires" };
+            return text.and(", which ").and(condition.name()).and(verb);
+        }
+        match kind {
+            ReadErrorKind::Requirement | ReadErrorKind::Case => {
+                let named = named(mask);
+                let verb = match lowest(mask).name().as_bytes().first_chunk() {
+                    Some(b"required") => " requires",
+                    _ if named == ZEROS => " forbid",
+                    _ => " forbids",
+                };
+                names(text.and(", which"), named, " and ").and(verb)
+            }
+            ReadErrorKind::Separator(..) => names(text.and(", which requires"), mask, " or "),
+            ReadErrorKind::Missing(_) | ReadErrorKind::Byte => text,
+        }
+    }
+
+    /// Returns the sentence without flags.
+    const fn sentence(&self, refusal: &Refusal) -> ShortText {
+        let Refusal { kind, mask, conditions, .. } = *refusal;
         if let Some(condition) = first_unmet(mask, conditions) {
             return self.unmet(condition);
         }
         match kind {
-            ReadErrorKind::Requirement | ReadErrorKind::Case => requirement(mask),
+            ReadErrorKind::Requirement | ReadErrorKind::Case => ShortText::of(required_by(lowest(mask))),
             ReadErrorKind::Separator(part, place) => {
-                let text = ShortText::of("unexpected digit separator in the ").and(part.name());
-                names(text.and(behind(place)).and(", which requires"), mask, " or ")
+                ShortText::of("unexpected digit separator in the ").and(part.name()).and(behind(place))
             }
             ReadErrorKind::Missing(part) => ShortText::of("expected a digit of the ").and(part.name()),
             ReadErrorKind::Byte => unexpected(first_character(&refusal.wrong())),
@@ -96,26 +126,23 @@ impl Refusal {
 impl ReadError {
     /// Returns the sentence for a condition.
     const fn unmet(&self, condition: Condition) -> ShortText {
-        let Grammar { word, conditions, .. } = self.spot.grammar;
+        let Grammar { word, conditions, .. } = self.spot.as_grammar();
         let groups = ShortText::of("expected groups of ");
-        let (text, verb) = match condition {
-            Condition::BasePrefix => (shown(ShortText::of("expected the prefix 0"), base_prefix(word)), " requires"),
-            Condition::BaseSuffix => (shown(ShortText::of("expected the suffix "), base_suffix(word)), " requires"),
-            Condition::NegativeSign => (ShortText::of("unexpected minus sign"), " forbids"),
+        match condition {
+            Condition::BasePrefix => shown(ShortText::of("expected the prefix 0"), base_prefix(word)),
+            Condition::BaseSuffix => shown(ShortText::of("expected the suffix "), base_suffix(word)),
+            Condition::NegativeSign => ShortText::of("unexpected minus sign"),
             Condition::IntegerGroupSize | Condition::HigherGroupSize => {
                 let last = conditions.number(Condition::IntegerGroupSize) as usize;
-                let text = match conditions.number(Condition::HigherGroupSize) {
+                match conditions.number(Condition::HigherGroupSize) {
                     0 => groups.decimal(last).and(" digits"),
                     higher => groups.decimal(higher as usize).and(" digits and a last one of ").decimal(last),
-                };
-                (text, " requires")
+                }
             }
             Condition::FractionGroupSize => {
-                let size = conditions.number(condition) as usize;
-                (groups.decimal(size).and(" fraction digits"), " requires")
+                groups.decimal(conditions.number(condition) as usize).and(" fraction digits")
             }
-        };
-        text.and(", which ").and(condition.name()).and(verb)
+        }
     }
 }
 
@@ -141,44 +168,44 @@ const fn names(mut text: ShortText, mask: u128, between: &str) -> ShortText {
     text
 }
 
-/// Returns the sentence for flags that require or forbid something. It names the lowest, or both flags on leading zeros.
-const fn requirement(mask: u128) -> ShortText {
-    const ZEROS: u128 = NO_INTEGER_LEADING_ZEROS | NO_FLOAT_LEADING_ZEROS;
-    let lowest = mask & mask.wrapping_neg();
-    let named = if lowest & ZEROS == 0 { lowest } else { mask & ZEROS };
+/// The flags on leading zeros.
+const ZEROS: u128 = NO_INTEGER_LEADING_ZEROS | NO_FLOAT_LEADING_ZEROS;
+
+/// Returns the lowest flag of a mask of flags that require or forbid something.
+const fn lowest(mask: u128) -> FlagSetter {
     // Flags below bit 18 are at the index of their bit. By a syntax that is not lawful, there may be none.
-    let flag = FlagSetter::FLAGS[lowest.trailing_zeros() as usize % FlagSetter::FLAGS.len()];
-    let text = names(ShortText::of(required_by(flag)).and(", which"), named, " and ");
-    text.and(match flag.name().as_bytes().first_chunk() {
-        Some(b"required") => " requires",
-        _ if named == ZEROS => " forbid",
-        _ => " forbids",
-    })
+    FlagSetter::FLAGS[mask.trailing_zeros() as usize % FlagSetter::FLAGS.len()]
+}
+
+/// Returns the flags of such a mask that a sentence names: the lowest, or both flags on leading zeros.
+const fn named(mask: u128) -> u128 {
+    let lowest = mask & mask.wrapping_neg();
+    if lowest & ZEROS == 0 {
+        lowest
+    } else {
+        mask & ZEROS
+    }
 }
 
 impl core::error::Error for ReadError {}
 
-/// Prints `expected` and what is missing, or `unexpected` and what must not be there, and then the flags to blame, such as
-/// `unexpected plus sign, which no_positive_mantissa_sign forbids`. If several flags are to blame for a requirement, the
-/// sentence names the lowest, or both flags on leading zeros. If only conditions are, it names the first. For users of a language, who know no flags, `{:#}` leaves
-/// out the flags, as in `unexpected plus sign` or `unexpected digit separator in the fraction after another`.
+/// Prints `expected` and what is missing, or `unexpected` and what must not be there, such as `unexpected plus sign` or
+/// `unexpected digit separator in the fraction after another`. With `{:#}`, prints the [text][Self::full_text] that names
+/// the flags to blame, too.
 impl fmt::Display for ReadError {
     fn fmt(&self, f: &mut fmt::Formatter<'_>) -> fmt::Result {
-        let text = self.text();
-        f.pad(match text.as_str().split_once(", which ") {
-            Some((front, _)) if f.alternate() => front,
-            _ => text.as_str(),
-        })
+        let text = if f.alternate() { self.full_text() } else { self.text() };
+        f.pad(text.as_str())
     }
 }
 
-/// Writes the answers, and what `Display` prints.
+/// Writes the answers, and what `{:#}` prints.
 impl fmt::Debug for ReadError {
     fn fmt(&self, f: &mut fmt::Formatter<'_>) -> fmt::Result {
         let Refusal { valid_up_to, byte, kind, start, end, .. } = self.explain();
         let mut text = f.debug_struct("ReadError");
         text.field("valid_up_to", &valid_up_to).field("byte", &byte).field("kind", &kind).field("span", &(start..end));
-        text.field("message", &format_args!("\"{self}\"")).finish()
+        text.field("message", &format_args!("\"{self:#}\"")).finish()
     }
 }
 

@@ -33,6 +33,13 @@ impl Syntax {
     }
 }
 
+/// The default format, with the exponent character `e` and the decimal point `.`.
+impl Default for Syntax {
+    fn default() -> Syntax {
+        Syntax::new_or_panic(Format::default(), b'e', b'.')
+    }
+}
+
 /// Prints the word of the normal form, unless literals are integers the exponent character and the decimal point in
 /// decimal, and the conditions as settings, such as `0x0A0A0A0000000000000000000000000C 101 46` or
 /// `0x00000A00780000000000000000000000 required_base_prefix=true`. [`FromStr`] parses this text into the same syntax.

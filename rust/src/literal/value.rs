@@ -1,10 +1,11 @@
 //! The values of literals as Rust's types, which are written by hand around the proved conversions.
 
 use core::fmt::{self, Write};
+use core::ops::Range;
 
 use crate::format_flags::Part;
 use crate::literal::plain::At;
-use crate::literal::{Literal, Number, ReadError, Sign, Special, Spelling, Syntax};
+use crate::literal::{FormError, Literal, Number, ReadError, Sign, Special, Spelling, Syntax};
 
 mod float;
 mod integer;
@@ -15,21 +16,52 @@ use crate::number::float::Float;
 use float::{binary_size, to_float};
 use integer::{integer_numeral, to_integer};
 
-/// A type that can be [parsed][Syntax::parse]: each integer type of Rust, `f64` and `f32`.
+/// A type that can be [parsed][Syntax::parse]: each integer type of Rust, `f64` and `f32`, and a type of your own.
 ///
-/// Each of these types is also [made][TryFrom] from a [`Literal`] or a [`Number`], as in `u16::try_from(literal)`.
+/// Rust's types are also [made][TryFrom] from a [`Literal`] or a [`Number`], as in `u16::try_from(literal)`.
 ///
 /// A float is the value of the literal, rounded once to the nearest float, or to the even one if two are as near. Values
 /// from halfway above the largest float on are infinite, and `-0` is `-0.0`. A decimal number of up to 19 digits takes one
 /// or two multiplications, or a division. One that its first 19 digits do not decide can take 3.5 kB of the stack.
-pub trait FromLiteral: Sealed {}
-
-/// The conversions of a type, which only this crate calls.
-pub trait Sealed:
-    for<'a> TryFrom<Literal<'a>, Error = ValueError> + for<'a> TryFrom<Number<'a>, Error = ValueError>
-{
+///
+/// ```
+/// use core::num::NonZeroU16;
+/// use peltzivar::literal::{FromLiteral, Language, Literal, Target, ValueErrorKind};
+///
+/// #[derive(Debug, PartialEq)]
+/// struct Port(NonZeroU16);
+///
+/// impl FromLiteral for Port {
+///     const TARGET: Target = Target::integer("port", 1, u16::MAX as u128);
+///
+///     fn from_literal(literal: Literal<'_>) -> Result<Port, ValueErrorKind> {
+///         let number = u16::from_literal(literal)?;
+///         NonZeroU16::new(number).map(Port).ok_or(ValueErrorKind::TooSmall)
+///     }
+/// }
+///
+/// assert_eq!(Language::TOML.parse::<Port>("8_080"), Ok(Port(NonZeroU16::new(8080).unwrap())));
+/// assert_eq!(Language::TOML.parse::<Port>("0").unwrap_err().to_string(), "below 1, the least port");
+/// ```
+pub trait FromLiteral: Sized {
     /// What errors name.
-    const TARGET: &'static Target;
+    const TARGET: Target;
+
+    /// Returns the value of a literal. A type of digits can be made of [`Literal::plain`] or of [`Literal::digits`].
+    ///
+    /// # Errors
+    ///
+    /// If the type does not have the value, returns why.
+    fn from_literal(literal: Literal<'_>) -> Result<Self, ValueErrorKind>;
+
+    /// Returns NaN or infinity, if the type has them. Unless it is overridden, it returns an error.
+    ///
+    /// # Errors
+    ///
+    /// If the type does not have the value, returns why.
+    fn from_special(_special: Special) -> Result<Self, ValueErrorKind> {
+        Err(ValueErrorKind::Special)
+    }
 }
 
 impl<'a> Literal<'a> {
@@ -47,15 +79,15 @@ impl<'a> Literal<'a> {
     /// # Ok::<(), peltzivar::literal::FormError>(())
     /// ```
     #[must_use]
-    pub fn plain(&self) -> Option<impl fmt::Display + Clone + 'a> {
+    pub fn plain(&self) -> Option<Plain<'a>> {
         let radixes = [self.format().mantissa_radix(), self.format().exponent_base(), self.format().exponent_radix()];
         (radixes == [10; 3] || !self.is_float()).then_some(Plain(*self))
     }
 }
 
-/// The text of [`Literal::plain`].
-#[derive(Clone)]
-struct Plain<'a>(Literal<'a>);
+/// The text of [`Literal::plain`], which its `Display` prints.
+#[derive(Debug, Clone, Copy)]
+pub struct Plain<'a>(Literal<'a>);
 
 impl fmt::Display for Plain<'_> {
     fn fmt(&self, f: &mut fmt::Formatter<'_>) -> fmt::Result {
@@ -82,19 +114,39 @@ impl fmt::Display for Plain<'_> {
 pub struct ValueError {
     kind: ValueErrorKind,
     target: &'static Target,
+    size: usize,
 }
 
-/// The name of a type, and its least and its largest value if it is an integer type.
-#[derive(Debug, PartialEq, Eq, Hash)]
+/// The name of a type of values, and its limits.
+#[derive(Debug, Clone, Copy, PartialEq, Eq, Hash)]
 pub struct Target {
     name: &'static str,
-    least: i128,
-    largest: u128,
+    limits: Option<(i128, u128)>,
+}
+
+impl Target {
+    /// Returns the name of a type without limits that errors could name.
+    #[must_use]
+    pub const fn new(name: &'static str) -> Target {
+        Target { name, limits: None }
+    }
+
+    /// Returns the name of a type of integers, with its least and its largest value.
+    #[must_use]
+    pub const fn integer(name: &'static str, least: i128, largest: u128) -> Target {
+        Target { name, limits: Some((least, largest)) }
+    }
 }
 
 impl ValueError {
-    const fn of<T: Sealed>(kind: ValueErrorKind) -> ValueError {
-        ValueError { kind, target: T::TARGET }
+    /// Returns the same error of a number of `size` bytes.
+    pub(crate) const fn of_size(self, size: usize) -> ValueError {
+        ValueError { size, ..self }
+    }
+
+    /// Returns the error of a number of `size` bytes.
+    const fn of<T: FromLiteral>(kind: ValueErrorKind, size: usize) -> ValueError {
+        ValueError { kind, target: const { &T::TARGET }, size }
     }
 
     /// Returns what is wrong.
@@ -108,6 +160,13 @@ impl ValueError {
     pub const fn target(&self) -> &'static str {
         self.target.name
     }
+
+    /// Returns the range of the bytes of the number: the whole text, or what of it is the literal. It is empty for NaN and
+    /// infinity that were not parsed in the same call, which have no text.
+    #[must_use]
+    pub const fn span(&self) -> Range<usize> {
+        0..self.size
+    }
 }
 
 /// Prints the reason with the type and its limit, such as `above 65535, the largest u16`.
@@ -120,8 +179,14 @@ impl fmt::Display for ValueError {
             ValueErrorKind::UnsupportedRadix => {
                 write!(f, "no {target}: the mantissa radix and the exponent base are not both 10 or both powers of two")
             }
-            ValueErrorKind::TooLarge => write!(f, "above {}, the largest {target}", self.target.largest),
-            ValueErrorKind::TooSmall => write!(f, "below {}, the least {target}", self.target.least),
+            ValueErrorKind::TooLarge => match self.target.limits {
+                Some((_, largest)) => write!(f, "above {largest}, the largest {target}"),
+                None => write!(f, "above the largest {target}"),
+            },
+            ValueErrorKind::TooSmall => match self.target.limits {
+                Some((least, _)) => write!(f, "below {least}, the least {target}"),
+                None => write!(f, "below the least {target}"),
+            },
         }
     }
 }
@@ -130,17 +195,53 @@ impl core::error::Error for ValueError {}
 
 /// Why a text has no value in a type.
 #[derive(Debug, Clone, Copy, PartialEq, Eq, Hash)]
-#[allow(clippy::exhaustive_enums, reason = "a text that is a literal has a value or no value")]
+#[allow(clippy::exhaustive_enums, reason = "a text that is a number has a value or no value")]
 pub enum ParseError {
-    /// The text is not a literal.
-    Read(ReadError),
-    /// The text is a literal, and has no value in the type.
+    /// The text is not a number. For a single syntax, the form has the index 0 and no name.
+    Read(FormError),
+    /// The text is a number, and has no value in the type.
     Value(ValueError),
+}
+
+impl ParseError {
+    /// Returns the range of the bytes to show, which may be empty: that of the [read error][ReadError::span], or the whole
+    /// [number][ValueError::span].
+    #[must_use]
+    pub const fn span(&self) -> Range<usize> {
+        match self {
+            ParseError::Read(error) => error.span(),
+            ParseError::Value(error) => error.span(),
+        }
+    }
+
+    /// Returns the index of the form of which the text is not a literal, or `None` if it is a number.
+    #[must_use]
+    pub const fn form(&self) -> Option<usize> {
+        match self {
+            ParseError::Read(error) => Some(error.form),
+            ParseError::Value(_) => None,
+        }
+    }
+
+    /// Returns the number of bytes at the beginning of the text that are right, which is all of a number.
+    #[must_use]
+    pub const fn valid_up_to(&self) -> usize {
+        match self {
+            ParseError::Read(error) => error.valid_up_to(),
+            ParseError::Value(error) => error.size,
+        }
+    }
+}
+
+impl From<FormError> for ParseError {
+    fn from(error: FormError) -> ParseError {
+        ParseError::Read(error)
+    }
 }
 
 impl From<ReadError> for ParseError {
     fn from(error: ReadError) -> ParseError {
-        ParseError::Read(error)
+        ParseError::Read(FormError { form: 0, name: "", error })
     }
 }
 
@@ -167,11 +268,17 @@ impl core::error::Error for ParseError {}
 macro_rules! conversions {
     ($($type:ident)*: $convert:ident, $special:expr) => {
         $(
-            impl FromLiteral for $type {}
+            impl FromLiteral for $type {
+                const TARGET: Target = Target::integer(stringify!($type), $type::MIN as i128, $type::MAX as u128);
 
-            impl Sealed for $type {
-                const TARGET: &'static Target =
-                    &Target { name: stringify!($type), least: $type::MIN as i128, largest: $type::MAX as u128 };
+                #[inline(always)]
+                fn from_literal(literal: Literal<'_>) -> Result<$type, ValueErrorKind> {
+                    $convert(&literal)
+                }
+
+                fn from_special(special: Special) -> Result<$type, ValueErrorKind> {
+                    $special(special)
+                }
             }
 
             /// Makes the value from its literal. That of a float is rounded once.
@@ -180,7 +287,8 @@ macro_rules! conversions {
 
                 #[inline(always)]
                 fn try_from(literal: Literal<'_>) -> Result<$type, ValueError> {
-                    $convert(&literal).map_err(ValueError::of::<$type>)
+                    let size = literal.text.len();
+                    $type::from_literal(literal).map_err(|kind| ValueError::of::<$type>(kind, size))
                 }
             }
 
@@ -189,10 +297,7 @@ macro_rules! conversions {
                 type Error = ValueError;
 
                 fn try_from(number: Number<'_>) -> Result<$type, ValueError> {
-                    match number {
-                        Number::Literal { literal, .. } => literal.try_into(),
-                        Number::Special(special) => $special(special).map_err(ValueError::of::<$type>),
-                    }
+                    number.value()
                 }
             }
         )*
@@ -223,7 +328,7 @@ macro_rules! constant_calls {
                             None => ValueErrorKind::out_of_range(numeral.negative),
                         },
                     };
-                    Err(ValueError::of::<$type>(kind))
+                    Err(ValueError::of::<$type>(kind, self.text.len()))
                 }
             )*
         }
@@ -258,7 +363,7 @@ macro_rules! floats {
                     match binary_size(<$type as Float>::DOUBLE, &self) {
                         Some(bits) if self.is_negative() => Ok(-$type::from_bits(bits as $bits)),
                         Some(bits) => Ok($type::from_bits(bits as $bits)),
-                        None => Err(ValueError::of::<$type>(ValueErrorKind::UnsupportedRadix)),
+                        None => Err(ValueError::of::<$type>(ValueErrorKind::UnsupportedRadix, self.text.len())),
                     }
                 }
             }
@@ -289,7 +394,7 @@ impl Syntax {
     /// ```
     /// use peltzivar::literal::Language;
     ///
-    /// let syntax = Language::TOML.forms()[0].syntax;
+    /// let syntax = Language::TOML.forms()[0].syntax();
     /// assert_eq!(syntax.parse::<u16>("65_535"), Ok(65535));
     /// let error = syntax.parse::<u16>("65_536").unwrap_err();
     /// assert_eq!(error.to_string(), "above 65535, the largest u16");
@@ -306,7 +411,7 @@ impl Syntax {
         if self.is_decimal() {
             let counted = self.begin(true, text, false);
             if self.is_whole(text, counted) {
-                if let Ok(value) = T::try_from(self.literal(text, counted.counts, counted.sums)) {
+                if let Ok(value) = T::from_literal(self.literal(text, counted.counts, counted.sums)) {
                     return Ok(value);
                 }
             } else if counted.exact {
@@ -319,7 +424,22 @@ impl Syntax {
     // Returns what `parse` returns for any text.
     #[inline(never)]
     fn parse_generally<T: FromLiteral>(&self, text: &[u8]) -> Result<T, ParseError> {
-        Ok(T::try_from(self.read_generally(text)?)?)
+        let literal = self.read_generally(text)?;
+        T::from_literal(literal).map_err(|kind| ParseError::Value(ValueError::of::<T>(kind, text.len())))
+    }
+
+    /// Returns the value of the longest literal that `text` begins with, and the rest of `text`, as
+    /// [`read_prefix`][Self::read_prefix] finds them.
+    ///
+    /// # Errors
+    ///
+    /// If `text` does not begin with a literal, or if its value is not one of the type, returns why.
+    pub fn parse_prefix<'t, T: FromLiteral>(
+        &self,
+        text: &'t (impl AsRef<[u8]> + ?Sized),
+    ) -> Result<(T, &'t [u8]), ParseError> {
+        let (literal, rest) = self.read_prefix_bytes(text.as_ref())?;
+        Ok((Number::Literal { literal, form: 0 }.value()?, rest))
     }
 
     // Returns why `text`, of which reading stopped at `at`, is not a literal.
@@ -337,6 +457,20 @@ impl Syntax {
 }
 
 impl Number<'_> {
+    /// Returns the value in a type.
+    ///
+    /// # Errors
+    ///
+    /// If the type does not have the value, returns why.
+    #[inline]
+    pub fn value<T: FromLiteral>(self) -> Result<T, ValueError> {
+        let (value, size) = match self {
+            Number::Literal { literal, .. } => (T::from_literal(literal), literal.text.len()),
+            Number::Special(special) => (T::from_special(special), 0),
+        };
+        value.map_err(|kind| ValueError::of::<T>(kind, size))
+    }
+
     /// Returns the value, rounded once to the nearest `f64`. The literals of each [`Language`][crate::literal::Language]
     /// have one, and NaN and infinity keep their sign. For a literal of another syntax that has none, returns NaN.
     ///
@@ -349,6 +483,6 @@ impl Number<'_> {
     /// ```
     #[must_use]
     pub fn to_f64(&self) -> f64 {
-        f64::try_from(*self).unwrap_or(f64::NAN)
+        self.value().unwrap_or(f64::NAN)
     }
 }

@@ -63,8 +63,9 @@ impl Syntax {
     /// ```
     /// use peltzivar::literal::{Language, Style, WriteError};
     ///
-    /// let form = Language::C.forms().iter().find(|form| form.name == "hexadecimal").unwrap();
-    /// let text = form.syntax.format_integer(0xC0FFEE, Style::PLAIN.group(4))?;
+    /// let forms = Language::C.forms().as_slice();
+    /// let form = forms.iter().find(|form| form.name() == "hexadecimal").unwrap();
+    /// let text = form.syntax().format_integer(0xC0FFEE, Style::PLAIN.group(4))?;
     /// assert_eq!(text.to_string(), "0xC0'FFEE");
     /// assert_eq!(Language::C.parse(text.to_string()), Ok(0xC0FFEE));
     /// # Ok::<(), WriteError>(())

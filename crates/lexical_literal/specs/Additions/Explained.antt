@@ -15,6 +15,7 @@ use Rattle.lexical_literal.specs.declared.cause.ReadErrorKind.TheVariants as cau
 use Rattle.lexical_literal.specs.declared.cause.Refusal.{Refusal}
 use Rattle.lexical_literal.specs.declared.cause.Spot.{Spot}
 use Rattle.lexical_literal.specs.declared.syntax.Condition.{Condition}
+use Rattle.lexical_literal.specs.declared.syntax.Grammar.{Grammar}
 use Rattle.lexical_literal.specs.declared.groups.Group.{Group}
 use Rattle.lexical_literal.specs.declared.steps.Summary.{Summary}
 
@@ -66,6 +67,10 @@ otherwise m s g (Some byte) =
 abbrev pub blame : Notation → Summary → Group → Option ℕ → Blame
 blame m s g next = if goes (bare m) s g next then record { kind = causes.Requirement; mask = requirements m s g next } else otherwise m s g next
 
+-- `grammar_at spot` is the grammar by which the text was read.
+abbrev pub grammar_at : Spot → Grammar
+grammar_at spot = record { word = spot.word; options = spot.options; conditions = spot.conditions }
+
 -- `group_at spot` is the last group of digits before `spot`.
 abbrev pub group_at : Spot → Group
 group_at spot = record { part = part_of spot.read.stage; separated = spot.separated; digits = spot.marks.size - spot.marks.group }
@@ -91,7 +96,7 @@ refusal_of m spot =
 
 -- `explained spot` is the error that was made at `spot`.
 abbrev pub explained : Spot → Explained
-explained spot = record { refusal = refusal_of (notation_of spot.grammar) spot; spot = spot }
+explained spot = record { refusal = refusal_of (notation_of (grammar_at spot)) spot; spot = spot }
 
 -- `tail_byte text size tail place` is the byte of `text` behind the first `size + place` if `place` is at most `tail`, and 0
 -- where there is none.

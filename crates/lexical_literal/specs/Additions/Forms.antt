@@ -1,14 +1,14 @@
 -- What one pass over several forms finds.
 use Rattle.std.specs.Prelude.{ℕ, if◌then◌else◌, nat_lt, IfErr, IfOk, IsErr, IsSomeAnd, List, Option, Some, None, Result, All, slice_get}
 use Rattle.lexical_literal.specs.Additions.Longest.{IsCountedFront, IsStopped}
-use Rattle.lexical_literal.specs.Forms.{HasFront, IsFirst, IsFormError, IsGreatest}
+use Rattle.lexical_literal.specs.Forms.{HasFront, IsFirst, IsFormError, IsGreatest, NoForm}
 use Rattle.lexical_literal.specs.Front.{IsValidUpTo, NoFront, NoLiteral}
 use Rattle.lexical_literal.specs.Read.{Read}
 use Rattle.lexical_literal.specs.Notation.{notation_of}
 use Rattle.lexical_literal.specs.declared.list.FormError.{FormError}
 use Rattle.lexical_literal.specs.declared.read.Found.{Found}
 use Rattle.lexical_literal.specs.declared.plain.At.{At}
-use Rattle.lexical_literal.specs.declared.syntax.Grammar.{Grammar}
+use Rattle.lexical_literal.specs.declared.list.Form.{Form}
 
 -- `greater size best form found` is `best`, or `found` of the form with the index `form` if its `size` is greater.
 abbrev pub greater : {X : Type 0} → (X → ℕ) → Option (ℕ × X) → ℕ → X → Option (ℕ × X)
@@ -26,25 +26,25 @@ longer longest form (Some found) = greater (λ (found : Found). found.size) long
 
 -- `IsFoundForm forms text result` holds if `result` has the first form of which `text` is a literal and the literal, or the error of
 -- a text that is a literal of no form.
-pub record IsFoundForm (forms : List Grammar) (text : List ℕ) (result : Result (ℕ × Read) FormError) : Type 0 where
+pub record IsFoundForm (forms : List Form) (text : List ℕ) (result : Result (ℕ × Read) FormError) : Type 0 where
   pub found : IfOk result (λ found. IsFirst forms text found.0 found.1)
-  pub none : IsErr result → All (λ g. NoLiteral (notation_of g) text) forms
+  pub none : IsErr result → NoForm forms text
   pub error : IfErr result (IsFormError forms text)
 
 -- `IsFoundFrontForm forms text result` holds if `result` has the longest front of `text` that is a literal of a form, of the
 -- first form of equals, and the lengths of its parts, or the error of a text for which there is no such front.
-pub record IsFoundFrontForm (forms : List Grammar) (text : List ℕ) (result : Result (ℕ × Found) FormError) : Type 0 where
+pub record IsFoundFrontForm (forms : List Form) (text : List ℕ) (result : Result (ℕ × Found) FormError) : Type 0 where
   pub longest : IfOk result (λ found. IsGreatest (HasFront text) forms found.0 found.1.size)
-  pub found : IfOk result (λ found. IsSomeAnd (slice_get forms found.0) (λ g. IsCountedFront (notation_of g) text found.1))
-  pub none : IsErr result → All (λ g. NoFront (notation_of g) text) forms
+  pub found : IfOk result (λ found. IsSomeAnd (slice_get forms found.0) (λ g. IsCountedFront (notation_of g.syntax) text found.1))
+  pub none : IsErr result → All (λ g. NoFront (notation_of g.syntax) text) forms
   pub error : IfErr result (IsFormError forms text)
 
 -- `GoesTo text g size` holds if some literal of the form `g` begins with the first `size` bytes of `text`, and none with more.
-abbrev pub GoesTo : List ℕ → Grammar → ℕ → Type 0
-GoesTo text g size = IsValidUpTo (notation_of g) text size
+abbrev pub GoesTo : List ℕ → Form → ℕ → Type 0
+GoesTo text g size = IsValidUpTo (notation_of g.syntax) text size
 
 -- `IsFurthestForm forms text furthest` holds if `furthest` has the index of the form that goes furthest in `text`, the first of
 -- equals, and where it stops.
-abbrev pub IsFurthestForm : List Grammar → List ℕ → Option (ℕ × At) → Type 0
+abbrev pub IsFurthestForm : List Form → List ℕ → Option (ℕ × At) → Type 0
 IsFurthestForm forms text furthest = IsSomeAnd furthest (λ best.
-    IsGreatest (GoesTo text) forms best.0 best.1.size × IsSomeAnd (slice_get forms best.0) (λ g. IsStopped (notation_of g) text best.1))
+    IsGreatest (GoesTo text) forms best.0 best.1.size × IsSomeAnd (slice_get forms best.0) (λ g. IsStopped (notation_of g.syntax) text best.1))

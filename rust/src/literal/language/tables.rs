@@ -1,7 +1,7 @@
 //! The forms of each language. The comment of a setter has a text that is accepted or rejected because of the setter.
 
-use super::{Definition, Form, Language};
-use crate::literal::{Readers, Specials, Syntax};
+use super::{Definition, Language};
+use crate::literal::{Form, Forms, Specials, Syntax};
 use crate::NumberFormatBuilder;
 use core::num::NonZeroU8;
 

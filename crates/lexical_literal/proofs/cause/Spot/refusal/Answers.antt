@@ -10,7 +10,7 @@ use Rattle.lexical_literal.proofs.cause.Spot.refusal.Goals as goal
 pub returns : goal.returns
 returns c =
     let spot = c.args.self in
-    let m = notation_of spot.grammar in
+    let m = ap notation_of c.grammar-grammar.ensures in
     let stop = c.stop-stop.ensures in
     let blamed = c.blame-kind.ensures ∙ ap (λ (t : Stop). blame (notation_of t.grammar) t.read t.group t.byte) stop in
     let kind = ap (λ (b : Blame). b.kind) blamed in
@@ -18,8 +18,8 @@ returns c =
     let conditions = c.unmet-conditions.ensures
     ∙ ap (λ (t : Stop). kept (unmet (notation_of t.grammar) t.read t.group t.byte) (number_of t.grammar.conditions)) stop in
     let first = c.first_unmet-unmet.ensures ∙ (λ j. first_unmet (mask j) (conditions j)) in
-    let span = c.span-start.ensures ∙ (λ j. span_of m spot.marks spot.byte (kind j) (lowest (mask j)) (first j)) in
-    let code = c.error.ensures ∙ (λ j. error_of m spot.marks (kind j) (lowest (mask j)) (first j) (span j).0) in
+    let span = c.span-start.ensures ∙ (λ j. span_of (m j) spot.marks spot.byte (kind j) (lowest (mask j)) (first j)) in
+    let code = c.error.ensures ∙ (λ j. error_of (m j) spot.marks (kind j) (lowest (mask j)) (first j) (span j).0) in
     λ j. record {
       valid_up_to = spot.marks.size;
       byte = spot.byte;

@@ -33,7 +33,9 @@ returns _ c =
     let is_marks : c.marks.result ≡ marks_of m front =
     c.marks.ensures ∙ (λ j. marks_of (notation_of (of.value j)) (c.front_of.ensures j)) in
     let spot : Grammar → Marks → Spot = λ h k. record {
-      grammar = h;
+      word = h.word;
+      options = h.options;
+      conditions = h.conditions;
       read = s;
       byte = c.byte_at-byte.result;
       tail = c.tail_at.result;

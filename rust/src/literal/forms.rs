@@ -1,0 +1,153 @@
+//! What is written by hand around the proved calls of [`Forms`].
+
+use core::{fmt, ops, ops::Range, slice};
+
+use crate::literal::{Form, FormError, Forms, FromLiteral, Literal, Number, ParseError, ReadError, Special};
+
+impl<'a> Forms<'a> {
+    /// Returns the list of `forms`, for a constant.
+    ///
+    /// # Panics
+    ///
+    /// If there are no forms.
+    #[must_use]
+    #[track_caller]
+    pub const fn new_or_panic(forms: &'a [Form]) -> Forms<'a> {
+        match Forms::new(forms) {
+            Some(list) => list,
+            None => panic!("there must be at least one form"),
+        }
+    }
+
+    /// Returns what [`read_bytes`][Self::read_bytes] returns, for a text or bytes.
+    ///
+    /// # Errors
+    ///
+    /// If `text` is neither a literal nor a special value, returns why it is not a literal.
+    pub fn read<'t>(&self, text: &'t (impl AsRef<[u8]> + ?Sized)) -> Result<Number<'t>, FormError> {
+        self.read_bytes(text.as_ref())
+    }
+
+    /// Returns what [`read_prefix_bytes`][Self::read_prefix_bytes] returns, for a text or bytes.
+    ///
+    /// # Errors
+    ///
+    /// If `text` does not begin with a literal, returns why it is not one.
+    pub fn read_prefix<'t>(&self, text: &'t (impl AsRef<[u8]> + ?Sized)) -> Result<(Number<'t>, &'t [u8]), FormError> {
+        self.read_prefix_bytes(text.as_ref())
+    }
+
+    /// Returns the value of the number `text`.
+    ///
+    /// # Errors
+    ///
+    /// If `text` is not a number, or if its value is not one of the type, returns why.
+    pub fn parse<T: FromLiteral>(&self, text: impl AsRef<[u8]>) -> Result<T, ParseError> {
+        let text = text.as_ref();
+        self.read_bytes(text)?.value().map_err(|error| error.of_size(text.len()).into())
+    }
+
+    /// Returns the value of the longest literal of any form that `text` begins with, and the rest of `text`, as
+    /// [`read_prefix`][Self::read_prefix] finds them.
+    ///
+    /// # Errors
+    ///
+    /// If `text` does not begin with a literal, or if its value is not one of the type, returns why.
+    pub fn parse_prefix<'t, T: FromLiteral>(
+        &self,
+        text: &'t (impl AsRef<[u8]> + ?Sized),
+    ) -> Result<(T, &'t [u8]), ParseError> {
+        let (number, rest) = self.read_prefix(text)?;
+        Ok((number.value()?, rest))
+    }
+}
+
+/// Returns the form with an index.
+impl ops::Index<usize> for Forms<'_> {
+    type Output = Form;
+
+    fn index(&self, index: usize) -> &Form {
+        &self.as_slice()[index]
+    }
+}
+
+impl<'a> IntoIterator for &Forms<'a> {
+    type Item = &'a Form;
+    type IntoIter = slice::Iter<'a, Form>;
+
+    fn into_iter(self) -> slice::Iter<'a, Form> {
+        self.as_slice().iter()
+    }
+}
+
+impl<'a> Number<'a> {
+    /// Returns the literal, or `None` for NaN and infinity.
+    #[must_use]
+    pub const fn literal(&self) -> Option<Literal<'a>> {
+        match self {
+            Number::Literal { literal, .. } => Some(*literal),
+            Number::Special(_) => None,
+        }
+    }
+
+    /// Returns the index of the form, or `None` for NaN and infinity, which have none.
+    #[must_use]
+    pub const fn form(&self) -> Option<usize> {
+        match self {
+            Number::Literal { form, .. } => Some(*form),
+            Number::Special(_) => None,
+        }
+    }
+}
+
+/// Prints the text of the literal, or what std prints for NaN and infinity.
+impl fmt::Display for Number<'_> {
+    fn fmt(&self, f: &mut fmt::Formatter<'_>) -> fmt::Result {
+        match self {
+            Number::Literal { literal, .. } => literal.fmt(f),
+            Number::Special(special) => special.fmt(f),
+        }
+    }
+}
+
+/// Prints what std prints for the float: `NaN`, `inf` or `-inf`.
+impl fmt::Display for Special {
+    fn fmt(&self, f: &mut fmt::Formatter<'_>) -> fmt::Result {
+        self.to_f64().fmt(f)
+    }
+}
+
+impl FormError {
+    /// Returns the range of the bytes to show, as [`ReadError::span`] does.
+    #[must_use]
+    pub const fn span(&self) -> Range<usize> {
+        self.error.span()
+    }
+
+    /// Returns the index of the form.
+    #[must_use]
+    pub const fn form(&self) -> usize {
+        self.form
+    }
+
+    /// Returns the number of bytes at the beginning of the text that are right, as [`ReadError::valid_up_to`] does.
+    #[must_use]
+    pub const fn valid_up_to(&self) -> usize {
+        self.error.valid_up_to()
+    }
+}
+
+/// Prints the error of the form.
+impl fmt::Display for FormError {
+    fn fmt(&self, f: &mut fmt::Formatter<'_>) -> fmt::Result {
+        self.error.fmt(f)
+    }
+}
+
+impl core::error::Error for FormError {}
+
+impl From<FormError> for ReadError {
+    fn from(error: FormError) -> ReadError {
+        error.error
+    }
+}
