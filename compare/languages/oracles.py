@@ -131,12 +131,12 @@ LANGUAGES = [
     Language("NASM", "nasm", "01a._hxebd", "_", "0c8h 0c8x 17q 17o 10d 10t 101b 101y 0h1F 0y1 0q7 0t9 $0c8 1h. 1x. 7q. 7o. 9d. 9t. 1b. 1y.", [
         Cause("+", r"\$[\w$.]*", "the prefix $, or an address"), Cause("-", r"[a-fA-F][\da-fA-F_]*[hHxX]", "a name, which a letter begins"),
         Cause("+", r"0[a-zA-Z][_.]*([eEpP][+-]?[0-9_]*)?", "no digits behind a prefix"),
-        Cause("+", ".*[pP][+-]_*", "a sign without an exponent"),
-        Cause("+", r".*(\._+([eEpP].*)?|[eEpP][+-]?_+)|0[a-zA-Z]_+\..*", "a part of separators alone"), wraps(64, False),
+        Cause("+", r"0[a-zA-Z][\w.]*[pP][+-]_*", "a sign without an exponent"),
+        Cause("+", r"[\w.]+(\._+([eEpP][+-]?[\d_]*)?|[eEpP][+-]?_+)|0[a-zA-Z]_+\.[\w.]*([pP][+-]?[\d_]*)?", "a part of separators alone"), wraps(64, False),
         ROUNDED, Cause("=", ".*", "an infinite value, which the tool makes NaN",
                        lambda ours, theirs: ours.double == math.inf and math.isnan(theirs))]),
     Language("OCAML", "ocaml", "018._exp-+b", "_", "1l 1n 1L 1z", [
-        suffix("[g-zG-Z]"), Cause("+", r".*\._+([eEpP].*)?[g-zG-Z]?", "a fraction of separators alone"),
+        suffix("[g-zG-Z]"), Cause("+", r"\w+\._+([eEpP][+-]?\d[\d_]*)?[g-zG-Z]?", "a fraction of separators alone"),
         out_of_range(2**62 + 1, pattern="[0-9_]+"), out_of_range(2**63), wraps(63, True)]),
     Language("PHP", "php", "018._exo-b", "_", "0o17 0O17 0b1", []),
     Language("PYTHON", "ast", "018._exj-+b", "_", "1j 0j", [
