@@ -1,7 +1,7 @@
 #!/usr/bin/env python3
 """Writes parts of peltzivar/__init__.py: the constants, enumerations, structures and calls of peltzivar.h, and the
 attributes of a view, the parameters of calls that take fields, and the languages, with their documentation in rust/src;
-and the calls of languages in peltzivar.h and in rust/capi.
+and the calls of languages in peltzivar.h and in rust/capi, and the numbers of setters and errors in peltzivar.h.
 
     c/make_python.py            writes each part between the lines `Made by make_python.py: PART` and `End`
     c/make_python.py --check    ends with status 1 if a part is not up to date
@@ -14,15 +14,19 @@ import textwrap
 HERE = pathlib.Path(__file__).resolve().parent
 HEADER = HERE.joinpath("peltzivar.h").read_text()
 SETTERS = HERE.parent.joinpath("rust/src/format_builder/setters.rs").read_text()
+ERRORS = HERE.parent.joinpath("rust/src/error.rs").read_text()
+FORMAT = HERE.parent.joinpath("docs/FORMAT.md").read_text()
 LANGUAGES = HERE.parent.joinpath("rust/src/literal/language/tables.rs").read_text()
 CODE = " ".join(re.sub(r"/\*.*?\*/|^#.*?$", "", HEADER, flags=re.S | re.M).split())
 LANGUAGE_NAMES = re.findall(r"^    (\w+) = \{", LANGUAGES, re.M)
 STRUCTS = {name: f"_{name[10:].title().replace('_', '')}" for name in re.findall(r"} (peltzivar_\w+);", CODE)}
-SET = [(name.lower(), int(bit)) for name, bit in re.findall(r"\bPELTZIVAR_SET_(\w+) = (\d+)", HEADER)]
+# The setters, by the lowest bits of fields, and from 128 on by the order of groups.
+SET = [(name, int(bit)) for bit, name in re.findall(r"^\| (\d+)(?: to \d+)? \| `(\w+)` \|", FORMAT, re.M)]
+SET += [(name, number) for number, name in enumerate(re.findall(r"^\| `(\w+)` \| \d[\d ]* \|", FORMAT, re.M), 128)]
 TYPES = {"bool": "c_bool", "size_t": "c_size_t", "int64_t": "c_int64", "double": "c_double", "float": "c_float", **STRUCTS}
 TYPES |= {f"uint{bits}_t": f"c_uint{bits}" for bits in (8, 32, 64)}
 TYPES |= {name: TYPES[kind] for kind, name in re.findall(r"typedef (\w+) (\w+);", CODE)}
-POINTERS = {"char": "c_char_p", "peltzivar_forms": "c_void_p"}
+POINTERS = {"char": "c_char_p", "void": "c_void_p", "peltzivar_forms": "c_void_p"}
 
 
 def defined(name):
@@ -63,7 +67,7 @@ def constants():
     yield f"STANDARD = 0x{high:>016}{low:>016}"
     flags, others = re.fullmatch(r"\{UINT64_C\((\w+)\), (.*)\}", defined("NEW_FIELDS_INIT")).groups()
     yield f"_NEW_FIELDS = ({flags}, {others})"
-    yield from (f"_{name} = {defined(name)}" for name in ("FIELD_COUNT", "SOURCE_SIZE", "TEXT_SIZE", "NO_PART"))
+    yield from (f"_{name} = {defined(name)}" for name in ("FIELD_COUNT", "FORMS_MAX", "SOURCE_SIZE", "TEXT_SIZE", "NO_PART"))
     yield f"_NO_DIGIT = {2**32 - 1}"
     yield "_REFUSED = " + re.search(r"PELTZIVAR_VALUE_REFUSED = (\d+)", HEADER)[1]
     for row in (
@@ -125,6 +129,23 @@ def settings():
     yield from (re.sub("= .*", "= _KEPT,", it) for it in conditions())
 
 
+def numbered(pairs):
+    """Returns the lines of an enumeration of C. Old compilers want no comma behind the last."""
+    return (",\n".join(f"PELTZIVAR_{name.upper()} = {number}" for name, number in pairs)).splitlines()
+
+
+def setters():
+    """Returns the lines."""
+    return numbered((f"SET_{name}", number) for name, number in SET)
+
+
+def errors():
+    """Returns the lines. Success is 0, and the errors have the order of the variants."""
+    variants = re.findall(r"^    (\w+)\b", re.search(r"^pub enum Error \{(.*?)^\}", ERRORS, re.M | re.S)[1], re.M)
+    names = ["Success", *(it for it in variants if it != "Success")]
+    return numbered((re.sub("(?<=[a-z])(?=[A-Z])", "_", it), number) for number, it in enumerate(names))
+
+
 def language_calls():
     """Returns the lines."""
     return (f"const peltzivar_forms *peltzivar_language_{name.lower()}(void);" for name in LANGUAGE_NAMES)
@@ -143,7 +164,7 @@ def languages():
     yield '"""How a language, or a file, writes numbers. `languages` is another name of this class.'
     yield from ("", "`read(text)` returns a `Literal` of one of its forms, or a `Special`. Raises LiteralError if the text is neither.")
     yield "`read_prefix(text)` returns the longest literal that a text begins with, and the rest. Raises LiteralError if there"
-    yield "is none. `forms` has the syntax of each form by its name, and `specials` the spellings of NaN and infinity."
+    yield "is none. `forms` has the same forms, with the syntax of each by its name, and the spellings of NaN and infinity."
     for text, name, forms in documented:
         about = " ".join(text.replace("///", " ").replace("×", "*").split())
         names = "; ".join(re.findall(r'"([^"]+)":', forms))
@@ -163,6 +184,7 @@ def made(text):
 
 
 if __name__ == "__main__":
+    HEADER = made(HEADER)
     for path in (HERE / "peltzivar.h", HERE.parent / "rust/capi/src/languages.rs", HERE / "peltzivar/__init__.py"):
         old = path.read_text()
         if "--check" in sys.argv[1:]:

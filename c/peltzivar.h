@@ -50,9 +50,9 @@
  * is only output need not be initialised. Memory that a function writes to must not overlap memory to which another
  * argument points.
  *
- * No function allocates memory or sets errno. None keeps a pointer, except that a literal points to its text, and forms
- * that a syntax makes to this syntax. Several threads may call these functions at the same time, provided that no call
- * writes memory that another call reads or writes.
+ * No function allocates memory or sets errno. None keeps a pointer, except that a literal points to its text. Several
+ * threads may call these functions at the same time, provided that no call writes memory that another call reads or
+ * writes.
  *
  * From 1.0 on, functions, structures, numbers and documented results do not change until 2.0, but others may be added.
  * The section `Until 2.0` of CHANGELOG.md in the repository lists what this promise leaves out, such as the wording of
@@ -109,7 +109,8 @@ typedef struct {
  * groups of 2 to 8 digits, as in `1,234`. Groups of the integer before the last have higher_group_size digits, if this
  * is not 0, as in `12,34,567`. Members that an initialiser leaves out are 0 or false, which is no condition. A later
  * version may have conditions in `reserved`, so a syntax is refused if one of these bytes is not 0.
- * peltzivar_read_settings and peltzivar_form_syntax write a syntax. Check one of your own with peltzivar_check_syntax. */
+ * peltzivar_read_settings writes a syntax, and the forms of a language have some. Check one of your own with
+ * peltzivar_check_syntax. */
 typedef struct {
     peltzivar_word format;
     uint8_t exponent, decimal_point;
@@ -185,8 +186,8 @@ typedef struct {
 /* A literal: its text, which must last as long as the literal is used, and its parts, in the order of the text.
  * An absent part is empty. The prefix includes the zero before it. The three parts with digits include digit
  * separators, for which peltzivar_mantissa_digit and peltzivar_exponent_digit return PELTZIVAR_NO_DIGIT. `size`
- * is the length of the text. A float has a point or an exponent character, or both. `form` is the form of a
- * language, and otherwise 0. */
+ * is the length of the text. A float has a point or an exponent character, or both. `form` is the index of
+ * one of several forms, and otherwise 0. */
 typedef struct {
     PELTZIVAR_ALIGNED uint64_t magic;
     const char *text;
@@ -198,8 +199,8 @@ typedef struct {
 } peltzivar_literal;
 
 /* Where reading stopped. The first `valid_up_to` bytes are the longest beginning of the text that some literal begins
- * with. If these are all of its bytes, bytes are missing, and a longer text may be a literal. `form` is, for the forms
- * of a language, the one for which this beginning is the longest, and otherwise 0. Of several such forms, it is the
+ * with. If these are all of its bytes, bytes are missing, and a longer text may be a literal. `form` is, of several
+ * forms, the index of that for which this beginning is the longest, and otherwise 0. If it is so for several, it is the
  * first whose kind is not PELTZIVAR_KIND_BYTE, or the first if the kind of each is this one. */
 typedef struct {
     PELTZIVAR_ALIGNED uint64_t magic;
@@ -262,9 +263,12 @@ const char *peltzivar_value_description(peltzivar_value_status status);
 
 /* ERRORS */
 
-/* Writes why a text was refused as a sentence, such as "unexpected character 'x'", which may be in UTF-8.
- * EXPLANATIONS.md describes them. If no call has written *error, writes an empty string. */
+/* Write why a text was refused as a sentence, such as "expected a digit after the exponent character", which may be
+ * in UTF-8. peltzivar_read_error_full_text also names the flags and conditions to blame, if there are any, as in ",
+ * which required_exponent_digits requires". EXPLANATIONS.md describes them. If no call has written *error, they
+ * write an empty string. */
 size_t peltzivar_read_error_text(const peltzivar_read_error *error, char *text, size_t len);
+size_t peltzivar_read_error_full_text(const peltzivar_read_error *error, char *text, size_t len);
 
 /* The parts of a number, and the number of no part. */
 typedef uint8_t peltzivar_part;
@@ -314,7 +318,7 @@ enum {
  * forms or the length were refused, leaves *out unchanged and returns false. */
 PELTZIVAR_MUST_USE bool peltzivar_explain(const peltzivar_read_error *error, peltzivar_explanation *out);
 
-/* SPECIAL VALUES AND LANGUAGES
+/* SPECIAL VALUES, FORMS AND LANGUAGES
  *
  * Spellings are null-terminated strings. A spelling that is null or empty matches no text. */
 typedef struct {
@@ -334,14 +338,31 @@ enum { PELTZIVAR_SPELLING_NAN = 1, PELTZIVAR_SPELLING_INF = 2, PELTZIVAR_SPELLIN
 PELTZIVAR_MUST_USE bool peltzivar_read_special(const peltzivar_syntax *syntax, const peltzivar_specials *specials,
     const char *text, size_t len, peltzivar_special *out);
 
-/* The forms of the literals of a language, such as `10`, `0x1F` and `0b1`, at least one, and its spellings. */
-typedef struct peltzivar_forms peltzivar_forms;
+/* A form of numbers, such as `0x1F`: its name, which may be null, and its syntax. A later version may have other
+ * members in `reserved`, so forms are refused if it is not 0. */
+typedef struct {
+    const char *name;
+    peltzivar_syntax syntax;
+    uint64_t reserved[2];
+} peltzivar_form;
 
-/* If a language or file format has a name of len bytes, such as "JSON" or "C_SHARP", writes its spellings to *specials
- * and returns its forms. Both last as long as the program. A spelling that it lacks is "". Otherwise, writes nothing
- * and returns a null pointer. Names are case-sensitive. In Python, `help(peltzivar.Language)` describes each. */
-PELTZIVAR_MUST_USE const peltzivar_forms *peltzivar_language(
-    const char *name, size_t len, peltzivar_specials *specials);
+/* Several forms of numbers, such as `10`, `0x1F` and `0b1`: an array of `count` forms, and the spellings of special
+ * values. The first form of which a text is a literal decides its parts and its value. If it is one of none, a
+ * spelling may match, by the flags of the first form. To make your own, set the first three members, and check each
+ * syntax with peltzivar_check_syntax. Or copy the forms of a language, which last as long as the program, and
+ * change any of these members of the copy. Only such forms have a `language`, which is otherwise null. */
+typedef struct {
+    const peltzivar_form *forms;
+    size_t count; /* from 1 to PELTZIVAR_FORMS_MAX */
+    peltzivar_specials specials;
+    const void *language;
+    uint64_t reserved[3];
+} peltzivar_forms;
+#define PELTZIVAR_FORMS_MAX 64
+
+/* Returns the forms of the language or file format with a name of len bytes, such as "JSON" or "C_SHARP", or a null
+ * pointer if there is none. Names are case-sensitive. In Python, `help(peltzivar.Language)` describes each. */
+const peltzivar_forms *peltzivar_language(const char *name, size_t len);
 
 /* Return the forms of a language. A program that calls these alone has only the forms of these languages in it. */
 /* Made by make_python.py: language_calls */
@@ -378,30 +399,19 @@ const peltzivar_forms *peltzivar_language_yaml(void);
 const peltzivar_forms *peltzivar_language_yaml_1_1(void);
 /* End */
 
-/* Returns a syntax as forms: one form, without a name, and no spellings. The syntax must last, and not change, as long
- * as the forms are used. If peltzivar_check_syntax refuses it, returns a null pointer. */
-PELTZIVAR_MUST_USE const peltzivar_forms *peltzivar_forms_of(const peltzivar_syntax *syntax);
-
 /* Returns the name of a language. The languages have the indices from 0 on, in alphabetical order. */
 const char *peltzivar_language_name(size_t index);
 
-/* Do what peltzivar_read, peltzivar_read_prefix and peltzivar_read_special do, and refuse forms that are null. The
- * first form that a text has decides its parts and its value. peltzivar_forms_read_prefix finds the longest literal of
- * any form. peltzivar_forms_read_special takes the language's spellings, and the flags of its first form. */
+/* Do what peltzivar_read, peltzivar_read_prefix and peltzivar_read_special do, by forms. peltzivar_forms_read
+ * refuses special values, and peltzivar_forms_read_prefix finds the longest literal of any form. Forms are refused
+ * if they are null or have no array, too many elements, or reserved members that are not 0. A form may read a text
+ * that an earlier one reads otherwise: C's octal form reads `17` as 15. */
 PELTZIVAR_MUST_USE bool peltzivar_forms_read(const peltzivar_forms *forms, const char *text, size_t len,
     peltzivar_literal *literal, peltzivar_read_error *error);
 PELTZIVAR_MUST_USE bool peltzivar_forms_read_prefix(const peltzivar_forms *forms, const char *text, size_t len,
     peltzivar_literal *literal, peltzivar_read_error *error);
 PELTZIVAR_MUST_USE bool peltzivar_forms_read_special(
     const peltzivar_forms *forms, const char *text, size_t len, peltzivar_special *out);
-
-/* Returns the name of a form, such as "hexadecimal". The forms have the indices from 0 on. A null pointer has none. */
-const char *peltzivar_form_name(const peltzivar_forms *forms, size_t form);
-
-/* Writes the syntax of a form to *out and returns true. If peltzivar_form_name returns an empty string, leaves *out
- * unchanged and returns false. An earlier form of the language may read a text otherwise: C's octal form reads `17` as
- * 15. */
-PELTZIVAR_MUST_USE bool peltzivar_form_syntax(const peltzivar_forms *forms, size_t form, peltzivar_syntax *out);
 
 /* TEXTS AND COLUMNS
  *
@@ -435,7 +445,7 @@ PELTZIVAR_MUST_USE size_t peltzivar_parse_f32_column(const peltzivar_forms *form
 
 /* WRITING
  *
- * Each call writes a number as a literal of a syntax, such as one of peltzivar_form_syntax, and a null terminator to a
+ * Each call writes a number as a literal of a syntax, such as that of a form, and a null terminator to a
  * buffer of len bytes. It writes to *needed the length with the terminator, and returns PELTZIVAR_WRITE_OK if len is at
  * least that. Otherwise, it writes only the beginning and a terminator, if len is not 0, and returns
  * PELTZIVAR_WRITE_BUFFER. If the number cannot be written, it leaves the buffer and *needed unchanged and returns why.
@@ -724,6 +734,7 @@ const char *peltzivar_role_name(peltzivar_role role);
 
 /* The setters: the bit of a flag, the lowest bit of a byte, and from 128 on the groups of flags. */
 enum {
+    /* Made by make_python.py: setters */
     PELTZIVAR_SET_REQUIRED_INTEGER_DIGITS = 0,
     PELTZIVAR_SET_REQUIRED_FRACTION_DIGITS = 1,
     PELTZIVAR_SET_REQUIRED_EXPONENT_DIGITS = 2,
@@ -770,6 +781,7 @@ enum {
     PELTZIVAR_SET_INTEGER_DIGIT_SEPARATOR_FLAGS = 134,
     PELTZIVAR_SET_FRACTION_DIGIT_SEPARATOR_FLAGS = 135,
     PELTZIVAR_SET_EXPONENT_DIGIT_SEPARATOR_FLAGS = 136
+    /* End */
 };
 
 /* The rules, in the order in which they are checked. Each comment states what the rule requires. The allowed ASCII
@@ -806,6 +818,7 @@ enum {
  * format errors. The other errors are for parsers and writers that use this library. Two rules share
  * PELTZIVAR_INVALID_SPECIAL. */
 enum {
+    /* Made by make_python.py: errors */
     PELTZIVAR_SUCCESS = 0,
     PELTZIVAR_OVERFLOW = 1,
     PELTZIVAR_UNDERFLOW = 2,
@@ -855,6 +868,7 @@ enum {
     PELTZIVAR_INVALID_FLOAT_PRECISION = 46,
     PELTZIVAR_INVALID_NEGATIVE_EXPONENT_BREAK = 47,
     PELTZIVAR_INVALID_POSITIVE_EXPONENT_BREAK = 48
+    /* End */
 };
 
 #endif

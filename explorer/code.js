@@ -9,7 +9,7 @@ function character(byte, prefix) {
 /* Comments with the reader of all forms of a language. */
 const COMMENTS = {
     rust: (name) => `// The reader of all forms is peltzivar::literal::Language::${name}.\n`,
-    c: (name) => `/* peltzivar_forms_read reads all forms, with peltzivar_language("${name}", ${name.length}, NULL). */\n`,
+    c: (name) => `/* peltzivar_forms_read reads all forms, with peltzivar_language_${name.toLowerCase()}(). */\n`,
     python: (name) => `# The reader of all forms is peltzivar.languages.${name}.\n`,
 };
 

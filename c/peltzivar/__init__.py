@@ -14,16 +14,16 @@
 
 `read` returns a `Literal`, or raises a LiteralError, whose `span` has the position. `parse` returns the value alone, and
 `column` those of many texts, several times as fast. A `Language`, such as `languages.CSV_DE`, reads the numbers of a
-language or a file, and `Syntax.of` takes settings: a keyword argument for each field of a format, the exponent
-character, the decimal point and the conditions of `Syntax`. Each field is an attribute of `FormatView`. Settings can
-also be texts, such as the lines of a file. Wrong ones raise a SettingsError:
+language or a file, and `Forms` those of several syntaxes. `Syntax.of` takes settings: a keyword argument for each field
+of a format, the exponent character, the decimal point and the conditions of `Syntax`. Each field is an attribute of
+`FormatView`. Settings can also be texts, such as the lines of a file. Wrong ones raise a SettingsError:
 
     >>> Syntax.of("radix = 16", "base_prefix = 'b'")
     Traceback (most recent call last):
     peltzivar.SettingsError: the base prefix 'b' is a digit in radix 16
     >>> prices.read("12.34")
     Traceback (most recent call last):
-    peltzivar.LiteralError: expected groups of 3 digits, which integer_group_size requires
+    peltzivar.LiteralError: expected groups of 3 digits
 
 A format is a 128-bit word. It is lawful if it satisfies all rules. A `FormatView` holds any word, and a `Format` a lawful
 one. In the repository, docs/FORMAT.md describes fields, rules and literals, and docs/C-AND-PYTHON.md this module. A
@@ -44,20 +44,20 @@ import reprlib
 import sys
 from array import array
 from ctypes import CDLL, POINTER, PyDLL, Structure, byref, c_bool, c_char_p, c_double, c_float, c_int64, c_size_t
-from ctypes import c_uint8, c_uint32, c_uint64, c_void_p, create_string_buffer, sizeof
+from ctypes import addressof, c_uint8, c_uint32, c_uint64, c_void_p, create_string_buffer, sizeof
 from dataclasses import dataclass, field
-from decimal import MAX_EMAX, MIN_EMIN, Context, Decimal, DecimalException, InvalidOperation, Rounded
+from decimal import MAX_EMAX, MIN_EMIN, Context, Decimal, DecimalException, InvalidOperation, Overflow, Rounded, Subnormal
 from enum import Enum
 from fractions import Fraction
 from itertools import accumulate, count, repeat, takewhile
 from pathlib import Path
 from struct import Struct
 from types import SimpleNamespace
-from typing import Any, AnyStr, Callable, Dict, Generic, Iterable, Iterator, List, Optional, Sequence, SupportsFloat
-from typing import SupportsIndex, Tuple, Type, TypeVar, Union, cast
+from typing import Any, AnyStr, Callable, Dict, Generic, Iterable, Iterator, List, Mapping, Optional, Sequence
+from typing import SupportsFloat, SupportsIndex, Tuple, Type, TypeVar, Union, cast
 
-__all__ = ["STANDARD", "Byte", "Column", "ColumnError", "Edit", "Error", "Format", "FormatError", "FormatView", "Language"]
-__all__ += ["Literal", "LiteralError", "Note", "OptionsError", "Part", "Parts", "ReadErrorKind", "Reason", "ReasonsError"]
+__all__ = ["STANDARD", "Byte", "Column", "ColumnError", "Edit", "Error", "Format", "FormatError", "FormatView", "Forms"]
+__all__ += ["Language", "Literal", "LiteralError", "Note", "OptionsError", "Part", "Parts", "ReadErrorKind", "Reason", "ReasonsError"]
 __all__ += ["Role", "Rule", "Separators", "Setter", "SettingsError", "Special", "Specials", "Spelling", "Syntax", "Value"]
 __all__ += ["WrongCell", "languages", "notes_of"]
 
@@ -72,6 +72,7 @@ _VERSION = 0x010000
 STANDARD = 0x00000A0000000000000000000000000C
 _NEW_FIELDS = (0xC, 0, 0, 0, 10, 0, 0)
 _FIELD_COUNT = 37
+_FORMS_MAX = 64
 _SOURCE_SIZE = 2048
 _TEXT_SIZE = 256
 _NO_PART = 255
@@ -349,6 +350,24 @@ class _Special(Structure):
     ]
 
 
+class _Form(Structure):
+    _fields_ = [
+        ("name", c_char_p),
+        ("syntax", _Syntax),
+        ("reserved", c_uint64 * 2),
+    ]
+
+
+class _Forms(Structure):
+    _fields_ = [
+        ("forms", POINTER(_Form)),
+        ("count", c_size_t),
+        ("specials", _Specials),
+        ("language", c_void_p),
+        ("reserved", c_uint64 * 3),
+    ]
+
+
 class _Style(Structure):
     _fields_ = [
         ("group", c_uint8),
@@ -403,19 +422,17 @@ _CALLS: Dict[str, Tuple[Any, List[Any]]] = {
     "to_f32": (c_uint8, [POINTER(_Literal), POINTER(c_float)]),
     "value_description": (c_char_p, [c_uint8]),
     "read_error_text": (c_size_t, [POINTER(_ReadError), c_char_p, c_size_t]),
+    "read_error_full_text": (c_size_t, [POINTER(_ReadError), c_char_p, c_size_t]),
     "part_name": (c_char_p, [c_uint8]),
     "explain": (c_bool, [POINTER(_ReadError), POINTER(_Explanation)]),
     "read_special": (c_bool, [POINTER(_Syntax), POINTER(_Specials), c_char_p, c_size_t, POINTER(_Special)]),
-    "language": (c_void_p, [c_char_p, c_size_t, POINTER(_Specials)]),
+    "language": (c_void_p, [c_char_p, c_size_t]),
     "language_haskell_ghc2021": (c_void_p, []),
     "language_yaml_1_1": (c_void_p, []),
-    "forms_of": (c_void_p, [POINTER(_Syntax)]),
     "language_name": (c_char_p, [c_size_t]),
     "forms_read": (c_bool, [c_void_p, c_char_p, c_size_t, POINTER(_Literal), POINTER(_ReadError)]),
     "forms_read_prefix": (c_bool, [c_void_p, c_char_p, c_size_t, POINTER(_Literal), POINTER(_ReadError)]),
     "forms_read_special": (c_bool, [c_void_p, c_char_p, c_size_t, POINTER(_Special)]),
-    "form_name": (c_char_p, [c_void_p, c_size_t]),
-    "form_syntax": (c_bool, [c_void_p, c_size_t, POINTER(_Syntax)]),
     "parse_i64": (c_uint8, [c_void_p, c_char_p, c_size_t, POINTER(c_int64), POINTER(_ReadError)]),
     "parse_u64": (c_uint8, [c_void_p, c_char_p, c_size_t, POINTER(c_uint64), POINTER(_ReadError)]),
     "parse_f64": (c_uint8, [c_void_p, c_char_p, c_size_t, POINTER(c_double), POINTER(_ReadError)]),
@@ -764,7 +781,8 @@ class SettingsError(ReasonsError):
 
 
 class LiteralError(ValueError):
-    """Raised if a text is not a literal. `str` returns the cause as a sentence. If it is mended, another may follow.
+    """Raised if a text is not a literal. `str` returns the cause as a sentence, and `full_sentence` names the flags and
+    conditions to blame, too. If the cause is mended, another may follow.
 
     `valid_up_to` is the length of the longest beginning of the text that some literal begins with. If it is the
     length of the text, characters are missing. `span` is the first index and the end of the characters to show, maybe
@@ -775,6 +793,7 @@ class LiteralError(ValueError):
     """
 
     sentence: str
+    full_sentence: str
     text: Union[str, bytes]
     valid_up_to: int
     span: Tuple[int, int]
@@ -793,17 +812,19 @@ class LiteralError(ValueError):
         _library.explain(stopped, why)
         text, self.valid_up_to = self.text, stopped.valid_up_to
         index = self.valid_up_to
-        is_byte = isinstance(text, bytes) or text[index : index + 1].isascii()
-        self.sentence = _text(_library.read_error_text, stopped) if is_byte else f"unexpected character {text[index]!r}"
+        calls = _library.read_error_text, _library.read_error_full_text
+        self.sentence, self.full_sentence = (_text(it, stopped) for it in calls)
+        if not (isinstance(text, bytes) or text[index : index + 1].isascii()):
+            self.sentence = self.full_sentence = f"unexpected character {text[index]!r}"
         self.part = Part(why.part) if why.part != _NO_PART else None
         self.span, self.kind, self.mask = (why.span.start, why.span.end), ReadErrorKind(why.kind), _joined(why.mask)
         self.conditions = tuple(it for bit, it in enumerate(_CONDITIONS) if why.conditions >> bit & 1)
-        self.error, self.form = Error(why.code), owner._names[stopped.form]
+        self.error, self.form = Error(why.code), [*owner._named][stopped.form]
         return vars(self)[name]
 
     def __reduce__(self) -> Tuple[Any, ...]:
         """Returns what reads the text again."""
-        return _Forms._refusal, self.args[:2]
+        return _Reader._refusal, self.args[:2]
 
     def __repr__(self) -> str:
         return f"LiteralError({self.sentence!r})"
@@ -1215,7 +1236,7 @@ class Literal(Generic[AnyStr]):
     def __init__(self, *arguments: object) -> None:
         raise TypeError("`read` of a Syntax or a Language makes a Literal")
 
-    def _set(self, owner: _Forms, text: AnyStr, found: _Literal, data: bytes) -> Literal[AnyStr]:
+    def _set(self, owner: _Reader, text: AnyStr, found: _Literal, data: bytes) -> Literal[AnyStr]:
         self._owner, self._found = owner, found
         self._text: AnyStr = text
         self._data = data  # `found` points to it.
@@ -1224,12 +1245,12 @@ class Literal(Generic[AnyStr]):
     @property
     def syntax(self) -> Syntax:
         """The syntax, which is that of a form of a language if `Language.read` has read the text."""
-        return cast(Syntax, self._owner._syntaxes[self._found.form])
+        return cast(Syntax, [*self._owner._named.values()][self._found.form])
 
     @property
     def form(self) -> str:
         """The name of the form of a language, such as `hexadecimal`. It is empty if `Syntax.read` has read the text."""
-        return str(self._owner._names[self._found.form])
+        return str([*self._owner._named][self._found.form])
 
     @property
     def text(self) -> AnyStr:
@@ -1299,12 +1320,13 @@ class Literal(Generic[AnyStr]):
     def fraction(self) -> Fraction:
         """Returns the exact value. Raises OverflowError if its numerator or denominator has more than 10^6 digits before
         the fraction is reduced."""
-        short, _, power = (self._short() or "").partition("e")
-        whole, _, part = short.partition(".")
-        if len(power) < 4 and whole[-1:].isdigit() and (power + "0")[-2:].isdigit():
-            places = len(part) - int(power or 0)
-            number = int(whole + part)
-            return Fraction(number * 10**-places) if places <= 0 else Fraction(number, 10**places)
+        try:
+            fraction: Any = object.__new__(Fraction)
+            # The two have no common factor, and Fraction would look for one.
+            fraction._numerator, fraction._denominator = _NEAR.create_decimal(self._short() or "").as_integer_ratio()
+            return cast(Fraction, fraction)
+        except DecimalException:
+            pass
         digits, places, exponent = self._scaled()
         radix, base = self.syntax._fields.mantissa_radix, self.syntax._fields.exponent_base
         number = int(digits, radix)
@@ -1316,8 +1338,10 @@ class Literal(Generic[AnyStr]):
 
     def _short(self) -> Optional[str]:
         """Returns the text as Python writes floats, if all radixes are 10 and it is not long."""
-        plain, size = self._owner._plains[self._found.form], len(self._text)
-        return None if plain is None or size > 400 else self._data[:size].translate(*plain).decode()
+        plain, text = self._owner._plains[self._found.form], self._text
+        if plain is None or (size := len(text)) > 400:
+            return None
+        return text if plain[0] is None and isinstance(text, str) else self._data[:size].translate(*plain).decode()
 
     def _scaled(self) -> Tuple[str, int, int]:
         """Returns the sign with the digits of the integer and the fraction, the number of the latter, and the exponent."""
@@ -1406,7 +1430,7 @@ class ColumnError(ValueError):
 class _Wrong(Sequence[WrongCell]):
     """Wrong cells."""
 
-    def __init__(self, owner: _Forms, text_of: Callable[[int], Any], status: bytes) -> None:
+    def __init__(self, owner: _Reader, text_of: Callable[[int], Any], status: bytes) -> None:
         self._owner, self._text_of, self._status = owner, text_of, status
         self._count = len(status) - status.count(0)
 
@@ -1427,22 +1451,22 @@ class _Wrong(Sequence[WrongCell]):
         return f"<{len(self)} wrong cells>"
 
 
-class _Forms:
-    """What reads texts by forms."""
+class _Reader:
+    """What reads texts by forms, to which `_forms` points."""
 
     _forms: Any
-    _names: Any
-    _syntaxes: Any
+    _named: Any  # The syntaxes of the forms, by their names.
     read: Any
 
     @functools.cached_property
-    def _plains(self) -> List[Optional[Tuple[bytes, bytes]]]:
+    def _plains(self) -> List[Optional[Tuple[Optional[bytes], bytes]]]:
         """For each syntax, what `bytes.translate` takes to make its texts those of Python, or None if a radix is not 10."""
-        found: List[Optional[Tuple[bytes, bytes]]] = []
-        for of, by in ((it._fields, it._by) for it in self._syntaxes):
+        found: List[Optional[Tuple[Optional[bytes], bytes]]] = []
+        for of, by in ((it._fields, it._by) for it in self._named.values()):
             is_plain = of.mantissa_radix == of.exponent_base == of.exponent_radix == 10 and not (of.base_prefix or of.base_suffix)
             marks = bytes([by.exponent]).lower() + bytes([by.exponent]).upper() + bytes([by.decimal_point])
-            found.append((bytes.maketrans(marks, b"ee."), bytes([of.digit_separator or 255])) if is_plain else None)
+            table = None if marks == b"eE." and not of.digit_separator else bytes.maketrans(marks, b"ee.")
+            found.append((table, bytes([of.digit_separator or 255])) if is_plain else None)
         return found
 
     def _read(self, call: Any, text: AnyStr) -> Optional[Literal[AnyStr]]:
@@ -1612,10 +1636,12 @@ _FACTORS = {2**twos * 5**fives: (twos, fives) for twos in range(6) for fives in 
 _MOST_DIGITS = 10**6
 _TOO_LONG = "the exact value has more than 10^6 digits"
 _EXACT = Context(_MOST_DIGITS, Emin=MIN_EMIN, Emax=MAX_EMAX, traps=[InvalidOperation, Rounded])
+# Numbers that are neither long nor far from 1.
+_NEAR = Context(400, Emin=-999, Emax=999, traps=[InvalidOperation, Rounded, Overflow, Subnormal])
 
 
 @dataclass(frozen=True)
-class Syntax(_Forms):
+class Syntax(_Reader):
     """What literals are read by: a format, an exponent character and a decimal point that fit it, and conditions. If the
     exponent character and the decimal point are both None, literals are integers.
 
@@ -1642,9 +1668,9 @@ class Syntax(_Forms):
     higher_group_size: Optional[int] = None
     fraction_group_size: Optional[int] = None
     # End
-    # What calls read by.
+    # What calls read by: as a syntax, and as one form.
     _by: Any = field(init=False, repr=False, compare=False)
-    _forms: Any = field(init=False, repr=False, compare=False)
+    _form: Any = field(init=False, repr=False, compare=False)
     _fields: Any = field(init=False, repr=False, compare=False)
 
     def __post_init__(self) -> None:
@@ -1658,10 +1684,11 @@ class Syntax(_Forms):
         exponent, point = (chr(it) if it else None for it in options)
         conditions = {name: _condition(name, getattr(self, name)) for name in _CONDITIONS}
         by = _Syntax(format._halves, *options, *(it or 0 for it in conditions.values()))
-        vars(self).update(conditions, format=format, exponent=exponent, point=point, _by=by, _fields=format._unpacked())
-        vars(self)["_forms"] = c_void_p(_library.forms_of(by))
-        if not self._forms:
-            raise OptionsError((Reason(_text(_library.syntax_error_text, by)),))
+        if sentence := _text(_library.syntax_error_text, by):
+            raise OptionsError((Reason(sentence),))
+        form = _Forms((_Form * 1)(_Form(None, by)), 1)
+        vars(self).update(conditions, format=format, exponent=exponent, point=point)
+        vars(self).update(_by=by, _fields=format._unpacked(), _form=form, _forms=c_void_p(addressof(form)))
 
     def __reduce__(self) -> Tuple[Any, ...]:
         """Returns what makes the syntax again."""
@@ -1894,10 +1921,8 @@ class Syntax(_Forms):
         raise ValueError(_library.write_description(status).decode())
 
     @property
-    def _syntaxes(self) -> Tuple[Syntax, ...]:
-        return (self,)
-
-    _names = ("",)
+    def _named(self) -> Any:
+        return {"": self}
 
 
 def _writing(value: Any, radix: int) -> Tuple[Any, Any, Optional[Literal[Any]]]:
@@ -1992,10 +2017,13 @@ class Specials:
         """Returns the special value that a text is, or None. The flags of the syntax decide which signs, cases of
         letters and digit separators it may have. A text can also be a literal, such as `inf` in radix 36."""
         data, special, by = _encoded("a text", text), _Special(), _typed("syntax", syntax, Syntax)._by
+        return _made(special, _library.read_special(by, self._spellings(), data, len(data), special))
+
+    def _spellings(self) -> _Specials:
         spellings = [_encoded("a spelling", "" if it is None else it) for it in (self.nan, self.inf, self.infinity)]
         if any(b"\0" in it for it in spellings):
             raise ValueError(f"a spelling has a null character: {self}")
-        return _made(special, _library.read_special(by, _Specials(*spellings), data, len(data), special))
+        return _Specials(*spellings)
 
 
 def _made(special: _Special, is_one: bool) -> Optional[Special]:
@@ -2003,13 +2031,84 @@ def _made(special: _Special, is_one: bool) -> Optional[Special]:
     return Special(chr(special.sign) if special.sign else "", Spelling(special.spelling)) if is_one else None
 
 
-class Language(_Forms, _Named):
+class _Several(_Reader):
+    specials: Any
+
+    def read(self, text: AnyStr) -> Union[Literal[AnyStr], Special]:
+        """Returns the number that a text is: a literal or a special value. Raises LiteralError if it is neither."""
+        number = self._read(_READ, text) or (self._special(text) if any(vars(self.specials).values()) else None)
+        if number is None:
+            raise self._refusal(text)
+        return number
+
+
+class Forms(_Several, Mapping[str, Syntax]):
+    """Several forms of numbers, such as `10` and `0x1F`, and the spellings of NaN and infinity.
+
+        >>> hexadecimal = Syntax.of(radix=16, base_prefix="x", exponent=None, point=None, required_base_prefix=True)
+        >>> forms = Forms([("decimal", Syntax(Format())), ("hexadecimal", hexadecimal)], nan="NaN", infinity="Infinity")
+        >>> forms.parse("0x1F", int), forms.read("1e3").form, forms.read("-Infinity").value
+        (31, 'decimal', -inf)
+        >>> forms.read("0x1G")
+        Traceback (most recent call last):
+        peltzivar.LiteralError: unexpected character 'G'
+
+    The first form of which a text is a literal decides its parts and its value, so the order matters. If it is a literal
+    of none, a spelling may match, by the flags of the first form. A LiteralError is that of the form for which most of
+    the text is right. The syntaxes are had by their names, as in `forms["hexadecimal"]`. Raises ValueError if there are
+    no forms or more than 64, or if two have the same name.
+    """
+
+    def __init__(
+        self,
+        forms: Union[Mapping[str, Syntax], Iterable[Tuple[str, Syntax]]],
+        *,
+        nan: Optional[str] = None,
+        inf: Optional[str] = None,
+        infinity: Optional[str] = None,
+    ) -> None:
+        pairs = [*(forms.items() if isinstance(forms, Mapping) else forms)]
+        self._named = {_typed("a name", name, str): _typed("a form", it, Syntax) for name, it in pairs}
+        if not 0 < len(pairs) == len(self) <= _FORMS_MAX:
+            raise ValueError(f"there are 1 to {_FORMS_MAX} forms, no two with the same name: {reprlib.repr([it for it, _ in pairs])}")
+        self.specials = Specials(nan, inf, infinity)
+        listed = (_Form * len(self))(*(_Form(None, it._by) for it in self.values()))
+        self._made = _Forms(listed, len(self), self.specials._spellings())
+        self._forms = c_void_p(addressof(self._made))
+
+    def __getitem__(self, name: str) -> Syntax:
+        return cast(Syntax, self._named[name])
+
+    def __iter__(self) -> Iterator[str]:
+        return iter(self._named)
+
+    def __len__(self) -> int:
+        return len(self._named)
+
+    def __repr__(self) -> str:
+        spelled = "".join(f", {name}={it!r}" for name, it in vars(self.specials).items() if it)
+        return f"Forms({[*self.items()]}{spelled})"
+
+    def __eq__(self, other: object) -> bool:
+        return isinstance(other, Forms) and self._key() == other._key()
+
+    def __hash__(self) -> int:
+        return hash(self._key())
+
+    def _key(self) -> Tuple[Any, ...]:
+        return *self.items(), self.specials
+
+    def __reduce__(self) -> Tuple[Any, ...]:
+        return functools.partial(Forms, **vars(self.specials)), ([*self.items()],)
+
+
+class Language(_Several, _Named):
     # Made by make_python.py: languages
     """How a language, or a file, writes numbers. `languages` is another name of this class.
 
     `read(text)` returns a `Literal` of one of its forms, or a `Special`. Raises LiteralError if the text is neither.
     `read_prefix(text)` returns the longest literal that a text begins with, and the rest. Raises LiteralError if there
-    is none. `forms` has the syntax of each form by its name, and `specials` the spellings of NaN and infinity.
+    is none. `forms` has the same forms, with the syntax of each by its name, and the spellings of NaN and infinity.
 
     ADA: Ada's decimal literals (Reference Manual 2012, 2.4.1). A format cannot accept based literals, such as
         `16#FF#`, or accept `1.0E-3` but reject `1E-3`. Forms: decimal.
@@ -2146,38 +2245,28 @@ class Language(_Forms, _Named):
 
     @functools.cached_property
     def _forms(self) -> Any:
-        return c_void_p(_library.language(self.name.encode(), len(self.name), None))
+        return c_void_p(_library.language(self.name.encode(), len(self.name)))
 
     @functools.cached_property
-    def _names(self) -> Tuple[str, ...]:
-        return tuple(takewhile(bool, (_library.form_name(self._forms, it).decode() for it in count())))
+    def forms(self) -> Forms:
+        """The forms of literals, in the order of the documentation, with the spellings of NaN and infinity."""
+        made = _Forms.from_address(self._forms.value)
+        spelled = {name: it.decode() for name, _ in _Specials._fields_ if (it := getattr(made.specials, name))}
+        forms = Forms([(it.name.decode(), Syntax._of_numbers(it.syntax)) for it in made.forms[: made.count]], **spelled)
+        forms._forms = self._forms
+        return forms
 
-    @functools.cached_property
-    def _syntaxes(self) -> Tuple[Syntax, ...]:
-        made = [_Syntax() for _ in self._names]
-        return tuple(Syntax._of_numbers(it) for form, it in enumerate(made) if _library.form_syntax(self._forms, form, it))
+    @property
+    def specials(self) -> Specials:
+        """The spellings of NaN and infinity. A language in which they are names, or do not exist, has none."""
+        return cast(Specials, self.forms.specials)
+
+    @property
+    def _named(self) -> Any:
+        return self.forms._named
 
     def __repr__(self) -> str:
         return f"languages.{self.name}"
-
-    @property
-    def forms(self) -> Dict[str, Syntax]:
-        """The syntax of each form of literals, by its name. The first one that a text has decides its value."""
-        return dict(zip(self._names, self._syntaxes))
-
-    @functools.cached_property
-    def specials(self) -> Specials:
-        """The spellings of NaN and infinity. A language in which they are names, or do not exist, has none."""
-        specials = _Specials()
-        _library.language(self.name.encode(), len(self.name), specials)
-        return Specials(*(getattr(specials, it).decode() or None for it, _ in _Specials._fields_))
-
-    def read(self, text: AnyStr) -> Union[Literal[AnyStr], Special]:
-        """Returns the number that a text is: a literal or a special value. Raises LiteralError if it is neither."""
-        number = self._read(_READ, text) or (self._special(text) if any(vars(self.specials).values()) else None)
-        if number is None:
-            raise self._refusal(text)
-        return number
 
 
 languages = Language

@@ -31,14 +31,18 @@ static bool is_word(peltzivar_word word, uint64_t high, uint64_t low) {
 
 /* Returns the forms of a language. */
 static const peltzivar_forms *language(const char *name) {
-    return peltzivar_language(name, strlen(name), NULL);
+    return peltzivar_language(name, strlen(name));
 }
 
 /* Returns the syntax of the first form of a language. */
 static peltzivar_syntax first_form(const char *name) {
-    peltzivar_syntax syntax;
-    CHECK(peltzivar_form_syntax(language(name), 0, &syntax));
-    return syntax;
+    return language(name)->forms[0].syntax;
+}
+
+/* Returns `count` forms of an array, without spellings. */
+static peltzivar_forms forms_of(const peltzivar_form *forms, size_t count) {
+    const peltzivar_forms of = {forms, count, {NULL, NULL, NULL}, NULL, {0}};
+    return of;
 }
 
 /* Writes the syntax that settings build, and returns whether there is one. */
@@ -57,6 +61,7 @@ static void test_constants(void) {
     CHECK(sizeof(peltzivar_word) == 16 && sizeof(peltzivar_fields) == 16 && sizeof(peltzivar_edit) == 2);
     CHECK(sizeof(peltzivar_read_error) == 128 && sizeof(peltzivar_literal) == 320 && sizeof(peltzivar_span) == 16);
     CHECK(sizeof(peltzivar_syntax) == 32 && sizeof(peltzivar_explanation) == 48 && sizeof(peltzivar_i128) == 16);
+    CHECK(sizeof(peltzivar_form) == 56 && sizeof(peltzivar_forms) == 72);
     CHECK(sizeof(peltzivar_specials) == 24 && sizeof(peltzivar_special) == 2 && sizeof(peltzivar_style) == 2);
     CHECK(sizeof(peltzivar_separators) == 4);
 }
@@ -176,7 +181,9 @@ static void test_errors(void) {
         CHECK(peltzivar_explain(&error, &why) && why.kind == kind && why.number == flag && !why.mask.low == (i >= 30));
         CHECK(why.conditions == (30 <= i && i < 35 ? conditions[i - 30] : 0));
         CHECK(why.part == (kind == PELTZIVAR_KIND_SEPARATOR ? i % 3 : kind == PELTZIVAR_KIND_MISSING ? i - 35 : PELTZIVAR_NO_PART));
-        CHECK(peltzivar_read_error_text(&error, sentences[i], sizeof sentences[i]));
+        CHECK(peltzivar_read_error_full_text(&error, sentences[i], sizeof sentences[i]) < sizeof sentences[i]);
+        const size_t len = peltzivar_read_error_text(&error, text, sizeof text);
+        CHECK(len && !strncmp(sentences[i], text, len) && !strncmp(sentences[i] + len, i < 35 ? ", which " : "", i < 35 ? 8 : 1));
         for (int j = 0; j < i; j++) CHECK(strcmp(sentences[i], sentences[j]));
     }
     memcpy(&copied, &error, sizeof error), memset(&error, 0, sizeof error);
@@ -251,10 +258,9 @@ static void test_columns(void) {
     static const int64_t offsets[] = {0, 1, 3, 6, 7, 7, 27, 30, 34, 33, 99, -1, 34};
     static const uint8_t natural[] = {0, 3, 1, 6, 6, 2, 7, 0, 6, 6, 6, 6}, integer[] = {0, 0, 1, 6, 6, 2, 7, 0, 6, 6, 6, 6},
         real[] = {0, 0, 0, 6, 6, 0, 0, 0, 6, 6, 6, 6};
-    const peltzivar_syntax json = first_form("JSON");
-    const peltzivar_forms *const forms[] = {peltzivar_language_toml(), peltzivar_forms_of(&json), NULL};
+    const peltzivar_forms json = forms_of(language("JSON")->forms, 1), *const forms[] = {peltzivar_language_toml(), &json, NULL};
     peltzivar_read_error error;
-    CHECK(forms[0] == language("TOML") && forms[1] && !peltzivar_forms_of(NULL) && !*peltzivar_form_name(forms[1], 0));
+    CHECK(forms[0] == language("TOML"));
 /* Checks the statuses of a type, and that values which are not there are left, by all forms. */
 #define IS_COLUMN(T, type, wanted, wrong) \
     for (int i = 0; i < 3; i++) { \
@@ -330,31 +336,110 @@ static void test_writing(void) {
     CHECK(!strcmp(text, "-1234.5") && text[8] == '#');
 }
 
-/* Each language has a name by which it is found, and forms, whose first takes precedence. A null pointer has no forms. */
+/* Returns whether two errors are the same. */
+static bool is_same_error(const peltzivar_read_error *error, const peltzivar_read_error *other) {
+    peltzivar_explanation whys[2];
+    return error->form == other->form && error->valid_up_to == other->valid_up_to && peltzivar_explain(error, &whys[0])
+        && peltzivar_explain(other, &whys[1]) && !memcmp(&whys[0], &whys[1], sizeof *whys);
+}
+
+/* Checks that two lists of forms read a text alike, and that the calls which make a value stop for the same reason. */
+static void read_alike(const peltzivar_forms *forms, const peltzivar_forms *others, const char *from, size_t *stops) {
+    const size_t len = strlen(from);
+    peltzivar_literal literal, other;
+    peltzivar_read_error error, why;
+    peltzivar_special special = {0, 0}, again = {0, 0};
+    const bool is_read = peltzivar_forms_read(forms, from, len, &literal, &error);
+    const bool is_special = peltzivar_forms_read_special(forms, from, len, &special);
+    CHECK(peltzivar_forms_read(others, from, len, &other, &why) == is_read);
+    CHECK(is_read ? literal.form == other.form && !memcmp(&literal.sign, &other.sign, 9 * sizeof literal.sign) : is_same_error(&error, &why));
+    CHECK(peltzivar_forms_read_special(others, from, len, &again) == is_special && !memcmp(&special, &again, sizeof special));
+    CHECK(peltzivar_forms_read_prefix(forms, from, len, &literal, NULL) == peltzivar_forms_read_prefix(others, from, len, &other, NULL));
+/* Checks the values of a type. */
+#define VALUES_ALIKE(T, type) { \
+    T value = 7, another = 7; \
+    const peltzivar_value_status status = peltzivar_parse_##type(forms, from, len, &value, &why); \
+    CHECK((status == PELTZIVAR_VALUE_REFUSED) == !(is_read || is_special) && (status != PELTZIVAR_VALUE_REFUSED || is_same_error(&error, &why))); \
+    CHECK(peltzivar_parse_##type(others, from, len, &another, &why) == status && !memcmp(&value, &another, sizeof value)); \
+    CHECK(status != PELTZIVAR_VALUE_REFUSED || is_same_error(&error, &why)); }
+    VALUES_ALIKE(int64_t, i64)
+    VALUES_ALIKE(uint64_t, u64)
+    VALUES_ALIKE(double, f64)
+    VALUES_ALIKE(float, f32)
+    stops[is_read || is_special ? 255 : error.form]++;
+}
+
+/* Each language has a name by which it is found, and forms, which read the same as a copy. */
 static void test_languages(void) {
-    peltzivar_specials specials = {text, text, text};
+    static const char *const texts[] = {"", "0x1G", "09", "0b2", "0x1p", "1e", "1.5.5", "0b", "0o9", "-", "017", "0x1F", "1_0", "1.5e3", "nan", "-inf"};
+    size_t stops[256] = {0};
     peltzivar_special special = {7, 7};
-    peltzivar_syntax syntax;
     peltzivar_literal literal;
     peltzivar_read_error error;
-    CHECK(!peltzivar_language("json", 4, &specials) && !peltzivar_language("", 0, &specials) && specials.inf == text);
-    CHECK(!peltzivar_language("JSON", SIZE_MAX, &specials) && !peltzivar_language("JSO", 3, &specials));
+    peltzivar_explanation why;
+    CHECK(!language("json") && !language("") && !peltzivar_language("JSON", SIZE_MAX) && !language("JSO"));
     for (size_t i = 0; *peltzivar_language_name(i); i++) {
         const peltzivar_forms *const forms = language(peltzivar_language_name(i));
-        size_t form = 0;
-        CHECK(forms && *peltzivar_form_name(forms, 0));
-        for (; *peltzivar_form_name(forms, form); form++) CHECK(peltzivar_form_syntax(forms, form, &syntax) && !peltzivar_check_syntax(&syntax));
-        CHECK(!peltzivar_form_syntax(forms, form, &syntax) && !*peltzivar_form_name(forms, SIZE_MAX));
+        const peltzivar_forms copied = *forms;
+        for (size_t form = 0; form < forms->count; form++) CHECK(*forms->forms[form].name && !peltzivar_check_syntax(&forms->forms[form].syntax));
+        for (size_t j = 0; j < sizeof texts / sizeof *texts; j++) read_alike(forms, &copied, texts[j], stops);
     }
-    CHECK(peltzivar_language("JSON", 4, &specials) && !*specials.nan && !*specials.infinity && !*peltzivar_language_name(SIZE_MAX));
+    CHECK(stops[0] && stops[1] && stops[2] && stops[3] && stops[255]);
+    CHECK(!language("JSON")->specials.nan && !strcmp(language("TOML")->specials.inf, "inf") && !*peltzivar_language_name(SIZE_MAX));
     CHECK(peltzivar_forms_read(language("C"), "017", 3, &literal, &error) && literal.form == 1 && literal.integer.end == 3);
     CHECK(peltzivar_forms_read_prefix(language("C"), "0x1.8", 5, &literal, &error) && literal.form == 2 && literal.size == 3);
+    /* The decimal form goes as far, and its cause is a byte. */
+    CHECK(!peltzivar_forms_read(language("TOML"), "0XF", 3, &literal, &error) && error.form == 1 && peltzivar_explain(&error, &why) && why.kind == PELTZIVAR_KIND_CASE);
     CHECK(!peltzivar_forms_read(language("YAML"), "-.inf", 5, &literal, &error) && error.valid_up_to == 2 && error.form == 0);
     CHECK(peltzivar_forms_read_special(language("YAML"), "-.inf", 5, &special) && special.spelling == PELTZIVAR_SPELLING_INF && special.sign == '-');
     CHECK(!peltzivar_forms_read_special(language("YAML"), "1", SIZE_MAX, &special) && !peltzivar_forms_read_special(NULL, "-.inf", 5, &special));
-    CHECK(!peltzivar_forms_read(NULL, "1", 1, &literal, NULL) && !peltzivar_forms_read_prefix(NULL, "1", 1, &literal, &error));
-    CHECK(WRITES("the forms are a null pointer", peltzivar_read_error_text(&error, text, sizeof text)) && error.valid_up_to == 0);
-    CHECK(!*peltzivar_form_name(NULL, 0) && !peltzivar_form_syntax(NULL, 0, &syntax));
+}
+
+/* Forms of one's own, at any address. A literal comes before a special value. What a later version may read otherwise is refused. */
+static void test_forms(void) {
+    uint8_t memory[81 + 64 * sizeof(peltzivar_form)] = {0};
+    peltzivar_form list[65];
+    peltzivar_forms forms = forms_of((const peltzivar_form *)(memory + 1), 64), toml = *language("TOML"), most = forms_of(list, 64);
+    const peltzivar_forms *const moved = (const peltzivar_forms *)(memory + sizeof memory - sizeof forms);
+    peltzivar_syntax names;
+    peltzivar_special special;
+    peltzivar_literal literal;
+    peltzivar_read_error error;
+    int64_t value = 7;
+    double real = 7;
+    memset(list, 0, sizeof list);
+    CHECK(make_syntax("radix=36\nexponent=none\npoint=none", &names));
+    for (int i = 0; i < 65; i++) list[i].syntax = i % 64 ? names : first_form("TOML");
+    forms.specials.nan = "none", forms.specials.inf = "in f";
+    memcpy(memory + 1, list, 64 * sizeof *list), memcpy(memory + sizeof memory - sizeof forms, &forms, sizeof forms);
+    CHECK(peltzivar_forms_read(moved, "none", 4, &literal, NULL) && literal.form == 1 && !peltzivar_parse_i64(moved, "none", 4, &value, NULL) && value == 1105034);
+    CHECK(!peltzivar_forms_read(moved, "in f", 4, &literal, &error) && error.form == 1 && error.valid_up_to == 2);
+    CHECK(peltzivar_parse_i64(moved, "in f", 4, &value, NULL) == PELTZIVAR_VALUE_SPECIAL && !peltzivar_parse_f64(moved, "-in f", 5, &real, NULL) && real == -HUGE_VAL);
+    toml.specials.nan = "NA", toml.count = 1;
+    CHECK(peltzivar_forms_read_special(&toml, "NA", 2, &special) && !peltzivar_forms_read_special(&toml, "nan", 3, &special));
+    CHECK(peltzivar_forms_read(&toml, "1", 1, &literal, NULL) && !peltzivar_forms_read(&toml, "0x1", 3, &literal, NULL));
+    for (size_t i = 0; i < sizeof most.reserved + sizeof list->reserved + sizeof list->syntax.reserved + 4; i++) {
+        const size_t of_form = i - sizeof most.reserved, of_syntax = of_form - sizeof list->reserved;
+        const peltzivar_form kept = list[63];
+        peltzivar_forms refused = most;
+        if (i < sizeof most.reserved) ((uint8_t *)refused.reserved)[i] = 1;
+        else if (of_form < sizeof list->reserved) ((uint8_t *)list[63].reserved)[of_form] = 1;
+        else if (of_syntax < sizeof names.reserved) list[63].syntax.reserved[of_syntax] = 1;
+        else if (of_syntax == sizeof names.reserved) refused.count = 0;
+        else if (of_syntax == sizeof names.reserved + 1) refused.count = 65;
+        else if (of_syntax == sizeof names.reserved + 2) refused.forms = NULL;
+        const peltzivar_forms *const by = of_syntax == sizeof names.reserved + 3 ? NULL : &refused;
+        const int64_t offsets[] = {0, 1};
+        uint8_t status = 7;
+        CHECK(peltzivar_forms_read(&most, "1", 1, &literal, NULL) == (i < sizeof most.reserved || i >= sizeof most.reserved + sizeof list->reserved + sizeof names.reserved));
+        CHECK(!peltzivar_forms_read(by, "1", 1, &literal, NULL) && !peltzivar_forms_read_special(by, "nan", 3, &special));
+        CHECK(!peltzivar_forms_read_prefix(by, "1", 1, &literal, &error) && error.valid_up_to == 0 && !peltzivar_explain(&error, NULL));
+        CHECK(WRITES("the forms are null, not 1 to 64, or have reserved members", peltzivar_read_error_text(&error, text, sizeof text)));
+        CHECK(peltzivar_parse_f64(by, "1", 1, &real, &error) == PELTZIVAR_VALUE_REFUSED && !peltzivar_explain(&error, NULL));
+        CHECK(peltzivar_parse_i64_column(by, "1", offsets, 1, &value, &status) == 1 && status == PELTZIVAR_VALUE_REFUSED);
+        list[63] = kept;
+    }
+    CHECK(value == 1105034 && real == -HUGE_VAL && peltzivar_forms_read(&most, "1", 1, &literal, NULL));
 }
 
 /* A null pointer with a length of 0 is accepted as an empty array, and a null pointer to output is not written to. Input
@@ -406,6 +491,7 @@ static void test_misuse(void) {
         const uint8_t *const it = memory + shift;
         const peltzivar_syntax *const syntax = (const peltzivar_syntax *)it;
         const peltzivar_fields *const fields = (const peltzivar_fields *)it;
+        const peltzivar_forms *const forms = (const peltzivar_forms *)it;
         const peltzivar_style *const style = (const peltzivar_style *)it;
         const peltzivar_edit *const edits = (const peltzivar_edit *)it;
         const peltzivar_literal *const literal = (const peltzivar_literal *)it;
@@ -415,7 +501,7 @@ static void test_misuse(void) {
         const char *const bytes = (const char *)it;
         memset(memory, fills[i / 2 % 3], sizeof memory);
         sum += peltzivar_check_syntax(syntax) + peltzivar_syntax_error_text(syntax, text, sizeof text) + peltzivar_sentence(syntax, text, 9);
-        sum += peltzivar_grammar(syntax, NULL, 0) + peltzivar_regex(syntax, text, sizeof text) + (peltzivar_forms_of(syntax) != NULL);
+        sum += peltzivar_grammar(syntax, NULL, 0) + peltzivar_regex(syntax, text, sizeof text);
         for (int j = 0; j < 2; j++) {
             const peltzivar_syntax *const by = j ? &json : syntax;
             sum += (size_t)(peltzivar_read(by, bytes, len, to, NULL) + peltzivar_read(by, bytes, len, NULL, stopped)
@@ -435,8 +521,10 @@ static void test_misuse(void) {
             + peltzivar_parse_edit(bytes, len, NULL) + peltzivar_parse_byte(bytes, len, out);
         sum += peltzivar_parse_word(bytes, len, (peltzivar_word *)(out + shift), NULL)
             + peltzivar_setter_of_name(bytes, len) + peltzivar_setting_error_text(bytes, len, text, 9);
-        sum += (size_t)((peltzivar_language(bytes, len, NULL) != NULL)
-            + peltzivar_parse_f64(NULL, bytes, len, NULL, stopped) + peltzivar_parse_i64(peltzivar_language_c(), bytes, len, NULL, NULL));
+        sum += (size_t)((peltzivar_language(bytes, len) != NULL)
+            + peltzivar_parse_f64(NULL, bytes, len, NULL, stopped) + peltzivar_parse_i64(peltzivar_language_c(), bytes, len, NULL, NULL)
+            + peltzivar_forms_read(forms, bytes, len, to, NULL) + peltzivar_forms_read_prefix(forms, bytes, len, NULL, stopped)
+            + peltzivar_forms_read_special(forms, bytes, len, NULL) + peltzivar_parse_u64(forms, bytes, len, NULL, stopped));
         sum += peltzivar_parse_u64_column(peltzivar_language_c(), bytes, (const int64_t *)(it + 99), 9, (uint64_t *)(out + shift), out);
     }
     CHECK(sum);
@@ -445,7 +533,7 @@ static void test_misuse(void) {
 static void *test_all(void *unused) {
     for (int i = 0; i < 5; i++) {
         test_constants(), test_setters(), test_words(), test_syntaxes(), test_errors(), test_groups(), test_values(), test_columns();
-        test_writing(), test_languages(), test_null(), test_misuse();
+        test_writing(), test_languages(), test_forms(), test_null(), test_misuse();
     }
     return unused;
 }

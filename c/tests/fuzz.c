@@ -203,16 +203,16 @@ static void test_literals(peltzivar_word word) {
     CHECK_LAWFUL(peltzivar_read(&normal, from, len, &literal_before, &error_before) == is_read);
     if (is_read) CHECK_LAWFUL(!memcmp(&literal.sign, &literal_before.sign, offsetof(peltzivar_literal, is_float) - offsetof(peltzivar_literal, sign)));
     if (is_explained) CHECK_LAWFUL(peltzivar_explain(&error_before, &why_normal) && !memcmp(&why, &why_normal, sizeof why));
-    /* So are the forms that a lawful syntax makes, and a column has the values of its texts. */
-    const peltzivar_forms *const forms = peltzivar_forms_of(&syntax);
+    /* A lawful syntax as a form reads the same, and a column has the values of its texts. */
+    const peltzivar_form form = {"it", syntax, {0}};
+    const peltzivar_forms forms = {&form, 1, {NULL, NULL, NULL}, NULL, {0}};
     const int64_t offsets[] = {0, (int64_t)len, (int64_t)len};
     double values[3] = {7, 7, 7};
     uint8_t status[2];
-    CHECK(forms || !is_lawful);
-    CHECK(!forms || peltzivar_forms_read(forms, from, len, &literal_before, NULL) == is_read);
-    const bool is_one = peltzivar_parse_f64(forms, from, len, &values[2], NULL) == PELTZIVAR_VALUE_OK;
-    CHECK(!forms || !is_one == (!is_read || peltzivar_to_f64(&literal, NULL)));
-    CHECK(peltzivar_parse_f64_column(forms, from, offsets, 2, values, status) == (size_t)(!!status[0] + !!status[1]));
+    CHECK_LAWFUL(peltzivar_forms_read(&forms, from, len, &literal_before, NULL) == is_read);
+    const bool is_one = peltzivar_parse_f64(&forms, from, len, &values[2], NULL) == PELTZIVAR_VALUE_OK;
+    CHECK_LAWFUL(!is_one == (!is_read || peltzivar_to_f64(&literal, NULL)));
+    CHECK(peltzivar_parse_f64_column(&forms, from, offsets, 2, values, status) == (size_t)(!!status[0] + !!status[1]));
     CHECK(is_one == !status[0] && !memcmp(&values[0], &values[2], sizeof values[0]));
     if (peltzivar_read_prefix(&syntax, from, len, &literal, &error)) {
         const peltzivar_span *const parts = &literal.sign;

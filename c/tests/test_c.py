@@ -80,7 +80,7 @@ class Programs(unittest.TestCase):
     def test_the_library_is_small_and_a_program_has_the_language_that_it_names(self):
         self.assertLessEqual(SHARED.stat().st_size, 300_000)
         sizes = []
-        for forms in ("language_c()", 'language("C", 1, NULL)'):
+        for forms in ("language_c()", 'language("C", 1)'):
             code = f'double it; return peltzivar_parse_f64(peltzivar_{forms}, "0x1.8p3", 7, &it, NULL) || it != 12;'
             self.folder.joinpath("one.c").write_text(f'#include "peltzivar.h"\nint main(void) {{ {code} }}\n')
             program = self.made("cc", *STRICT, self.folder / "one.c", ARCHIVE, "-Wl,--gc-sections", "-s")
@@ -94,6 +94,12 @@ class Programs(unittest.TestCase):
         self.folder.joinpath("second.c").write_text('#include "peltzivar.h"\n')
         program = self.made("cc", *STRICT, self.folder / "first.c", self.folder / "second.c", ARCHIVE)
         self.assertEqual(run(program), ("1234.50\n", 0))
+
+    def test_forms_of_ones_own_on_the_page(self):
+        (code,) = re.findall(r"^    #include.*?^    }\n", (TOP / "docs/C-AND-PYTHON.md").read_text(), re.M | re.S)
+        self.folder.joinpath("forms.c").write_text(code)
+        program = self.made("cc", *STRICT, self.folder / "forms.c", ARCHIVE)
+        self.assertEqual(run(program), ("hexadecimal: 31\n", 0))
 
     def test_the_example(self):
         program = self.made("cc", *STRICT, *SANITIZERS, C / "example.c", ARCHIVE)
@@ -126,16 +132,10 @@ class Header(unittest.TestCase):
     def numbers(self, pattern):
         return {name: int(number) for name, number in re.findall(rf"\bPELTZIVAR_{pattern} = (\d+)", HEADER)}
 
-    def test_rules_and_errors_have_the_order_of_the_sources(self):
-        def variants(path, enum):
-            body = re.search(rf"^pub enum {enum} \{{(.*?)^\}}", (TOP / "rust/src" / path).read_text(), re.M | re.S)[1]
-            return [re.sub(r"(?<=[a-z])(?=[A-Z])", "_", name).upper() for name in re.findall(r"^    (\w+)", body, re.M)]
-
-        rules = variants("format_flags/rule.rs", "Rule")
+    def test_rules_have_the_order_of_the_sources(self):
+        body = re.search(r"^pub enum Rule \{(.*?)^\}", (TOP / "rust/src/format_flags/rule.rs").read_text(), re.M | re.S)[1]
+        rules = [re.sub(r"(?<=[a-z])(?=[A-Z])", "_", name).upper() for name in re.findall(r"^    (\w+)", body, re.M)]
         self.assertEqual(self.numbers(r"RULE_(\w+)"), {name: number for number, name in enumerate(rules, 1)})
-        errors = ["SUCCESS", *(it for it in variants("error.rs", "Error") if it != "SUCCESS")]
-        numbered = {name: number for number, name in enumerate(errors)}
-        self.assertEqual(self.numbers(ERRORS), numbered)
 
     def test_each_number_has_the_name_of_the_header_or_a_sentence_of_its_own(self):
         names = {"setter_name": r"SET_(\w+)", "role_name": r"ROLE_(\w+)", "part_name": r"PART_(\w+)"}
@@ -187,7 +187,7 @@ class Header(unittest.TestCase):
     def test_each_language_has_the_call_with_its_name(self):
         names = [text.decode() for number in range(99) if (text := LIBRARY.peltzivar_language_name(number))]
         calls = [getattr(LIBRARY, f"peltzivar_language_{it.lower()}")() for it in names]
-        self.assertEqual(calls, [LIBRARY.peltzivar_language(it.encode(), len(it), None) for it in names])
+        self.assertEqual(calls, [LIBRARY.peltzivar_language(it.encode(), len(it)) for it in names])
         self.assertEqual(len({*calls}), len(re.findall(r"peltzivar_language_\w+\(void\)", HEADER)))
 
     def test_numbers_in_comments(self):

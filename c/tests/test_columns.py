@@ -97,7 +97,7 @@ class Columns(unittest.TestCase):
             "refused": (8, lambda: json.column(wrong, errors="coerce")),
             "one": (12, lambda: [json.parse(it) for it in texts]),
             "decimal": (12, lambda: [it.decimal() for it in literals]),
-            "fraction": (25, lambda: [it.fraction() for it in literals]),
+            "fraction": (15, lambda: [it.fraction() for it in literals]),
             "refused alone": (60, lambda: [refuse(it) for it in wrong]),
         }
         for name, (limit, call) in rows.items():

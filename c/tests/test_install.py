@@ -55,15 +55,44 @@ class Install(InFolder):
         self.assertEqual(self.run_in("pkg-config", "--modversion", "peltzivar"), f"{VERSION}\n")
         moved = ["pkg-config", "--define-variable=prefix=/moved", "--variable=libdir", "peltzivar"]
         self.assertEqual(self.run_in(*moved), "/moved/lib\n")
-        if not shutil.which("cmake"):
-            self.skipTest("cmake")
-        for kind, version in (("shared", "1.0"), ("static", VERSION)):
-            self.folder.joinpath("CMakeLists.txt").write_text(CMAKE.replace("shared", kind).replace("1.0", version))
-            self.run_in("bash", "-ec", f"rm -rf example CMakeCache.txt; cmake -DCMAKE_PREFIX_PATH='{self.prefix}' . && make")
+
+    @unittest.skipUnless(shutil.which("cmake"), "cmake")
+    def test_cmake_finds_the_package_wherever_its_parts_are(self):
+        shutil.copy(C / "example.c", self.folder)
+        for kind, *paths in (("shared",), ("static", f"INCLUDEDIR={self.prefix}/headers", f"LIBDIR={self.prefix}/lib/of this")):
+            self.make("install", f"PREFIX={self.prefix}", *paths)
+            self.folder.joinpath("CMakeLists.txt").write_text(CMAKE.replace("shared", kind))
+            root = "/lib/of this/cmake/peltzivar" if paths else ""
+            self.run_in("bash", "-ec", f"rm -rf example CMakeCache.txt; cmake '-DCMAKE_PREFIX_PATH={self.prefix}{root}' . && make")
             self.assertEqual(self.run_in("./example", "radix=8", input="17\n"), "15\n")
-        for version in ("2.0", "1.9", "0.9"):
-            self.folder.joinpath("CMakeLists.txt").write_text(CMAKE.replace("1.0", version))
-            self.assertRaisesRegex(AssertionError, "compatible", self.run_in, "cmake", f"-DCMAKE_PREFIX_PATH={self.prefix}", ".")
+            shutil.rmtree(self.prefix)
+
+    @unittest.skipUnless(shutil.which("cmake"), "cmake")
+    def test_cmake_finds_the_versions_that_its_own_rule_allows(self):
+        major, minor, patch = map(int, VERSION.split("."))
+        near = [f"{major + one}{rest}" for one in (-1, 0, 1) for rest in ("", f".{minor}", f".{minor}.{patch}", f".{minor}.{patch + 1}", f".{minor + 1}")]
+        ranks = {it: [*map(int, it.split(".")), 0, 0][:3] for it in near}
+        ranges = ((a, b) for a in near for b in near if ranks[a] < ranks[b])
+        wanted = [*near, "", *(f"{it} EXACT" for it in near), *(f"{a}...{mark}{b}" for a, b in ranges for mark in ("", "<"))]
+        self.make("install", f"PREFIX={self.prefix}")
+        self.folder.joinpath("CMakeLists.txt").write_text(f"""cmake_minimum_required(VERSION 3.10)
+project(it C)
+include(CMakePackageConfigHelpers)
+write_basic_package_version_file(other/other-config-version.cmake VERSION {VERSION} COMPATIBILITY SameMajorVersion)
+file(WRITE ${{CMAKE_BINARY_DIR}}/other/other-config.cmake "")
+foreach(wanted "{'" "'.join(wanted)}")
+  string(REPLACE " " ";" arguments "${{wanted}}")
+  foreach(name peltzivar other)
+    unset(${{name}}_DIR CACHE)
+    find_package(${{name}} ${{arguments}} CONFIG QUIET)
+    message("found ${{name}} ${{${{name}}_FOUND}} ${{wanted}}")
+  endforeach()
+endforeach()
+""")
+        printed = self.run_in("bash", "-c", f"cmake '-DCMAKE_PREFIX_PATH={self.prefix};{self.folder}/other' . 2>&1")
+        found = {name: re.findall(rf"^found {name} (\d) (.*)$", printed, re.M) for name in ("peltzivar", "other")}
+        self.assertEqual(found["peltzivar"], found["other"])
+        self.assertEqual((len(found["other"]), {it for it, _ in found["other"]}), (len(wanted), {"0", "1"}))
 
     def test_python_finds_the_library_below_the_prefix(self):
         self.make("install", f"PREFIX={self.prefix}")

@@ -12,10 +12,12 @@ import pathlib
 import pickle
 import pydoc
 import re
+import runpy
 import shutil
 import subprocess
 import sys
 import tempfile
+import typing
 import unittest
 from array import array
 from decimal import Decimal
@@ -26,7 +28,7 @@ TESTS = pathlib.Path(__file__).resolve().parent
 TOP = TESTS.parent.parent
 sys.path.insert(0, str(TESTS.parent))
 import peltzivar
-from peltzivar import Edit, Error, Format, FormatError, FormatView, Language, LiteralError, OptionsError, Part, ReadErrorKind
+from peltzivar import Edit, Error, Format, FormatError, FormatView, Forms, Language, LiteralError, OptionsError, Part, ReadErrorKind
 from peltzivar import Role, Rule, Setter, SettingsError, Special, Specials, Spelling, Syntax, languages, notes_of
 
 PAGE = (TOP / "docs/FORMAT.md").read_text()
@@ -343,7 +345,8 @@ class Literals(unittest.TestCase):
                 Syntax.of(**fields, **{name: 3 if "group" in name else True}).read(text)
             except LiteralError as error:
                 blamed = (*(it.name for it in error.edits), *error.conditions)[: 2 if error.part else 1]
-                causes.add((error.kind, error.part, *blamed, str(error)))
+                causes.add((error.kind, error.part, *blamed, error.full_sentence))
+                self.assertRegex(error.full_sentence, f"^{re.escape(str(error))}{', which .*' + blamed[0] if blamed else ''}")
         self.assertEqual(({it[0] for it in causes}, {name for it in causes for name in it[2:-1]}), ({*ReadErrorKind}, names))
         for sentences in (descriptions, [it.description for it in Error], [it[-1] for it in causes], [it[:-1] for it in causes]):
             self.assertEqual((len({*sentences}), all(sentences)), (len(sentences), True), sentences)
@@ -379,6 +382,27 @@ class Literals(unittest.TestCase):
             error = pickle.loads(pickle.dumps(caught.exception))
             self.assertEqual((error.form, error.valid_up_to), (form, index), text)
 
+    def test_forms_of_ones_own(self):
+        names = Syntax.of(radix=36, exponent=None, point=None)
+        own = Forms([("decimal", Language.TOML.forms["decimal"]), ("", names)], nan="none", inf="in f")
+        for forms in (own, eval(repr(own)), pickle.loads(pickle.dumps(own)), copy.deepcopy(own), Forms(dict(own), **vars(own.specials))):
+            self.assertEqual((forms, hash(forms), {**forms}, len(forms)), (own, hash(own), {"decimal": own["decimal"], "": names}, 2))
+            # A literal comes before a special value.
+            read = [(it.value, getattr(it, "form", None)) for it in map(forms.read, ("1e1", "none", b"-in f"))]
+            self.assertEqual(read, [(10.0, "decimal"), (1105034, ""), (-math.inf, None)])
+            self.assertEqual((forms.parse("none", int), forms.parse("in f"), forms.column(["1", "in f"]).values.tolist()), (1105034, math.inf, [1, math.inf]))
+            self.assertEqual((forms.read_prefix("1z.")[0].syntax, forms.read("z"), forms.read("1")), (names, names.read("z"), own["decimal"].read("1")))
+            for text, form, index in (("1e+", "decimal", 3), ("a_", "", 1)):
+                with self.assertRaises(LiteralError) as caught:
+                    forms.read(text)
+                error = pickle.loads(pickle.dumps(caught.exception))
+                self.assertEqual((error.form, error.valid_up_to), (form, index))
+        self.assertNotEqual(own, Forms(own))
+        self.assertNotEqual(Forms(own), Forms([*own.items()][::-1], nan="none", inf="in f"))
+        for language in Language:
+            copied = Forms(language.forms, **vars(language.specials))
+            self.assertEqual((copied, copied.specials), (language.forms, language.specials))
+
     def test_special_values(self):
         for text, wanted in (("+inf", "+INF"), (b"-nan", "-NAN"), ("inf", "INF")):
             special = Language.TOML.read(text)
@@ -404,6 +428,11 @@ class Literals(unittest.TestCase):
             ("the base prefix 'b' is a digit in radix 16", (1, 2)),
         ]
         self.assertEqual([(str(it), it.indexes) for it in error.reasons], sentences)
+        # A reason has as many indexes as it has settings: one, two, three and four.
+        with self.assertRaises(SettingsError) as caught:
+            settings = {f"integer_{it}_digit_separator": False for it in ("internal", "leading", "trailing")}
+            Syntax.of("radix=40", "base_prefix='('", "base_suffix='('", **settings, integer_consecutive_digit_separator=True)
+        self.assertEqual([it.indexes for it in caught.exception.reasons], [(0,), (1, 2), (3, 4, 5, 6)])
 
 
 BYTE = "one ASCII character or a number from 0 to 255"
@@ -441,6 +470,12 @@ WRONG = [
     ("Language.JSON.column([None], int)", ValueError, "integers have no NaN: pass `fill`, the value of cells that are missing or wrong"),
     ("Language.JSON.column((b'12', array('q', [0, 3])))", ValueError, "offsets are not within the data, which has 2 bytes"),
     ("Language.JSON.column((b'12', array('q', [-1, 1])))", ValueError, "offsets are not within the data, which has 2 bytes"),
+    ("Forms([])", ValueError, "there are 1 to 64 forms, no two with the same name: []"),
+    ("Forms([('a', Syntax(Format())), ('a', Syntax(Format()))])", ValueError, "there are 1 to 64 forms, no two with the same name: ['a', 'a']"),
+    ("Forms({str(it): Syntax(Format()) for it in range(65)})", ValueError, "there are 1 to 64 forms, no two with the same name: ['0', '1', '2', '3', '4', '5', ...]"),
+    ("Forms({'a': Format()})", TypeError, "a form is a Syntax, not Format"),
+    ("Forms({1: Syntax(Format())})", TypeError, "a name is a str, not int"),
+    ("Forms({'a': Syntax(Format())}, nan='a\\0')", ValueError, "a spelling has a null character: Specials(nan='a\\x00', inf=None, infinity=None)"),
     ("Language.JSON.parse('1', bool)", TypeError, "type is float or int, not <class 'bool'>"),
     ("Specials('a\\0').read(Syntax(Format()), '')", ValueError, "a spelling has a null character: Specials(nan='a\\x00', inf=None, infinity=None)"),
 ]
@@ -475,19 +510,36 @@ class Wrong(unittest.TestCase):
                         self.assertRegex(str(error), names)
 
     @unittest.skipUnless(shutil.which("mypy"), "mypy")
-    def test_a_type_checker_refuses_wrong_arguments(self):
-        program = """from decimal import Decimal; from fractions import Fraction; from peltzivar import Edit, Format, Setter, Syntax, notes_of
-Format.of("radix=16", Edit.of(Setter.NO_SPECIAL, True), mantissa_radix=16, base_prefix=b"x").edit(exponent_base=None)
+    def test_a_type_checker_accepts_right_arguments_and_refuses_wrong_ones(self):
+        program = """from decimal import Decimal; from peltzivar import Format, Syntax, notes_of
 Format.of(mantissa_radix="x", base_prefx=3)
 Format().edit(no_special=1)
 Syntax.of(radix=16, point=1.5).read("1").value.real
 notes_of(mantissa_radix=None)
-print(Format().no_special + "", Format().edit().check().error().description)
-write = Syntax(Format()).format_number; print(write(1), write(1.5), write(Decimal(1)), write(Fraction(1)), write(Syntax(Format()).read("1")), write("1"))
+print(Format().no_special + "", Format().check_options("e", None))
+Syntax(Format()).format_number("1")
 """
-        command = ["mypy", "--strict", f"--python-version={OLDEST}", "--cache-dir=/dev/null", peltzivar.__file__, "/dev/stdin"]
+        command = ["mypy", "--strict", f"--python-version={OLDEST}", "--cache-dir=/dev/null", peltzivar.__file__, TESTS / "typed.py", "/dev/stdin"]
         ran = subprocess.run(command, env={**os.environ, "MYPYPATH": str(TESTS.parent)}, input=program, capture_output=True, text=True)
-        self.assertEqual(re.findall(r"^(.*):(\d+): error", ran.stdout, re.M), [("/dev/stdin", line) for line in "3345678"], ran)
+        self.assertEqual(re.findall(r"^(.*):(\d+): error", ran.stdout, re.M), [("/dev/stdin", line) for line in "223456667"], ran)
+
+    def test_values_have_the_types_of_a_typed_program(self):
+        def fits(value, kind):
+            origin, arguments = typing.get_origin(kind) or kind, typing.get_args(kind)
+            if origin is typing.Union:
+                return any(fits(value, it) for it in arguments)
+            if origin is not tuple:
+                return isinstance(value, origin)
+            each = arguments[:1] * len(value) if arguments[1:] == (...,) else arguments
+            return len(each) == len(value) and all(map(fits, value, each))
+
+        path = TESTS / "typed.py"
+        made = runpy.run_path(str(path))
+        for name, kind in made["__annotations__"].items():
+            self.assertTrue(fits(made[name], kind), (name, kind, made[name]))
+        kinds = [it for it in map(vars(peltzivar).get, peltzivar.__all__) if isinstance(it, type)]
+        names = {name for kind in kinds for name in (*vars(kind), *vars(kind).get("__annotations__", ())) if name[0] != "_" and not name.isupper()}
+        self.assertEqual(names - {*re.findall(r"\w+", path.read_text())} - {it.name.lower() for it in Setter}, set())
 
     def test_help_has_no_private_names(self):
         text = pydoc.plain(pydoc.render_doc(peltzivar))

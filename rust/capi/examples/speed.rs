@@ -12,8 +12,7 @@ use std::time::Instant;
 
 #[link(name = "peltzivar_c", kind = "static")]
 extern "C" {
-    fn peltzivar_language(name: *const u8, len: usize, specials: *mut c_void) -> *const c_void;
-    fn peltzivar_form_syntax(forms: *const c_void, form: usize, syntax: *mut u64) -> bool;
+    fn peltzivar_language_json() -> *const *const u64;
     fn peltzivar_read(syntax: *const u64, text: *const u8, len: usize, to: *mut u128, error: *mut c_void) -> bool;
     fn peltzivar_to_f64(literal: *const u128, value: *mut f64) -> u8;
     fn strtod(text: *const c_char, end: *mut *mut c_char) -> f64;
@@ -34,20 +33,14 @@ fn time(name: &str, call: impl Fn(&'static str) -> bool) {
 }
 
 fn main() {
-    // A `peltzivar_syntax` has 32 bytes.
-    let mut syntax = [0; 4];
-    // SAFETY: the name has four bytes, the spellings may be null, and the syntax is large enough.
-    assert!(unsafe {
-        peltzivar_form_syntax(peltzivar_language(b"JSON".as_ptr(), 4, null_mut()), 0, syntax.as_mut_ptr())
-    });
+    // SAFETY: the forms begin with a pointer to the first, whose syntax is behind a pointer.
+    let syntax = unsafe { (*peltzivar_language_json()).add(1) };
     // A `peltzivar_literal` has 320 bytes.
     let read = |text: &str, literal: &mut MaybeUninit<[u128; 20]>| {
         // SAFETY: the literal is large enough and aligned, the text has this length, and the error may be null.
-        unsafe {
-            peltzivar_read(syntax.as_ptr(), text.as_ptr(), text.len() - 1, literal.as_mut_ptr().cast(), null_mut())
-        }
+        unsafe { peltzivar_read(syntax, text.as_ptr(), text.len() - 1, literal.as_mut_ptr().cast(), null_mut()) }
     };
-    let json = Language::JSON.forms()[0].syntax;
+    let json = Language::JSON.forms()[0].syntax();
     time("read of Rust", |text| black_box(black_box(&json).read(&text[..text.len() - 1])).is_ok());
     time("peltzivar_read", |text| read(text, black_box(&mut MaybeUninit::uninit())));
     time("peltzivar_read and peltzivar_to_f64", |text| {

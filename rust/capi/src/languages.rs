@@ -2,28 +2,45 @@
 
 use crate::arguments::{input, Out};
 use crate::literals::Syntax;
-use crate::names::{at, texts};
+use crate::names::{at, start, texts};
 use core::ffi::CStr;
-use core::ptr;
-use peltzivar::literal::{self, Form, Language, Sign, Special, Spelling};
+use core::mem::MaybeUninit;
+use core::{ptr, slice};
+use peltzivar::literal::{self, Language, Sign, Special, Spelling};
 
 /// The spellings of special values, as null-terminated strings. A null pointer is an absent one.
 #[repr(C)]
+#[derive(Clone, Copy)]
 pub struct Specials {
     nan: *const u8,
     inf: *const u8,
     infinity: *const u8,
 }
 
-/// Returns the bytes of a string. A null pointer has none.
-///
-/// # Safety
-///
-/// `start` must be null, or point to a null-terminated string that a C caller passes. Nothing may write to it during
-/// the call that passes it.
-unsafe fn spelling<'a>(start: *const u8) -> Option<&'a [u8]> {
-    // SAFETY: the caller guarantees the string.
-    (!start.is_null()).then(|| unsafe { CStr::from_ptr(start.cast()) }.to_bytes())
+impl Specials {
+    /// Returns the spellings of a language, one after another in these texts. One that it lacks is a null pointer.
+    const fn of(language: Language, texts: &'static [u8]) -> Specials {
+        const fn place(spelling: Option<&[u8]>, texts: &'static [u8], index: usize) -> *const u8 {
+            match spelling {
+                Some(_) => start(texts, index),
+                None => ptr::null(),
+            }
+        }
+        let literal::Specials { nan, inf, infinity } = language.forms().specials();
+        Specials { nan: place(nan, texts, 0), inf: place(inf, texts, 1), infinity: place(infinity, texts, 2) }
+    }
+
+    /// Returns the bytes of the strings. A null pointer has none.
+    ///
+    /// # Safety
+    ///
+    /// A C caller passes the strings, or null pointers.
+    pub unsafe fn spellings<'a>(&self) -> literal::Specials<'a> {
+        // SAFETY: the caller guarantees the string.
+        let [nan, inf, infinity] = [self.nan, self.inf, self.infinity]
+            .map(|it| (!it.is_null()).then(|| unsafe { CStr::from_ptr(it.cast()) }.to_bytes()));
+        literal::Specials { nan, inf, infinity }
+    }
 }
 
 /// A special value: the number of its spelling, and its sign, or 0 without one.
@@ -45,61 +62,106 @@ impl From<Special> for NumberedSpecial {
     }
 }
 
-/// What numbers are read by: the first word of the forms of a language, or of a syntax of C. C has pointers to it alone.
+/// A form of numbers: its name, as a null-terminated string or a null pointer, and its syntax.
 #[repr(C)]
-pub struct Forms {
-    magic: u64,
+#[derive(Clone, Copy)]
+struct Form {
+    name: *const u8,
+    syntax: Syntax,
+    reserved: [u64; 2],
 }
 
-/// The first word of [`LanguageForms`]. It has reserved bits of a format, so no lawful syntax begins with it.
-const MAGIC: u64 = u64::from_le_bytes(*b"\0\0forms\xB6");
+/// Forms of numbers, and the spellings of special values. `language` is the address of these forms if they are those of a
+/// language, or copied from them.
+#[repr(C)]
+#[derive(Clone, Copy)]
+pub struct Forms {
+    forms: *const Form,
+    count: usize,
+    specials: Specials,
+    language: *const Forms,
+    reserved: [u64; 3],
+}
 
-/// The forms of a language, with their names and the spellings as null-terminated texts.
+// The sizes in the header.
+const _: () = assert!(size_of::<Form>() == 56 && size_of::<Forms>() == 72);
+
+/// The most forms.
+const MOST: usize = 64;
+
+/// The forms of a language in C, and in Rust, with the spellings.
 #[repr(C)]
 struct LanguageForms {
-    magic: u64,
-    language: Language,
-    names: &'static [u8],
-    specials: &'static [u8],
+    shown: Forms,
+    read: literal::Forms<'static>,
 }
 
-/// Returns the forms of a language, the syntax that stands for forms, or neither if the pointer is null.
-///
-/// # Safety
-///
-/// `forms` must be null or a result of a call that a C caller passes.
-unsafe fn given<'a>(forms: *const Forms) -> (Option<&'a LanguageForms>, Option<&'a Syntax>) {
-    // SAFETY: the caller guarantees that the pointer is null, or that this word begins forms of a language or a syntax.
-    unsafe {
-        match forms.as_ref() {
-            None => (None, None),
-            Some(it) if it.magic == MAGIC => (forms.cast::<LanguageForms>().as_ref(), None),
-            Some(_) => (None, forms.cast::<Syntax>().as_ref()),
+// SAFETY: all pointers point to constants.
+unsafe impl Sync for LanguageForms {}
+
+/// The forms of a language as an array of C, and as one of Rust, without names.
+struct Lists<const COUNT: usize>([Form; COUNT], [literal::Form; COUNT]);
+
+// SAFETY: all pointers point to constants.
+unsafe impl<const COUNT: usize> Sync for Lists<COUNT> {}
+
+impl<const COUNT: usize> Lists<COUNT> {
+    /// Returns the forms of a language, whose names are these texts.
+    const fn of(language: Language, names: &'static [u8]) -> Self {
+        let forms = language.forms().as_slice();
+        let mut lists =
+            Lists([Form { name: names.as_ptr(), syntax: Syntax::NONE, reserved: [0; 2] }; COUNT], [forms[0]; COUNT]);
+        let mut form = 0;
+        while form < COUNT {
+            lists.0[form].name = start(names, form);
+            lists.0[form].syntax = Syntax::of(forms[form].syntax());
+            lists.1[form] = literal::Form::new("", forms[form].syntax());
+            form += 1;
         }
+        lists
     }
 }
 
-/// Returns what `then` returns for the forms, or `None` if they are null or refused.
+/// What calls read by, or why they are refused.
+pub type Given<'a> = Result<&'a literal::Forms<'a>, &'static str>;
+
+/// Returns what `then` returns for the forms.
 ///
 /// # Safety
 ///
-/// That of [`given`].
+/// `forms` must be null or forms that a C caller passes.
 #[inline(always)]
-pub unsafe fn by<R>(forms: *const Forms, then: impl FnOnce(&literal::Forms<'_>) -> R) -> Option<R> {
-    // SAFETY: the caller guarantees the forms.
-    let (language, syntax) = unsafe { given(forms) };
-    let own = Syntax::given(syntax).map(|syntax| Form::new("", syntax));
-    let forms = language.map(|it| *it.language.forms()).or_else(|| literal::Forms::new(own.as_slice()));
-    forms.as_ref().map(then)
+pub unsafe fn by<R>(forms: *const Forms, then: impl FnOnce(Given<'_>) -> R) -> R {
+    let mut list = [const { MaybeUninit::uninit() }; MOST];
+    let found = if forms.is_null() {
+        None
+    } else if ptr::eq((&raw const (*forms).language).read_unaligned(), forms) {
+        // SAFETY: only the forms of languages have their own address.
+        Some(unsafe { (*forms.cast::<LanguageForms>()).read })
+    } else {
+        own(&forms.read_unaligned(), &mut list)
+    };
+    then(found.as_ref().ok_or("the forms are null, not 1 to 64, or have reserved members"))
 }
 
-/// Returns the spelling with an index, or an empty text if a language lacks it.
-const fn spelling_of(language: Language, index: usize) -> &'static [u8] {
-    let specials = language.forms().specials();
-    match [specials.nan, specials.inf, specials.infinity][index] {
-        Some(spelling) => spelling,
-        None => b"",
+/// Returns forms that are not those of a language, or `None` if they are refused.
+///
+/// # Safety
+///
+/// A C caller passes them.
+#[inline(never)]
+unsafe fn own<'a>(it: &Forms, list: &'a mut [MaybeUninit<literal::Form>; MOST]) -> Option<literal::Forms<'a>> {
+    if it.forms.is_null() || it.count > MOST || it.reserved != [0; 3] {
+        return None;
     }
+    for (index, to) in list.iter_mut().take(it.count).enumerate() {
+        let form = it.forms.add(index).read_unaligned();
+        let syntax = Syntax::given(Some(&form.syntax)).filter(|_| form.reserved == [0; 2])?;
+        to.write(literal::Form::new("", syntax));
+    }
+    // SAFETY: so many are written.
+    let list = unsafe { slice::from_raw_parts(list.as_ptr().cast(), it.count) };
+    Some(literal::Forms::new(list)?.with_specials(it.specials.spellings()))
 }
 
 /// Defines a call for each language, so that a program that calls one has the forms of this one alone.
@@ -109,11 +171,26 @@ macro_rules! languages {
             #[unsafe(no_mangle)]
             extern "C" fn $call() -> *const Forms {
                 const IT: Language = Language::$NAME;
+                const COUNT: usize = IT.forms().as_slice().len();
+                const SPELLED: literal::Specials<'static> = IT.forms().specials();
                 texts! {
-                    NAMES: [IT.forms().as_slice().len()] = |index| IT.forms().as_slice()[index].name().as_bytes();
-                    SPECIALS: [3] = |index| spelling_of(IT, index);
+                    NAMES: [COUNT] = |index| IT.forms().as_slice()[index].name().as_bytes();
+                    SPELLINGS: [3] = |index| match [SPELLED.nan, SPELLED.inf, SPELLED.infinity][index] {
+                        Some(spelling) => spelling,
+                        None => b"",
+                    };
                 }
-                static FORMS: LanguageForms = LanguageForms { magic: MAGIC, language: IT, names: NAMES, specials: SPECIALS };
+                static LISTS: Lists<COUNT> = Lists::of(IT, NAMES);
+                static FORMS: LanguageForms = LanguageForms {
+                    shown: Forms {
+                        forms: LISTS.0.as_ptr(),
+                        count: COUNT,
+                        specials: Specials::of(IT, SPELLINGS),
+                        language: (&raw const FORMS).cast(),
+                        reserved: [0; 3],
+                    },
+                    read: literal::Forms::new_or_panic(&LISTS.1).with_specials(SPELLED),
+                };
                 (&raw const FORMS).cast()
             }
         )*
@@ -167,36 +244,19 @@ calls! {
     fn peltzivar_read_special(
         syntax: Option<&Syntax>, specials: &Specials, text: *const u8, len: usize, out: Out<NumberedSpecial>
     ) -> bool {
-        let (nan, inf, infinity) = (spelling(specials.nan), spelling(specials.inf), spelling(specials.infinity));
-        let specials = literal::Specials { nan, inf, infinity };
-        let read = |syntax| specials.read(&syntax, input(text, len)?);
+        let read = |syntax| specials.spellings().read(&syntax, input(text, len)?);
         out.write_some(Syntax::given(syntax).and_then(read))
     }
 
     fn peltzivar_forms_read_special(forms: *const Forms, text: *const u8, len: usize, out: Out<NumberedSpecial>) -> bool {
-        let read = |forms: &literal::Forms<'_>| forms.specials().read(&forms[0].syntax(), input(text, len)?);
-        out.write_some(by(forms, read).flatten())
+        let read = |forms: Given<'_>| forms.ok().and_then(|it| it.specials().read(&it[0].syntax(), input(text, len)?));
+        out.write_some(by(forms, read))
     }
 
-    fn peltzivar_language(name: *const u8, len: usize, specials: Out<Specials>) -> *const Forms {
+    fn peltzivar_language(name: *const u8, len: usize) -> *const Forms {
         let name = input(name, len).unwrap_or_default();
-        let forms = CALLS.iter().find(|(it, _)| it.as_bytes() == name).map_or(ptr::null(), |(_, call)| call());
-        let spellings = given(forms).0.map(|it| [0, 1, 2].map(|index| at(it.specials, index)));
-        specials.write_some(spellings.map(|[nan, inf, infinity]| Specials { nan, inf, infinity }));
-        forms
+        CALLS.iter().find(|(it, _)| it.as_bytes() == name).map_or(ptr::null(), |(_, call)| call())
     }
 
     fn peltzivar_language_name(index: usize) -> *const u8 { at(NAMES, index) }
-
-    fn peltzivar_form_name(forms: *const Forms, form: usize) -> *const u8 {
-        at(given(forms).0.map_or(&[], |it| it.names), form)
-    }
-
-    fn peltzivar_form_syntax(forms: *const Forms, form: usize, out: Out<Syntax>) -> bool {
-        out.write_some(given(forms).0.and_then(|it| it.language.forms().as_slice().get(form)).map(Form::syntax))
-    }
-
-    fn peltzivar_forms_of(syntax: Option<&Syntax>) -> *const Forms {
-        Syntax::checked(syntax).ok().and(syntax).map_or(ptr::null(), |it| ptr::from_ref(it).cast())
-    }
 }

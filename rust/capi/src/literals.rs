@@ -1,18 +1,18 @@
 //! Calls that check syntaxes, that read literals, and that print why a text is not one.
 
 use crate::arguments::{input, write_text, Out};
-use crate::languages::{by, Forms};
+use crate::languages::{by, Forms, Given};
 use crate::numbers::{error_number, ErrorNumber, Setter, Word, NO_PART, NO_SETTER};
-use core::array;
 use core::fmt::{self, Display, Formatter};
 use core::mem::ManuallyDrop;
 use core::ops::Range;
-use peltzivar::literal::{self, Condition, Conditions, Form, FormError, Number, ReadErrorKind};
+use peltzivar::literal::{self, Condition, Conditions, Form, Number, ReadErrorKind};
 use peltzivar::{Error, Format, FormatError};
 
 /// A word with an exponent character, a decimal point and conditions, of any values. If both are 0, literals are
 /// integers. A condition is 0 if there is none.
 #[repr(C)]
+#[derive(Clone, Copy)]
 pub struct Syntax {
     format: Word,
     exponent: u8,
@@ -22,6 +22,23 @@ pub struct Syntax {
 }
 
 impl Syntax {
+    /// No syntax.
+    pub const NONE: Syntax = Syntax { format: Word::of(0), exponent: 0, decimal_point: 0, numbers: [0; 14] };
+
+    /// Returns a syntax in C.
+    pub const fn of(syntax: literal::Syntax) -> Syntax {
+        let (mut numbers, mut at) = ([0; 14], 0);
+        while at < Condition::ALL.len() {
+            numbers[at] = syntax.conditions().number(Condition::ALL[at]);
+            at += 1;
+        }
+        let (exponent, decimal_point) = match (syntax.exponent(), syntax.point()) {
+            (Some(exponent), Some(point)) => (exponent, point),
+            _ => (0, 0),
+        };
+        Syntax { format: Word::of(syntax.format().word()), exponent, decimal_point, numbers }
+    }
+
     /// Returns the exponent character and the decimal point, unless literals are integers.
     fn options(&self) -> Option<(u8, u8)> {
         match (self.exponent, self.decimal_point) {
@@ -32,9 +49,16 @@ impl Syntax {
 
     /// Returns the conditions, or `None` if a later version may have others.
     fn conditions(&self) -> Option<Conditions> {
-        let (numbers, rest) = self.numbers.split_at(Condition::ALL.len());
-        let all = Condition::ALL.iter().zip(numbers).fold(Conditions::NONE, |all, (&it, &number)| all.with(it, number));
-        Some(all).filter(|_| rest.iter().all(|&it| it == 0))
+        let [a, b, c, d, e, f, rest @ ..] = self.numbers;
+        let &[first, second, third, fourth, fifth, sixth] = Condition::ALL else { return None };
+        let all = Conditions::NONE
+            .with(first, a)
+            .with(second, b)
+            .with(third, c)
+            .with(fourth, d)
+            .with(fifth, e)
+            .with(sixth, f);
+        (rest == [0; 8]).then_some(all)
     }
 
     /// Returns the syntax, which may not be lawful, or `None` if there is none or if a later version may read it otherwise.
@@ -60,13 +84,7 @@ impl Syntax {
 
 impl From<literal::Syntax> for Syntax {
     fn from(syntax: literal::Syntax) -> Syntax {
-        let conditions = syntax.conditions();
-        Syntax {
-            format: Word::of(syntax.format().word()),
-            exponent: syntax.exponent().unwrap_or(0),
-            decimal_point: syntax.point().unwrap_or(0),
-            numbers: array::from_fn(|at| Condition::ALL.get(at).map_or(0, |&it| conditions.number(it))),
-        }
+        Syntax::of(syntax)
     }
 }
 
@@ -129,6 +147,15 @@ impl<E: Display> Display for Refusal<E> {
             Refusal::Argument(sentence) => f.write_str(sentence),
             Refusal::Library(error) => error.fmt(f),
         }
+    }
+}
+
+/// A refusal that prints flags and conditions, too.
+struct Full<'a>(&'a Refusal<literal::ReadError>);
+
+impl Display for Full<'_> {
+    fn fmt(&self, f: &mut Formatter<'_>) -> fmt::Result {
+        write!(f, "{:#}", self.0)
     }
 }
 
@@ -210,96 +237,56 @@ impl From<literal::ReadError> for Explanation {
     }
 }
 
-const TOO_LONG: &str = "the text has more than PTRDIFF_MAX bytes";
+/// What reading returns: a number, or why there is none, with the index of a form.
+type Read<'a> = Result<Number<'a>, (literal::ReadError, usize)>;
 
-/// Where a call writes a literal or an error.
-type Outs<'a> = (Out<Literal<'a>>, Out<ReadError>);
-
-/// Writes what `read` returns for a text by a syntax, and returns whether it is a literal.
+/// Writes a number that is a literal, and returns whether there is one.
 #[inline(always)]
-unsafe fn read_by<'a>(
-    (syntax, text, len): (Option<&Syntax>, *const u8, usize),
-    outs: Outs<'a>,
-    read: impl FnOnce(literal::Syntax, &'a [u8], Outs<'a>) -> bool,
-) -> bool {
-    let Some(syntax) = Syntax::given(syntax) else {
-        return refuse("peltzivar_check_syntax refuses this syntax", outs.1);
-    };
-    let Some(text) = input(text, len) else { return refuse(TOO_LONG, outs.1) };
-    read(syntax, text, outs)
+fn write_literal<'a>(found: Option<Number<'a>>, to: Out<Literal<'a>>) -> bool {
+    to.write_some(match found {
+        Some(Number::Literal { literal, form }) => Some(Literal::of(literal, form)),
+        _ => None,
+    })
 }
 
-/// Writes what reading has returned, and returns whether it is a literal.
+/// Returns the number that `read` finds in a text, or writes why there is none, or which argument it refuses.
+///
+/// # Safety
+///
+/// A C caller passes the text.
 #[inline(always)]
-fn settle<'a>(read: Result<literal::Literal<'a>, literal::ReadError>, (literal, error): Outs<'a>) -> bool {
-    match read {
-        Ok(found) => literal.write_some(Some(Literal::of(found, 0))),
-        Err(why) => stop(why, 0, error),
+unsafe fn number<'a>(
+    (text, len, error): (*const u8, usize, Out<ReadError>),
+    read: impl FnOnce(&'a [u8]) -> Result<Read<'a>, &'static str>,
+) -> Option<Number<'a>> {
+    match input(text, len).ok_or("the text has more than PTRDIFF_MAX bytes").and_then(read) {
+        Ok(Ok(number)) => return Some(number),
+        Ok(Err((why, form))) => {
+            error.write(Made::new(Stop { valid_up_to: why.valid_up_to(), form: form as u8 }, Refusal::Library(why)))
+        }
+        Err(sentence) => error.write(Made::new(Stop { valid_up_to: 0, form: 0 }, Refusal::Argument(sentence))),
     }
+    None
 }
 
-/// Writes what `read` returns for a text by forms, and returns whether it is a literal.
-#[inline(always)]
-unsafe fn read_by_forms<'a>(
-    (forms, text, len): (*const Forms, *const u8, usize),
-    outs: Outs<'a>,
-    read: impl FnOnce(&literal::Forms<'_>, &'a [u8]) -> Result<Number<'a>, FormError>,
-) -> bool {
-    let Some(text) = input(text, len) else { return refuse(TOO_LONG, outs.1) };
-    match by(forms, |forms| read(&forms.with_specials(Default::default()), text)) {
-        Some(number) => settle_number(number, outs),
-        None => refuse("the forms are a null pointer", outs.1),
-    }
-}
-
-/// Writes what reading by forms has returned, and returns whether it is a literal.
-#[inline(always)]
-fn settle_number<'a>(read: Result<Number<'a>, FormError>, (literal, error): Outs<'a>) -> bool {
-    match read {
-        Ok(Number::Literal { literal: found, form }) => literal.write_some(Some(Literal::of(found, form))),
-        Ok(Number::Special(_)) => refuse("a special value", error),
-        Err(FormError { form, error: why, .. }) => stop(why, form, error),
-    }
+/// Returns the number that a text is, or writes why it is not one. It is called in several places, and is large.
+///
+/// # Safety
+///
+/// A C caller passes the text.
+#[inline(never)]
+pub unsafe fn whole<'a>(forms: Given<'_>, text: *const u8, len: usize, error: Out<ReadError>) -> Option<Number<'a>> {
+    number((text, len, error), |text| Ok(forms?.read_bytes(text).map_err(|it| (it.error, it.form))))
 }
 
 /// Returns the longest literal that a text begins with. It is called in several places, and is large.
 #[inline(never)]
-fn front<'a>(forms: &literal::Forms<'_>, text: &'a [u8]) -> Result<Number<'a>, FormError> {
-    Ok(forms.read_prefix_bytes(text)?.0)
+fn front<'a>(forms: &literal::Forms<'_>, text: &'a [u8]) -> Read<'a> {
+    forms.read_prefix_bytes(text).map(|(it, _)| it).map_err(|it| (it.error, it.form))
 }
 
-/// Returns the number that a text is, or writes why it is not one.
-#[inline(never)]
-pub unsafe fn number<'a>(
-    forms: *const Forms,
-    text: *const u8,
-    len: usize,
-    error: Out<ReadError>,
-) -> Option<Number<'a>> {
-    let Some(text) = input(text, len) else {
-        refuse(TOO_LONG, error);
-        return None;
-    };
-    match by(forms, |forms| forms.read_bytes(text)) {
-        Some(Ok(number)) => return Some(number),
-        Some(Err(FormError { form, error: why, .. })) => stop(why, form, error),
-        None => refuse("the forms are a null pointer", error),
-    };
-    None
-}
-
-/// Writes why an argument is refused.
-#[cold]
-fn refuse(sentence: &'static str, error: Out<ReadError>) -> bool {
-    error.write(Made::new(Stop { valid_up_to: 0, form: 0 }, Refusal::Argument(sentence)));
-    false
-}
-
-/// Writes why a text is not a literal of a form.
-fn stop(why: literal::ReadError, form: usize, error: Out<ReadError>) -> bool {
-    error.write(Made::new(Stop { valid_up_to: why.valid_up_to(), form: form as u8 }, Refusal::Library(why)));
-    false
-}
+/// Why a call refuses a syntax.
+const SYNTAX: &str = "peltzivar_check_syntax refuses this syntax";
 
 calls! {
     fn peltzivar_check_syntax(syntax: Option<&Syntax>) -> ErrorNumber {
@@ -329,27 +316,40 @@ calls! {
     fn peltzivar_read(
         syntax: Option<&Syntax>, text: *const u8, len: usize, literal: Out<Literal>, error: Out<ReadError>
     ) -> bool {
-        read_by((syntax, text, len), (literal, error), |syntax, text, outs| syntax.read_then(text, |read| settle(read, outs)))
+        let read = |text| {
+            Syntax::given(syntax).ok_or(SYNTAX).map(|it| it.read_then(text, |read| match read {
+                Ok(literal) => Ok(Number::Literal { literal, form: 0 }),
+                Err(error) => Err((error, 0)),
+            }))
+        };
+        write_literal(number((text, len, error), read), literal)
     }
 
     fn peltzivar_read_prefix(
         syntax: Option<&Syntax>, text: *const u8, len: usize, literal: Out<Literal>, error: Out<ReadError>
     ) -> bool {
-        read_by((syntax, text, len), (literal, error), |syntax, text, outs| {
-            literal::Forms::new(&[Form::new("", syntax)]).is_some_and(|it| settle_number(front(&it, text), outs))
-        })
+        let read = |text| {
+            let form = [Form::new("", Syntax::given(syntax).ok_or(SYNTAX)?)];
+            literal::Forms::new(&form).ok_or(SYNTAX).map(|it| front(&it, text))
+        };
+        write_literal(number((text, len, error), read), literal)
     }
 
     fn peltzivar_forms_read(
         forms: *const Forms, text: *const u8, len: usize, literal: Out<Literal>, error: Out<ReadError>
     ) -> bool {
-        read_by_forms((forms, text, len), (literal, error), |forms, text| forms.read_bytes(text))
+        let found = by(forms, |forms| {
+            let bare = forms.map(|it| it.with_specials(Default::default()));
+            whole(bare.as_ref().map_err(|it| *it), text, len, error)
+        });
+        write_literal(found, literal)
     }
 
     fn peltzivar_forms_read_prefix(
         forms: *const Forms, text: *const u8, len: usize, literal: Out<Literal>, error: Out<ReadError>
     ) -> bool {
-        read_by_forms((forms, text, len), (literal, error), front)
+        let found = by(forms, |forms| number((text, len, error), |text| Ok(front(forms?, text))));
+        write_literal(found, literal)
     }
 
     fn peltzivar_explain(error: &ReadError, out: Out<Explanation>) -> bool {
@@ -358,5 +358,9 @@ calls! {
 
     fn peltzivar_read_error_text(error: &ReadError, text: *mut u8, len: usize) -> usize {
         write_text(text, len, error.value())
+    }
+
+    fn peltzivar_read_error_full_text(error: &ReadError, text: *mut u8, len: usize) -> usize {
+        write_text(text, len, error.value().map(Full))
     }
 }

@@ -1,8 +1,8 @@
 //! Calls that make the value of a literal, of a text, or of each text of a column.
 
 use crate::arguments::Out;
-use crate::languages::Forms;
-use crate::literals::{number, Literal, ReadError};
+use crate::languages::{by, Forms, Given};
+use crate::literals::{whole, Literal, ReadError};
 use crate::names::{at, texts};
 use peltzivar::literal::{self, FromLiteral, Number, ValueError, ValueErrorKind};
 
@@ -69,16 +69,16 @@ fn write_value<T, C: From<T>>(value: Result<T, ValueError>, out: Out<C>) -> Valu
 
 /// Writes the value of a text, if it has one of this type, or why it is not a number, and returns whether it has.
 unsafe fn parse<T: FromLiteral>(
-    (forms, text, len): (*const Forms, *const u8, usize),
+    (forms, text, len): (Given<'_>, *const u8, usize),
     out: Out<T>,
     error: Out<ReadError>,
 ) -> ValueStatus {
-    number(forms, text, len, error).map_or(6, |number| write_value(number.value::<T>(), out))
+    whole(forms, text, len, error).map_or(6, |number| write_value(number.value::<T>(), out))
 }
 
 /// Writes the value of each text, and whether it has one, and returns how many have none.
 unsafe fn parse_column<T: FromLiteral>(
-    (forms, bytes): (*const Forms, *const u8),
+    (forms, bytes): (Given<'_>, *const u8),
     (offsets, count): (*const i64, usize),
     (values, status): (Out<T>, Out<ValueStatus>),
 ) -> usize {
@@ -106,7 +106,7 @@ macro_rules! parsers {
             unsafe extern "C" fn $call(
                 forms: *const Forms, text: *const u8, len: usize, out: Out<$T>, error: Out<ReadError>
             ) -> ValueStatus {
-                parse((forms, text, len), out, error)
+                by(forms, |forms| parse((forms, text, len), out, error))
             }
 
             #[unsafe(no_mangle)]
@@ -114,7 +114,7 @@ macro_rules! parsers {
                 forms: *const Forms, bytes: *const u8, offsets: *const i64, count: usize, values: Out<$T>,
                 status: Out<ValueStatus>
             ) -> usize {
-                parse_column((forms, bytes), (offsets, count), (values, status))
+                by(forms, |forms| parse_column((forms, bytes), (offsets, count), (values, status)))
             }
         )*
     };
