@@ -195,8 +195,8 @@ macro_rules! languages {
             }
         )*
 
-        /// The calls, by the names of their languages.
-        static CALLS: [(&str, extern "C" fn() -> *const Forms); Language::ALL.len()] = [$((stringify!($NAME), $call)),*];
+        /// The calls of all languages, in the order of their names.
+        static CALLS: [extern "C" fn() -> *const Forms; Language::ALL.len()] = [$($call),*];
     };
 }
 
@@ -255,7 +255,8 @@ calls! {
 
     fn peltzivar_language(name: *const u8, len: usize) -> *const Forms {
         let name = input(name, len).unwrap_or_default();
-        CALLS.iter().find(|(it, _)| it.as_bytes() == name).map_or(ptr::null(), |(_, call)| call())
+        let index = NAMES.split(|byte| *byte == 0).position(|it| it == name);
+        index.and_then(|index| CALLS.get(index)).map_or(ptr::null(), |call| call())
     }
 
     fn peltzivar_language_name(index: usize) -> *const u8 { at(NAMES, index) }
