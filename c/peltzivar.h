@@ -368,27 +368,35 @@ const peltzivar_forms *peltzivar_language(const char *name, size_t len);
 /* Made by make_python.py: language_calls */
 const peltzivar_forms *peltzivar_language_ada(void);
 const peltzivar_forms *peltzivar_language_c(void);
+const peltzivar_forms *peltzivar_language_css(void);
 const peltzivar_forms *peltzivar_language_csv_de(void);
 const peltzivar_forms *peltzivar_language_csv_en(void);
 const peltzivar_forms *peltzivar_language_c_plus_plus(void);
 const peltzivar_forms *peltzivar_language_c_sharp(void);
+const peltzivar_forms *peltzivar_language_elixir(void);
 const peltzivar_forms *peltzivar_language_fortran(void);
 const peltzivar_forms *peltzivar_language_go(void);
 const peltzivar_forms *peltzivar_language_haskell(void);
+const peltzivar_forms *peltzivar_language_haskell_ghc2021(void);
 const peltzivar_forms *peltzivar_language_java(void);
 const peltzivar_forms *peltzivar_language_javascript(void);
 const peltzivar_forms *peltzivar_language_json(void);
 const peltzivar_forms *peltzivar_language_julia(void);
 const peltzivar_forms *peltzivar_language_kotlin(void);
+const peltzivar_forms *peltzivar_language_lua(void);
 const peltzivar_forms *peltzivar_language_nasm(void);
 const peltzivar_forms *peltzivar_language_ocaml(void);
+const peltzivar_forms *peltzivar_language_php(void);
 const peltzivar_forms *peltzivar_language_python(void);
+const peltzivar_forms *peltzivar_language_r(void);
 const peltzivar_forms *peltzivar_language_ruby(void);
 const peltzivar_forms *peltzivar_language_rust(void);
 const peltzivar_forms *peltzivar_language_sql(void);
 const peltzivar_forms *peltzivar_language_swift(void);
 const peltzivar_forms *peltzivar_language_toml(void);
+const peltzivar_forms *peltzivar_language_xml_schema(void);
 const peltzivar_forms *peltzivar_language_yaml(void);
+const peltzivar_forms *peltzivar_language_yaml_1_1(void);
 /* End */
 
 /* Returns the name of a language. The languages have the indices from 0 on, in alphabetical order. */

@@ -427,6 +427,8 @@ _CALLS: Dict[str, Tuple[Any, List[Any]]] = {
     "explain": (c_bool, [POINTER(_ReadError), POINTER(_Explanation)]),
     "read_special": (c_bool, [POINTER(_Syntax), POINTER(_Specials), c_char_p, c_size_t, POINTER(_Special)]),
     "language": (c_void_p, [c_char_p, c_size_t]),
+    "language_haskell_ghc2021": (c_void_p, []),
+    "language_yaml_1_1": (c_void_p, []),
     "language_name": (c_char_p, [c_size_t]),
     "forms_read": (c_bool, [c_void_p, c_char_p, c_size_t, POINTER(_Literal), POINTER(_ReadError)]),
     "forms_read_prefix": (c_bool, [c_void_p, c_char_p, c_size_t, POINTER(_Literal), POINTER(_ReadError)]),
@@ -2114,6 +2116,9 @@ class Language(_Several, _Named):
     C: C's integer and floating constants (C23, 6.4.4.1 and 6.4.4.2). A format cannot accept `1u`, `1L` and `1.0f`.
         Forms: decimal; octal; hexadecimal; binary; hexadecimal float.
 
+    CSS: CSS's numbers, with signs (CSS Syntax Module Level 3, 4.3.12). A format cannot accept a unit, as in `10px` and
+        `5%`. Forms: decimal.
+
     CSV_DE: Numbers in CSV, as German spreadsheets write cells of the format `#.##0,00` (RFC 4180): `1.234,50`. The
         cause of `0.123` is its leading zero, since its groups are right. Forms: decimal.
 
@@ -2126,6 +2131,9 @@ class Language(_Several, _Named):
     C_SHARP: C#'s integer and real literals (C# standard, 6.4.5.3 and 6.4.5.4). A format cannot accept `1L`, `1f` and
         `1m`. Forms: decimal; hexadecimal; binary.
 
+    ELIXIR: Elixir's integers and floats (Syntax reference 1.14, Numbers). Numbers from 1.8e308 on are refused there.
+        Forms: decimal; hexadecimal; octal; binary.
+
     FORTRAN: Fortran's signed integers and reals (ISO/IEC 1539-1:2018, 7.4.3). A format cannot accept a kind, as in
         `1.0_8`, or binary, octal and hexadecimal constants, such as `Z'FF'`. Fortran rounds `0.1`, but not `0.1d0`, to
         single precision. Forms: decimal; double precision.
@@ -2133,7 +2141,12 @@ class Language(_Several, _Named):
     GO: Go's integer and floating-point literals (Language Specification). A format cannot accept `1i`. Forms: decimal;
         octal; hexadecimal; octal, 0o; binary; hexadecimal float.
 
-    HASKELL: Haskell's integers and floats (Haskell 2010 Report, 2.5). Forms: decimal; hexadecimal; octal.
+    HASKELL: Haskell's integers and floats (Haskell 2010 Report, 2.5). GHC reads more since 9.2: those of
+        `HASKELL_GHC2021`. Forms: decimal; hexadecimal; octal.
+
+    HASKELL_GHC2021: Haskell's integers and floats with the extensions of GHC that `GHC2021` has (GHC User's Guide 9.2,
+        NumericUnderscores, BinaryLiterals and HexFloatLiterals). A format cannot accept `1_e5` but reject `1_.5`. GHC
+        also accepts `_0.1`, which the guide does not. Forms: decimal; hexadecimal; octal; binary.
 
     JAVA: Java's integer and floating-point literals (Language Specification 21, 3.10.1 and 3.10.2). A format cannot
         accept `1L`, `1f` and `1d`. In Java, a hexadecimal, octal or binary integer from 2^31 on is negative:
@@ -2145,24 +2158,33 @@ class Language(_Several, _Named):
 
     JSON: JSON's numbers (RFC 8259, 6. Numbers). Forms: decimal.
 
-    JULIA: Julia's integers and floats (Manual 1.11, Integers and Floating-Point Numbers). Forms: decimal; 32 bits;
-        hexadecimal; octal; binary; hexadecimal float.
+    JULIA: Julia's integers and floats (Manual 1.11, Integers and Floating-Point Numbers). Julia rounds `0.1f0`, but
+        not `0.1`, to single precision. Forms: decimal; 32 bits; hexadecimal; octal; binary; hexadecimal float.
 
     KOTLIN: Kotlin's integer and real literals (Kotlin language specification 1.9, Literals). A format cannot accept
         `1L`, `1f` and `1u`. Forms: decimal; hexadecimal; binary.
 
+    LUA: Lua's integers and floats (Reference Manual 5.4, 3.1). In Lua, a decimal integer from 2^63 on is a float, and
+        a hexadecimal one keeps its last 64 bits: `0xffffffffffffffff` is -1. Forms: decimal; hexadecimal.
+
     NASM: NASM's numeric constants (NASM manual, Numeric Constants and Floating-Point Constants). A format cannot
-        accept `$0c8`, or reject `ffh`, which is a name. NASM keeps the last 64 bits of an integer:
-        `0x10000000000000000` is 0 there. Forms: decimal; decimal, d; decimal, t; hexadecimal, h; hexadecimal, x;
-        octal, o; octal, q; binary, b; binary, y; decimal, 0d; decimal, 0t; hexadecimal, 0h; hexadecimal, 0x; octal,
-        0o; octal, 0q; binary, 0b; binary, 0y.
+        accept `$0c8`, `0x_`, `0._` and `1e_`, which have separators alone, or `0h.` and `0op7`, which have no digit;
+        or reject `ffh`, which is a name. NASM keeps the last 64 bits of an integer: `0x10000000000000000` is 0 there.
+        Forms: decimal; decimal, d; decimal, t; hexadecimal, h; hexadecimal, x; octal, o; octal, q; binary, b; binary,
+        y; decimal, 0d; decimal, 0t; hexadecimal, 0h; hexadecimal, 0x; octal, 0o; octal, 0q; binary, 0b; binary, 0y.
 
     OCAML: OCaml's integers and floats (Manual 5.2, 11.1 Lexical conventions). A format cannot accept `1._`, whose
         fraction has a separator alone, or `1l`, `1L` and `1n`. In OCaml, an integer has 63 bits, and
         `0x7fffffffffffffff` is -1. Forms: decimal; hexadecimal; octal; binary.
 
+    PHP: PHP's integers and floats (Manual, 8.1 and later, Integers and Floating point numbers). In PHP, an integer
+        from 2^63 on is a float. Forms: decimal; octal; hexadecimal; octal, 0o; binary.
+
     PYTHON: Python's integers and floats (Language Reference 3.12, 2.4.5 and 2.4.6). A format cannot accept `00` and
         reject `01`, or accept `1j`. Forms: decimal; hexadecimal; octal; binary.
+
+    R: R's numeric constants (R Language Definition 4.2, 10.3.1). A format cannot accept `1L` and `1i`. In R, all are
+        doubles: `9007199254740993` is 9007199254740992 there. Forms: decimal; hexadecimal; hexadecimal float.
 
     RUBY: Ruby's integers and floats (ISO/IEC 30170:2012, 8.7.6.2), with signs. A format cannot accept `1r` and `1i`.
         Forms: decimal; octal; hexadecimal; octal, 0o; binary; decimal, 0d.
@@ -2177,34 +2199,48 @@ class Language(_Several, _Named):
 
     TOML: TOML's integers and floats (TOML 1.0.0, Integer and Float). Forms: decimal; hexadecimal; octal; binary.
 
+    XML_SCHEMA: The decimals of XML Schema, with signs (XML Schema 1.1, Part 2, 3.3.3). Forms: decimal.
+
     YAML: YAML's integers and floats (YAML 1.2.2, 10.3.2 Tag Resolution). A format cannot accept `.inf` and `.INF` but
-        reject `.iNF`, or accept `-.inf` but reject `-.nan`. Tools for YAML 1.1, such as PyYAML, differ: there, `010`
-        is 8, and `1e3` is a string. Forms: decimal; octal; hexadecimal.
+        reject `.iNF`, or accept `-.inf` but reject `-.nan`. Tools for YAML 1.1, such as PyYAML, read `YAML_1_1`:
+        there, `010` is 8, and `1e3` is a string. Forms: decimal; octal; hexadecimal.
+
+    YAML_1_1: YAML 1.1's integers and floats (int.html and float.html of its type repository). A format cannot accept
+        `1:30`, which is 90 there, `1._`, whose fraction has a separator alone, or `-.inf` but reject `-.nan` and
+        `.iNF`. PyYAML reads `-.5` and `._5` as strings. Forms: decimal; octal; hexadecimal; binary.
     """
 
     ADA = "ADA"
     C = "C"
+    CSS = "CSS"
     CSV_DE = "CSV_DE"
     CSV_EN = "CSV_EN"
     C_PLUS_PLUS = "C_PLUS_PLUS"
     C_SHARP = "C_SHARP"
+    ELIXIR = "ELIXIR"
     FORTRAN = "FORTRAN"
     GO = "GO"
     HASKELL = "HASKELL"
+    HASKELL_GHC2021 = "HASKELL_GHC2021"
     JAVA = "JAVA"
     JAVASCRIPT = "JAVASCRIPT"
     JSON = "JSON"
     JULIA = "JULIA"
     KOTLIN = "KOTLIN"
+    LUA = "LUA"
     NASM = "NASM"
     OCAML = "OCAML"
+    PHP = "PHP"
     PYTHON = "PYTHON"
+    R = "R"
     RUBY = "RUBY"
     RUST = "RUST"
     SQL = "SQL"
     SWIFT = "SWIFT"
     TOML = "TOML"
+    XML_SCHEMA = "XML_SCHEMA"
     YAML = "YAML"
+    YAML_1_1 = "YAML_1_1"
     # End
 
     @functools.cached_property

@@ -1,60 +1,94 @@
 """The languages, each with its tool, and the differences from it that are announced."""
 import collections
+import math
 import sys
 
-# A tool: the programs that it needs, commands that print its version and build its judge, and the judge.
-Tool = collections.namedtuple("Tool", "programs version build judge")
-PYTHON, YAML, MCS = sys.executable, "/usr/share/nodejs/yaml", "/usr/lib/mono/4.5/mcs.exe"
-JAVAC = " ".join(f"--add-exports jdk.compiler/com.sun.tools.javac.{it}=ALL-UNNAMED" for it in ("file", "parser", "util"))
+# A tool: its packages in Debian, the programs that it needs, commands that print its version and build its judge, and the
+# judge.
+Tool = collections.namedtuple("Tool", "package programs version build judge")
+PYTHON, DEBIAN, YAML, MCS = sys.executable, "/usr/bin/python3", "/usr/share/nodejs/yaml", "/usr/lib/mono/4.5/mcs.exe"
+PACKAGES = "/usr/lib/python3/dist-packages"
+JAVAC = " ".join(f"--add-exports jdk.compiler/com.sun.tools.javac.{it}=ALL-UNNAMED" for it in ("file", "parser", "tree", "util"))
 OCAMLC = "ocamlc -w -a -I +compiler-libs ocamlcommon.cma"
 TOOLS = {
-    "ast": Tool([PYTHON], f"{PYTHON} --version", "", f"{PYTHON} libraries.py python"),
-    "calc": Tool(["soffice"], "soffice --version", "", f"{PYTHON} calc.py"),
-    "g++": Tool(["g++"], "g++ --version", "", f"{PYTHON} compilers.py g++"),
-    "gcc": Tool(["gcc"], "gcc --version", "", f"{PYTHON} compilers.py gcc"),
-    "gfortran": Tool(["gfortran"], "gfortran --version", "", f"{PYTHON} compilers.py gfortran"),
-    "ghc": Tool(["ghc"], "ghc --version", "ghc -v0 -package ghc -outputdir {work} -o {work}/ghc haskell.hs", "{work}/ghc"),
-    "gnat": Tool(["gnatmake"], "gnatmake --version", "", f"{PYTHON} compilers.py gnat"),
-    "go": Tool(["go"], "go version", "go build -o {work}/go scanner.go", "{work}/go"),
-    "javac": Tool(["javac"], "javac --version", f"javac {JAVAC} -d {{work}} Scanner.java", f"java {JAVAC} -cp {{work}} Scanner"),
-    "json": Tool(["node"], "echo JSON.parse of node $(node --version)", "", "node node.js json"),
-    "kotlinc": Tool(["kotlinc"], "kotlinc -version 2>&1 | grep info", "", f"{PYTHON} compilers.py kotlinc"),
-    "mcs": Tool(["mcs", MCS], "mcs --version", f"mcs -r:{MCS} -out:{{work}}/cs.exe mcs.cs",
+    "ast": Tool("python3", [PYTHON], f"{PYTHON} --version", "", f"{PYTHON} libraries.py python"),
+    "calc": Tool("libreoffice-calc-nogui", ["soffice"], "soffice --version", "", f"{PYTHON} calc.py"),
+    "elixir": Tool("elixir", ["elixir"], "elixir --version | tail -1", "", "elixir elixir.exs"),
+    "g++": Tool("g++", ["g++"], "g++ --version", "", f"{PYTHON} compilers.py g++"),
+    "gcc": Tool("gcc", ["gcc"], "gcc --version", "", f"{PYTHON} compilers.py gcc"),
+    "gfortran": Tool("gfortran", ["gfortran"], "gfortran --version", "", f"{PYTHON} compilers.py gfortran"),
+    "ghc": Tool("ghc", ["ghc"], "ghc --version", "ghc -v0 -package ghc -outputdir {work} -o {work}/ghc haskell.hs", "{work}/ghc"),
+    "gnat": Tool("gnat", ["gnatmake"], "gnatmake --version", "", f"{PYTHON} compilers.py gnat"),
+    "go": Tool("golang-go", ["go"], "go version", "go build -o {work}/go scanner.go", "{work}/go"),
+    "javac": Tool("openjdk-17-jdk", ["javac"], "javac --version", f"javac {JAVAC} -d {{work}} Scanner.java", f"java {JAVAC} -cp {{work}} Scanner"),
+    "json": Tool("nodejs", ["node"], "echo JSON.parse of node $(node --version)", "", "node node.js json"),
+    "kotlinc": Tool("kotlin openjdk-17-jdk", ["kotlinc", "javap"], "kotlinc -version 2>&1 | grep info", "", f"{PYTHON} compilers.py kotlinc"),
+    "lua": Tool("lua5.4", ["lua5.4"], "lua5.4 -v", "", "lua5.4 lua.lua"),
+    "mcs": Tool("mono-mcs", ["mcs", MCS], "mcs --version", f"mcs -r:{MCS} -out:{{work}}/cs.exe mcs.cs",
                 "env MONO_PATH=/usr/lib/mono/4.5 mono {work}/cs.exe"),
-    "nasm": Tool(["nasm"], "nasm --version", "", f"{PYTHON} compilers.py nasm"),
-    "ocaml": Tool(["ocamlc"], "echo OCaml $(ocamlc -version)", f"cp ocaml.ml {{work}} && cd {{work}} && {OCAMLC} -o judge ocaml.ml",
+    "nasm": Tool("nasm", ["nasm"], "nasm --version", "", f"{PYTHON} compilers.py nasm"),
+    "ocaml": Tool("ocaml-nox ocaml-compiler-libs", ["ocamlc"], "echo OCaml $(ocamlc -version)", f"cp ocaml.ml {{work}} && cd {{work}} && {OCAMLC} -o judge ocaml.ml",
                   "{work}/judge"),
-    "postgres": Tool(["pg_config"], "pg_config --version", "", "./postgres.sh"),
-    "ruby": Tool(["ruby"], "ruby --version", "", "ruby ruby.rb"),
-    "rustc": Tool(["rustc"], "rustc --version", "", f"{PYTHON} compilers.py rustc"),
-    "sqlite": Tool([PYTHON], f"{PYTHON} -c 'import sqlite3; print(\"SQLite\", sqlite3.sqlite_version)'", "",
+    "php": Tool("php-cli", ["php"], "php --version", "", "php php.php"),
+    "postgres": Tool("postgresql libpq-dev", ["pg_config"], "pg_config --version", "", "./postgres.sh"),
+    "pyyaml": Tool("python3-yaml", [DEBIAN, f"{PACKAGES}/yaml"],
+                   f"{DEBIAN} -c 'import yaml; print(\"PyYAML\", yaml.__version__)'", "", f"{DEBIAN} libraries.py yaml"),
+    "r": Tool("r-base-core", ["Rscript"], "Rscript --version 2>&1", "", "Rscript --vanilla r.R"),
+    "ruby": Tool("ruby", ["ruby"], "ruby --version", "", "ruby ruby.rb"),
+    "rustc": Tool("rustc", ["rustc"], "rustc --version", "", f"{PYTHON} compilers.py rustc"),
+    "sqlite": Tool("python3", [PYTHON], f"{PYTHON} -c 'import sqlite3; print(\"SQLite\", sqlite3.sqlite_version)'", "",
                    f"{PYTHON} libraries.py sqlite"),
-    "tomllib": Tool([PYTHON], f"echo tomllib of $({PYTHON} --version)", "", f"{PYTHON} libraries.py toml"),
-    "v8": Tool(["node"], "echo V8 of node $(node --version)", "", "node node.js javascript"),
-    "yaml": Tool(["node", YAML], f"node -p '`yaml ${{require(\"{YAML}/package.json\").version}}`'", "", "node node.js yaml"),
+    "tinycss2": Tool("python3-tinycss2", [DEBIAN, f"{PACKAGES}/tinycss2"],
+                     f"{DEBIAN} -c 'import tinycss2; print(\"tinycss2\", tinycss2.__version__)'", "", f"{DEBIAN} libraries.py css"),
+    "tomllib": Tool("python3", [PYTHON], f"echo tomllib of $({PYTHON} --version)", "", f"{PYTHON} libraries.py toml"),
+    "v8": Tool("nodejs", ["node"], "echo V8 of node $(node --version)", "", "node node.js javascript"),
+    "xmllint": Tool("libxml2-utils", ["xmllint"], "xmllint --version 2>&1", "", "./xmllint.sh"),
+    "yaml": Tool("nodejs node-yaml", ["node", YAML], f"node -p '`yaml ${{require(\"{YAML}/package.json\").version}}`'", "", "node node.js yaml"),
 }
 
 # A difference: the mark `+` if the tool alone takes the texts, `-` if the library alone does, `=` if they differ in value, and
-# a pattern of the texts. If it has a group `number`, that is a number of the library.
-Cause = collections.namedtuple("Cause", "mark pattern reason")
+# a pattern of the texts. If it has a group `number`, that is a number of the library. What the library and the tool read pass
+# the test.
+Cause = collections.namedtuple("Cause", "mark pattern reason test", defaults=[lambda ours, theirs: True])
 
 
 def suffix(pattern):
     return Cause("+", f"(?P<number>.+?)({pattern})", "a suffix of a type")
 
 
-RANGE = Cause("-", r".*[dDeEpP]\+?\d{3,}|.{10,}", "a number that the tool has no type for")
+def out_of_range(most, single=None, pattern=".*"):
+    """The tool refuses integers from `most` on, and floats that become infinite or zero. Those of a form are singles."""
+    def test(ours, _):
+        if not ours.is_float:
+            return ours.exact is None or abs(ours.exact) >= most
+        return ours.exact != 0 and abs(ours.single if ours.form == single else ours.double) in (0, math.inf)
+
+    return Cause("-", pattern, "a number that the tool has no type for", test)
+
+
+def wraps(bits, is_signed, pattern=".*"):
+    """The tool keeps the last bits of an integer."""
+    def test(ours, theirs):
+        is_wrapped = ours.exact is None or ours.exact >= 2**bits >> is_signed and (ours.exact - theirs) % 2**bits == 0
+        return not ours.is_float and isinstance(theirs, int) and is_wrapped
+
+    return Cause("=", pattern, f"an integer of more than {bits - is_signed} bits", test)
+
+
+ZERO = Cause("=", r"-[0.,]+([eE].*)?", "a negative zero, which the tool does not have", lambda _, theirs: theirs == 0)
+ROUNDED = Cause("=", ".*", "a fault of the tool, which rounds to the next float",
+                lambda ours, theirs: theirs in [math.nextafter(ours.double, to) for to in (-math.inf, math.inf)])
 
 CELLS = [
     Cause("+", pattern, f"{what}, which no spreadsheet writes so")
     for pattern, what in (
-        (r"\+.*", "a plus sign"),
-        (r".*[eE].*", "an exponent"),
-        (r"-?0[0-9.,].*", "a leading zero"),
-        (r"-?[.,].*|.*[.,]", "a point without digits"),
-        (r"-?\d{4,}[.,]\d{3}.*", "a first group of four digits"),
+        (r"\+[\d.,]+([eE][+-]?\d+)?", "a plus sign"),
+        (r"-?[\d.,]+[eE][+-]?\d+", "an exponent"),
+        (r"-?0[\d.,]+", "a leading zero"),
+        (r"-?([.,][\d.,]+|[\d.,]+[.,])", "a point without digits"),
+        (r"-?\d{4,}[.,]\d{3}[\d.,]*", "a first group of four digits"),
     )
-]
+] + [ZERO, Cause("=", r"[\d.,-]{16,}", "more than 15 digits", lambda ours, theirs: math.isclose(ours.double, theirs, rel_tol=6e-15))]
 
 # A language: its name, its tool, the alphabet of the short texts, the separator of the seeds, and what other random texts are
 # near to.
@@ -62,40 +96,69 @@ Language = collections.namedtuple("Language", "name tool alphabet separator seed
 QUESTIONS = ["007", "0x1F", "1_000", "1'000", ".5e3", "0b12", "1.5e"]
 LANGUAGES = [
     Language("ADA", "gnat", "019._eE+-#", "_", "16#FF# 2#1.1#e3 1E-3 16#F.8#E1", [
-        Cause("+", r"[0-9_]+#.*", "a based literal"),
-        Cause("-", r"[0-9_]+[eE]-.*", "a negative exponent of an integer")]),
+        Cause("+", r"[\d_]+#[\da-fA-F_.]+#([eE][+-]?[\d_]+)?", "a based literal"),
+        Cause("-", r"[\d_]+[eE]-[\d_]+", "a negative exponent of an integer"), out_of_range(2**127), ROUNDED]),
     Language("C", "gcc", "018.'exp-b", "'", "1u 1UL 1.0f 0x1p3L 10wb", [
-        suffix("([uU]|ll?|LL?|wb|WB)+|[fFlL]|[dD][fFdDlL]"), Cause("+", r"[\d']+[fF]", "a float by its suffix alone"), RANGE]),
+        suffix("([uU]|ll?|LL?|wb|WB)+|[fFlL]|[dD][fFdDlL]"), Cause("+", r"[\d']+[fF]", "a float by its suffix alone"),
+        out_of_range(2**63, pattern="[1-9].*"), out_of_range(2**64)]),
+    Language("CSS", "tinycss2", "0189.eE+-x", "_", "1e3px 10%", []),
     Language("CSV_DE", "calc 1031", "0125.,-e", ".", "1.234,50 1.234.567,25 12.34 0,50 1.2345,0", CELLS),
     Language("CSV_EN", "calc 1033", "0125.,-e", ",", "1,234.50 1,234,567.25 12,34 0.50 1,2345.0", CELLS),
-    Language("C_PLUS_PLUS", "g++", "018.'exp-b", "'", "1u 1UL 1.0f 0x1p3L", [suffix("([uU]|ll?|LL?)+|[fFlL]"), RANGE]),
-    Language("C_SHARP", "mcs", "018._exf-+b", "_", "1m 1f 1UL", [
-        suffix("[uUlL]+|[fFdDmM]"), *(Cause(mark, ".*_.*", "a fault of mcs with separators") for mark in "+-="), RANGE]),
-    Language("FORTRAN", "gfortran", "019.edD-+_", "_", "1.0_8 1d3", [RANGE]),
+    Language("C_PLUS_PLUS", "g++", "018.'exp-b", "'", "1u 1UL 1.0f 0x1p3L", [
+        suffix("([uU]|ll?|LL?)+|[fFlL]"), out_of_range(2**63, pattern="[1-9].*"), out_of_range(2**64)]),
+    # mcs has faults with separators, so it gets none.
+    Language("C_SHARP", "mcs", "0189.exf-+b", "", "1m 1f 1UL", [
+        suffix("[uUlL]+|[fFdDmM]"), out_of_range(2**64), ROUNDED]),
+    Language("ELIXIR", "elixir", "018._exo-+", "_", "1.0e10 1.5e-3", [out_of_range(math.inf)]),
+    Language("FORTRAN", "gfortran", "019.edD-+_", "_", "1.0_8 1d3 1.5d300", [
+        out_of_range(2**31, single="0"), Cause("=", ".*", "a subnormal number, which the tool rounds to zero",
+                                               lambda ours, theirs: theirs == (0.0,) and abs(ours.single) < 2**-126)]),
     Language("GO", "go", "018._exp-+b", "_", "1i 0x1p3i", [
-        suffix("i"), Cause("+", "0[oO]?[0-9_]+i", "digits of an imaginary number")]),
+        suffix("i"), Cause("+", "0[oObB]?[0-9_]+i", "digits of an imaginary number")]),
     Language("HASKELL", "ghc", "018._exo-+", "_", "0o17 0xFF 1e5", []),
+    Language("HASKELL_GHC2021", "ghc NumericUnderscores BinaryLiterals HexFloatLiterals", "018._exp-b", "_", "1_e5 0x1_p3 0o_17", [
+        Cause("+", r"(0[xX])?[\da-fA-F_]+(\.[\da-fA-F_]+)?_[eEpP][+-]?\d[\d_]*", "a separator before an exponent"),
+        Cause("+", r"_+(?P<number>\d.*)", "a separator before a float, beside the guide")]),
     Language("JAVA", "javac", "018._exp-+b", "_", "1L 1f 08f 0x1p3d", [
-        suffix("[lLfFdD]"), Cause("+", r"[0-9_]*[fFdD]", "a float by its suffix alone"), RANGE]),
+        suffix("[lLfFdD]"), Cause("+", r"[0-9_]*[fFdD]", "a float by its suffix alone"),
+        out_of_range(2**31, pattern="[1-9].*"), out_of_range(2**32), wraps(32, True, "0.+")]),
     Language("JAVASCRIPT", "v8", "018._exn-+b", "_", "1n 0b1n", [suffix("n"), Cause("+", "NaN|Infinity", "a name")]),
     Language("JSON", "json", "012.eE+-x_", "_", "", []),
-    Language("KOTLIN", "kotlinc", "01._exL-", "_", "1L 1f 1u 1uL", [suffix("[uU]?L|[uU]|[fF]"), RANGE]),
-    Language("NASM", "nasm", "01a._hxebd", "_", "0c8h 0c8x 17q 17o 10d 10t 101b 101y 0h1F 0y1 0q7 0t9 $0c8 0x1.8p3", [
-        Cause("+", r"\$.*", "the prefix $, or an address"), Cause("-", "[a-fA-F].*", "a name, which a letter begins"),
+    Language("KOTLIN", "kotlinc", "01._exL-", "_", "1L 1f 1u 1uL", [
+        suffix("[uU]?L|[uU]|[fF]"), Cause("+", r"\d[\d_]*[fF]", "a float by its suffix alone"), out_of_range(2**63),
+        Cause("+", r"[\da-fA-FxXbB_]+_[uU]L?", "a separator before a suffix, beside the specification")]),
+    Language("LUA", "lua", "018.aexp-+", "_", "0x.8 0x1.8 0x1p3", [wraps(64, True)]),
+    Language("NASM", "nasm", "01a._hxebd", "_", "0c8h 0c8x 17q 17o 10d 10t 101b 101y 0h1F 0y1 0q7 0t9 $0c8 1h. 1x. 7q. 7o. 9d. 9t. 1b. 1y.", [
+        Cause("+", r"\$[\w$.]*", "the prefix $, or an address"), Cause("-", r"[a-fA-F][\da-fA-F_]*[hHxX]", "a name, which a letter begins"),
         Cause("+", r"0[a-zA-Z][_.]*([eEpP][+-]?[0-9_]*)?", "no digits behind a prefix"),
-        Cause("+", ".*[pP][+-]_*", "a sign without an exponent"),
-        Cause("+", r".*(\._+([eEpP].*)?|[eEpP][+-]?_+)|0[a-zA-Z]_+\..*", "a part of separators alone")]),
+        Cause("+", r"0[a-zA-Z][\w.]*[pP][+-]_*", "a sign without an exponent"),
+        Cause("+", r"[\w.]+(\._+([eEpP][+-]?[\d_]*)?|[eEpP][+-]?_+)|0[a-zA-Z]_+\.[\w.]*([pP][+-]?[\d_]*)?", "a part of separators alone"), wraps(64, False),
+        ROUNDED, Cause("=", ".*", "an infinite value, which the tool makes NaN",
+                       lambda ours, theirs: ours.double == math.inf and math.isnan(theirs))]),
     Language("OCAML", "ocaml", "018._exp-+b", "_", "1l 1n 1L 1z", [
-        suffix("[g-zG-Z]"), Cause("+", r".*\._+([eEpP].*)?[g-zG-Z]?", "a fraction of separators alone")]),
+        suffix("[g-zG-Z]"), Cause("+", r"\w+\._+([eEpP][+-]?\d[\d_]*)?[g-zG-Z]?", "a fraction of separators alone"),
+        out_of_range(2**62 + 1, pattern="[0-9_]+"), out_of_range(2**63), wraps(63, True)]),
+    Language("PHP", "php", "018._exo-b", "_", "0o17 0O17 0b1", []),
     Language("PYTHON", "ast", "018._exj-+b", "_", "1j 0j", [
         suffix("[jJ]"), Cause("+", "0[0_]*", "an integer of zeros alone"), Cause("+", "[0-9_]+[jJ]", "digits of an imaginary number")]),
+    Language("R", "r", "018.aexp-L", "_", "1L 1i 0x1.8p3", [
+        suffix("[Li]"), Cause("+", "NaN|Inf", "a name"), ROUNDED, Cause("+", r"0[xX]\.[pP][+-]?\d+[Li]?", "no digits behind a prefix")]),
     Language("RUBY", "ruby", "018._exr-+b", "_", "1r 1i 1ri 0d10", [suffix("ri?|i")]),
     Language("RUST", "rustc", "018._exo-u", "_", "1u8 1.5f32 1_i64 0x1z", [
-        suffix("([ui](8|16|32|64|128|size)|f32|f64)"), RANGE,
-        Cause("=", r"0x[\da-fA-F_]{8,}|0o[0-7_]{10,}|0b[01_]{30,}|[\d_]{10,}", "an integer above the type i32")]),
-    Language("SQL", "postgres", "019.eE+-x_", "_", "", []),
-    Language("SQL", "sqlite", "019.eE+-x_", "_", "", [Cause("+", "[+-]?0[xX].*", "hexadecimal, beyond the standard")]),
+        suffix("([ui](8|16|32|64|128|size)|f32|f64)"), out_of_range(2**128)]),
+    Language("SQL", "postgres", "019.eE+-x_", "_", "", [ZERO]),
+    Language("SQL", "sqlite", "019.eE+-x_", "_", "", [Cause("+", r"[+-]?0[xX][\da-fA-F]+", "hexadecimal, beyond the standard"), ROUNDED]),
     Language("TOML", "tomllib", "018._exo-+b", "_", "inf nan +inf", []),
-    Language("YAML", "yaml", "018.exo-+inf", "_", ".inf -.Inf .NaN", [
+    Language("XML_SCHEMA", "xmllint", "0189.eE+-x", "_", "+1.5 -.5", [
+        Cause("-", r"[+-]?[\d.]{25,}", "more than the 24 digits of the tool")]),
+    Language("YAML", "yaml", "018.exo-+inf", "_", ".inf -.Inf .NaN .iNF -.nan", [
         Cause("-", r"[+-]?\.(?i:inf|nan)", "a case or a sign that a format cannot refuse")]),
+    Language("YAML_1_1", "pyyaml", "018._ex-+:", "_", ".inf -.Inf .NaN .iNF -.nan 1:30 1:30.5 1.5e+3 0b1_ ._5", [
+        Cause("-", r"[+-]?\.(?i:inf|nan)", "a case or a sign that a format cannot refuse"),
+        Cause("-", r"([+-]\.|\._)[\d_]+(e[+-]\d+)?", "a string for PyYAML, beside the standard"),
+        Cause("+", r"[+-]?\d[\d_]*(:[0-5]?\d)+(\.[\d_]*)?", "a number of the base 60"),
+        Cause("+", r"[+-]?[\d_]+\._+(e[+-]\d+)?", "a fraction of separators alone")]),
 ]
+
+# Languages that no package of Debian has a tool for, and what only its faulty one judges.
+TABLES = {"JULIA": "no tool", "SWIFT": "no tool", "C_SHARP": "separators have no tool"}

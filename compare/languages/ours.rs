@@ -1,7 +1,7 @@
-//! The judge of the library. Reads texts of a language on standard input, and prints `-` and the form of the error, or `+`, the
-//! form and the value.
+//! The judge of the library. Reads texts of a language on standard input, and prints `-` and the form of the error; or `+`, the
+//! form, `i` or `f` for an integer or a float, the exact value or `none` if no type has it, and the bits of `f64` and `f32`.
 
-use peltzivar::literal::{Language, Number};
+use peltzivar::literal::Language;
 use std::io::{self, BufRead, Write};
 
 fn main() -> io::Result<()> {
@@ -10,11 +10,13 @@ fn main() -> io::Result<()> {
     let mut out = io::BufWriter::new(io::stdout().lock());
     for text in io::stdin().lock().lines() {
         match language.read(&text?) {
-            Ok(Number::Literal { literal, form }) => match i128::try_from(literal) {
-                Ok(value) => writeln!(out, "+ {form} {value}")?,
-                Err(_) => writeln!(out, "+ {form} {:e}", f64::try_from(literal).expect("a float"))?,
-            },
-            Ok(Number::Special(special)) => writeln!(out, "+ 0 {}", special.to_f64())?,
+            Ok(number) => {
+                let kind = if number.literal().is_some_and(|it| !it.is_float()) { 'i' } else { 'f' };
+                let exact = i128::try_from(number).map(|it| it.to_string());
+                let exact = exact.or_else(|_| u128::try_from(number).map(|it| it.to_string())).unwrap_or("none".into());
+                let single = f32::try_from(number).expect("a float").to_bits();
+                writeln!(out, "+ {} {kind} {exact} {:016x} {single:08x}", number.form().unwrap_or(0), number.to_f64().to_bits())?;
+            }
             Err(error) => writeln!(out, "- {}", error.form)?,
         }
     }

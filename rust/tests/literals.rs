@@ -1,7 +1,7 @@
 //! Literals that are read, over the tables of docs/FORMAT.md and docs/EXPLANATIONS.md, and the grammars of languages.
 
 use peltzivar::format::{CASE_SENSITIVE_SPECIAL, DIGIT_SEPARATOR_FLAG_MASK, NO_SPECIAL};
-use peltzivar::literal::{Condition, Form, Language, Literal, ReadError, ReadErrorKind, Specials, Syntax};
+use peltzivar::literal::{Condition, Form, Language, Literal, Number, ReadError, ReadErrorKind, Specials, Syntax};
 use peltzivar::{Edit, FlagSetter, Format, NumberFormatBuilder, Part, Settings};
 use std::collections::HashSet;
 
@@ -253,6 +253,18 @@ fn each_byte_between_two_digits_is_read_or_refused() {
     }
 }
 
+/// An integer is compared exactly, and a float by its bits, which are those of an `f32` if `f` is the end of the value. A word
+/// that is not a value names a part of a grammar.
+fn has_value(number: Number<'_>, value: &str) -> bool {
+    let is_same = |one: f64, other: f64| one.to_bits() == other.to_bits() || one.is_nan() && other.is_nan();
+    match (value.parse::<i128>(), value.parse::<f64>(), value.strip_suffix('f').map(str::parse::<f32>)) {
+        (Ok(integer), ..) => i128::try_from(number) == Ok(integer),
+        (_, Ok(double), _) => is_same(number.to_f64(), double),
+        (.., Some(Ok(single))) => is_same(f32::try_from(number).unwrap().into(), single.into()),
+        _ => true,
+    }
+}
+
 /// Each text of literals.txt, and of what the tools of languages answered, with its value if the tool printed one. Each form
 /// gives one of the numbers, and of one of the refused texts, it reads as much as any form, but not all.
 #[test]
@@ -277,10 +289,8 @@ fn languages_answer_as_their_grammars_and_tools_do() {
             let is_given = result.is_ok_and(|it| it.form() == Some(form));
             seen.extend((is_refused || is_given).then_some((language, form, is_given)));
         }
-        let value = cells.get(3).filter(|_| cells[1] == "+").and_then(|value| value.parse::<f64>().ok());
-        if let (Ok(number), Some(value)) = (result, value) {
-            let found = number.to_f64();
-            assert!(found == value || found.is_nan() && value.is_nan(), "{row}: not {found}");
+        if let (Ok(number), "+", Some(value)) = (result, cells[1], cells.get(3)) {
+            assert!(has_value(number, value), "{row}: not {number:?}");
         }
     }
     let forms = Language::ALL.iter().flat_map(|it| (0..it.forms().as_slice().len()).map(move |form| (it, form)));

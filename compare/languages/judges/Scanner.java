@@ -1,14 +1,15 @@
-// The judge of Java: the scanner of javac. Reads texts on standard input, and prints `-`, or `+` and the value.
+// The judge of Java: the scanner and the parser of javac. Reads texts on standard input, and prints `-`, or `+` and the value.
 import com.sun.tools.javac.file.JavacFileManager;
+import com.sun.tools.javac.parser.ParserFactory;
 import com.sun.tools.javac.parser.ScannerFactory;
 import com.sun.tools.javac.parser.Tokens.TokenKind;
+import com.sun.tools.javac.tree.JCTree.JCLiteral;
 import com.sun.tools.javac.util.Context;
 import com.sun.tools.javac.util.Log;
 import java.io.BufferedReader;
 import java.io.InputStreamReader;
 import java.io.PrintWriter;
 import java.io.Writer;
-import java.math.BigInteger;
 import java.net.URI;
 import javax.tools.JavaFileObject;
 import javax.tools.SimpleJavaFileObject;
@@ -25,21 +26,15 @@ class Scanner {
         });
         var scanner = ScannerFactory.instance(CONTEXT).newScanner(text, false);
         scanner.nextToken();
-        var token = scanner.token();
         scanner.nextToken();
         if (log.nerrors != 0 || scanner.token().kind != TokenKind.EOF) {
-            return "-";
+            return "-"; // not one token
         }
-        try {
-            return switch (token.kind) {
-                case INTLITERAL, LONGLITERAL -> "+ " + new BigInteger(token.stringVal(), token.radix());
-                case FLOATLITERAL, DOUBLELITERAL ->
-                    "+ " + Double.parseDouble((token.radix() == 16 ? "0x" : "") + token.stringVal());
-                default -> "-";
-            };
-        } catch (NumberFormatException error) {
-            return "-"; // as the parser, which reads the digits of `08`
+        var tree = ParserFactory.instance(CONTEXT).newParser(text, false, false, false).parseExpression();
+        if (log.nerrors != 0 || !(tree instanceof JCLiteral literal)) {
+            return "-"; // as `08`, whose digits the parser reads
         }
+        return literal.getValue() instanceof Number value ? "+ " + value : "-";
     }
 
     public static void main(String[] arguments) throws Exception {

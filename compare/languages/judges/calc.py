@@ -20,5 +20,5 @@ answers = []
 for row in rows:
     value = re.search(r'office:value-type="float"[^>]*office:value="([^"]*)"', row)
     count = re.search(r'number-rows-repeated="([^"]*)"', row)
-    answers += [f"+ {value[1]}" if value else "-"] * min(int(count[1]) if count else 1, len(texts))
+    answers += [f"+ {float(value[1]).hex()}" if value else "-"] * min(int(count[1]) if count else 1, len(texts))
 print("\n".join(answers[: len(texts)]))

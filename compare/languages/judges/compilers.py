@@ -9,31 +9,52 @@ import subprocess
 import sys
 import tempfile
 
-# A compiler: its command and source; the text before all units, the unit of a number, in three lines, and the text after
-# all; the same of a program that prints each number in a line, or the type of numbers of an output without a program.
-# A sign belongs to the number if `signed` is true.
-Compiler = collections.namedtuple("Compiler", "command source head unit tail printing signed", defaults=[None, False])
+# A compiler: its command and source; the text before all units, the unit of a number, in three lines, and the text after all;
+# the same of a program that prints each number in a line, the type of numbers of an output without a program, or a command
+# that prints the values of constants. A sign belongs to the number if `signed` is true. A lexer says which texts are one token.
+Compiler = collections.namedtuple("Compiler", "command source head unit tail printing signed lexer", defaults=[None, False, None])
 GCC = "-pedantic-errors -fmax-errors=0 -fno-diagnostics-show-caret -fdiagnostics-column-unit=byte -o out"
 C = "", '_Static_assert(sizeof(\n{text}\n), "");\n', "int main(void) {}\n"
-PRINT_C = "#include <stdio.h>\nint main(void) {\n", 'printf("%a\\n", (double)({text}\n));\n', "}\n"
+SHOW = "show(\n{text}\n);\n"
+PRINT_C = """#include <stdio.h>
+static void integer(unsigned long long it) { printf("%llu\\n", it); }
+static void floating(double it) { printf("%a\\n", it); }
+#define show(it) _Generic((it), float: floating, double: floating, long double: floating, default: integer)(it)
+int main(void) {
+""", SHOW, "}\n"
+PRINT_CC = """#include <stdio.h>
+template<class T> static void show(T it) { T(0.5) ? printf("%a\\n", (double)it) : printf("%llu\\n", (unsigned long long)it); }
+int main(void) {
+""", SHOW, "}\n"
 ADA = "procedure A is\n", "Number{i} : constant :=\n{text}\n;\n", "begin\nnull;\nend A;\n"
-PRINT_ADA = ("with Ada.Text_IO;\nprocedure A is\nbegin\n",
-             "Ada.Text_IO.Put_Line (Long_Long_Float'Image (Long_Long_Float ({text}\n)));\n", "end A;\n")
-FORTRAN = "", "data value{i} / &\n{text} &\n/\n", "end\n"
-PRINT_FORTRAN = "", "print '(ES25.17E3)', real({text})\n", "end\n"
+PRINT_ADA = """with Ada.Text_IO, Ada.Unchecked_Conversion, Interfaces;
+procedure A is
+function Bits is new Ada.Unchecked_Conversion (Long_Float, Interfaces.Unsigned_64);
+package Bits_IO is new Ada.Text_IO.Modular_IO (Interfaces.Unsigned_64);
+procedure Show (It : Long_Long_Long_Integer) is begin Ada.Text_IO.Put_Line (It'Image); end Show;
+procedure Show (It : Long_Float) is begin Bits_IO.Put (Bits (It), Base => 16); Ada.Text_IO.New_Line; end Show;
+begin
+""", "begin Show (\n{text}\n); exception when others => Ada.Text_IO.New_Line; end;\n", "end A;\n"
+FORTRAN = "implicit double precision (v)\n", "data value{i} / &\n{text} &\n/\n", "end\n"
+# The value, with the digits that its kind has, and the kind: 4 is that of integers and singles.
+PRINT_FORTRAN = "", "print '(G0, 1X, I0)', {text}, kind( &\n{text} &\n)\n", "end\n"
 RUST = ("#![allow(overflowing_literals)]\nmacro_rules! number { ($x:literal) => { const _: f64 = $x as f64; } }\n",
         "number! {{\n{text}\n}}\n", "fn main() {}\n")
-PRINT_RUST = "#![allow(overflowing_literals)]\nfn main() {\n", 'println!("{:e}", {text} as f64);\n', "}\n"
+PRINT_RUST = """trait Show { fn show(it: Self); }
+impl Show for u128 { fn show(it: u128) { println!("{it}") } }
+impl Show for f64 { fn show(it: f64) { println!("d{:016x}", it.to_bits()) } }
+fn main() {
+""", "Show::show(\n{text}\n);\n", "}\n"
 COMPILERS = {
     "gcc": [Compiler(f"gcc -std=c2x {GCC}", "a.c", *C, PRINT_C)],
-    "g++": [Compiler(f"g++ -std=c++17 -D_Static_assert=static_assert {GCC}", "a.cc", *C, PRINT_C)],
+    "g++": [Compiler(f"g++ -std=c++17 -D_Static_assert=static_assert {GCC}", "a.cc", *C, PRINT_CC)],
     "gnat": [Compiler("gnatmake -f -q -o out -gnatf -gnatm999999 -gnatws", "a.adb", *ADA, PRINT_ADA)],
-    "gfortran": [Compiler(f"gfortran -std=f2018 -fdefault-real-8 -fdefault-double-8 {GCC}", "a.f90", *FORTRAN, PRINT_FORTRAN,
-                          signed=True)],
-    "nasm": [Compiler("nasm -f bin -o out", "a.asm", "bits 64\n", "mov rax, {text}\n\n\n", "", "q"),
+    "gfortran": [Compiler(f"gfortran -std=f2018 {GCC}", "a.f90", *FORTRAN, PRINT_FORTRAN, signed=True)],
+    "nasm": [Compiler("nasm -f bin -o out", "a.asm", "bits 64\n", "mov rax, {text}\n\n\n", "", "Q"),
              Compiler("nasm -f bin -o out", "a.asm", "bits 64\n", "mov rax, __float64__({text})\n\n\n", "", "d")],
     "rustc": [Compiler("rustc --error-format=short -o out", "a.rs", *RUST, PRINT_RUST)],
-    "kotlinc": [Compiler("kotlinc -d out", "a.kt", "", "const val number{i} =\n{text}\n\n", "")],
+    "kotlinc": [Compiler("kotlinc -d out", "a.kt", "", "const val number{i} =\n{text}\n\n", "", "javap -constants out/AKt.class",
+                         lexer=["java", "-cp", "/usr/share/kotlin/kotlinc/lib/*", "KotlinTokens.java"])],
 }
 
 
@@ -47,36 +68,51 @@ def compile(it, folder, source):
     return [int(line) for line in lines]
 
 
-def accepted(it, folder, texts):
+def accepted(it, folder, texts, program=None):
     """Returns the indexes of the texts that a compiler takes. An error hides others, so the rest is compiled again."""
+    head, unit, tail = program or it[2:5]
     left, lines = list(range(len(texts))), [0]
     while lines and left:
-        units = "".join(it.unit.format(i=i, text=texts[i]) for i in left)
-        lines = compile(it, folder, it.head + units + it.tail)
-        refused = {(line - 1 - it.head.count("\n")) // 3 for line in lines}
+        units = "".join(unit.format(i=i, text=texts[i]) for i in left)
+        lines = compile(it, folder, head + units + tail)
+        refused = {(line - 1 - head.count("\n")) // 3 for line in lines}
         left = [text for place, text in enumerate(left) if place not in refused]
     return left
 
 
 def values(it, folder, texts):
-    """Returns the value of each text."""
-    if it.printing in ("q", "d"):
+    """Returns the values of the texts that the compiler has a type for."""
+    if it.printing in ("Q", "d"):
         compile(it, folder, "".join(f"dq {text}\n" for text in texts))
         return [value for value, in struct.iter_unpack(it.printing, (folder / "out").read_bytes())]
-    if not it.printing or not texts:
-        return [""] * len(texts)
-    head, unit, tail = it.printing
-    compile(it, folder, head + "".join(unit.replace("{text}", text) for text in texts) + tail)
-    return subprocess.run([folder / "out"], capture_output=True, text=True).stdout.splitlines()
+    if isinstance(it.printing, str):
+        left = accepted(it, folder, texts)
+        lines = subprocess.run(it.printing.split(), cwd=folder, capture_output=True, text=True).stdout
+        found = re.findall(r"number(\d+) = (\S+?)[dfl]?;", lines)
+    else:
+        left = accepted(it, folder, texts, it.printing)
+        lines = subprocess.run([folder / "out"], capture_output=True, text=True).stdout.splitlines() if left else []
+        lines = [re.sub("16#(.*)#", lambda it: f"d{it[1]:>016}", line.strip()) for line in lines]  # of Ada
+        lines = [re.sub(" [48]$", "", re.sub(r"(\..*) 4$", r"\1f", line)) for line in lines]  # of Fortran
+        found = zip(left, lines, strict=True)
+    found = {int(i): value for i, value in found}
+    return [found.get(i, "") for i in range(len(texts))]
 
 
 def tokens(it, folder, texts):
-    """Returns the indexes of the texts that are one token: with a blank, they are something else."""
+    """Returns the indexes of the texts that are one token: with a blank, most others are something else at the first place."""
+    if it.lexer:
+        lines = subprocess.run(it.lexer, input="\n".join([*texts, ""]), capture_output=True, text=True, check=True).stdout.split("\n")
+        left = [i for i in range(len(texts)) if lines[i] == "+"]
+        return [left[i] for i in accepted(it, folder, [texts[i] for i in left])]
     left = accepted(it, folder, texts)
     first = {i: 2 if it.signed and texts[i][0] in "+-" else 1 for i in left}
-    split = [(i, f"{texts[i][:at]} {texts[i][at:]}") for i in left for at in range(first[i], len(texts[i]))]
-    phrases = {split[i][0] for i in accepted(it, folder, [text for _, text in split])}
-    return [i for i in left if i not in phrases]
+    for is_first in (True, False):
+        split = [(i, at) for i in left for at in range(first[i], len(texts[i])) if (at == first[i]) == is_first]
+        phrases = accepted(it, folder, [f"{texts[i][:at]} {texts[i][at:]}" for i, at in split])
+        found = {split[phrase][0] for phrase in phrases}
+        left = [i for i in left if i not in found]
+    return left
 
 
 SIZE = 20000 if sys.argv[1] == "kotlinc" else 4000

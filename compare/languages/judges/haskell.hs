@@ -1,4 +1,5 @@
--- The judge of Haskell: the lexer of GHC. Reads texts on standard input, and prints `-`, or `+` and the value.
+-- The judge of Haskell: the lexer of GHC, with the extensions that are arguments. Reads texts on standard input, and prints
+-- `-`, or `+` and the value.
 module Main (main) where
 
 import Control.Monad.IO.Class (liftIO)
@@ -6,11 +7,12 @@ import Data.Maybe (fromMaybe)
 import GHC (getSessionDynFlags, runGhc)
 import GHC.Data.FastString (fsLit)
 import GHC.Data.StringBuffer (stringToStringBuffer)
-import GHC.Driver.Session (DynFlags, Language (Haskell2010), lang_set)
+import GHC.Driver.Session (DynFlags, Language (Haskell2010), flagSpecFlag, flagSpecName, lang_set, xFlags, xopt_set)
 import GHC.Parser.Lexer (ParseResult (..), Token (..), getMessages, lexTokenStream)
 import GHC.Types.Basic (FractionalLit (..), IntegralLit (..))
 import GHC.Data.Bag (isEmptyBag)
 import GHC.Types.SrcLoc (mkRealSrcLoc, unLoc)
+import System.Environment (getArgs)
 import System.Process (readProcess)
 
 judge :: DynFlags -> String -> String
@@ -25,5 +27,7 @@ main :: IO ()
 main = do
   folder <- init <$> readProcess "ghc" ["--print-libdir"] ""
   runGhc (Just folder) $ do
-    flags <- getSessionDynFlags
-    liftIO $ interact (unlines . map (judge (lang_set flags (Just Haskell2010))) . lines)
+    standard <- (`lang_set` Just Haskell2010) <$> getSessionDynFlags
+    names <- liftIO getArgs
+    let flags = foldl xopt_set standard [flagSpecFlag it | it <- xFlags, flagSpecName it `elem` names]
+    liftIO $ interact (unlines . map (judge flags) . lines)

@@ -1,4 +1,6 @@
-"""Judges of Python: `ast`, `tomllib` and `sqlite3`. Reads texts on standard input, and prints `-`, or `+` and the value."""
+"""Judges of Python: `ast`, `tomllib`, `sqlite3`, `tinycss2` and `yaml`. Reads texts on standard input, and prints `-`, or `+`
+and the value.
+"""
 import ast
 import sqlite3
 import sys
@@ -30,11 +32,29 @@ def sqlite(text):
     return DATABASE.execute(f"SELECT ({text})").fetchone()[0]
 
 
-judge = {"python": python, "toml": toml, "sqlite": sqlite}[sys.argv[1]]
+def css(text):
+    tokens = tinycss2.parse_component_value_list(text)
+    token = tokens[0] if len(tokens) == 1 and tokens[0].type == "number" else None
+    return token and (token.int_value if token.is_integer else token.value)
+
+
+def yaml(text):
+    return PyYAML.safe_load(text)
+
+
+if sys.argv[1] == "css":
+    import tinycss2
+if sys.argv[1] == "yaml":
+    import yaml as PyYAML
+judge = {"python": python, "toml": toml, "sqlite": sqlite, "css": css, "yaml": yaml}[sys.argv[1]]
 for line in sys.stdin:
     try:
         value = judge(line.rstrip("\n"))
     except (SyntaxError, ValueError, sqlite3.Error):
+        value = None
+    except Exception as error:  # of PyYAML, which is not there for other judges
+        if not type(error).__module__.startswith("yaml."):
+            raise
         value = None
     is_number = isinstance(value, (int, float, complex)) and not isinstance(value, bool)
     print(f"+ {value!r}" if is_number else "-")

@@ -1,7 +1,6 @@
 // The judge of C#: the tokenizer of mcs. Reads texts on standard input, and prints `-`, or `+` and the value.
 using System;
 using System.Collections.Generic;
-using System.Globalization;
 using System.IO;
 using System.Text;
 using Mono.CSharp;
@@ -20,8 +19,9 @@ static class Judge {
             tokenizer.token();
             var value = (tokenizer.Value as Constant)?.GetValue();
             bool isNumber = value is IConvertible && !(value is char || value is string);
-            return isNumber && tokenizer.token() == EndOfFile && context.Report.Errors == 0
-                ? "+ " + Convert.ToDouble(value).ToString("R", CultureInfo.InvariantCulture) : "-";
+            if (!isNumber || tokenizer.token() != EndOfFile || context.Report.Errors != 0) return "-";
+            bool isFloat = value is float || value is double || value is decimal;
+            return isFloat ? "+ d" + BitConverter.DoubleToInt64Bits(Convert.ToDouble(value)).ToString("x16") : "+ " + value;
         } catch (FormatException) {
             return "-";
         }

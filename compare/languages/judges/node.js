@@ -17,10 +17,13 @@ function javascript(text) {
 const options = { version: "1.2", schema: "core", logLevel: "silent" };
 const yaml = text => require("/usr/share/nodejs/yaml").parse(text, options);
 const judge = { javascript, json: JSON.parse, yaml }[process.argv[2]];
+const bits = Buffer.alloc(8);
 for (const text of require("fs").readFileSync(0, "utf8").split("\n").slice(0, -1)) {
     let value;
     try {
         value = judge(text);
     } catch {}
-    process.stdout.write(["number", "bigint"].includes(typeof value) ? `+ ${value}\n` : "-\n");
+    bits.writeDoubleBE(typeof value === "number" ? value : 0);
+    const shown = { number: `d${bits.toString("hex")}`, bigint: value }[typeof value];
+    process.stdout.write(shown === undefined ? "-\n" : `+ ${shown}\n`);
 }

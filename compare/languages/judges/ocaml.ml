@@ -1,4 +1,5 @@
-(* The judge of OCaml: its lexer. Reads texts on standard input, and prints `-`, or `+` and the value. *)
+(* The judge of OCaml: its lexer, and its conversion of integers. Reads texts on standard input,
+   and prints `-`, or `+` and the value. *)
 let judge text =
   let buffer = Lexing.from_string text in
   try
@@ -7,11 +8,10 @@ let judge text =
     else
       match first with
       | Parser.INT (_, Some _) | Parser.FLOAT (_, Some _) -> "+"
-      | Parser.INT (digits, None) -> (
-          match Int64.of_string_opt digits with Some value -> Printf.sprintf "+ %Ld" value | None -> "+")
+      | Parser.INT (digits, None) -> Printf.sprintf "+ %d" (Misc.Int_literal_converter.int digits)
       | Parser.FLOAT (digits, None) -> Printf.sprintf "+ %h" (float_of_string digits)
       | _ -> "-"
-  with Lexer.Error _ -> "-"
+  with Lexer.Error _ | Failure _ -> "-"
 
 let () =
   Warnings.parse_options false "-a" |> ignore;

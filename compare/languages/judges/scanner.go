@@ -7,6 +7,7 @@ import (
 	"go/constant"
 	"go/scanner"
 	"go/token"
+	"math"
 	"os"
 )
 
@@ -26,7 +27,7 @@ func judge(text string) string {
 		return "+ " + value.ExactString()
 	}
 	float, _ := constant.Float64Val(value)
-	return fmt.Sprintf("+ %g", float)
+	return fmt.Sprintf("+ d%016x", math.Float64bits(float))
 }
 
 func main() {

@@ -195,8 +195,8 @@ macro_rules! languages {
             }
         )*
 
-        /// The calls, by the names of their languages.
-        static CALLS: [(&str, extern "C" fn() -> *const Forms); Language::ALL.len()] = [$((stringify!($NAME), $call)),*];
+        /// The calls of all languages, in the order of their names.
+        static CALLS: [extern "C" fn() -> *const Forms; Language::ALL.len()] = [$($call),*];
     };
 }
 
@@ -204,27 +204,35 @@ languages! {
     // Made by make_python.py: language_list
     ADA peltzivar_language_ada
     C peltzivar_language_c
+    CSS peltzivar_language_css
     CSV_DE peltzivar_language_csv_de
     CSV_EN peltzivar_language_csv_en
     C_PLUS_PLUS peltzivar_language_c_plus_plus
     C_SHARP peltzivar_language_c_sharp
+    ELIXIR peltzivar_language_elixir
     FORTRAN peltzivar_language_fortran
     GO peltzivar_language_go
     HASKELL peltzivar_language_haskell
+    HASKELL_GHC2021 peltzivar_language_haskell_ghc2021
     JAVA peltzivar_language_java
     JAVASCRIPT peltzivar_language_javascript
     JSON peltzivar_language_json
     JULIA peltzivar_language_julia
     KOTLIN peltzivar_language_kotlin
+    LUA peltzivar_language_lua
     NASM peltzivar_language_nasm
     OCAML peltzivar_language_ocaml
+    PHP peltzivar_language_php
     PYTHON peltzivar_language_python
+    R peltzivar_language_r
     RUBY peltzivar_language_ruby
     RUST peltzivar_language_rust
     SQL peltzivar_language_sql
     SWIFT peltzivar_language_swift
     TOML peltzivar_language_toml
+    XML_SCHEMA peltzivar_language_xml_schema
     YAML peltzivar_language_yaml
+    YAML_1_1 peltzivar_language_yaml_1_1
     // End
 }
 
@@ -247,7 +255,8 @@ calls! {
 
     fn peltzivar_language(name: *const u8, len: usize) -> *const Forms {
         let name = input(name, len).unwrap_or_default();
-        CALLS.iter().find(|(it, _)| it.as_bytes() == name).map_or(ptr::null(), |(_, call)| call())
+        let index = NAMES.split(|byte| *byte == 0).position(|it| it == name);
+        index.and_then(|index| CALLS.get(index)).map_or(ptr::null(), |call| call())
     }
 
     fn peltzivar_language_name(index: usize) -> *const u8 { at(NAMES, index) }

@@ -92,6 +92,9 @@ const GO_PREFIXED: NumberFormatBuilder = separated(b'_').integer_leading_digit_s
 /// Digits of OCaml, Rust and Swift.
 const RUST: NumberFormatBuilder = JAVA.trailing_digit_separator(true); // accepts `1_`
 
+/// Digits of YAML 1.1, after a sign.
+const YAML_1_1: NumberFormatBuilder = RUST.no_positive_mantissa_sign(false); // accepts `+1`
+
 /// Digits of Rust behind a prefix.
 const RUST_PREFIXED: NumberFormatBuilder = RUST
     .case_sensitive_base_prefix(true) // rejects `0X1F`
@@ -132,6 +135,12 @@ languages! {
         "hexadecimal float": binary_floats(b'x', 16, C.required_exponent_notation(true)), // rejects `0x1.8`
     };
 
+    /// CSS's numbers, with signs (CSS Syntax Module Level 3, 4.3.12). A format cannot accept a unit, as in `10px` and `5%`.
+    CSS = { "decimal": numbers(b'e', b'.', NumberFormatBuilder::new()
+        .no_special(true) // rejects `NaN` and `inf`
+        .required_fraction_digits(true) // rejects `1.`, not `.5`
+    ) };
+
     /// Numbers in CSV, as German spreadsheets write cells of the format `#.##0,00` (RFC 4180): `1.234,50`. The
     /// cause of `0.123` is its leading zero, since its groups are right.
     CSV_DE = { "decimal": grouped(numbers(b'e', b',', SPREADSHEET.digit_separator(NonZeroU8::new(b'.')))) };
@@ -157,6 +166,17 @@ languages! {
         "binary": prefixed(b'b', 2, JAVA.integer_leading_digit_separator(true)), // accepts `0b_1`
     };
 
+    /// Elixir's integers and floats (Syntax reference 1.14, Numbers). Numbers from 1.8e308 on are refused there.
+    ELIXIR = {
+        "decimal": decimal(separated(b'_')
+            .required_digits(true) // rejects `.5`, `1.`, `1e` and `.`
+            .no_exponent_without_fraction(true) // rejects `1e5`, not `1.0e5`
+        ),
+        "hexadecimal": prefixed(b'x', 16, separated(b'_').case_sensitive_base_prefix(true)), // rejects `0X1F`
+        "octal": prefixed(b'o', 8, separated(b'_').case_sensitive_base_prefix(true)), // rejects `0O17`
+        "binary": prefixed(b'b', 2, separated(b'_').case_sensitive_base_prefix(true)), // rejects `0B1`
+    };
+
     /// Fortran's signed integers and reals (ISO/IEC 1539-1:2018, 7.4.3). A format cannot accept a kind, as in `1.0_8`, or
     /// binary, octal and hexadecimal constants, such as `Z'FF'`. Fortran rounds `0.1`, but not `0.1d0`, to single precision.
     FORTRAN = {
@@ -174,11 +194,24 @@ languages! {
         "hexadecimal float": binary_floats(b'x', 16, GO_PREFIXED.required_exponent_notation(true)), // rejects `0x1.8`
     };
 
-    /// Haskell's integers and floats (Haskell 2010 Report, 2.5).
+    /// Haskell's integers and floats (Haskell 2010 Report, 2.5). GHC reads more since 9.2: those of `HASKELL_GHC2021`.
     HASKELL = {
         "decimal": decimal(TOKENS.required_digits(true)), // rejects `.5`, `1.`, `1e` and `.`
         "hexadecimal": prefixed(b'x', 16, TOKENS),
         "octal": prefixed(b'o', 8, TOKENS),
+    };
+
+    /// Haskell's integers and floats with the extensions of GHC that `GHC2021` has (GHC User's Guide 9.2, NumericUnderscores,
+    /// BinaryLiterals and HexFloatLiterals). A format cannot accept `1_e5` but reject `1_.5`. GHC also accepts `_0.1`, which the
+    /// guide does not.
+    HASKELL_GHC2021 = {
+        "decimal": decimal(JAVA.required_digits(true)), // rejects `.5`, `1.`, `1e` and `.`
+        "hexadecimal": binary_floats(b'x', 16, JAVA
+            .integer_leading_digit_separator(true) // accepts `0x_1F`
+            .required_digits(true) // rejects `0x.8`, `0x1.` and `0x1p`
+        ),
+        "octal": prefixed(b'o', 8, JAVA.integer_leading_digit_separator(true)), // accepts `0o_17`
+        "binary": prefixed(b'b', 2, JAVA.integer_leading_digit_separator(true)), // accepts `0b_1`
     };
 
     /// Java's integer and floating-point literals (Language Specification 21, 3.10.1 and 3.10.2). A format cannot accept
@@ -203,7 +236,8 @@ languages! {
     /// JSON's numbers (RFC 8259, 6. Numbers).
     JSON = { "decimal": signed(decimal(without_zeros(TOKENS).required_digits(true))) }; // rejects `.5`, `1.`, `1e` and `.`
 
-    /// Julia's integers and floats (Manual 1.11, Integers and Floating-Point Numbers).
+    /// Julia's integers and floats (Manual 1.11, Integers and Floating-Point Numbers). Julia rounds `0.1f0`, but not `0.1`, to
+    /// single precision.
     JULIA = {
         "decimal": decimal(JULIA),
         "32 bits": unsigned(numbers(b'f', b'.', JULIA.case_sensitive_exponent(true))), // accepts `1f3`, not `1F3`
@@ -227,8 +261,16 @@ languages! {
         "binary": prefixed(b'b', 2, JAVA),
     };
 
+    /// Lua's integers and floats (Reference Manual 5.4, 3.1). In Lua, a decimal integer from 2^63 on is a float, and a
+    /// hexadecimal one keeps its last 64 bits: `0xffffffffffffffff` is -1.
+    LUA = {
+        "decimal": decimal(TOKENS),
+        "hexadecimal": binary_floats(b'x', 16, TOKENS),
+    };
+
     /// NASM's numeric constants (NASM manual, Numeric Constants and Floating-Point Constants). A format cannot accept `$0c8`,
-    /// or reject `ffh`, which is a name. NASM keeps the last 64 bits of an integer: `0x10000000000000000` is 0 there.
+    /// `0x_`, `0._` and `1e_`, which have separators alone, or `0h.` and `0op7`, which have no digit; or reject `ffh`, which is a
+    /// name. NASM keeps the last 64 bits of an integer: `0x10000000000000000` is 0 there.
     NASM = {
         "decimal": decimal(NASM
             .required_integer_digits(true) // rejects `.5`, not `1.`
@@ -273,6 +315,16 @@ languages! {
         "binary": prefixed(b'b', 2, RUST),
     };
 
+    /// PHP's integers and floats (Manual, 8.1 and later, Integers and Floating point numbers). In PHP, an integer from 2^63 on is
+    /// a float.
+    PHP = {
+        "decimal": decimal(separated(b'_').no_integer_leading_zeros(true)), // rejects `08`, not `08.5`
+        "octal": integers(8, separated(b'_')),
+        "hexadecimal": prefixed(b'x', 16, separated(b'_')),
+        "octal, 0o": prefixed(b'o', 8, separated(b'_')),
+        "binary": prefixed(b'b', 2, separated(b'_')),
+    };
+
     /// Python's integers and floats (Language Reference 3.12, 2.4.5 and 2.4.6). A format cannot accept `00` and reject `01`,
     /// or accept `1j`.
     PYTHON = {
@@ -280,6 +332,14 @@ languages! {
         "hexadecimal": prefixed(b'x', 16, GO_PREFIXED),
         "octal": prefixed(b'o', 8, GO_PREFIXED),
         "binary": prefixed(b'b', 2, GO_PREFIXED),
+    };
+
+    /// R's numeric constants (R Language Definition 4.2, 10.3.1). A format cannot accept `1L` and `1i`. In R, all are doubles:
+    /// `9007199254740993` is 9007199254740992 there.
+    R = {
+        "decimal": decimal(TOKENS),
+        "hexadecimal": prefixed(b'x', 16, TOKENS),
+        "hexadecimal float": binary_floats(b'x', 16, TOKENS.required_exponent_notation(true)), // rejects `0x1.8`
     };
 
     /// Ruby's integers and floats (ISO/IEC 30170:2012, 8.7.6.2), with signs. A format cannot accept `1r` and `1i`.
@@ -339,12 +399,41 @@ languages! {
         "binary": prefixed(b'b', 2, separated(b'_').case_sensitive_base_prefix(true)), // rejects `0B1`
     }, Specials { nan: Some(b"nan"), inf: Some(b"inf"), infinity: None };
 
+    /// The decimals of XML Schema, with signs (XML Schema 1.1, Part 2, 3.3.3).
+    XML_SCHEMA = { "decimal": numbers(b'e', b'.', NumberFormatBuilder::new()
+        .no_special(true) // rejects `NaN` and `INF`, which are floats
+        .no_exponent_notation(true) // rejects `1e5`
+    ) };
+
     /// YAML's integers and floats (YAML 1.2.2, 10.3.2 Tag Resolution). A format cannot accept `.inf` and `.INF` but reject
-    /// `.iNF`, or accept `-.inf` but reject `-.nan`. Tools for YAML 1.1, such as PyYAML, differ: there, `010` is 8, and
-    /// `1e3` is a string.
+    /// `.iNF`, or accept `-.inf` but reject `-.nan`. Tools for YAML 1.1, such as PyYAML, read `YAML_1_1`: there, `010` is
+    /// 8, and `1e3` is a string.
     YAML = {
         "decimal": numbers(b'e', b'.', NumberFormatBuilder::new()),
         "octal": prefixed(b'o', 8, TOKENS.case_sensitive_base_prefix(true)), // rejects `0O17`
         "hexadecimal": prefixed(b'x', 16, TOKENS.case_sensitive_base_prefix(true)), // rejects `0X1F`
+    }, Specials { nan: Some(b".nan"), inf: Some(b".inf"), infinity: None };
+
+    /// YAML 1.1's integers and floats (int.html and float.html of its type repository). A format cannot accept `1:30`, which is
+    /// 90 there, `1._`, whose fraction has a separator alone, or `-.inf` but reject `-.nan` and `.iNF`. PyYAML reads `-.5` and
+    /// `._5` as strings.
+    YAML_1_1 = {
+        "decimal": numbers(b'e', b'.', YAML_1_1
+            .no_special(false) // accepts `.nan` and `.inf`
+            .no_integer_leading_zeros(true) // rejects `08`, not `08.5`
+            .fraction_leading_digit_separator(true) // accepts `1._5`
+            .exponent_digit_separator_flags(false) // rejects `1.5e+1_0`
+            .required_exponent_sign(true) // rejects `1.5e3`
+            .no_exponent_without_fraction(true) // rejects `1e+3`, not `1.e+3`
+        ),
+        "octal": signed(integers(8, YAML_1_1)),
+        "hexadecimal": signed(prefixed(b'x', 16, YAML_1_1
+            .case_sensitive_base_prefix(true) // rejects `0X1F`
+            .integer_leading_digit_separator(true) // accepts `0x_1F`
+        )),
+        "binary": signed(prefixed(b'b', 2, YAML_1_1
+            .case_sensitive_base_prefix(true) // rejects `0B1`
+            .integer_leading_digit_separator(true) // accepts `0b_1`
+        )),
     }, Specials { nan: Some(b".nan"), inf: Some(b".inf"), infinity: None };
 }
