@@ -247,7 +247,9 @@ calls! {
 
     fn peltzivar_language(name: *const u8, len: usize) -> *const Forms {
         let name = input(name, len).unwrap_or_default();
-        CALLS.iter().find(|(it, _)| it.as_bytes() == name).map_or(ptr::null(), |(_, call)| call())
+        // `eq_ignore_ascii_case` has 3 kB of code.
+        let is_named = |it: &str| it.len() == name.len() && it.bytes().eq(name.iter().map(u8::to_ascii_uppercase));
+        CALLS.iter().find(|(it, _)| is_named(it)).map_or(ptr::null(), |(_, call)| call())
     }
 
     fn peltzivar_language_name(index: usize) -> *const u8 { at(NAMES, index) }
