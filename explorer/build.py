@@ -22,9 +22,7 @@ SCRIPTS = ("library", "element", "controls", "code", "report", "advice", "litera
 MOST_BYTES = 240_000
 TARGET = "wasm32-unknown-unknown"
 OPTIONS = [f"--target={TARGET}", "-Ctarget-feature=+bulk-memory", "-Copt-level=s", "-Cpanic=abort", "--cap-lints=allow"]
-NO_COMPILER = (
-    f"no compiler has the target {TARGET}: run `rustup target add {TARGET}`, or `apt-get install rustc-web rust-web-src lld`"
-)
+NO_COMPILER = f"no compiler has the target {TARGET}: `rustup target add {TARGET}`, or `apt-get install rustc-web rust-web-src lld`"
 
 # The sections of flags that separate no digits: a title, the part of a number, and the names of the flags.
 SECTIONS = [
@@ -105,7 +103,7 @@ def conditions():
 def numbers(name):
     """Returns the numbers of a language, one a line: those that it rejects behind a `!`."""
     rows = re.findall(rf"^{name} +([+-]) +(\S+)", (TOP / "rust/tests/literals.txt").read_text(), re.M)
-    return "\n".join(text if mark == "+" else f"!{text}" for mark, text in rows)
+    return "\n".join(("" if mark == "+" else "!") + text for mark, text in rows)
 
 
 def languages():
@@ -117,8 +115,7 @@ def languages():
 
 def data():
     """Returns the data that the page shows."""
-    header = (TOP / "c/peltzivar.h").read_text()
-    version = re.search(r'^#define PELTZIVAR_VERSION "(.*)"$', header, re.M)[1]
+    version = re.search(r'^#define PELTZIVAR_VERSION "(.*)"$', (TOP / "c/peltzivar.h").read_text(), re.M)[1]
     return {**fields(), "conditions": [*conditions()], "languages": [*languages()], "version": version}
 
 
@@ -126,8 +123,7 @@ def hash_of(wasm):
     """Returns a hash of the WebAssembly and its sources. Comments and blank lines of the sources do not count."""
     whole = hashlib.sha256(json.dumps([wasm, OPTIONS]).encode())
     for path in [*sorted(HERE.glob("*.rs")), *sorted((TOP / "rust/src").rglob("*.rs"))]:
-        lines = [line.strip() for line in path.read_text().splitlines()]
-        code = [line for line in lines if line and not line.startswith("//")]
+        code = [line for line in map(str.strip, path.read_text().splitlines()) if line and not line.startswith("//")]
         if code:
             whole.update("\n".join([path.relative_to(TOP).as_posix(), *code, ""]).encode())
     return whole.hexdigest()
@@ -153,11 +149,9 @@ def compiler(folder):
     if not (sources / "compiler-builtins").exists() or not shutil.which("wasm-ld"):
         sys.exit(NO_COMPILER)
     library = [*debian, "--crate-type=rlib", f"--out-dir={folder}", "--edition=2024"]
-    output(*library, "--crate-name=core", sources / "core/src/lib.rs")
-    builtins = sources / "compiler-builtins/compiler-builtins/src/lib.rs"
     features = ['--cfg=feature="compiler-builtins"', '--cfg=feature="mem"']
-    output(*library, "--crate-name=compiler_builtins", *features, builtins)
-    output(*library, "--crate-name=alloc", sources / "alloc/src/lib.rs")
+    for name, *rest in (("core", "core"), ("compiler_builtins", "compiler-builtins/compiler-builtins", *features), ("alloc", "alloc")):
+        output(*library, f"--crate-name={name}", *rest[1:], sources / rest[0] / "src/lib.rs")
     return [*debian, "-Clinker=wasm-ld", "-Clinker-flavor=wasm-ld"]
 
 
@@ -183,16 +177,9 @@ def page(wasm):
     script = "\n" + "\n".join((HERE / f"{name}.js").read_text() for name in SCRIPTS)
     embedded = json.dumps(data(), ensure_ascii=False, separators=(",", ":")).replace("<", "\\u003c")
     policy = f"default-src 'none'; script-src {digest(script)} 'wasm-unsafe-eval'; style-src {digest(style)}"
-    parts = {
-        "limits": table(section("What a format cannot express")),
-    
-        "policy": f"{policy}; img-src data:; base-uri 'none'; form-action 'none'",
-        "style": style,
-        "data": embedded,
-        "hash": hash_of(wasm),
-        "library": wasm,
-        "script": script,
-    }
+    policy += "; img-src data:; base-uri 'none'; form-action 'none'"
+    limits = table(section("What a format cannot express"))
+    parts = dict(limits=limits, policy=policy, style=style, data=embedded, hash=hash_of(wasm), library=wasm, script=script)
     return re.sub(r"@(\w+)@", lambda match: parts[match[1]], (HERE / "template.html").read_text())
 
 

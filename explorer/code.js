@@ -1,5 +1,4 @@
-/* The code of a state, with its spellings of special values in quotes, and with numbers as a test. If nothing can be read,
- * it is the word, and says why. */
+/* The code of a list, with numbers as a test. If nothing can be read, it is the word, and says why. */
 
 /* Returns a byte as a character of Rust or C. */
 function character(byte, prefix) {
@@ -19,159 +18,170 @@ function literalText(text, escape) {
     return `"${characters.map((it) => (/[^ -~]|["\\?]/.test(it) ? escape(it.codePointAt()) : it)).join("")}"`;
 }
 
+/* Each returns the escape of a character, which is a number. In C, it is that of each byte. */
+const rustEscape = (it) => `\\u{${it.toString(16)}}`;
+const pythonEscape = (it) => `\\U${it.toString(16).padStart(8, "0")}`;
+const octal = (byte) => `\\${byte.toString(8).padStart(3, "0")}`;
+const cEscape = (it) => [...new TextEncoder().encode(String.fromCodePoint(it))].map(octal).join("");
+
 /* Returns the numbers that must be accepted and those that must be refused, as texts of a language between commas. */
 function tested(tests, escape) {
-    const texts = (isRefused) => tests.filter((it) => it.isRefused === isRefused).map(({ text }) => literalText(text, escape)).join(", ");
-    return [texts(false), texts(true)];
+    const texts = (all) => all.map(({ text }) => literalText(text, escape)).join(", ");
+    return [false, true].map((isRefused) => texts(tests.filter((it) => it.isRefused === isRefused)));
 }
 
 class Code {
-    grammar = (_, shown) => shown.grammar ?? this.problem(shown);
-    regex = (_, shown) => shown.regex ?? this.problem(shown);
+    grammar = (forms) => forms.map(({ name, grammar }) => (name && `/* ${name.replaceAll("*/", "")} */\n`) + grammar).join("\n\n");
+    regex = (forms) => (forms.length > 1 ? `(?:${forms.map(({ regex }) => regex).join("|")})` : forms[0].regex);
 
     constructor(library) {
         this.library = library;
     }
 
-    /* Returns why nothing can be read: the first reason, or an empty text. */
-    problem({ problems: [first] }) {
-        return first ? `Nothing can be read: ${first.text}.` : "";
+    /* Returns the text of a tab for a list, one of whose forms is shown, and the answers for its numbers. */
+    text(tab, { forms, specials = SPECIALS }, shown, tests) {
+        const bad = forms.find(({ problems }) => problems.length);
+        const quoted = this.library.get(forms[0].word, "no_special") ? [] : specials.map((it) => JSON.stringify(it));
+        // The normal form is the same format, and a builder makes it.
+        const built = forms.map((form) => ({ ...form, word: form.isBuilt ? form.word : form.normal }));
+        if (tab === "settings") return this.settings(shown);
+        if (bad) return this.problem(tab, `Nothing can be read: ${bad.problems[0].text}.`, bad.word);
+        return this[tab](built, quoted, tests);
     }
 
-    /* Returns a comment for the code of a tab, if a language is chosen. */
-    comment(tab, language) {
-        return language && (COMMENTS[tab]?.(language) ?? "");
+    /* Returns the text of a tab if nothing can be read: the reason and the word. */
+    problem(tab, told, word) {
+        const [low, high] = [word, word >> 64n].map((it) => `UINT64_C(0x${BigInt.asUintN(64, it).toString(16).toUpperCase()})`);
+        return {
+            rust: `// ${told}\npub const WORD: u128 = ${wordText(word)};\n`,
+            c: `#include "peltzivar.h"\n\n/* ${told} */\nstatic const peltzivar_word WORD = {${low}, ${high}};\n`,
+            python: `from peltzivar import FormatView\n\n# ${told}\nview = FormatView(${wordText(word)})\n`,
+        }[tab] ?? told;
     }
 
-    rust(state, shown) {
-        const { word, exponent, point } = state;
-        const problem = this.problem(shown);
-        if (problem) return `// ${problem}\npub const WORD: u128 = ${wordText(word)};\n`;
-        const changes = this.library.differences(state);
+    rust(forms, specials, tests) {
+        const [nan, inf, infinity] = specials.map((it) => (it === '""' ? "None" : `Some(b${it})`));
+        const spelled = nan ? `\n.with_specials(Specials { nan: ${nan}, inf: ${inf}, infinity: ${infinity} })` : "";
+        const all = forms.map((form) => this.rustForm(form)).join("");
+        const used = (name) => (all.includes(`${name}::`) ? `${name}, ` : "");
+        const names = `${used("Conditions")}Form, FormError, Forms, Number, ${nan ? "Specials, " : ""}Syntax`;
+        const float = forms.some(({ exponent, point }) => exponent || point) ? "`f64::try_from(number)` or, of an integer, " : "";
+        return `${used("NonZeroU8") && "use core::num::NonZeroU8;\n"}use peltzivar::literal::{${names}};
+use peltzivar::NumberFormatBuilder;
+
+pub static FORMS: Forms<'static> = Forms::new_or_panic(&[
+${all}])${spelled};
+
+/// Returns a number, whose value is ${float}\`i128::try_from(number)\`.
+pub fn read(text: &str) -> Result<Number<'_>, FormError> {
+    FORMS.read(text)
+}
+${this.rustTest(tests)}`;
+    }
+
+    /* Returns a form as an expression. */
+    rustForm(form) {
+        const { name, exponent, point } = form;
+        const changes = this.library.differences(form);
         const calls = changes.filter(({ name }) => this.library.named.has(name)).map(({ name, isByte, isNumber, value }) => {
             const byte = isNumber ? String(value) : character(value, "b");
             const optional = value ? `NonZeroU8::new(${byte})` : "None";
-            return `    .${name}(${!isByte ? Boolean(value) : name === "mantissa_radix" ? byte : optional})\n`;
+            return `.${name}(${!isByte ? Boolean(value) : name === "mantissa_radix" ? byte : optional})`;
         });
-        const isFloat = exponent || point;
-        const options = [exponent, point].map((it) => character(it, "b")).join(", ");
-        const set = changes.filter(({ shift }) => shift !== undefined);
-        const conditions = set.map(({ name, isNumber, value }) => `.${name}(${isNumber ? `Some(${value})` : "true"})`);
-        const hasBytes = calls.some((call) => call.includes("NonZeroU8"));
-        const syntax = isFloat ? `Syntax::new_or_panic(FORMAT, ${options})` : "Syntax::integers(FORMAT)";
-        const [nan, inf, infinity] = state.specials.map((it) => (it === '""' ? "None" : `Some(b${it})`));
-        const names = `${conditions.length ? "Conditions, " : ""}Form, FormError, Forms, Number, ${nan ? "Specials, " : ""}Syntax`;
-        return [
-            ...(hasBytes ? ["use core::num::NonZeroU8;"] : []),
-            `use peltzivar::literal::{${names}};`,
-            "use peltzivar::{Format, NumberFormatBuilder};",
-            "",
-            `/// ${wordText(word)}`,
-            `pub const FORMAT: Format = NumberFormatBuilder::new()\n${calls.join("")}    .build_format_or_panic();`,
-            `pub const SYNTAX: Syntax = ${syntax}${conditions.length ? "" : ";"}`,
-            ...(conditions.length ? [`    .with_conditions_or_panic(Conditions::NONE${conditions.join("")});`] : []),
-            `pub static FORMS: Forms<'static> = Forms::new_or_panic(&[Form::new("", SYNTAX)])${nan ? "" : ";"}`,
-            ...(nan ? [`    .with_specials(Specials { nan: ${nan}, inf: ${inf}, infinity: ${infinity} });`] : []),
-            "",
-            `/// Returns a number, whose value is ${isFloat ? "`f64::try_from(number)` or, of an integer, " : ""}\`i128::try_from(number)\`.`,
-            "pub fn read(text: &str) -> Result<Number<'_>, FormError> {",
-            "    FORMS.read(text)",
-            "}",
-            "",
-            ...this.rustTest(state.tests),
-        ].join("\n");
+        const format = ["NumberFormatBuilder::new()", ...calls, ".build_format_or_panic()"].join("\n            ");
+        const options = [exponent, point].map((it) => `, ${character(it, "b")}`).join("");
+        const syntax = exponent || point ? `new_or_panic(\n        ${format}${options}` : `integers(\n        ${format}`;
+        const conditions = changes.filter(({ shift }) => shift !== undefined).map(({ name, isNumber, value }) => {
+            return `\n            .${name}(${isNumber ? `Some(${value})` : "true"})`;
+        });
+        const set = conditions.length ? `\n        .with_conditions_or_panic(Conditions::NONE${conditions.join("")})` : "";
+        return `    // ${wordText(form.word)}\n    Form::new(${literalText(name, rustEscape)}, Syntax::${syntax})${set}),\n`;
     }
 
     rustTest(tests) {
-        const loops = tested(tests, (it) => `\\u{${it.toString(16)}}`).map((texts, index) => {
+        const loops = tested(tests, rustEscape).map((texts, index) => {
             return texts && `    [${texts}].iter().for_each(|it| assert!(read(it).is_${["ok", "err"][index]}(), "{it}"));\n`;
         });
-        return tests.length ? [`#[test]\nfn numbers() {\n${loops.join("")}}\n`] : [];
+        return tests.length ? `\n#[test]\nfn numbers() {\n${loops.join("")}}\n` : "";
     }
 
-    c(state, shown) {
-        const problem = this.problem(shown);
-        const halves = [BigInt.asUintN(64, state.word), state.word >> 64n].map((it) => `UINT64_C(0x${it.toString(16).toUpperCase()})`);
-        const start = `#include "peltzivar.h"\n`;
-        if (problem) return `${start}\n/* ${problem} */\nstatic const peltzivar_word WORD = {${halves.join(", ")}};\n`;
-        const lines = this.lines(state).map((line) => `    ${JSON.stringify(`${line}\n`)}`).join("\n");
-        const specials = state.specials.join(", ");
-        const spelled = specials && `\nstatic const peltzivar_specials SPECIALS = {${specials}};`;
-        const special = specials && "\n        || peltzivar_read_special(syntax, &SPECIALS, text, strlen(text), special)";
-        return `${start}#include <string.h>
+    c(forms, specials, tests) {
+        const settings = (form) => this.lines(form).map((line) => `\n    ${JSON.stringify(`${line}\n`)}`).join("") || '\n    ""';
+        const all = forms.map((form) => `    /* ${wordText(form.word)} */${settings(form)},\n`).join("");
+        const names = forms.map(({ name }) => `{.name = ${literalText(name, cEscape)}}`).join(", ");
+        const spelled = specials.length ? `, .specials = {${specials.join(", ")}}` : "";
+        return `#include "peltzivar.h"
+#include <string.h>
 
-/* ${wordText(state.word)} */
-static const char SETTINGS[] =
-${lines || '    ""'};${spelled}
+static const char *const SETTINGS[] = {
+${all}};
+static peltzivar_form LIST[] = {${names}};
+static const peltzivar_forms FORMS = {.forms = LIST, .count = ${forms.length}${spelled}};
 
-/* Writes the syntax, and returns whether the settings are right. Call this once, before the first text is read. */
-bool make_syntax(peltzivar_syntax *syntax) {
-    return !peltzivar_read_settings(SETTINGS, strlen(SETTINGS), syntax);
+/* Writes the syntax of each form, and returns whether the settings are right. Call this once, before a text is read. */
+bool make_forms(void) {
+    bool are_right = true;
+    for (size_t it = 0; it < FORMS.count; it++)
+        are_right &= !peltzivar_read_settings(SETTINGS[it], strlen(SETTINGS[it]), &LIST[it].syntax);
+    return are_right;
 }
 
 /* Returns whether the text is a number. If special->spelling is 0, it is a literal, and
  * peltzivar_to_i128 or, of a float, peltzivar_to_f64 makes its value. Otherwise, it is NaN or infinity. */
-bool read_number(
-    const peltzivar_syntax *syntax, const char *text, peltzivar_literal *literal, peltzivar_special *special) {
+bool read_number(const char *text, peltzivar_literal *literal, peltzivar_special *special) {
     peltzivar_read_error error;
     special->spelling = 0;
-    return peltzivar_read(syntax, text, strlen(text), literal, &error)${special};
+    return peltzivar_forms_read(&FORMS, text, strlen(text), literal, &error)
+        || peltzivar_forms_read_special(&FORMS, text, strlen(text), special);
 }
-${this.cTest(state.tests)}`;
+${this.cTest(tests)}`;
     }
 
     cTest(tests) {
-        const bytes = (it) => [...new TextEncoder().encode(String.fromCodePoint(it))];
-        const octal = (it) => bytes(it).map((byte) => `\\${byte.toString(8).padStart(3, "0")}`);
-        const texts = tests.map(({ text, isRefused }) => literalText(`${isRefused ? "!" : "="}${text}`, (it) => octal(it).join("")));
+        const texts = tests.map(({ text, isRefused }) => literalText(`${isRefused ? "!" : "="}${text}`, cEscape));
         return tests.length ? `
 /* Returns whether the numbers behind a = are read, and those behind a ! are not. */
-bool test_numbers(const peltzivar_syntax *syntax) {
+bool test_numbers(void) {
     static const char *const texts[] = {${texts.join(", ")}, NULL};
     bool are_right = true;
     peltzivar_literal literal;
     peltzivar_special special;
     for (const char *const *it = texts; *it; it++)
-        are_right &= read_number(syntax, *it + 1, &literal, &special) == (**it == '=');
+        are_right &= read_number(*it + 1, &literal, &special) == (**it == '=');
     return are_right;
 }
 ` : "";
     }
 
-    python(state, shown) {
-        const problem = this.problem(shown);
-        const word = wordText(state.word);
-        if (problem) return `from peltzivar import FormatView\n\n# ${problem}\nview = FormatView(${word})\n`;
-        const settings = this.lines(state).map((line) => `    ${JSON.stringify(line)},\n`).join("");
-        const specials = state.specials.join(", ");
-        const special = "if special := specials.read(syntax, text):\n            return special\n        raise";
-        const read = "return syntax.read(text)";
-        const [accepted, refused] = tested(state.tests, (it) => `\\U${it.toString(16).padStart(8, "0")}`);
+    python(forms, specials, tests) {
+        const settings = (form) => this.lines(form).map((line) => `\n        ${JSON.stringify(line)},`).join("");
+        const one = (form) => `    # ${wordText(form.word)}\n    (${literalText(form.name, pythonEscape)}, Syntax.of(${settings(form)}\n    )),\n`;
+        const spelled = specials.map((it, index) => (it === '""' ? "" : `, ${["nan", "inf", "infinity"][index]}=${it}`)).join("");
+        const [accepted, refused] = tested(tests, pythonEscape);
         const lines = (texts, body) => texts && `    for text in [${texts}]:\n        ${body}\n`;
         const raises = "try:\n            read(text)\n        except LiteralError:\n            continue\n        raise AssertionError(text)";
         const test = `\n\ndef test_numbers():\n${lines(accepted, "read(text)")}${lines(refused, raises)}`;
-        const names = [specials || refused ? "LiteralError" : "", specials && "Specials", "Syntax"].filter(Boolean).join(", ");
-        return `from peltzivar import ${names}
+        return `from peltzivar import Forms, ${refused && "LiteralError, "}Syntax
 
-# ${word}
-syntax = Syntax.of(${settings && `\n${settings}`})
-${specials && `specials = Specials(${specials})\n`}
+forms = Forms([
+${forms.map(one).join("")}]${spelled})
+
 
 def read(text):
-    """Returns a literal${specials && ", NaN or infinity"}, which has a \`value\`."""
-    ${specials ? `try:\n        ${read}\n    except LiteralError:\n        ${special}` : read}
-${state.tests.length ? test : ""}`;
+    """Returns a literal${spelled && ", NaN or infinity"}, which has a \`value\`."""
+    return forms.read(text)
+${tests.length ? test : ""}`;
     }
 
-    /* Returns the settings of a state that are not the usual ones. */
-    lines(state) {
-        return this.library.differences(state).map(({ text }) => text);
+    /* Returns the settings of a form that are not the usual ones. */
+    lines(form) {
+        return this.library.differences(form).map(({ text }) => text);
     }
 
-    settings(state, { isBuilt }) {
-        const lines = this.lines(state);
+    settings(form) {
+        const lines = this.lines(form);
         const { word } = this.library.read(lines.join("\n"));
-        const nearest = isBuilt ? [] : [`# No builder makes this word. These settings build the nearest one, ${wordText(word)}.`];
-        return [`# ${wordText(state.word)}`, ...nearest, ...lines, ""].join("\n");
+        const nearest = form.isBuilt ? [] : [`# No builder makes this word. These settings build the nearest one, ${wordText(word)}.`];
+        return [`# ${wordText(form.word)}${form.name && ` ${form.name}`}`, ...nearest, ...lines, ""].join("\n");
     }
 }

@@ -1,7 +1,6 @@
 /* The controls: bytes, options and flags. Each calls `edit` with the name of a field and its new value. */
 
-/* Returns texts that a flag makes a parser refuse, and texts that it accepts then, in words. Flags of separators make it
- * accept texts. */
+/* Returns in words what a flag makes a parser refuse, and what it accepts then. Flags of separators make it accept texts. */
 function examples({ accepts = [], refuses = [], part }) {
     const texts = (all) => all.map((text) => `\`${text}\``).join(", ");
     if (!accepts.length) return refuses.length ? `refuses ${texts(refuses)}` : "";
@@ -10,10 +9,7 @@ function examples({ accepts = [], refuses = [], part }) {
 
 class Controls {
     constructor(library, edit) {
-        this.library = library;
-        this.edit = edit;
-        this.boxes = new Map();
-        this.inputs = new Map();
+        Object.assign(this, { library, edit, boxes: new Map(), inputs: new Map() });
         this.makeBytes();
         this.makeFlags();
         this.makeSeparators();
@@ -73,8 +69,7 @@ class Controls {
     }
 
     groupHead(group, title, scope) {
-        const label = element("label", {}, this.box(group), title);
-        return element("th", { scope, class: "field", "data-field": group.name }, label);
+        return element("th", { scope, class: "field", "data-field": group.name }, element("label", {}, this.box(group), title));
     }
 
     separatorRow(row, columns) {
@@ -103,12 +98,10 @@ class Controls {
             this.edit(name, value ?? before, name);
         };
         const focus = () => (before = isRefused(box) ? before : this.inputs.get(name).byte);
-        const blur = () => this.show(this.shown);
         const keydown = ({ key }) => key === "Escape" && isRefused(box) && this.fill(name);
-        const listeners = { input, focus, blur, keydown };
-        const box = element("input", { id: name, ...listeners, autocomplete: "off", spellcheck: "false" });
-        box.setAttribute("aria-describedby", `${name}-meaning`);
-        box.setAttribute("aria-errormessage", `${name}-problem`);
+        const listeners = { input, focus, blur: () => this.show(this.shown), keydown };
+        const told = { "aria-describedby": `${name}-meaning`, "aria-errormessage": `${name}-problem` };
+        const box = element("input", { id: name, ...listeners, ...told, autocomplete: "off", spellcheck: "false", placeholder: "none" });
         const other = element("span", { class: "other" });
         this.inputs.set(name, { box, other, problem, isNumber });
         const label = element("label", { for: name }, element("span", { class: `dot ${part}` }), title);
@@ -142,13 +135,11 @@ class Controls {
         for (const { name } of OPTIONS) this.showByte(name, state[name], state[name]);
         for (const field of this.library.conditions) {
             const value = this.library.value(state, field);
-            if (field.isNumber) find(field.name).value = value;
-            else find(field.name).checked = Boolean(value);
+            Object.assign(find(field.name), field.isNumber ? { value } : { checked: Boolean(value) });
         }
     }
 
-    /* Shows a byte. Beside it are its name and its numbers, or the number that takes the place of an absent byte. A
-     * refused text stays until its byte changes. */
+    /* Shows a byte, its name and numbers, or what an absent one means. A refused text stays until its byte changes. */
     showByte(name, byte, effective) {
         const input = this.inputs.get(name);
         const { box, other, isNumber } = input;
@@ -166,13 +157,7 @@ class Controls {
     fill(name) {
         const { box, problem, text } = this.inputs.get(name);
         box.value = text;
-        box.placeholder = "none";
         setText(problem, "");
         box.removeAttribute("aria-invalid");
-    }
-
-    /* Writes each byte into its box, in place of a refused text. */
-    fillAll() {
-        for (const name of this.inputs.keys()) this.fill(name);
     }
 }

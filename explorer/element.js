@@ -24,8 +24,7 @@ function withCode(text) {
     return text.split("`").map((part, index) => (index % 2 ? element("code", {}, part) : part));
 }
 
-/* Replaces the children of a node. If one of its buttons had the focus, the one at its place has it then, or else another
- * node. */
+/* Replaces the children of a node. In place of a button with the focus, the one at its place has it then, or another node. */
 function refill(node, children, other) {
     const buttons = () => [...node.querySelectorAll("button")];
     const place = buttons().indexOf(document.activeElement);

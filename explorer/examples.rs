@@ -6,7 +6,7 @@ use core::num::NonZeroU8;
 use peltzivar::literal::ReadError;
 use peltzivar::FormatView;
 
-use crate::forms::{value_of, Forms, Value};
+use crate::forms::{value_of, List, Value};
 use crate::suggest::State;
 
 /// The parts of the texts that are tried, the usual one first. `_`, `x`, `e`, `.`, `h` and `F` stand for the separator, the
@@ -61,11 +61,11 @@ fn texts(state: State) -> impl Iterator<Item = Vec<u8>> {
 
 /// Returns the shortest texts that forms accept and others refuse, with their errors: one of each cause with the flags to
 /// blame and of each role that the wrong byte has where the text is accepted.
-pub fn refused(forms: &Forms, others: &Forms) -> Vec<(Vec<u8>, ReadError)> {
+pub fn refused(forms: &List, others: &List) -> Vec<(Vec<u8>, ReadError)> {
     let mut found: Vec<(_, (Vec<u8>, ReadError))> = Vec::new();
     for text in forms.states.iter().flat_map(|&it| texts(it)) {
-        let (Ok(number), Err(refusal)) = (forms.list().read(&text), others.list().read(&text)) else { continue };
-        let (error, syntax) = (refusal.error, forms.list()[number.form().unwrap_or(0)].syntax());
+        let (Ok(number), Err(refusal)) = (forms.forms().read(&text), others.forms().read(&text)) else { continue };
+        let (error, syntax) = (refusal.error, forms.forms()[number.form().unwrap_or(0)].syntax());
         let shown = (error.kind(), error.mask(), error.byte().and_then(|byte| syntax.role_of(byte)));
         match found.iter_mut().find(|it| it.0 == shown) {
             Some((_, old)) if text.len() < old.0.len() => *old = (text, error),
@@ -78,10 +78,10 @@ pub fn refused(forms: &Forms, others: &Forms) -> Vec<(Vec<u8>, ReadError)> {
 }
 
 /// Returns the first text to which forms and others give different values, with both values.
-pub fn other_value(forms: &Forms, others: &Forms) -> Option<(Vec<u8>, [Value; 2])> {
+pub fn other_value(forms: &List, others: &List) -> Option<(Vec<u8>, [Value; 2])> {
     forms.states.iter().flat_map(|&it| texts(it)).find_map(|text| {
-        let number = forms.list().read(&text).ok()?;
-        let values = [value_of(number), value_of(others.list().read(&text).ok()?)];
+        let number = forms.forms().read(&text).ok()?;
+        let values = [value_of(number), value_of(others.forms().read(&text).ok()?)];
         (values[0] != values[1]).then_some((text, values))
     })
 }

@@ -3,41 +3,61 @@
 use alloc::vec::Vec;
 use core::str::FromStr;
 
-use peltzivar::literal::{self, Condition, Conditions, Form, Number, Specials, ValueError};
+use peltzivar::literal::{Condition, Conditions, Form, Forms, Number, Specials, ValueError};
 
-use crate::suggest::State;
+use crate::suggest::{lines_of, Line, State};
 
-/// The states of forms, the forms, and the spellings of special values.
-pub struct Forms {
+/// The states of forms, at least one, and the forms.
+pub struct List {
     pub states: Vec<State>,
     forms: Vec<Form>,
-    specials: Specials<'static>,
 }
 
-impl Forms {
-    /// Reads states and, behind tabs, the spellings of special values. Returns `None` if a state is not a syntax.
+impl List {
+    /// Reads states as [`states_of`] does. Returns `None` if a state is not a syntax.
     pub fn new(line: &'static str) -> Option<Self> {
-        let mut spellings = line.split('\t').skip(1).map(str::as_bytes);
-        let [nan, inf, infinity] = [(); 3].map(|()| spellings.next());
-        let states: Vec<_> = states_of(line).collect();
-        let forms = states.iter().map(|it| Some(Form::new("", it.syntax()?))).collect::<Option<_>>()?;
-        Some(Forms { states, forms, specials: Specials { nan, inf, infinity } })
+        Self::of(states_of(line).collect())
     }
 
-    pub fn list(&self) -> literal::Forms<'_> {
-        literal::Forms::new_or_panic(&self.forms).with_specials(self.specials)
+    fn of(states: Vec<State>) -> Option<Self> {
+        let forms: Vec<_> = states.iter().map(|it| Some(Form::new("", it.syntax()?))).collect::<Option<_>>()?;
+        Forms::new(&forms)?;
+        Some(Self { states, forms })
+    }
+
+    pub fn forms(&self) -> Forms<'_> {
+        Forms::new_or_panic(&self.forms).with_specials(self.states[0].specials)
+    }
+
+    /// Returns the list with another state of a form, or without the form.
+    pub fn with(&self, form: usize, state: Option<State>) -> Option<Self> {
+        let mut states = self.states.clone();
+        states.splice(form..=form, state);
+        Self::of(states)
+    }
+
+    /// Returns lines, each with whether a form other than this one reads its text.
+    pub fn lines<'a>(&self, form: usize, text: &'a [u8]) -> Vec<Line<'a>> {
+        let others = self.with(form, None);
+        let is_read = |text| others.as_ref().is_some_and(|it| it.forms().read(text).is_ok());
+        lines_of(text).map(|line| Line { is_read: is_read(line.text), ..line }).collect()
     }
 }
 
 /// Reads the states of a line. Each is its word and, behind a colon, a number of bytes, from the lowest: the exponent
-/// character, the decimal point, and then the number of each condition.
-pub fn states_of(line: &str) -> impl Iterator<Item = State> {
-    line.split('\t').take(1).flat_map(|it| it.split(' ')).map(|state| {
+/// character, the decimal point, and then the number of each condition. The first one has the spellings of special values,
+/// which are behind tabs.
+pub fn states_of(line: &'static str) -> impl Iterator<Item = State> {
+    let mut parts = line.split('\t');
+    let states = parts.next().unwrap_or("").split(' ');
+    let [nan, inf, infinity] = [(); 3].map(|()| parts.next().map(str::as_bytes));
+    states.enumerate().map(move |(form, state)| {
         let (word, options) = state.split_once(':').unwrap_or((state, ""));
         let [exponent, point, numbers @ ..] = u128::from_str(options).unwrap_or(0).to_le_bytes();
         let conditions =
             Condition::ALL.iter().zip(numbers).fold(Conditions::NONE, |all, (&it, number)| all.with(it, number));
-        State { word: u128::from_str(word).unwrap_or(0), exponent, point, conditions }
+        let specials = if form == 0 { Specials { nan, inf, infinity } } else { Specials::default() };
+        State { word: u128::from_str(word).unwrap_or(0), exponent, point, conditions, specials }
     })
 }
 

@@ -1,5 +1,6 @@
 /* The library, which runs as WebAssembly. All calls of library.rs are here. A word is a BigInt, and its flags and bytes
- * are read and written by bit arithmetic. A state is a word with the options. */
+ * are read and written by bit arithmetic. A form is a word with the options, the conditions and a name. A list has the
+ * forms of numbers, and the spellings of special values unless these are the usual ones. */
 "use strict";
 
 /* How many bytes a text may have. */
@@ -10,7 +11,7 @@ const OPTIONS = [
     { name: "point", isByte: true, title: "decimal point", meaning: "an option of the parser, such as the `.` in `1.5`" },
 ];
 const STANDARD_OPTIONS = { exponent: 101, point: 46, conditions: 0n };
-/* The spellings of special values, unless a form has those of its language. */
+/* The usual spellings of special values. */
 const SPECIALS = ["NaN", "inf", "infinity"];
 
 class Library {
@@ -22,15 +23,12 @@ class Library {
         });
         this.flags = flags.map((flag) => ({ ...flag, mask: 1n << BigInt(flag.bit) }));
         this.bytes = bytes.map((byte) => ({ ...byte, isByte: true, mask: 255n << BigInt(byte.bit) }));
-        this.groups = groups.map((group) => {
-            return { ...group, mask: group.bits.reduce((mask, bit) => mask | (1n << BigInt(bit)), 0n) };
-        });
+        this.groups = groups.map((it) => ({ ...it, mask: it.bits.reduce((mask, bit) => mask | (1n << BigInt(bit)), 0n) }));
         /* The fields in the order of their bits, and all that has a setter by its name. */
         this.fields = [...this.flags, ...this.bytes];
         this.named = new Map([...this.fields, ...this.groups].map((field) => [field.name, field]));
         this.known = this.fields.reduce((all, { mask }) => all | mask, 0n);
-        this.standard = this.build([]).word;
-        this.usual = { word: this.standard, ...STANDARD_OPTIONS };
+        this.usual = { word: this.build([]).word, ...STANDARD_OPTIONS, name: "" };
     }
 
     /* Returns a library from its compressed WebAssembly. */
@@ -56,12 +54,11 @@ class Library {
         return answer.error ? answer : { ...answer, word: BigInt(answer.word) };
     }
 
-    /* Returns the languages, with what the page tells of each: their names, numbers and forms, each of which is a state. */
+    /* Returns the languages, with what the page tells of each: their names, numbers, and lists of forms. */
     languages(told) {
         return this.call("languages", "").map(({ name, specials, forms }, index) => {
             const short = /^(\S+?)'s /.exec(told[index].about)?.[1] ?? name;
-            const states = forms.map((form) => ({ ...this.stateOfSyntax(form.syntax), name: form.name, specials }));
-            return { ...told[index], short, forms: states };
+            return { ...told[index], short, specials, forms: forms.map((form) => this.form(form)) };
         });
     }
 
@@ -70,11 +67,10 @@ class Library {
         return this.call("readers", `\n${text}`);
     }
 
-    /* Returns all about a state: whether the word is built, its normal form, reasons and notes, and why options or conditions
-     * do not fit: each with its text and the fields that it blames. If the state is a syntax, this includes its sentence, its
-     * grammar and its regular expression. */
-    explain(state) {
-        const answer = this.call("explain", passed([state]));
+    /* Returns what `explain` of library.rs describes, with its problems: reasons, and why options and conditions do not fit,
+     * each with its text and the fields that it blames. */
+    explain(form) {
+        const answer = this.call("explain", passed({ forms: [form] }));
         const named = ({ text, mask }) => {
             const all = [...OPTIONS, ...this.conditions].filter(({ name, title = name }) => text.includes(title));
             return { text, fields: [...all.map(({ name }) => name), ...this.namesOf(BigInt(mask))] };
@@ -85,8 +81,7 @@ class Library {
         return { ...answer, normal: BigInt(answer.normal), problems: [...reasons, ...options, ...conditions], notes };
     }
 
-    /* Returns the states in which a problem has ended, also with another byte, and there are no more of them: one of its fields
-     * is absent, cleared, set or a usual character. */
+    /* Returns forms with fewer problems and without this one: one of its fields is absent, cleared, set or a usual character. */
     repairs(state, { text, fields }) {
         const usual = { exponent: [101, 112, 94], point: [46, 44], mantissa_radix: [10], integer_group_size: [0, 3] };
         const kind = (it) => it.replace(/'.'|\d+/g, "");
@@ -106,23 +101,37 @@ class Library {
     }
 
     /* Returns an object for each line of a text, as `numbers` of library.rs describes: none if a word is not lawful. */
-    numbers(states, text) {
-        const answers = this.call("numbers", `${passed(states)}\n${text}`);
-        return answers.map((answer) => ({ ...answer, offers: answer.offers.map(withWord) }));
+    numbers(list, text) {
+        const numbered = (it) => ({ ...it, word: BigInt(it.word), conditions: BigInt(it.conditions) });
+        const answers = this.call("numbers", `${passed(list)}\n${text}`);
+        return answers.map((answer) => ({ ...answer, offers: answer.offers.map(numbered) }));
     }
 
-    /* Returns texts that tell the states of some forms from those of others, as `differ` of library.rs describes. */
-    differ(states, others) {
-        return this.call("differ", `${passed(states)}\n${passed(others)}`);
+    /* Returns texts that tell a list from another one, as `differ` of library.rs describes. */
+    differ(list, other) {
+        return this.call("differ", `${passed(list)}\n${passed(other)}`);
     }
 
-    /* Returns the state of a syntax as the library prints it: a word, two bytes unless numbers are integers alone, and the
-     * conditions as settings. */
-    stateOfSyntax(text) {
-        const [word, ...rest] = text.split(" ");
-        const [exponent = 0, point = 0] = rest.filter((it) => !it.includes("="));
-        const conditions = this.withConditions(0n, rest.filter((it) => it.includes("=")).join(" "));
-        return { word: BigInt(word), exponent: Number(exponent), point: Number(point), conditions };
+    /* Returns the form of a text: a syntax as the library prints it, which is a word, two bytes unless numbers are integers
+     * alone, and the conditions as settings; a colon; and the name. What is none of these is put into `lost`. */
+    form(text, lost = []) {
+        const [, syntax, name] = /^([^:]*):?([^]*)$/.exec(text);
+        const [settings, [word = "", exponent = "0", point = "0", ...others]] = [true, false].map((isSetting) => {
+            return syntax.split(" ").filter((it) => it.includes("=") === isSetting);
+        });
+        const found = { word: this.read(word).word, exponent: this.byte(exponent), point: this.byte(point) };
+        if (Object.values(found).includes(undefined)) return void lost.push(`forms=${text.slice(0, 40)}`);
+        return { ...found, conditions: this.withConditions(0n, [...settings, ...others].join(" "), lost), name };
+    }
+
+    /* Returns the text of a form. */
+    formText(form) {
+        return `${wordText(form.word)} ${form.exponent} ${form.point} ${this.conditionsOf(form)}:${form.name}`;
+    }
+
+    /* Returns the conditions of a form as settings. */
+    conditionsOf({ conditions }) {
+        return this.differences({ ...this.usual, conditions }).map(({ text }) => text).join(" ");
     }
 
     /* Returns conditions with those that are set in a text. What is not the setting of a condition is put into `lost`. */
@@ -219,16 +228,21 @@ class Library {
     }
 }
 
-/* Returns the line by which states are passed to the library, with the spellings of the first. */
-function passed(states) {
-    const [{ specials = SPECIALS }] = states;
+/* Returns the line by which a list is passed to the library. */
+function passed({ forms, specials = SPECIALS }) {
     const options = ({ exponent, point, conditions }) => BigInt(exponent | (point << 8)) | (conditions << 16n);
-    return [states.map((state) => `${state.word}:${options(state)}`).join(" "), ...specials].join("\t");
+    return [forms.map((form) => `${form.word}:${options(form)}`).join(" "), ...specials].join("\t");
 }
 
-/* Returns the state of a form, without its name. */
+/* Returns a form without its name. */
 function stateOf({ word, exponent, point, conditions }) {
     return { word, exponent, point, conditions };
+}
+
+/* Returns whether two lists have the same forms with the same names. */
+function isSame(forms, others) {
+    const isEqual = (form, other) => Object.entries(form).every(([name, value]) => other[name] === value);
+    return forms.length === others.length && forms.every((form, index) => isEqual(form, others[index]));
 }
 
 /* Returns the value of a number, which the library computed, as text, or why it has none. */
@@ -236,11 +250,6 @@ function valueText({ integer, float, unknown }) {
     if (float === undefined) return integer ?? unknown;
     const [value] = new Float64Array(BigUint64Array.of(BigInt(float)).buffer);
     return Object.is(value, -0) ? "-0" : String(value);
-}
-
-/* Returns an answer with its word and its conditions as numbers. */
-function withWord(answer) {
-    return { ...answer, word: BigInt(answer.word), conditions: BigInt(answer.conditions) };
 }
 
 /* Returns a word as text. */

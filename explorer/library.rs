@@ -11,11 +11,11 @@ use core::fmt::Display;
 use core::ops::Range;
 
 use examples::{other_value, refused};
-use forms::{states_of, value_of, Forms, Value};
+use forms::{states_of, value_of, List, Value};
 use peltzivar::edits::{apply, is_built, normal_form};
-use peltzivar::literal::{self, Condition, Conditions, Form, FormError, Language, Number, Specials};
+use peltzivar::literal::{Condition, Conditions, FormError, Forms, Language, Number, Specials};
 use peltzivar::{Edit, FormatView, NumberFormatBuilder};
-use suggest::{lines_of, offers, Line, State, SPECIALS};
+use suggest::{lines_of, offers, Line, State};
 
 mod examples;
 mod forms;
@@ -117,14 +117,13 @@ pub extern "C" fn explain(length: usize) -> u64 {
     ))
 }
 
-/// Returns an object for each language: its name, the spellings of its special values, and the name and text of each form.
+/// Returns an object for each language: its name, the spellings of its special values, and the syntax and name of each form.
 #[unsafe(no_mangle)]
 pub extern "C" fn languages(_: usize) -> u64 {
     answer(list(Language::ALL.iter().map(|language| {
         let Specials { nan, inf, infinity } = language.forms().specials();
         let specials = list([nan, inf, infinity].map(|it| quoted(utf8(it.unwrap_or_default()))).into_iter());
-        let forms = language.forms().as_slice().iter();
-        let forms = forms.map(|it| format!(r#"{{"name":"{}","syntax":"{}"}}"#, it.name(), it.syntax()));
+        let forms = language.forms().as_slice().iter().map(|it| quoted(format!("{}:{}", it.syntax(), it.name())));
         format!(r#"{{"name":"{language}","specials":{specials},"forms":{}}}"#, list(forms))
     })))
 }
@@ -146,7 +145,7 @@ pub extern "C" fn readers(length: usize) -> u64 {
 }
 
 /// Returns the parts of an object with a state.
-fn parts_of(State { word: format, exponent, point, conditions }: State) -> String {
+fn parts_of(State { word: format, exponent, point, conditions, .. }: State) -> String {
     let numbers = Condition::ALL.iter().rev().fold(0, |all, &it| all << 8 | u128::from(conditions.number(it)));
     let (format, conditions) = (word(format), word(numbers));
     format!(r#""word":{format},"exponent":{exponent},"point":{point},"conditions":{conditions}"#)
@@ -154,35 +153,33 @@ fn parts_of(State { word: format, exponent, point, conditions }: State) -> Strin
 
 /// Returns an object for each line but the first, which has the forms: the value and the parts of its number, or the parts
 /// of the longest front of a refused text that is a number; the form that accepts the text, or to which it is nearest; why
-/// and where it is refused, with the flags to blame and the bytes to mark; and, if it is not as expected, the states near
+/// and where it is refused, with the flags to blame and the bytes to mark; and, if it is not as expected, the states of
 /// this form that are offered, each with the same for the number in it and how many lines are as expected then. If a word
 /// is not lawful, returns an empty array.
 #[unsafe(no_mangle)]
 pub extern "C" fn numbers(length: usize) -> u64 {
     let (states, lines) = text_of(length);
-    let forms = Forms::new(states);
+    let forms = List::new(states);
     answer(list(forms.iter().flat_map(|forms| lines_of(lines).map(|line| number(forms, lines, line)))))
 }
 
-fn number(forms: &Forms, lines: &[u8], line: Line<'_>) -> String {
-    let read = forms.list().read(line.text);
+fn number(all: &List, lines: &[u8], line: Line<'_>) -> String {
+    let read = all.forms().read(line.text);
     let form = read.map_or_else(|error| error.form, |number| number.form().unwrap_or(0));
     let offers = match read.is_err() == line.is_refused {
         true => Vec::new(),
-        false => offers(forms.states[form], lines, line),
+        false => offers(all.states[form], &all.lines(form, lines), line),
     };
-    let offers = list(offers.into_iter().map(|(state, expected)| {
-        let form = state.syntax().map(|syntax| Form::new("", syntax));
-        let forms = literal::Forms::new(form.as_slice()).map(|it| it.with_specials(SPECIALS));
-        let reading = forms.map_or(String::new(), |it| reading(it, line.text));
-        format!(r#"{{{},"expected":{expected},{reading}}}"#, parts_of(state))
+    let offers = list(offers.into_iter().filter_map(|(state, expected)| {
+        let reading = reading(all.with(form, Some(state))?.forms(), line.text);
+        Some(format!(r#"{{{},"expected":{expected},{reading}}}"#, parts_of(state)))
     }));
-    format!(r#"{{{},"offers":{offers}}}"#, reading(forms.list(), line.text))
+    format!(r#"{{{},"offers":{offers}}}"#, reading(all.forms(), line.text))
 }
 
 /// Returns the value and the parts of a text, or the parts of its longest front that is a number, and why and where it is
 /// refused, as parts of an object.
-fn reading(forms: literal::Forms<'_>, text: &[u8]) -> String {
+fn reading(forms: Forms<'_>, text: &[u8]) -> String {
     let part = |(kind, bytes): (&str, &[u8])| format!(r#"{{"kind":"{kind}","size":{}}}"#, bytes.len());
     let parts = match forms.read(text) {
         Ok(Number::Special(special)) => {
@@ -197,8 +194,9 @@ fn reading(forms: literal::Forms<'_>, text: &[u8]) -> String {
     let told = match forms.read(text) {
         Ok(number) => format!(r#"{},"form":{}"#, value(value_of(number)), number.form().unwrap_or(0)),
         Err(FormError { form, error, .. }) => {
-            let (text, mask, Range { start, end }) = (quoted(error.full_text().as_str()), word(error.mask()), error.span());
-            format!(r#""form":{form},"error":{text},"mask":{mask},"start":{start},"end":{end}"#)
+            let (mask, Range { start, end }) = (word(error.mask()), error.span());
+            let error = quoted(error.full_text().as_str());
+            format!(r#""form":{form},"error":{error},"mask":{mask},"start":{start},"end":{end}"#)
         }
     };
     format!(r#""parts":{parts},{told}"#)
@@ -209,12 +207,13 @@ fn reading(forms: literal::Forms<'_>, text: &[u8]) -> String {
 #[unsafe(no_mangle)]
 pub extern "C" fn differ(length: usize) -> u64 {
     let (first, second) = text_of(length);
-    let (Some(first), Some(second)) = (Forms::new(first), Forms::new(utf8(second))) else {
+    let (Some(first), Some(second)) = (List::new(first), List::new(utf8(second))) else {
         return answer("[]".to_string());
     };
     let one_way = |first, second| {
         let texts = refused(first, second).into_iter();
-        list(texts.map(|(text, error)| format!(r#"{{"text":{},"error":{}}}"#, quoted(utf8(&text)), quoted(error.full_text().as_str()))))
+        let texts = texts.map(|(text, error)| (quoted(utf8(&text)), quoted(error.full_text().as_str())));
+        list(texts.map(|(text, error)| format!(r#"{{"text":{text},"error":{error}}}"#)))
     };
     let others = list(other_value(&first, &second).into_iter().map(|(text, [here, there])| {
         format!(r#"{{"text":{},"here":{{{}}},"there":{{{}}}}}"#, quoted(utf8(&text)), value(here), value(there))

@@ -21,8 +21,8 @@ const LEGEND = [["sign", "sign"], ["prefix, suffix", "base"], ["digits", "digits
 const [MOST_ROWS, MOST_LINES, MOST_CHARACTERS] = [8, 100, 200];
 
 class Trial {
-    constructor(library, languages, { change, start, go }) {
-        Object.assign(this, { library, languages, change, start, go, isOpen: matchMedia("(min-width: 561px)").matches });
+    constructor(library, languages, { change, put, add, start }) {
+        Object.assign(this, { library, languages, change, put, add, start, isOpen: matchMedia("(min-width: 561px)").matches });
         find("literal").addEventListener("input", ({ target }) => change({ numbers: target.value }, "literal"));
         find("literal").addEventListener("focus", ({ target }) => target.value === EXAMPLE && target.select());
         find("legend").append(...LEGEND.map(([name, part]) => element("span", { class: part }, name)));
@@ -33,11 +33,9 @@ class Trial {
         });
     }
 
-    /* Reads the numbers of a state, and shows what was read. Returns how many of them are as expected and how many are not
-     * read, in words, and what is told of the first number that is not as expected, or of all. */
-    show(state, forms) {
-        this.state = state;
-        this.forms = forms;
+    /* Shows what is read. Returns in words how many are as expected, and what is told of the first that is not, or of all. */
+    show(state, list) {
+        Object.assign(this, { state, list, forms: list.forms });
         const box = find("literal");
         if (box.value !== state.numbers) box.value = state.numbers;
         box.rows = Math.min(Math.max(state.numbers.split("\n").length, 4), MOST_ROWS);
@@ -65,23 +63,23 @@ class Trial {
         const count = this.answers.length ? `${expected} of ${this.answers.length} as expected` : "";
         const values = this.answers.filter(({ error }) => !error).map((it) => `${it.text} = ${valueText(it)}`).slice(0, MOST_ROWS);
         const told = first ? `${first.text} ${this.told(first)}` : values.join(" \u00b7 ");
-        return { count: [count, left ? unread : ""].filter(Boolean).join("; "), isGood: !first && !left, told };
+        return { count: [count, left ? unread : ""].filter(Boolean).join("; "), isGood: !first && !left, first: told };
     }
 
     /* Returns what the library returns for lines, with what each line expects and what is offered in words. */
     read(lines) {
-        const answers = this.library.numbers(this.forms, lines.map(({ text }) => text).join("\n"));
+        const answers = this.library.numbers(this.list, lines.map(({ text }) => text).join("\n"));
         return answers.map(({ offers, ...answer }, index) => {
             const isRefused = lines[index].text.startsWith("!");
             const text = lines[index].text.slice(Number(isRefused));
-            const form = this.forms[answer.form ?? 0];
+            const form = this.forms[answer.form];
             const worded = offers.map((offer) => {
                 const differences = this.library.differences(offer, form);
                 const changes = differences.sort((a, b) => Number(!a.isByte) - Number(!b.isByte));
                 const count = answers.length > 1 ? `; ${offer.expected} of ${answers.length} as expected` : "";
-                const alone = this.forms.length > 1 ? ` in ${form.name} alone` : "";
-                const label = `set ${changes.map((it) => it.text).join(", ")}${alone}`;
-                const told = this.told({ ...offer, text, isRefused }, [form]);
+                const place = this.forms.length > 1 ? ` in ${form.name}` : "";
+                const label = `set ${changes.map((it) => it.text).join(", ")}${place}`;
+                const told = this.told({ ...offer, text, isRefused });
                 return { ...offer, changes, label, then: `then ${told}${count}` };
             });
             const isExpected = isRefused === Boolean(answer.error);
@@ -90,8 +88,8 @@ class Trial {
     }
 
     row(answer) {
-        const { text, place, isRefused, isExpected, mask = 0, form = 0 } = answer;
-        const offers = answer.offers.map((offer, index) => this.offer(place, offer, index));
+        const { text, place, isRefused, isExpected, mask = 0, form } = answer;
+        const offers = answer.offers.map((offer) => this.offer(answer, offer));
         const advice = isExpected || isRefused ? [] : adviceFor(text).map((it) => this.advice(place, it));
         const nothing = isRefused ? "No flag alone refuses it." : "No change of a few fields was found that accepts it.";
         if (!isExpected && !offers.length && !advice.length) advice.push(element("li", {}, nothing));
@@ -101,7 +99,7 @@ class Trial {
         const told = element("p", { class: isExpected ? "good" : "bad" }, this.told(answer));
         const fields = this.library.namesOf(BigInt(mask));
         if (this.forms.length > 1 && answer.error) {
-            const go = () => (this.change(stateOf(this.forms[form])), this.go(fields[0] ?? "digit_separator"));
+            const go = () => (this.change({ at: form }), find(fields[0] ?? "digit_separator")?.focus());
             told.append(" ", button("link", this.forms[form].name, go, { title: "shows the settings of this form" }));
         }
         const line = element("div", {}, element("span", { class: "written" }, this.pieces(answer)), told);
@@ -137,17 +135,17 @@ class Trial {
         return button(hasAll ? "link all" : "link", short, () => this.start(name, form), { title: `shows ${short}` });
     }
 
-    /* Returns what is told of a number in a state. */
-    told({ text, error, start, isRefused, form = 0, ...answer }, forms = this.forms) {
+    /* Returns what is told of a number. */
+    told({ text, error, start, isRefused, form, ...answer }) {
         const where = start < text.length ? `at index ${start}` : "at the end";
-        const name = forms.length > 1 && !error ? `, ${forms[form].name}` : "";
+        const name = this.forms.length > 1 && !error ? `, ${this.forms[form].name}` : "";
         const what = (error ? `${where}: ${error}` : this.reading(answer)) + name;
         if (isRefused) return error ? `refused: ${what}` : `accepted as ${what}, but it must be refused`;
         return error ? what : `accepted: ${what}`;
     }
 
     /* Returns the text with its parts, in which the wrong bytes are marked, or a place if there are none. */
-    pieces({ text, parts, start, end, form = 0 }) {
+    pieces({ text, parts, start, end, form }) {
         const bytes = new TextEncoder().encode(text);
         let next = 0;
         const all = [...parts, { size: bytes.length }].map(({ kind, size }) => ({ kind, start: next, end: next += size }));
@@ -172,20 +170,22 @@ class Trial {
         });
     }
 
-    /* Returns a state that is offered, as a button with its settings, with what the number is then. */
-    offer(place, { label, then, changes }, index) {
-        const use = () => {
-            this.change(stateOf(this.answers.find((it) => it.place === place).offers[index]));
-            (find("read").querySelector(".use") ?? find("literal")).focus();
-        };
+    /* Returns a form that is offered, as a button with its settings, with what the number is then. */
+    offer(answer, offer) {
+        const { label, then, changes, expected } = offer;
+        const click = (change) => () => (change(), (find("read").querySelector(".use") ?? find("literal")).focus());
+        const use = click(() => this.put(stateOf(offer), "", answer.form));
+        const add = click(() => this.add([{ ...stateOf(offer), name: "" }]));
+        const isBetter = expected > this.answers.filter((it) => it.isExpected).length;
+        const isOther = !answer.isRefused && (!isBetter || changes.some(({ name }) => name === "mantissa_radix"));
         const [names, meanings] = ["name", "meaning"].map((key) => changes.map((it) => it[key]));
         const attributes = { "data-field": names.join(" "), title: meanings.join("; ") };
-        return element("li", {}, button("use", label, use, attributes), then);
+        return element("li", {}, button("use", label, use, attributes), then, isOther ? button("use", "or add this form", add) : "");
     }
 
     /* Returns what must be replaced in a number, with a button that does. */
     advice(place, { words, text }) {
-        return element("li", {}, element("span", {}, withCode(words)), button("use", `try ${text}`, () => this.put(place, text)));
+        return element("li", {}, element("span", {}, withCode(words)), button("use", `try ${text}`, () => this.replace(place, text)));
     }
 
     /* Returns what a number is: its kind and its value. */
@@ -198,12 +198,12 @@ class Trial {
 
     /* Makes an accepted number of a line one that must be refused, or the other way round. */
     turn(place) {
-        this.put(place, this.state.numbers.split("\n")[place].replace(/^!?/, (mark) => (mark ? "" : "!")));
+        this.replace(place, this.state.numbers.split("\n")[place].replace(/^!?/, (mark) => (mark ? "" : "!")));
         find(`refuse-${place}`)?.focus();
     }
 
     /* Replaces the text of a line. */
-    put(place, text) {
+    replace(place, text) {
         this.change({ numbers: this.state.numbers.split("\n").with(place, text).join("\n") });
     }
 }

@@ -1,14 +1,14 @@
-/* The state of the page: a word, an exponent character, a decimal point, the conditions, the numbers and the language. The
- * fragment of the URL has it too, with the format to compare with and the tab of the code. */
+/* The state of the page: the forms of numbers, which of them is shown, the numbers, and the language from which the forms
+ * are. The fragment of the URL has it too, with the format to compare with and the tab of the code. */
 
 const TABS = { rust: "Rust", c: "C", python: "Python", settings: "Settings", grammar: "Grammar", regex: "Regex" };
-/* After how many milliseconds without an edit the fragment is written. */
+/* The milliseconds before the fragment is written, its parts, what is told without a language, and the first numbers. */
 const PAUSE = 400;
-/* The parts of a fragment, what is told without a language, and the numbers of a page without a fragment. */
-const LINK = ["word", "exponent", "point", "conditions", "language", "numbers", "compare", "tab"];
+const LINK = ["word", "exponent", "point", "conditions", "forms", "language", "numbers", "compare", "tab"];
 const ABOUT = "Type numbers of your language or file: the page finds their format, and the code that reads them.";
 const EXAMPLE = "1_000.5\n0x1F\n-2e-3\n!1__0";
-/* What is told of a link that is copied from a file, which others cannot open. */
+/* The names of forms without one, by their radix, and what is told of a link from a file, which others cannot open. */
+const RADIXES = { 2: "binary", 8: "octal", 10: "decimal", 16: "hexadecimal" };
 const OF_FILE = "Copied from # on: paste it behind the address of the page.";
 /* How many steps are kept for a page that is loaded again, and how long the numbers of each may be. */
 const [MOST_STEPS, MOST_KEPT] = [100, 2000];
@@ -19,21 +19,14 @@ class Page {
         this.data = { ...data, languages: library.languages(data.languages) };
         const { languages } = this.data;
         [this.past, this.future] = [[], []];
-        const [change, edit] = [this.change, this.edit].map((it) => it.bind(this));
-        const go = (name) => find(name)?.focus();
-        const use = (state) => {
-            this.jump(state);
-            (find("reasons").querySelector(".use") ?? find("verdict")).focus();
-        };
-        this.controls = new Controls(library, edit);
-        this.report = new Report(library, languages, { use, edit, go, change: () => this.saveLater() });
-        this.trial = new Trial(library, languages, { change, go, start: (name, form) => this.start(name, form) });
+        const bound = (...names) => Object.fromEntries(names.map((name) => [name, this[name].bind(this)]));
+        this.controls = new Controls(library, bound("edit").edit);
+        this.report = new Report(library, languages, bound("use", "edit", "saveLater"));
+        this.trial = new Trial(library, languages, bound("change", "put", "add", "start"));
         this.code = new Code(library);
         setText(find("version"), data.version);
-        this.listen();
-        this.listenToWord();
-        this.makeTabs();
-        find("language").append(...choices(languages));
+        for (const listen of [this.listen, this.listenToWord, this.listenToForms, this.makeTabs]) listen.call(this);
+        find("language").append(...choices([["", "none"]], languages).filter(({ value }) => !/:|standard/.test(value)));
         this.read();
     }
 
@@ -44,13 +37,13 @@ class Page {
         click("undo", () => this.travel(this.past, this.future));
         click("redo", () => this.travel(this.future, this.past));
         document.addEventListener("keydown", (event) => this.undo(event));
-        click("standard", () => this.enter({ ...this.library.usual, language: "" }));
+        click("standard", () => this.enter({ forms: [this.library.usual], at: 0, language: "" }));
         click("clear", () => (this.change({ numbers: "" }), find("literal").focus()));
         find("language").addEventListener("change", ({ target }) => this.start(target.value));
-        for (const { id, dataset } of document.querySelectorAll("[data-copies]")) {
+        for (const { id, dataset } of document.querySelectorAll("[data-copies]")) click(id, () => {
             const beside = find(dataset.copies);
-            click(id, () => copy(find(id), beside.value ?? beside.textContent, beside));
-        }
+            copy(find(id), beside.value ?? beside.textContent, beside);
+        });
         click("copy-link", async ({ target }) => {
             this.save();
             const isFile = location.protocol === "file:";
@@ -58,17 +51,50 @@ class Page {
             setText(find("told"), (await copy(target, link)) ? (isFile ? OF_FILE : "") : link);
             if (find("told").textContent === link) getSelection().selectAllChildren(find("told"));
         });
-        click("verdict", () => find(find("report").hidden ? "code-title" : "report-title").focus());
+        click("verdict", () => {
+            const bad = this.trial.list.forms.findIndex(({ problems }) => problems.length);
+            if (bad >= 0 && !this.shown.problems.length) this.jump({ at: bad });
+            find(find("report").hidden ? "code-title" : "report-title").focus();
+        });
         click("count", () => find("literal").focus());
         for (const { id, dataset } of document.querySelectorAll("[data-go]")) click(id, () => find(dataset.go).focus());
         document.addEventListener("focusin", ({ target }) => (this.key = target.id === this.key ? this.key : ""));
     }
 
+    /* Takes a form that ends a reason. */
+    use(form) {
+        this.put(form);
+        this.showAnew();
+        (find("reasons").querySelector(".use") ?? find("verdict")).focus();
+    }
+
+    /* The shown form has a name and a place, and another form can be behind it. */
+    listenToForms() {
+        const click = (id, places) => find(id).addEventListener("click", () => {
+            const { forms, at } = this.state;
+            const [from, to] = places(at);
+            this.jump({ forms: forms.toSpliced(at, 1).toSpliced(to, 0, ...forms.slice(at, from)), at: to });
+            [find(id), find("forms").children[to], find("add")].find((it) => it.checkVisibility() && !it.disabled).focus();
+        });
+        click("earlier", (at) => [at + 1, at - 1]);
+        click("later", (at) => [at + 1, at + 1]);
+        click("remove", (at) => [at, Math.max(at - 1, 0)]);
+        find("form-name").addEventListener("input", ({ target }) => this.put({ name: target.value }, "form-name"));
+        find("add").addEventListener("change", ({ target }) => {
+            this.add(target.value === "copy" ? [{ ...this.form, name: "" }] : this.report.listOf(target.value).forms);
+            target.value = "";
+        });
+    }
+
+    /* Puts forms behind the last one, and shows the first of them. */
+    add(added) {
+        this.jump({ forms: [...this.state.forms, ...added], at: this.state.forms.length });
+    }
+
     /* Takes Ctrl+Z, Ctrl+Y and Ctrl+Shift+Z, except in the fields for texts. */
     undo(event) {
         const key = event.key?.toLowerCase();
-        const isUndo = (event.ctrlKey || event.metaKey) && ["z", "y"].includes(key);
-        if (!isUndo || event.target.id === "literal") return;
+        if (!(event.ctrlKey || event.metaKey) || !["z", "y"].includes(key) || event.target.id === "literal") return;
         event.preventDefault();
         find(key === "y" || event.shiftKey ? "redo" : "undo").click();
     }
@@ -77,8 +103,7 @@ class Page {
     travel(from, to) {
         if (!from.length) return;
         to.push(this.state);
-        this.state = from.pop();
-        this.key = "";
+        [this.state, this.key] = [from.pop(), ""];
         setText(find("told"), "");
         this.showAnew();
     }
@@ -89,10 +114,8 @@ class Page {
         box.addEventListener("change", () => this.take(box.value));
         box.addEventListener("paste", (event) => {
             const text = event.clipboardData.getData("text");
-            if (!text.includes("\n")) return setTimeout(() => this.take(box.value));
-            event.preventDefault();
-            box.value = text.replace(/(#.*)?\s+/g, " ").trim();
-            return this.take(box.value);
+            if (text.includes("\n")) (event.preventDefault(), (box.value = text.replace(/(#.*)?\s+/g, " ").trim()));
+            setTimeout(() => this.take(box.value));
         });
         box.addEventListener("keydown", ({ key }) => key === "Escape" && this.showWord());
     }
@@ -105,10 +128,8 @@ class Page {
             this.chooseTab(names.at((names.indexOf(this.tab) + step) % names.length));
             find(`tab-${this.tab}`).focus();
         };
-        find("tabs").append(...names.map((name) => {
-            const attributes = { id: `tab-${name}`, role: "tab", "aria-controls": "code", keydown };
-            return button("", TABS[name], () => this.chooseTab(name), attributes);
-        }));
+        const attributes = (name) => ({ id: `tab-${name}`, role: "tab", "aria-controls": "code", keydown });
+        find("tabs").append(...names.map((name) => button("", TABS[name], () => this.chooseTab(name), attributes(name))));
     }
 
     /* Shows the code of a tab. */
@@ -124,71 +145,85 @@ class Page {
         this.saveLater();
     }
 
-    /* Starts from a language: from one of its forms with the numbers as they are, or from the first with its own numbers in
-     * place of those of another language or of the example. */
+    /* Starts from a form of a language, or from the first with its own numbers in place of those of others or the example. */
     start(name, form) {
         const { languages } = this.data;
-        const { forms, numbers } = languages.find((it) => it.name === name) ?? { forms: [this.state], ...this.state };
+        const { forms, numbers, at = 0 } = languages.find((it) => it.name === name) ?? this.state;
         const isOwn = this.state.numbers && ![EXAMPLE, ...languages.map((it) => it.numbers)].includes(this.state.numbers);
         const kept = isOwn || form !== undefined ? this.state.numbers : numbers;
-        this.enter({ ...stateOf(forms[form ?? 0]), language: name, numbers: kept });
+        this.enter({ forms, at: form ?? at, language: name, numbers: kept });
     }
 
-    /* Returns the language of a state, if it is one of its forms. */
-    languageOf(state) {
-        return this.data.languages.find(({ name, forms }) => name === state.language && forms.some((it) => isSame(it, state)));
+    /* Returns the language from which the forms of a state are, by default if they are as they were. */
+    languageOf({ language, forms }, isOrigin = false) {
+        return this.data.languages.find((it) => it.name === language && (isOrigin || isSame(it.forms, forms)));
     }
 
-    /* Shows the language, and returns the forms that are read. */
-    showLanguage() {
-        const language = this.languageOf(this.state);
+    /* Shows the language and the forms, and returns the list, in which each form has a name of its own if there are several. */
+    showForms() {
+        const { forms, at } = this.state;
+        const [language, origin] = [false, true].map((isOrigin) => this.languageOf(this.state, isOrigin));
         find("language").value = language?.name ?? "";
-        find("about").replaceChildren(...withCode(language?.about ?? ABOUT));
-        const forms = language?.forms ?? [this.state];
-        const buttons = forms.map((form) => {
-            return button("form", form.name, () => this.jump(stateOf(form)), { "aria-pressed": String(isSame(form, this.state)) });
-        });
-        find("forms").hidden = forms.length === 1;
-        refill(find("forms"), buttons);
-        return forms;
+        const changed = origin ? `These forms are from ${origin.short}, and have its spellings of NaN and infinity.` : ABOUT;
+        find("about").replaceChildren(...withCode(language?.about ?? changed));
+        find("forms").hidden = find("tools").hidden = forms.length === 1;
+        const usual = (word) => (forms.length > 1 ? (RADIXES[this.library.get(word, "mantissa_radix")] ?? "form") : "");
+        const names = forms.map(({ name, word }) => name || usual(word));
+        const own = names.map((name, index) => (names.indexOf(name) < index ? `${name} (${index + 1})` : name));
+        const all = forms.map((form, index) => ({ ...this.library.explain(form), ...form, name: own[index] }));
+        refill(find("forms"), all.map(({ name, problems }, index) => {
+            const attributes = { "aria-pressed": String(index === at) };
+            return button(problems.length ? "form bad" : "form", name, () => this.jump({ at: index }), attributes);
+        }));
+        Object.assign(find("form-name"), { value: forms[at].name, placeholder: own[at] });
+        [find("earlier").disabled, find("later").disabled] = [at === 0, at === forms.length - 1];
+        return { forms: all, specials: origin?.specials };
     }
 
     /* Takes a text as the word, or shows why it is not one. */
     take(text) {
         const { word, options, notes = [], error } = this.library.read(text);
-        if (!error) this.jump({ word, ...options });
-        const forms = "A word is `0x` and up to 32 hexadecimal digits, a decimal number, or settings such as `radix=16`.";
-        this.tell(error ? `${error} ${forms}` : notes.join(". "), error);
+        if (!error) (this.put({ word, ...options }), this.showAnew());
+        const whole = "A word is `0x` and up to 32 hexadecimal digits, a decimal number, or settings such as `radix=16`.";
+        this.tell(error ? `${error} ${whole}` : notes.join(". "), error);
     }
 
     /* Tells why a typed text is refused, or what is lost of it. */
     tell(text, isProblem) {
         find("word-problem").replaceChildren(...withCode(text));
         find("word").setAttribute("aria-invalid", String(Boolean(isProblem)));
-        this.wordTold = this.state.word;
+        this.wordTold = this.form.word;
     }
 
     /* Changes a field or an option. Numbers are integers alone without both options, or floats with both. */
     edit(name, value, key) {
-        if (!OPTIONS.some((it) => it.name === name)) return this.change(this.library.with(this.state, name, value), key);
+        if (!OPTIONS.some((it) => it.name === name)) return this.put(this.library.with(this.form, name, value), key);
         const other = name === "point" ? "exponent" : "point";
-        const isAlone = (value === 0) !== (this.state[other] === 0);
-        const before = this.past.at(-1)?.[other] || STANDARD_OPTIONS[other];
-        this.change({ [name]: value, [other]: isAlone ? value && before : this.state[other] }, key);
+        const isAlone = (value === 0) !== (this.form[other] === 0);
+        const before = this.past.at(-1)?.forms[this.state.at]?.[other] || STANDARD_OPTIONS[other];
+        this.put({ [name]: value, [other]: isAlone ? value && before : this.form[other] }, key);
+    }
+
+    /* The form that is shown. */
+    get form() {
+        return this.state.forms[this.state.at];
+    }
+
+    /* Changes parts of a form, by default of the shown one, and shows it. */
+    put(part, key, at = this.state.at) {
+        const { forms } = this.state;
+        this.change({ at, forms: forms.with(at, { ...forms[at], ...part }) }, key);
     }
 
     /* Changes the state. What is typed into one control is undone at once. */
     change(part, key = "") {
         const state = { ...this.state, ...part };
+        if (isSame(state.forms, this.state.forms)) state.forms = this.state.forms;
         if (Object.keys(state).some((name) => state[name] !== this.state[name])) {
-            const lost = state.language && !this.languageOf(state);
-            const told = () => `The format is not that of ${this.languageOf(this.state).short} any more. Undo brings it back.`;
-            setText(find("told"), lost ? told() : "");
-            if (lost) state.language = "";
+            const lost = this.languageOf(state) ? undefined : this.languageOf(this.state)?.short;
+            setText(find("told"), lost ? `The format is not that of ${lost} any more. Undo brings it back.` : "");
             if (!key || key !== this.key) this.past.push(this.state);
-            this.future = [];
-            this.key = key;
-            this.state = state;
+            [this.future, this.key, this.state] = [[], key, state];
         }
         this.show();
     }
@@ -210,18 +245,18 @@ class Page {
     showAnew() {
         this.show();
         this.showWord();
-        this.controls.fillAll();
+        for (const name of this.controls.inputs.keys()) this.controls.fill(name);
     }
 
     fragment() {
-        const { word, exponent, point, numbers, language } = this.state;
-        const set = this.library.differences({ ...this.library.usual, conditions: this.state.conditions });
-        const conditions = set.map(({ text }) => text).join(" ");
-        const compare = find("compare").value;
-        const tab = this.tab === "rust" ? "" : this.tab;
-        const others = Object.entries({ conditions, language, numbers, compare, tab }).filter(([, text]) => text);
-        const all = others.map(([name, text]) => `&${name}=${encodeURIComponent(text)}`).join("");
-        return `#word=${wordText(word)}&exponent=${exponent}&point=${point}${all}`;
+        const { form, state: { forms: list, at, numbers, language } } = this;
+        const conditions = this.library.conditionsOf(form);
+        const isOwn = !this.languageOf(this.state) && (list.length > 1 || language || form.name);
+        const lines = list.map((it, index) => (index === at ? `:${it.name}` : this.library.formText(it)));
+        const [forms, tab] = [isOwn ? lines.join("\n") : "", this.tab === "rust" ? "" : this.tab];
+        const others = Object.entries({ conditions, forms, language, numbers, compare: find("compare").value, tab });
+        const all = others.map(([name, text]) => text && `&${name}=${encodeURIComponent(text)}`).join("");
+        return `#word=${wordText(form.word)}&exponent=${form.exponent}&point=${form.point}${all}`;
     }
 
     /* Writes the fragment, at once or after a pause, with the steps that can be undone and done again. */
@@ -244,7 +279,7 @@ class Page {
         const lost = [...parts].filter(([name]) => !LINK.includes(name)).map(([name]) => name);
         const language = languages.find(({ name }) => name === parts.get("language"));
         const tab = parts.get("tab") || "rust";
-        const usual = language && !parts.has("word") ? stateOf(language.forms[0]) : library.usual;
+        const usual = language && !parts.has("word") ? language.forms[0] : library.usual;
         const byte = (name) => (parts.has(name) ? library.byte(parts.get(name)) : usual[name]);
         const word = parts.get("word") ? library.read(parts.get("word")).word : usual.word;
         const found = { word, exponent: byte("exponent"), point: byte("point") };
@@ -254,24 +289,35 @@ class Page {
         }
         const conditions = parts.has("conditions") ? library.withConditions(0n, parts.get("conditions"), lost) : usual.conditions;
         const numbers = (parts.get("numbers") ?? (hash ? "" : EXAMPLE)).replace(/\r\n?/g, "\n");
-        const state = { ...found, conditions, numbers, language: language?.name ?? "" };
-        if (!this.languageOf(state)) state.language = "";
+        const state = this.readForms({ ...found, conditions }, parts.get("forms"), language, lost);
         if (parts.get("language") && !state.language) lost.push(`language=${parts.get("language")}`);
         if (!(tab in TABS)) lost.push(`tab=${tab}`);
         find("compare").value = parts.get("compare") ?? "";
         if (find("compare").selectedIndex < 0) lost.push(`compare=${parts.get("compare").slice(0, 40)}`);
-        [this.past, this.future] = history.state ?? [this.state ? [...this.past, this.state] : [], []];
-        this.state = state;
-        this.key = "";
+        const isKept = history.state?.flat().every((it) => it.forms);
+        [this.past, this.future] = isKept ? history.state : [this.state ? [...this.past, this.state] : [], []];
+        [this.state, this.key] = [{ ...state, numbers }, ""];
         this.chooseTab(tab in TABS ? tab : "rust");
         this.showAnew();
         const told = `The page cannot read this of the link, and shows what is usual in its place: ${lost.join(", ")}.`;
         setText(find("told"), lost.length ? told : "");
     }
 
+    /* Returns the forms of a link: those of the language, or a line of each, that of the shown one with its name alone. */
+    readForms(shown, text, language, lost) {
+        const place = language?.forms.findIndex((it) => !text && isSame([stateOf(it)], [shown]));
+        if (place >= 0) return { forms: language.forms, at: place, language: language.name };
+        const lines = text ? text.split("\n") : [];
+        const at = lines.findIndex((line) => line.startsWith(":"));
+        const named = { ...shown, name: lines[at]?.slice(1) ?? "" };
+        const all = lines.map((line, index) => (index === at ? named : this.library.form(line, lost)));
+        const forms = [...all, ...(at < 0 ? [named] : [])].filter(Boolean);
+        return { forms, at: forms.indexOf(named), language: (text && language?.name) || "" };
+    }
+
     /* Shows the word as text, in place of a typed text. */
     showWord() {
-        find("word").value = wordText(this.state.word);
+        find("word").value = wordText(this.form.word);
         this.tell("", false);
     }
 
@@ -285,24 +331,22 @@ class Page {
     }
 
     showAll() {
-        const { word } = this.state;
-        this.shown = this.library.explain(this.state);
-        const isKept = isRefused(find("word")) && this.wordTold === word;
+        const list = this.showForms();
+        this.shown = list.forms[this.state.at];
+        const isKept = isRefused(find("word")) && this.wordTold === this.form.word;
         if (document.activeElement !== find("word") && !isKept) this.showWord();
-        find("undo").disabled = !this.past.length;
-        find("redo").disabled = !this.future.length;
-        const forms = this.showLanguage();
-        this.report.show(this.state, this.shown, forms);
-        this.controls.show(this.state);
-        const { count, isGood, told } = this.trial.show(this.state, forms);
-        setText(find("count"), count);
-        find("count").className = isGood ? "good" : "bad";
+        [find("undo").disabled, find("redo").disabled] = [!this.past.length, !this.future.length];
+        this.report.show(this.shown, list);
+        this.controls.show(this.form);
+        const { count, isGood, first } = this.trial.show(this.state, list);
+        Object.assign(find("count"), { textContent: count, className: isGood ? "good" : "bad" });
         find("clear").disabled = !this.state.numbers;
-        setText(find("first-error"), this.shown.problems[0]?.text ?? told);
+        setText(find("first-error"), this.shown.problems[0]?.text ?? first);
         const { sentence, problems } = this.shown;
-        find("sentence").replaceChildren(...withCode(sentence ? `Numbers are ${sentence}.` : ""));
+        const numbers = list.forms.length > 1 ? "Numbers of this form" : "Numbers";
+        find("sentence").replaceChildren(...withCode(sentence ? `${numbers} are ${sentence}.` : ""));
         const blamed = problems.flatMap(({ fields }) => fields);
-        this.blame(new Set(blamed), new Set(this.library.differences(this.state).map(({ name }) => name)));
+        this.blame(new Set(blamed), new Set(this.library.differences(this.form).map((it) => it.name)));
         this.showCode();
         this.saveLater();
     }
@@ -317,23 +361,12 @@ class Page {
         for (const [name, box] of this.controls.boxes) box.setAttribute("aria-invalid", String(blamed.has(name)));
     }
 
-    /* Shows the code, with the numbers as a test unless a language has several forms. */
+    /* Shows the code of all forms, with the numbers as a test. */
     showCode() {
-        const { forms } = this.trial;
-        const { specials = SPECIALS } = forms[0];
-        const quoted = this.library.get(this.state.word, "no_special") ? [] : specials.map((it) => JSON.stringify(it));
-        const tests = forms.length > 1 ? [] : this.trial.answers;
-        // The normal form is the same format, and a builder makes it.
-        const { problems, isBuilt, normal } = this.shown;
-        const word = problems.length || isBuilt || this.tab === "settings" ? this.state.word : normal;
-        const text = this.code[this.tab]({ ...this.state, word, specials: quoted, tests }, this.shown);
-        setText(find("code"), this.code.comment(this.tab, this.state.language) + text);
+        const comment = this.languageOf(this.state) && COMMENTS[this.tab]?.(this.state.language);
+        const text = this.code.text(this.tab, this.trial.list, this.shown, this.trial.answers);
+        setText(find("code"), (comment ?? "") + text);
     }
-}
-
-/* Returns whether two states have the same syntax. */
-function isSame(form, state) {
-    return Object.entries(stateOf(form)).every(([name, value]) => state[name] === value);
 }
 
 /* Copies a text, and shows that on the button. If the browser allows no copy, selects the text, which is in a node. */

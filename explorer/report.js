@@ -1,19 +1,14 @@
-/* The report on a state: its reasons, with what ends them, its notes, and the comparison with another state, which is
- * hidden until it is asked for. */
+/* The report on a form: its reasons, with what ends them, its notes, and the comparison of the list with another one. */
 
 /* How many texts of a list are shown before it is opened. */
 const MOST_TEXTS = 6;
 
 class Report {
-    constructor(library, languages, { use, edit, go, change }) {
-        Object.assign(this, { library, languages, use, edit, go });
-        const others = [["", "nothing"], ["standard", "the standard format"]];
-        const all = languages.flatMap((language) => {
-            const forms = language.forms.map(({ name }) => ({ name: `${language.name}:${name}`, title: `${language.name}: ${name}` }));
-            return forms.length > 1 ? [language, ...forms] : [language];
-        });
-        find("compare").append(...choices([...others.map(([name, about]) => ({ name, about })), ...all]));
-        find("compare").addEventListener("change", () => (this.compare(), change()));
+    constructor(library, languages, { use, edit, saveLater }) {
+        Object.assign(this, { library, languages, use, edit });
+        find("compare").append(...choices([["", "nothing"]], languages));
+        find("add").append(...choices([["", "Add a form"], ["copy", "a copy of this one"]], languages));
+        find("compare").addEventListener("change", () => (this.compare(), saveLater()));
     }
 
     /* Returns buttons that lead to the controls of fields. Reserved bits have none. */
@@ -21,16 +16,16 @@ class Report {
         return fields.map((name) => {
             if (name === "reserved") return element("code", { "data-field": name }, "reserved bits");
             const title = OPTIONS.find((option) => option.name === name)?.title ?? name;
-            return button("link", title, () => this.go(name), { "data-field": name });
+            return button("link", title, () => find(name)?.focus(), { "data-field": name });
         });
     }
 
     /* Shows why the format is not valid: a reason of the word, or an option or a condition that does not fit. */
     reason({ text, fields }) {
-        const buttons = this.library.repairs(this.state, { text, fields }).map((state) => {
-            const changes = this.library.differences(state, this.state);
+        const buttons = this.library.repairs(this.form, { text, fields }).map((form) => {
+            const changes = this.library.differences(form, this.form);
             const label = changes.map((it) => it.text).join(", ") || "clear the reserved bits";
-            return button("use", label, () => this.use(state), { "data-field": changes.map(({ name }) => name).join(" ") });
+            return button("use", label, () => this.use(stateOf(form)), { "data-field": changes.map(({ name }) => name).join(" ") });
         });
         const row = (key, all) => (all.length ? element("p", {}, element("span", { class: "key" }, key), all) : "");
         const rows = [row("To blame", this.links(fields)), row("Ends it", buttons)];
@@ -41,19 +36,24 @@ class Report {
         return element("li", { class: "note", "data-field": fields.join(" ") }, text, element("p", {}, this.links(fields)));
     }
 
-    /* Shows texts that tell the format apart from the standard one or from a language, and each field and option in which
-     * they differ, with a button that takes it from the other one. */
+    /* Returns the list of a choice: the standard format, a language, or one form of it. */
+    listOf(choice) {
+        const [chosen, form] = choice.split(":");
+        const { forms, specials } = this.languages.find(({ name }) => name === chosen) ?? { forms: [this.library.usual] };
+        return { specials, forms: forms.filter(({ name }) => !form || name === form) };
+    }
+
+    /* Shows texts that tell the list from a chosen one, and each field in which the form differs, with a button for it. */
     compare() {
-        const [chosen, form] = find("compare").value.split(":");
-        find("comparison").hidden = !chosen;
-        if (!chosen) return;
-        setText(find("comparison-title"), `Compared with ${find("compare").selectedOptions[0].textContent}`);
-        const { forms } = this.languages.find(({ name }) => name === chosen) ?? { forms: [this.library.usual] };
-        const others = forms.filter(({ name }) => !form || name === form);
-        const texts = this.texts(this.library.differ(this.forms, others));
+        const [{ value = "", textContent } = {}] = find("compare").selectedOptions;
+        if ((find("comparison").hidden = !value)) return;
+        setText(find("comparison-title"), `Compared with ${textContent}`);
+        const other = this.listOf(value);
+        const texts = this.texts(this.library.differ(this.list, other));
         find("texts").replaceChildren(...texts);
-        const changes = others.length === 1 ? this.library.differences(this.state, others[0]) : [];
-        const none = changes.length ? "None of the texts that were tried tells them apart." : "Same format.";
+        const changes = other.forms.length === 1 ? this.library.differences(this.form, other.forms[0]) : [];
+        const [forms, others] = [this.list, other].map((it) => it.forms.map(stateOf));
+        const none = isSame(forms, others) ? "Same format." : "None of the texts that were tried tells them apart.";
         setText(find("same"), texts.length ? "Not the same." : none);
         const chips = changes.map(({ name, text, before, old }) => {
             const set = button("set", `set ${old.slice(name.length + 1)}`, () => this.edit(name, before), { "aria-label": `set ${old}` });
@@ -76,13 +76,15 @@ class Report {
         });
     }
 
-    /* Shows all of this for a state and what explains it. */
-    show(state, { problems, notes }, forms) {
-        this.state = state;
-        this.forms = forms;
+    /* Shows all of this for a form of a list. */
+    show(form, list) {
+        Object.assign(this, { form, list });
+        const { problems, notes } = form;
+        const other = list.forms.find((it) => it.problems.length)?.name;
         const count = problems.length === 1 ? "1 reason" : `${problems.length} reasons`;
-        setText(find("verdict"), problems.length ? `Not valid: ${count}` : "Valid format");
-        find("verdict").className = problems.length ? "bad" : "good";
+        const bad = problems.length ? count : other;
+        setText(find("verdict"), bad === undefined ? "Valid format" : `Not valid: ${bad}`);
+        find("verdict").className = bad === undefined ? "good" : "bad";
         find("report").hidden = !problems.length && !notes.length;
         find("reasons").replaceChildren(...problems.map((it) => this.reason(it)));
         find("notes").replaceChildren(...notes.map((note) => this.note(note)));
@@ -90,8 +92,11 @@ class Report {
     }
 }
 
-/* Returns the choices of a select for formats, each with the first words of its comment. */
-function choices(formats) {
-    const short = (about) => about.replace(/[:.]? \(.*|, as .*| with .*|\.$/, "");
-    return formats.map(({ name, about, title = short(about) }) => element("option", { value: name }, title));
+/* Returns choices of a select: some of its own, the standard format, and the languages, each with its forms if several. */
+function choices(own, languages) {
+    const all = languages.flatMap(({ name, about, forms }) => {
+        const each = forms.map((form) => [`${name}:${form.name}`, `${name}: ${form.name}`]);
+        return [[name, about.replace(/[:.]? \(.*|, as .*| with .*|\.$/, "")], ...(forms.length > 1 ? each : [])];
+    });
+    return [...own, ["standard", "the standard format"], ...all].map(([value, title]) => element("option", { value }, title));
 }

@@ -12,9 +12,6 @@ use peltzivar::literal::{
 };
 use peltzivar::{Format, FormatView, Rule};
 
-/// The spellings of special values that are read unless a language has its own.
-pub const SPECIALS: Specials = Specials { nan: Some(b"NaN"), inf: Some(b"inf"), infinity: Some(b"infinity") };
-
 /// How many states are offered for a number.
 const MOST: usize = 3;
 
@@ -30,13 +27,15 @@ const RESERVED: u128 = Rule::ReservedBitsAreZero.mask();
 /// The usual size of groups of digits.
 const USUAL_SIZE: u8 = 3;
 
-/// A format word, the options of a parser, and the conditions. If both options are 0, numbers are integers alone.
+/// A form of numbers: a format word, the options of a parser, the conditions, and the spellings of special values, which the
+/// first form of a list has. If both options are 0, numbers are integers alone.
 #[derive(Clone, Copy, Debug, PartialEq, Eq)]
 pub struct State {
     pub word: u128,
     pub exponent: u8,
     pub point: u8,
     pub conditions: Conditions,
+    pub specials: Specials<'static>,
 }
 
 impl State {
@@ -101,39 +100,39 @@ impl State {
     }
 
     /// Returns how many of the lines are as expected.
-    pub fn as_expected(self, lines: &[u8]) -> usize {
-        let syntax = self.syntax();
-        let is_accepted = |text| syntax.is_some_and(|it| read(it, text).is_ok());
-        lines_of(lines).filter(|line| is_accepted(line.text) != line.is_refused).count()
+    pub fn as_expected(self, lines: &[Line<'_>]) -> usize {
+        lines.iter().filter(|line| (line.is_read || self.read(line.text).is_ok()) != line.is_refused).count()
+    }
+
+    /// Returns why a text is neither a number nor a special value, or no error if this is not a syntax.
+    pub fn read(self, text: &[u8]) -> Result<(), Option<ReadError>> {
+        let syntax = self.syntax().ok_or(None)?;
+        match syntax.read(text) {
+            Err(error) if self.specials.read(&syntax, text).is_none() => Err(Some(error)),
+            _ => Ok(()),
+        }
     }
 
     /// Returns the first of some states with which the most lines are as expected.
-    fn first_best(states: impl Iterator<Item = Self>, lines: &[u8]) -> Option<Self> {
+    fn first_best(states: impl Iterator<Item = Self>, lines: &[Line<'_>]) -> Option<Self> {
         states.reduce(|best, it| if it.as_expected(lines) > best.as_expected(lines) { it } else { best })
     }
 }
 
-/// A number, and whether it must be refused.
+/// A number, whether it must be refused, and whether another form reads it.
 #[derive(Clone, Copy)]
 pub struct Line<'a> {
     pub text: &'a [u8],
     pub is_refused: bool,
+    pub is_read: bool,
 }
 
 /// Returns the numbers of a text, one a line. A number behind a `!` must be refused.
 pub fn lines_of(text: &[u8]) -> impl Iterator<Item = Line<'_>> {
     text.split(|&byte| byte == b'\n').filter(|line| !line.is_empty()).map(|line| match line.strip_prefix(b"!") {
-        Some(text) => Line { text, is_refused: true },
-        None => Line { text: line, is_refused: false },
+        Some(text) => Line { text, is_refused: true, is_read: false },
+        None => Line { text: line, is_refused: false, is_read: false },
     })
-}
-
-/// Returns why a text is neither a number nor a special value.
-pub fn read(syntax: Syntax, text: &[u8]) -> Result<(), ReadError> {
-    match syntax.read(text) {
-        Err(error) if SPECIALS.read(&syntax, text).is_none() => Err(error),
-        _ => Ok(()),
-    }
 }
 
 /// Returns each flag of a mask of flags, from the lowest.
@@ -159,7 +158,7 @@ fn unsigned(text: &[u8]) -> &[u8] {
 
 /// Returns the states that are offered for one of the lines, each with how many lines are as expected: those that need the
 /// fewest new roles to accept it, or those with one other flag or condition that refuse it and with which the most lines are.
-pub fn offers(state: State, lines: &[u8], line: Line<'_>) -> Vec<(State, usize)> {
+pub fn offers(state: State, lines: &[Line<'_>], line: Line<'_>) -> Vec<(State, usize)> {
     let mut found = Vec::new();
     match line.is_refused {
         true => refusing(state, line.text, lines, &mut found),
@@ -183,14 +182,14 @@ pub fn offers(state: State, lines: &[u8], line: Line<'_>) -> Vec<(State, usize)>
     offered
 }
 
-fn refusing(state: State, text: &[u8], lines: &[u8], found: &mut Vec<State>) {
+fn refusing(state: State, text: &[u8], lines: &[Line<'_>], found: &mut Vec<State>) {
     let flags = bits_of(FLAG_MASK).map(|flag| {
         let other = State { word: state.word ^ flag, ..state };
         // Consecutive separators need another flag of their part.
         let single = State { word: other.word & !CONSECUTIVE_DIGIT_SEPARATOR, ..other };
         other.syntax().map_or(single, |_| other)
     });
-    let refuses = |it: &State| it.syntax().is_some_and(|it| read(it, text).is_err());
+    let refuses = |it: &State| matches!(it.read(text), Err(Some(_)));
     found.extend(flags.filter(refuses));
     found.extend(
         Condition::ALL.iter().filter_map(|&it| State::first_best(state.with_numbers(it).filter(refuses), lines)),
@@ -198,13 +197,13 @@ fn refusing(state: State, text: &[u8], lines: &[u8], found: &mut Vec<State>) {
 }
 
 /// Finds states with up to this many new roles that accept the text.
-fn accepting(state: State, text: &[u8], lines: &[u8], roles: usize, found: &mut Vec<State>) {
+fn accepting(state: State, text: &[u8], lines: &[Line<'_>], roles: usize, found: &mut Vec<State>) {
     match settled(state, text) {
         Ok(settled) => {
             // In place of a condition that refuses the text, it or another one may have another number.
             let numbered =
                 Condition::ALL.iter().filter(|it| settled.conditions != state.conditions && it.limits().1 > 1);
-            let accepts = |it: &State| it.syntax().is_some_and(|it| read(it, text).is_ok());
+            let accepts = |it: &State| it.read(text).is_ok();
             found.extend(numbered.filter_map(|&it| State::first_best(state.with_numbers(it).filter(accepts), lines)));
             found.push(settled);
         }
@@ -223,11 +222,7 @@ fn settled(mut state: State, text: &[u8]) -> Result<State, usize> {
     if FormatView::new(allowed).digit_separator().is_some_and(|it| text.contains(&it.get())) {
         state.word |= SEPARATORS;
     }
-    let read_in = |state: State| match state.syntax() {
-        Some(syntax) => read(syntax, text).map_err(Some),
-        None => Err(None),
-    };
-    while let Err(error) = read_in(state) {
+    while let Err(error) = state.read(text) {
         match error {
             Some(error) if matches!(error.kind(), ReadErrorKind::Requirement | ReadErrorKind::Case) => {
                 state.word &= !error.mask();
@@ -240,7 +235,7 @@ fn settled(mut state: State, text: &[u8]) -> Result<State, usize> {
     // Those of consecutive separators are removed first, and those between digits last.
     for flag in bits_of(state.word & SEPARATORS & !allowed).rev() {
         let without = State { word: state.word & !flag, ..state };
-        if read_in(without).is_ok() {
+        if without.read(text).is_ok() {
             state = without;
         }
     }

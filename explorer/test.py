@@ -49,24 +49,27 @@ TEXTS = r"""1 1\5 1'5 1"5 -0 12 1F inf nan 9007199254740993 12345678901234567 12
 # a language: its link, that of the page, its normal form, the code in three languages, and what is told of each text.
 SHOWN = """const [shown, tried] = arguments;
     const { library, trial, data } = page;
-    const states = shown.map(([word, exponent, point]) => [{ word: BigInt(word), exponent, point, conditions: 0n }, ""]);
+    const states = shown.map(([word, exponent, point]) => [[{ word: BigInt(word), exponent, point, conditions: 0n, name: "" }], ""]);
     const each = library.conditions.map(({ isNumber, shift }) => (isNumber ? 3n : 1n) << shift);
-    const all = [...each, each.reduce((all, it) => all | it)].map((conditions) => [{ ...states.at(-1)[0], conditions }, ""])
-        .filter(([state]) => !library.explain(state).problems.length);
-    const forms = data.languages.flatMap(({ name, forms }) => forms.map((form) => [stateOf(form), name]));
+    const all = [...each, each.reduce((all, it) => all | it)].map((conditions) => [[{ ...states.at(-1)[0][0], conditions }], ""])
+        .filter(([[form]]) => !library.explain(form).problems.length);
+    const named = states.map(([[form]], index) => ({ ...form, name: ['"', "\\\\", "*/?", "\\u05d0'", "%s:{}", ""].at(index % 6) }))
+        .filter((form) => !library.explain(form).problems.length);
+    const forms = data.languages.flatMap(({ name, forms }) => [[forms, name], [forms, ""], ...forms.map((form) => [[form], name])]);
+    const json = ({ forms, at }) => JSON.stringify([forms, at], (_, it) => (typeof it === "bigint" ? String(it) : it));
     const texts = [...new Set([...tried, ...data.languages.flatMap((it) => it.numbers.replaceAll("!", "").split("\\n"))])];
-    return [texts, [...states, ...all, ...forms].map(([state, language]) => {
-        page.jump({ ...state, language, numbers: "1_0 %&\\n!+" });
+    return [texts, [...states, [named, ""], ...all, ...forms].map(([forms, language]) => {
+        page.jump({ forms, at: forms.length - 1, language, numbers: "1_0 %&\\n!+" });
+        const before = json(page.state);
         const link = page.fragment();
         history.replaceState(null, "", link);
         page.read();
-        const [form, again] = [{ ...page.state, specials: trial.forms[0].specials, name: "" }, page.fragment()];
-        trial.forms = [form];
+        const again = json(page.state) === before ? page.fragment() : json(page.state);
         const answers = trial.read(texts.map((text, place) => ({ text, place })));
         const told = answers.map((answer) => trial.told(answer));
         const tests = answers.map(({ text, error }) => ({ text, isRefused: Boolean(error) }));
         const codes = ["rust", "c", "python"].map((tab) => (trial.answers = tests, page.chooseTab(tab), find("code").textContent));
-        return [link, again, wordText(page.shown.normal), codes, told];
+        return [link, again, wordText(trial.forms[0].normal), codes, told];
     })];"""
 # Programs that print what the code reads: of each text its value, `none` if it has none, or `refused`.
 RUST = """#![deny(warnings)]
@@ -82,15 +85,16 @@ fn show(format: Format, read: fn(&str) -> Result<Number<'_>, FormError>) {
 """
 C = r"""
 #include <stdio.h>
-typedef bool read(const peltzivar_syntax *, const char *, peltzivar_literal *, peltzivar_special *);
+typedef bool read(const char *, peltzivar_literal *, peltzivar_special *);
 static void print(uint64_t low, uint64_t high) { printf("0x%016llX%016llX\n", (long long)high, (long long)low); }
-static void show(bool (*make_syntax)(peltzivar_syntax *), read *read_number, bool (*test)(const peltzivar_syntax *)) {
-    static peltzivar_syntax syntax; peltzivar_literal literal; peltzivar_special special; peltzivar_i128 it; double value;
+static void show(bool (*make_forms)(void), const peltzivar_forms *forms, read *read_number, bool (*test)(void)) {
+    peltzivar_literal literal; peltzivar_special special; peltzivar_i128 it; double value;
     FILE *file = fopen("texts", "r");
-    if (make_syntax(&syntax) && test(&syntax)) print(syntax.format.low, syntax.format.high);
+    const peltzivar_word *word = &forms->forms->syntax.format;
+    if (make_forms() && test()) print(word->low, word->high);
     for (char text[256]; fgets(text, sizeof text, file);) {
         text[strcspn(text, "\n")] = 0;
-        if (!read_number(&syntax, text, &literal, &special)) puts("refused");
+        if (!read_number(text, &literal, &special)) puts("refused");
         else if (special.spelling) printf("%c%s\n", special.sign ? special.sign : '+', special.spelling == 1 ? "nan" : "inf");
         else if (!peltzivar_to_i128(&literal, &it)) print(it.low, it.high);
         else if (!peltzivar_to_f64(&literal, &value)) printf("%.17e\n", value);
@@ -109,7 +113,7 @@ def show(syntax, read):
 """
 # Links with all parts of a number, several forms, reasons, notes, offers, and a condition that does not fit.
 LINKS = [f"#word={MIXED}&exponent=112&point=44&numbers=-0x1_0%2C8p%2B1h%0A!0x1h%0A1k&compare=JSON&tab=settings",
-         "#word=0x0A02100078000027000000070000441C&exponent=112&language=C" + f"&numbers={60 * '1'}%0A0xg&compare=standard",
+         f"#language=C&numbers={60 * '1'}%0A0xg%0A0b1.5&compare=standard",
          "#word=0x000010006200005F00000000000000CC&exponent=112&compare=standard&tab=regex",
          f"#word={STANDARD}&conditions=integer_group_size%3D3&numbers=-inf%0A1_0%0A0x1F&compare=standard&tab=python"]
 # Returns what is beyond an edge of its panel.
@@ -117,6 +121,10 @@ BEYOND = """return [...document.querySelectorAll(".panel *, header *, .bar *, fo
         const [panel, box] = [it.closest(".panel, header, .bar, footer"), it].map((it) => it.getBoundingClientRect());
         return box.width && (box.left < panel.left - 1 || box.right > panel.right + 1);
     }).map((it) => it.outerHTML.slice(0, 99));"""
+# Returns the long texts that are squeezed into a few letters a line.
+NARROW = """return [...document.querySelectorAll("body :not(option)")].filter((it) => it.checkVisibility({ opacityProperty: true })
+        && [...it.childNodes].some((node) => node.nodeType === 3 && node.data.trim()) && it.textContent.trim().length > 20
+        && it.getBoundingClientRect().width < 50).map((it) => it.outerHTML.slice(0, 99));"""
 # Returns the parts of numbers in another colour than the dots of their fields, and what is good in red or bad in green.
 MISLEADING = """const colour = (it, name = "color") => getComputedStyle(it)[name];
     const dots = (it) => it.dataset.field.split(" ").map((name) => document.querySelector(`[data-field=${name}] .dot`));
@@ -131,17 +139,22 @@ IDLE = """const [link, done] = arguments;
     const not = ":not(#undo, #redo, .readers button, [aria-pressed=true], [aria-selected=true])";
     const buttons = () => [...document.querySelectorAll(`button:enabled${not}`)].filter((it) => it.checkVisibility());
     navigator.clipboard.writeText = async (text) => { window.copied = text; };
+    const start = () => {
+        history.replaceState(null, "", link);
+        page.read();
+        document.activeElement.blur();
+        page.change({ numbers: `${page.state.numbers}\\n1` });
+    };
     (async () => {
         const idle = [];
+        start();
         for (const index of buttons().keys()) {
-            history.replaceState(null, "", link);
-            page.read();
-            document.activeElement.blur();
+            start();
             const [button, before] = [buttons()[index], page.fragment()];
             button.click();
             await new Promise((resolve) => setTimeout(resolve));
             const [beside, hasMoved] = [find(button.dataset.copies), ![document.body, button].includes(document.activeElement)];
-            const isCopied = window.copied === (beside ? beside.value ?? beside.textContent : location.hash);
+            const isCopied = window.copied === (beside ? beside.value ?? beside.textContent : before);
             if (!(button.id.startsWith("copy") ? isCopied : page.fragment() !== before || hasMoved)) idle.push(button.outerHTML);
         }
         done(idle);
@@ -186,7 +199,7 @@ def run(*command, **options):
 
 def is_same(told, printed):
     """Returns whether a program prints what the page tells of a text: its value, a number without one, or a refusal."""
-    value = told.partition(" = ")[2].rstrip(", ")
+    value = told.partition(" = ")[2].partition(",")[0]
     if not value or printed in ("none", "refused"):
         return not value and told.startswith("accepted") == (printed != "refused")
     is_whole = re.fullmatch(r"-?\d+ (-?\d+|0x\w+)", f"{value} {printed}")
@@ -228,6 +241,7 @@ class Walk(unittest.TestCase):
         """Loads each of LINKS, opens all that is closed, and returns the link."""
         for link in LINKS:
             self.load(link)
+            self.assertEqual(self.text("#told"), "")
             self.run_script("document.querySelectorAll('details').forEach((it) => { it.open = true; })")
             yield link
 
@@ -280,7 +294,7 @@ class Walk(unittest.TestCase):
     def rust(self, folder, codes):
         codes = [code.replace("#[test]\nfn", "pub fn") for code in codes]
         modules = "".join(f"mod m{index} {{\n{code}}}\n" for index, code in enumerate(codes))
-        show = [("show(m{0}::FORMAT, m{0}::read); m{0}::numbers();" if "fn read" in it else 'println!("{{:#034X}}", m{0}::WORD);') for it in codes]
+        show = [("show(m{0}::FORMS[0].syntax().format(), m{0}::read); m{0}::numbers();" if "fn read" in it else 'println!("{{:#034X}}", m{0}::WORD);') for it in codes]
         calls = " ".join(call.format(index) for index, call in enumerate(show))
         (folder / "main.rs").write_text(f"{RUST}{modules}fn main() {{ {calls} }}\n")
         (folder / "Cargo.toml").write_text(
@@ -289,16 +303,16 @@ class Walk(unittest.TestCase):
         return run("cargo", "run", "--quiet", "--offline", "--target-dir", folder, cwd=folder)
 
     def c(self, folder, codes):
-        names = r"\b(SETTINGS|SPECIALS|WORD|make_syntax|read_number|test_numbers)\b"
+        names = r"\b(SETTINGS|SPECIALS|WORD|LIST|FORMS|make_forms|read_number|test_numbers)\b"
         parts = [re.sub(names, rf"\1_{index}", code) for index, code in enumerate(codes)]
-        show = [("show(make_syntax_{0}, read_number_{0}, test_numbers_{0});" if "make" in it else "print(WORD_{0}.low, WORD_{0}.high);") for it in codes]
+        show = [("show(make_forms_{0}, &FORMS_{0}, read_number_{0}, test_numbers_{0});" if "make" in it else "print(WORD_{0}.low, WORD_{0}.high);") for it in codes]
         calls = " ".join(call.format(index) for index, call in enumerate(show))
         (folder / "main.c").write_text("".join([*parts, C, f"int main(void) {{ {calls} }}\n"]))
         run("cc", "-Wall", "-Wextra", "-Werror", "-I", TOP / "c", "-o", folder / "main", folder / "main.c", BUILD / "release/libpeltzivar_c.a")
         return run(folder / "main", cwd=folder)
 
     def python(self, folder, codes):
-        calls = ((code, "show(syntax, read)\ntest_numbers()" if "def read" in code else "print(view)") for code in codes)
+        calls = ((code, "show(next(iter(forms.values())), read)\ntest_numbers()" if "def read" in code else "print(view)") for code in codes)
         (folder / "main.py").write_text(PYTHON + "".join(f"{code}{call}\n" for code, call in calls))
         variables = {"PELTZIVAR_LIBRARY": f"{BUILD}/release/libpeltzivar_c.so", "PYTHONPATH": str(TOP / "c"), "PYTHONDONTWRITEBYTECODE": "1"}
         return run(sys.executable, "main.py", cwd=folder, env={**os.environ, **variables})
@@ -347,7 +361,7 @@ class Walk(unittest.TestCase):
         self.type("#point", "9" + Keys.TAB)
         self.assertEqual(self.value("#point"), "TAB")
         self.type("#point", "lf" + Keys.TAB)
-        self.assertEqual(self.run_script("return page.state.point"), 10)
+        self.assertEqual(self.run_script("return page.form.point"), 10)
         self.load("#word=0x0A0A0A000000002C000000000000000C&point=44&numbers=1,5")
         self.assertEqual((self.text("#verdict"), self.text("#count")), ("Valid format", "1 of 1 as expected"))
         self.assertIn("is_valid_options_punctuation refuses this, but a reader takes it", self.text("#notes"))
@@ -383,6 +397,17 @@ class Walk(unittest.TestCase):
         self.driver.back()
         self.wait(lambda: state() == both)
 
+    def test_a_change_leaves_nothing_to_be_done_again(self):
+        for step in (lambda: self.click("#no_special"), lambda: self.click("#read .use"), lambda: self.click("#standard"),
+                     lambda: self.type("#exponent", "d"), lambda: self.type("#literal", "1"), lambda: self.type("#word", MIXED + Keys.TAB),
+                     lambda: Select(self.find("#language")).select_by_value("C"), lambda: Select(self.find("#add")).select_by_value("C")):
+            self.load(f"#word={STANDARD}&exponent=112&numbers=0x1F")
+            self.click("#no_exponent_notation")
+            self.click("#undo")
+            self.assertTrue(self.find("#redo").is_enabled())
+            step()
+            self.assertFalse(self.find("#redo").is_enabled())
+
     def test_two_formats_are_compared(self):
         def shown():
             return self.text("#same"), self.texts("#changes code")
@@ -394,6 +419,8 @@ class Walk(unittest.TestCase):
         self.assertEqual(shown(), ("Not the same.", ["exponent='p'"]))
         self.click("#changes button")
         self.assertEqual((shown(), self.value("#exponent")), (("Same format.", []), "e"))
+        Select(self.find("#add")).select_by_value("copy")
+        self.assertEqual(shown(), ("None of the texts that were tried tells them apart.", []))
 
     def test_texts_tell_two_languages_apart(self):
         Select(self.find("#language")).select_by_value("JSON")
@@ -403,9 +430,6 @@ class Walk(unittest.TestCase):
         self.run_script("document.querySelectorAll('#texts details').forEach((it) => { it.open = true; })")
         self.assertEqual([int(it.split(": ")[1]) for it in heads], [
             self.run_script(f"return document.querySelectorAll('#texts > ul')[{index}].querySelectorAll('code').length") for index in (0, 1)])
-        told, held = self.run_script("""const more = [...document.querySelectorAll("#texts details")];
-            return [more.map((it) => parseInt(it.textContent)), more.map((it) => it.childElementCount - 1)];""")
-        self.assertEqual(told, held)
         self.assertIn("-1 unexpected minus sign, which no_negative_mantissa_sign forbids", self.texts("#texts ul:first-of-type li"))
         self.assertIn("0x1 unexpected character 'x'", self.texts("#texts ul:nth-of-type(2) li"))
         Select(self.find("#compare")).select_by_value("C:octal")
@@ -414,6 +438,12 @@ class Walk(unittest.TestCase):
         Select(self.find("#language")).select_by_value("ADA")
         Select(self.find("#compare")).select_by_value("TOML")
         self.assertNotIn("NaN", self.text("#texts"))
+        Select(self.find("#language")).select_by_value("RUST")
+        Select(self.find("#compare")).select_by_value("PYTHON")
+        told, held = self.run_script("""const more = [...document.querySelectorAll("#texts details")];
+            return [more.map((it) => parseInt(it.textContent)), more.map((it) => it.childElementCount - 1)];""")
+        self.assertTrue(held)
+        self.assertEqual(told, held)
 
     def test_forms_of_a_language_are_read_together(self):
         self.type("#literal", "0x1F\n0b12\n1_000\n!1u")
@@ -428,7 +458,7 @@ class Walk(unittest.TestCase):
         self.assertEqual((self.value("#exponent"), self.value("#point")), ("", ""))
         self.assertEqual(self.text("#count"), "3 of 4 as expected")
         self.click("#no_special")
-        self.assertEqual((self.value("#language"), self.text("#count")), ("", "2 of 4 as expected"))
+        self.assertEqual((self.value("#language"), self.text("#count")), ("", "3 of 4 as expected"))
         self.assertIn("The format is not that of Rust any more", self.text("#told"))
 
     def test_a_language_is_changed_in_the_form_that_goes_furthest(self):
@@ -436,8 +466,119 @@ class Walk(unittest.TestCase):
         Select(self.find("#language")).select_by_value("JAVA")
         self.click("#read p .link", "hexadecimal float")
         self.assertEqual(self.focused(), "required_exponent_notation")
-        self.click("#read .use", "set required_exponent_notation=false in hexadecimal float alone")
+        self.click("#read .use", "set required_exponent_notation=false in hexadecimal float")
         self.assertEqual((self.text("#count"), self.value("#language")), ("1 of 1 as expected", ""))
+
+    def test_offers_lead_to_what_they_tell(self):
+        """Each offer for a text that a language refuses changes one form, and what it tells of the text is so then."""
+        wrong = self.run_script("""const told = (it) => it.textContent.replace(/^(accepted|refused): /, "");
+            return page.data.languages.flatMap(({ name, forms, numbers }) => numbers.split("\\n").filter((it) => it[0] === "!").flatMap((text) => {
+                const start = () => page.jump({ forms, at: 0, language: name, numbers: `${text.slice(1)}\\n1` });
+                start();
+                return [...find("read").querySelectorAll(".use")].flatMap((_, index) => {
+                    start();
+                    const button = find("read").querySelectorAll(".use")[index];
+                    if (button.textContent.startsWith("try")) return [];
+                    const [then, counted] = button.parentElement.childNodes[1].textContent.replace(/^then /, "").split("; ");
+                    const isAdded = button.previousSibling;
+                    button.click();
+                    const kept = forms.filter((form, at) => isSame([form], [page.state.forms[at]])).length;
+                    const isAsTold = isAdded || (find("count").textContent === counted && find("read").querySelector("p").textContent === then);
+                    const isRight = kept === forms.length - !isAdded && page.state.forms.length === forms.length + Boolean(isAdded);
+                    return isAsTold && isRight && page.trial.answers[0].isExpected ? [] : [[name, text, button.textContent, then, kept]];
+                });
+            }));""")
+        self.assertEqual(wrong, [])
+
+    def shown_forms(self):
+        """Returns the names of the forms, that of the shown one, its word, and the names in the code of Python."""
+        self.click("#tab-python")
+        names = re.findall(r'\("(.*)", Syntax', self.text("#code"))
+        return self.texts("#forms button"), self.text("#forms [aria-pressed=true]"), self.value(), names
+
+    def test_forms_are_named_moved_and_removed(self):
+        words = {name: f"0x0000{radix:02X}0000000000000000000000000C" for name, radix in zip("abc", (10, 16, 2))}
+
+        def shows(name):
+            lines = [f":{it}" if it == name else f"{word} 112 46 :{it}" for it, word in words.items()]
+            self.load(f"#word={words[name]}&exponent=112&forms=" + "%0A".join(lines))
+
+        for at, name in enumerate(words):
+            for step, to in (("#earlier", at - 1), ("#later", at + 1), ("#remove", None)):
+                shows(name)
+                names = [it for it in words if it != name]
+                if to in (-1, 3):
+                    self.assertFalse(self.find(step).is_enabled())
+                    continue
+                shown = names[max(at - 1, 0)] if to is None else name
+                if to is not None:
+                    names.insert(to, name)
+                self.click(step)
+                self.assertEqual(self.shown_forms(), (names, shown, words[shown], names))
+                self.click("#undo")
+                self.assertEqual(self.shown_forms(), ([*words], name, words[name], [*words]))
+            self.type("#form-name", 'x"\\')
+            names = ['x"\\' if it == name else it for it in words]
+            self.assertEqual(self.texts("#forms button"), names)
+            self.find("#form-name").send_keys(Keys.CONTROL, "z")
+            self.assertEqual((self.texts("#forms button"), self.value("#form-name")), ([*words], name))
+            self.click("#no_special")
+            before, after = self.run_script("return [page.past.at(-1), page.state].map(({ forms }) => forms.map((it) => wordText(it.word)))")
+            self.assertEqual([it for it, old, new in zip(words, before, after) if old != new], [name])
+
+    def test_an_unlawful_form_is_told_wherever_it_is(self):
+        for shown in (0, 1):
+            for at in (0, 1):
+                words = [STANDARD, STANDARD]
+                words[at] = "0x000010006200005F00000000000000CC"
+                lines = [f":{name}" if index == shown else f"{words[index]} 101 46 :{name}" for index, name in enumerate("ab")]
+                self.load(f"#word={words[shown]}&numbers=1&forms=" + "%0A".join(lines))
+                self.assertEqual((self.text("#verdict")[:9], self.texts("#forms .bad")), ("Not valid", ["ab"[at]]))
+                self.assertIn("Nothing can be read", self.text("#code"))
+                self.assertIn("not read", self.text("#read"))
+                self.click("#verdict")
+                self.assertEqual((self.text("#forms [aria-pressed=true]"), self.focused()), ("ab"[at], "report-title"))
+
+    def test_a_changed_language_keeps_its_special_values(self):
+        lost = self.run_script("""const told = () => page.trial.answers.map(({ text, error, float }) => `${text} ${error ?? float}`).join();
+            return page.data.languages.flatMap(({ name, forms, specials }) => {
+                page.jump({ forms, at: 0, language: name, numbers: [...new Set([...specials, ...SPECIALS])].join("\\n") });
+                const before = told();
+                page.put({ name: "other" });
+                const changed = told();
+                history.replaceState(null, "", page.fragment());
+                page.read();
+                return changed === before && told() === before ? [] : [name];
+            });""")
+        self.assertEqual(lost, [])
+
+    def test_parts_are_those_of_the_form_that_reads(self):
+        wrong = self.run_script("""const marks = ["_", "'", ",", " "];
+            const form = (mark, ...settings) => {
+                const all = ["internal_digit_separator=true", `digit_separator='${mark}'`, ...settings];
+                return { ...page.library.usual, word: page.library.build(all).word, exponent: 112, name: mark };
+            };
+            return marks.flatMap((first) => marks.map((second) => {
+                const forms = [form(first), form(second, "mantissa_radix=16", "exponent_base=16", "exponent_radix=16", "base_prefix='x'")];
+                page.jump({ forms, at: 0, language: "", numbers: `1${first}0.5\\n0x1${second}F` });
+                return [first, second, ...document.querySelectorAll("#read .separator")].map((it) => it.textContent ?? it).join("|");
+            })).filter((it) => it.split("|").slice(0, 2).join() !== it.split("|").slice(2).join());""")
+        self.assertEqual(wrong, [])
+
+    def test_forms_are_added(self):
+        """Each choice adds the forms that it names behind the last one."""
+        wrong = self.run_script("""return [...find("add").options].slice(1).filter(({ value }) => {
+                const usual = { ...page.library.usual, name: "a" };
+                page.jump({ forms: [{ ...usual, exponent: 112 }, usual], at: 0, language: "" });
+                find("add").value = value;
+                find("add").dispatchEvent(new Event("change"));
+                const [name, form] = value.split(":");
+                const all = page.data.languages.find((it) => it.name === name)?.forms ?? [{ ...page.library.usual }];
+                const added = name === "copy" ? [{ ...usual, exponent: 112, name: "" }] : all.filter((it) => !form || it.name === form);
+                const wanted = [{ ...usual, exponent: 112 }, usual, ...added];
+                return !isSame(page.state.forms, wanted) || page.state.at !== 2 || find("add").value !== "";
+            }).map((it) => it.value);""")
+        self.assertEqual(wrong, [])
 
     def test_conditions_are_offered_and_fit_the_format(self):
         self.load("#word=0x0A0210007800005F000000010000000C&exponent=112&numbers=!1F%0A0x1F%0A-0x1F")
@@ -461,6 +602,27 @@ class Walk(unittest.TestCase):
         self.assertEqual(self.texts("#read li"), ["not read, since the format is not valid"])
         self.click(".reason .use", "integer_group_size=none")
         self.assertEqual(self.text("#verdict"), "Valid format")
+
+    def test_sizes_of_groups_are_offered(self):
+        """Numbers show each size of each kind of groups. If any would do, the usual size is offered."""
+        wrong = self.run_script("""const { library } = page;
+            const word = library.build(["internal_digit_separator=true", "digit_separator=','"]).word;
+            const zeros = (size) => "0".repeat(size);
+            const texts = { integer: (it) => `1,${zeros(it)}`, higher: (it) => `1,${zeros(it)},000`, fraction: (it) => `0.${zeros(it)},0` };
+            const offered = (settings, ...numbers) => {
+                const form = { ...library.usual, word, conditions: library.withConditions(0n, settings) };
+                page.jump({ forms: [form], at: 0, language: "", numbers: numbers.join("\\n") });
+                return [...find("read").querySelectorAll(".use")].map((it) => it.textContent);
+            };
+            return library.conditions.filter((it) => it.isNumber).flatMap(({ name, limits: [least, most] }) => {
+                const [kind, text] = Object.entries(texts).find(([it]) => name.startsWith(it));
+                const [others, last] = kind === "higher" ? ["integer_group_size=3", 3] : ["", 0];
+                const sizes = Array.from({ length: most - least + 1 }, (_, it) => it + least).filter((it) => it !== last);
+                const lost = sizes.filter((it) => offered(others, `!${text(it + 1)}`, `!${text(it - 1)}`, text(it))[0] !== `set ${name}=${it}`);
+                const usual = offered("", `!${text(20)}`, "1", "-1", "1e5").join(" ");
+                return [...lost, ...(usual.includes(`${name}=3`) && !/group_size=[^3]/.test(usual) ? [] : [usual])].map((it) => [name, it]);
+            });""")
+        self.assertEqual(wrong, [])
 
     def test_groups_of_separator_flags_and_a_note(self):
         self.type("#digit_separator", "_")
@@ -584,7 +746,7 @@ class Walk(unittest.TestCase):
         self.assertEqual((self.value("#point"), self.text("#verdict")), (".", "Valid format"))
         self.type("#point", ",")
         self.type("#exponent", "")
-        self.assertEqual(self.run_script("return [page.state.exponent, page.state.point]"), [0, 0])
+        self.assertEqual(self.run_script("return [page.form.exponent, page.form.point]"), [0, 0])
         self.find("#exponent").send_keys("^")
         self.assertEqual(self.value("#point"), ",")
 
@@ -613,12 +775,14 @@ class Walk(unittest.TestCase):
 
     def test_what_a_link_has_in_vain_is_told(self):
         wrong = ["word=nonsense", "exponent=300", "point=", "language=NONE", "compare=NONE", "tab=none", "conditions=no_such=1",
-                 "conditions=integer_group_size=9", "unknown=1", 1000 * "a"]
+                 "conditions=integer_group_size=9", "forms=0x1 300 46:b", "forms=:a%0A0xg 101 46:b", "unknown=1", 1000 * "a"]
         for part in wrong:
             self.load(f"#{part}")
-            wanted = part[:30].replace("conditions=", "").replace("unknown=1", "unknown")
+            wanted = re.sub("conditions=|forms=(:a%0A)?|(?<=unknown)=1", "", part[:30])
             self.assertIn(wanted, self.text("#told"))
             self.assertEqual((self.value(), self.value("#exponent"), self.value("#point")), (STANDARD, "e", "."))
+        self.load("#forms=0xC 101 46 integer_group_size=9 other:b")
+        self.assertIn(": integer_group_size=9, other.", self.text("#told"))
         self.click("#no_special")
         self.assertEqual(self.text("#told"), "")
 
@@ -691,7 +855,7 @@ class Walk(unittest.TestCase):
         self.type("#literal", "0x1F\n0x1_0.8p3\n!0x.8\n0x1h")
         self.assertEqual(self.texts("#read ul li")[0],
             "set base_prefix='x', mantissa_radix=16, exponent_base=2, exponent_radix=10, exponent='p'\n"
-            "then accepted: integer = 31; 1 of 4 as expected")
+            "then accepted: integer = 31; 1 of 4 as expected\nor add this form")
         for _ in range(4):
             self.find("#read .use").send_keys(Keys.ENTER)
         self.assertEqual((self.focused(), self.text("#count")), ("literal", "4 of 4 as expected"))
@@ -706,11 +870,14 @@ class Walk(unittest.TestCase):
         self.addCleanup(self.driver.execute_cdp_cmd, "Emulation.clearDeviceMetricsOverride", {})
 
     def test_texts_fit_a_phone(self):
+        shown = "return [...document.querySelectorAll('button, input, select')].filter((it) => it.id && it.checkVisibility()).map((it) => it.id);"
+        wide = [self.run_script(shown) for _ in self.links()]
         for width in (360, 320):
             self.emulate(width, 700, True)
-            for link in self.links():
+            for controls, link in zip(wide, self.links()):
+                self.assertEqual(self.run_script(shown), controls)
                 whole = self.run_script("return document.documentElement.scrollWidth")
-                self.assertEqual((self.run_script(BEYOND), whole), ([], width), link)
+                self.assertEqual((self.run_script(BEYOND), self.run_script(NARROW), whole), ([], [], width), link)
         self.load(f"#word={MIXED}")
         self.assertTrue(self.run_script("""const tops = ["#literal", "#read", "#code"].map((it) => find(it.slice(1)).getBoundingClientRect().top);
             return tops.every((it, index) => !index || tops[index - 1] < it);"""))
@@ -747,11 +914,11 @@ class Walk(unittest.TestCase):
         wrong = self.run_script("""const { library, data: { languages } } = page;
             const texts = [...new Set(languages.flatMap((it) => it.numbers.replaceAll("!", "").split("\\n")))];
             const found = library.readers(texts.join("\\n"));
-            return languages.flatMap(({ name, forms }, language) => library.numbers(forms, texts.join("\\n")).map((answer, index) => {
+            return languages.flatMap((list, language) => library.numbers(list, texts.join("\\n")).map((answer, index) => {
                 const reader = found[index].find((it) => it.language === language);
                 const told = (it) => (it ? `${it.form} ${valueText(it)}` : "refused");
                 const there = told(answer.error ? undefined : answer);
-                return told(reader) === there ? [] : [name, texts[index], told(reader), there];
+                return told(reader) === there ? [] : [list.name, texts[index], told(reader), there];
             }).filter((it) => it.length));""")
         self.assertEqual([it for it in wrong if "undefined" not in it[2]], [])
 
@@ -762,9 +929,33 @@ class Walk(unittest.TestCase):
             stars = ["all" in it.get_attribute("class") for it in row.find_elements(By.CSS_SELECTOR, "button")]
             self.assertEqual(stars, sorted(stars, reverse=True))
         self.assertIn("31, hexadecimal:", self.text(".readers"))
-        self.click(".readers button", "★Ruby" if False else self.texts(".readers .all")[0])
+        self.click(".readers button", self.texts(".readers .all")[0])
         self.assertEqual((self.text("#count"), self.value("#literal")), ("3 of 3 as expected", "0x1F\n1_0\n!010"))
         self.assertEqual(self.text("#forms [aria-pressed=true]"), "hexadecimal")
+
+    def test_each_language_is_below_what_it_reads(self):
+        """Each is behind its value and its form, and leads to that form. Those with a star read all, and are counted."""
+        wrong = self.run_script("""const { languages } = page.data;
+            const numbers = ["010", "0x1F", "1_0", "NaN", "1e5"];
+            page.change({ numbers: numbers.join("\\n") });
+            const nodes = [...document.querySelectorAll(".readers")];
+            page.trial.showReaders(nodes);
+            return nodes.flatMap((node, index) => {
+                let title = "";
+                const shown = [...node.children].slice(1).flatMap((it) => {
+                    if (it.tagName === "SPAN") title = it.textContent;
+                    return it.tagName === "SPAN" ? [] : [`${title} ${it.textContent} ${it.matches(".all")}`];
+                });
+                const reads = (list, text) => page.library.numbers(list, text)[0];
+                const told = languages.map((list) => [list, reads(list, numbers[index])]).filter(([, it]) => !it.error).map(([list, it]) => {
+                    const form = it.parts.some(({ kind }) => kind === "special") ? "special value" : list.forms[it.form].name;
+                    return `${valueText(it)}, ${form}: ${list.short} ${numbers.every((text) => !reads(list, text).error)}`;
+                });
+                const count = `Read by ${told.length || "none"} of ${languages.length} languages`;
+                return [...shown.filter((it) => !told.includes(it)), ...told.filter((it) => !shown.includes(it)),
+                    ...(node.firstChild.textContent.startsWith(count) ? [] : [count])];
+            });""")
+        self.assertEqual(wrong, [])
 
     def test_what_no_format_has_is_replaced(self):
         rows = {"1\u2019000": "1'000", "1\u00a0000": "1 000", "1\u202f000": "1 000", "\u22125": "-5", "12 %": "12", "\u20ac5": "5",
@@ -785,6 +976,12 @@ class Walk(unittest.TestCase):
         self.find("#tab-regex").send_keys(Keys.ARROW_LEFT)
         self.assertEqual(self.focused(), "tab-grammar")
         self.assertIn('Integer  ::= [1-9] Digit* | "0"', self.text("#code"))
+
+    def test_good_and_bad_have_marks(self):
+        wrong = self.run_script("""page.change({ numbers: "1\\n0x\\n!1\\n!x" });
+            const shows = (it) => getComputedStyle(it, "::before").content[1] === (it.matches(".good") ? "\\u2713" : "\\u2717");
+            return [...document.querySelectorAll(".good, .bad")].filter((it) => it.textContent && !shows(it)).map((it) => it.outerHTML);""")
+        self.assertEqual(wrong, [])
 
     def test_parts_differ_by_more_than_colour(self):
         for style in ("[it.textDecorationStyle, it.textDecorationLine].join()", "it.color"):

@@ -5,24 +5,26 @@ extern crate alloc;
 #[path = "../../explorer/suggest.rs"]
 mod suggest;
 
-use peltzivar::format::{DIGIT_SEPARATOR_FLAG_MASK, STANDARD};
-use peltzivar::literal::{Conditions, Language};
+use peltzivar::format::DIGIT_SEPARATOR_FLAG_MASK;
+use peltzivar::literal::{Conditions, Language, Specials};
 use peltzivar::{Edit, NumberFormatBuilder};
-use suggest::{lines_of, offers, read, State};
+use suggest::{lines_of, offers, Line, State};
 
+const SPECIALS: Specials = Specials { nan: Some(b"NaN"), inf: Some(b"inf"), infinity: Some(b"infinity") };
 const HEXADECIMAL: &str = "mantissa_radix=16 exponent_base=2 exponent_radix=10";
 
 /// Returns the state of settings that change the standard format. The exponent character is `p` in radix 16.
 fn state(settings: &str, exponent: u8, point: u8) -> State {
     let edits = settings.replace("hexadecimal", HEXADECIMAL);
     let builder: Result<NumberFormatBuilder, _> = edits.split_whitespace().map(str::parse::<Edit>).collect();
-    State { word: builder.expect(settings).build_unchecked(), exponent, point, conditions: Conditions::NONE }
+    let word = builder.expect(settings).build_unchecked();
+    State { word, exponent, point, conditions: Conditions::NONE, specials: SPECIALS }
 }
 
 /// Returns what is offered for the first of the lines.
 fn offered(state: State, lines: &str) -> Vec<State> {
-    let first = lines_of(lines.as_bytes()).next().unwrap();
-    offers(state, lines.as_bytes(), first).into_iter().map(|(state, _)| state).collect()
+    let lines: Vec<_> = lines_of(lines.as_bytes()).collect();
+    offers(state, &lines, lines[0]).into_iter().map(|(state, _)| state).collect()
 }
 
 #[test]
@@ -89,15 +91,25 @@ fn examples_lead_to_the_size_of_groups() {
     assert!(offered(fraction, "!0.123,4\n0.1234,5").contains(&of_fraction));
 }
 
+/// What another form reads is as expected if it must be accepted, and not if it must be refused.
+#[test]
+fn lines_that_another_form_reads_count() {
+    let lines = |is_read| ["0x1F", "!0x1F", "1"].map(|it| Line { is_read, ..lines_of(it.as_bytes()).next().unwrap() });
+    let expected = |is_read| state("", b'e', b'.').as_expected(&lines(is_read));
+    assert_eq!([false, true].map(expected), [2, 2]);
+    assert_eq!(state("", b'e', b'.').as_expected(&lines(true)[..1]), 1);
+}
+
 /// Returns the state to which the first offers lead from the standard format.
 fn walk(lines: &str) -> Option<State> {
-    let mut state = State { word: STANDARD, exponent: b'e', point: b'.', conditions: Conditions::NONE };
-    for line in lines_of(lines.as_bytes()) {
-        if state.syntax().is_none_or(|it| read(it, line.text).is_err()) {
-            state = offers(state, lines.as_bytes(), line).first()?.0;
+    let lines: Vec<_> = lines_of(lines.as_bytes()).collect();
+    let mut state = state("", b'e', b'.');
+    for &line in &lines {
+        if state.read(line.text).is_err() {
+            state = offers(state, &lines, line).first()?.0;
         }
     }
-    (state.as_expected(lines.as_bytes()) == lines.lines().count()).then_some(state)
+    (state.as_expected(&lines) == lines.len()).then_some(state)
 }
 
 #[test]
