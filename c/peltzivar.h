@@ -360,8 +360,8 @@ typedef struct {
 } peltzivar_forms;
 #define PELTZIVAR_FORMS_MAX 64
 
-/* Returns the forms of the language or file format with a name of len bytes, such as "JSON" or "C_SHARP", or a null
- * pointer if there is none. Names are case-sensitive. In Python, `help(peltzivar.Language)` describes each. */
+/* Returns the forms of the language or file format with a name of len bytes in either case, such as "JSON" or
+ * "C_SHARP", or a null pointer if there is none. In Python, `help(peltzivar.Language)` describes each. */
 const peltzivar_forms *peltzivar_language(const char *name, size_t len);
 
 /* Return the forms of a language. A program that calls these alone has only the forms of these languages in it. */

@@ -1640,7 +1640,7 @@ _EXACT = Context(_MOST_DIGITS, Emin=MIN_EMIN, Emax=MAX_EMAX, traps=[InvalidOpera
 _NEAR = Context(400, Emin=-999, Emax=999, traps=[InvalidOperation, Rounded, Overflow, Subnormal])
 
 
-@dataclass(frozen=True)
+@dataclass(frozen=True, repr=False)
 class Syntax(_Reader):
     """What literals are read by: a format, an exponent character and a decimal point that fit it, and conditions. If the
     exponent character and the decimal point are both None, literals are integers.
@@ -1689,6 +1689,10 @@ class Syntax(_Reader):
         form = _Forms((_Form * 1)(_Form(None, by)), 1)
         vars(self).update(conditions, format=format, exponent=exponent, point=point)
         vars(self).update(_by=by, _fields=format._unpacked(), _form=form, _forms=c_void_p(addressof(form)))
+
+    def __repr__(self) -> str:
+        conditions = "".join(f", {name}={it!r}" for name in _CONDITIONS if (it := getattr(self, name)))
+        return f"Syntax({self.format!r}, {self.exponent!r}, {self.point!r}{conditions})"
 
     def __reduce__(self) -> Tuple[Any, ...]:
         """Returns what makes the syntax again."""

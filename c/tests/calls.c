@@ -378,7 +378,7 @@ static void test_languages(void) {
     peltzivar_literal literal;
     peltzivar_read_error error;
     peltzivar_explanation why;
-    CHECK(!language("json") && !language("") && !peltzivar_language("JSON", SIZE_MAX) && !language("JSO"));
+    CHECK(language("json") == peltzivar_language_json() && language("c_Sharp") == peltzivar_language_c_sharp() && !language("") && !peltzivar_language("JSON", SIZE_MAX) && !language("JSO"));
     for (size_t i = 0; *peltzivar_language_name(i); i++) {
         const peltzivar_forms *const forms = language(peltzivar_language_name(i));
         const peltzivar_forms copied = *forms;

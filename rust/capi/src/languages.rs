@@ -255,7 +255,9 @@ calls! {
 
     fn peltzivar_language(name: *const u8, len: usize) -> *const Forms {
         let name = input(name, len).unwrap_or_default();
-        let index = NAMES.split(|byte| *byte == 0).position(|it| it == name);
+        // `eq_ignore_ascii_case` has 3 kB of code.
+        let is_named = |it: &[u8]| it.len() == name.len() && it.iter().copied().eq(name.iter().map(u8::to_ascii_uppercase));
+        let index = NAMES.split(|byte| *byte == 0).position(is_named);
         index.and_then(|index| CALLS.get(index)).map_or(ptr::null(), |call| call())
     }
 
