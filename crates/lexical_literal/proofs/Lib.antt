@@ -13,7 +13,6 @@ mod PartLemmas
 mod PassedLemmas
 mod MadeLemmas
 mod WriterLemmas
-mod EightLemmas
 mod ExampleLemmas
 mod CountLemmas
 mod PlainLemmas

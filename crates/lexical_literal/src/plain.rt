@@ -4,8 +4,7 @@
 //! decimal, which takes less time where the compiler knows it. Then reading also stops behind a leading zero, and where the digits
 //! of a part are absent, so that fewer paths join.
 
-ghost use Rattle.std.specs.Prelude.{◌≡◌, ◌<◌, ◌≤◌, ◌+◌, ◌-◌, ◌*◌, ◌%◌, ◌^◌, ◌∷◌, [], false, true, IfSome, IsNone, IsTrue, Some, get_or, length, map};
-ghost use Rattle.lexical_util.specs.Digits.{byte_value, digit_of, numeral};
+ghost use Rattle.std.specs.Prelude.{◌≡◌, ◌<◌, ◌≤◌, ◌+◌, ◌-◌, ◌*◌, ◌%◌, ◌^◌, ◌∷◌, [], false, true, IfSome, IsNone, IsTrue, get_or, length};
 ghost use Rattle.lexical_util.specs.Record.{raw};
 ghost use Rattle.lexical_literal.specs.Notation.{Notation, radix_of};
 ghost use Rattle.lexical_literal.specs.Additions.Longest.{HasFound};
@@ -24,7 +23,7 @@ use crate::steps::{
     is_separator, is_signed, may_follow, radix_of, takes,
 };
 use crate::syntax::{Condition, Grammar};
-use lexical_base::digit::{char_is_digit_const, char_to_digit_const, char_to_valid_digit_const};
+use lexical_base::digit::char_to_digit_const;
 use lexical_util::format::{Part, Role};
 use lexical_util::format_flags::base_prefix;
 
@@ -313,35 +312,7 @@ const fn separated(
 
 // Reads the digits that follow others. They do not change the stage.
 #[inline(always)]
-fn more_digits(grammar: Grammar, decimal: bool, text: &[u8], part: Part, begun: Run) -> Run
-    requires decimal { IsTrue decimal → IsDecimal (raw grammar.word) }
-    requires ready { IsReady (steps_of grammar) }
-    requires within { begun.size ≤ length text.now }
-    requires digits { begun.digits ≤ begun.size }
-    requires run { is_run begun.stage ≡ true }
-    requires part { part_of begun.stage ≡ part }
-    ensures within { result.size ≤ length text.now }
-    ensures digits { result.digits ≤ result.size }
-    ensures stage { result.stage ≡ begun.stage }
-    ensures run { IsRunOn (steps_of grammar) (radix_of (raw grammar.word) part) text.now part begun result }
-    ensures over { IsOver (steps_of grammar) text.now part result }
-{
-    if decimal && matches!(part, Part::Fraction) {
-        one_by_one(
-            grammar,
-            decimal,
-            text,
-            part,
-            eight_by_eight(grammar, text, part, begun),
-        )
-    } else {
-        one_by_one(grammar, decimal, text, part, begun)
-    }
-}
-
-// Reads the digits that follow others.
-#[inline(always)]
-const fn one_by_one(grammar: Grammar, decimal: bool, text: &[u8], part: Part, begun: Run) -> Run
+const fn more_digits(grammar: Grammar, decimal: bool, text: &[u8], part: Part, begun: Run) -> Run
     requires decimal { IsTrue decimal → IsDecimal (raw grammar.word) }
     requires ready { IsReady (steps_of grammar) }
     requires within { begun.size ≤ length text.now }
@@ -363,68 +334,9 @@ const fn one_by_one(grammar: Grammar, decimal: bool, text: &[u8], part: Part, be
     reached(begun, size, sum)
 }
 
-// Reads decimal digits that follow others, as long as there are eight.
-#[inline(always)]
-fn eight_by_eight(_grammar: Grammar, text: &[u8], _part: Part, begun: Run) -> Run
-    requires decimal { IsDecimal (raw _grammar.word) }
-    requires ready { IsReady (steps_of _grammar) }
-    requires within { begun.size ≤ length text.now }
-    requires digits { begun.digits ≤ begun.size }
-    requires run { is_run begun.stage ≡ true }
-    requires part { part_of begun.stage ≡ _part }
-    ensures within { result.size ≤ length text.now }
-    ensures digits { result.digits ≤ result.size }
-    ensures stage { result.stage ≡ begun.stage }
-    ensures run { IsRunOn (steps_of _grammar) (radix_of (raw _grammar.word) _part) text.now _part begun result }
-{
-    let mut rest = text.split_at(begun.size).1;
-    let mut sum = begun.sum;
-    while let Some((bytes, more)) = rest.split_first_chunk::<8>() {
-        let Some(eight) = eight(*bytes) else {
-            break;
-        };
-        sum = sum.wrapping_mul(100_000_000).wrapping_add(eight as u64);
-        rest = more;
-    }
-    reached(begun, text.len() - rest.len(), sum)
-}
-
-// Returns the number that eight bytes represent, if all of them are decimal digits.
-#[inline(always)]
-const fn eight(bytes: [u8; 8]) -> Option<u32>
-    ensures digits { IfSome result (λ number. map (λ byte. digit_of byte 10) bytes ≡ map (λ byte. Some (byte_value byte)) bytes) }
-    ensures number { IfSome result (λ number. number ≡ numeral 10 bytes) }
-{
-    let [a, b, c, d, e, f, g, h] = bytes;
-    let first = is_digit_pair(a, b) & is_digit_pair(c, d);
-    if first & is_digit_pair(e, f) & is_digit_pair(g, h) {
-        Some((pair(a, b) * 100 + pair(c, d)) * 10_000 + (pair(e, f) * 100 + pair(g, h)))
-    } else {
-        None
-    }
-}
-
-// Returns whether two bytes are decimal digits.
-#[inline(always)]
-const fn is_digit_pair(a: u8, b: u8) -> bool
-    ensures { IsTrue result → (digit_of a 10 ≡ Some (byte_value a)) × (digit_of b 10 ≡ Some (byte_value b)) }
-{
-    char_is_digit_const(a, 10) & char_is_digit_const(b, 10)
-}
-
-// Returns the number that two decimal digits represent.
-#[inline(always)]
-const fn pair(a: u8, b: u8) -> u32
-    requires { (digit_of a 10 ≡ Some (byte_value a)) × (digit_of b 10 ≡ Some (byte_value b)) }
-    ensures value { result ≡ byte_value a * 10 + byte_value b }
-    ensures small { result < 100 }
-{
-    char_to_valid_digit_const(a, 10) * 10 + char_to_valid_digit_const(b, 10)
-}
-
 // Reads the digits that follow others, and separators between them. They do not change the stage.
 #[inline(always)]
-fn groups(grammar: Grammar, decimal: bool, text: &[u8], part: Part, begun: Run) -> Run
+const fn groups(grammar: Grammar, decimal: bool, text: &[u8], part: Part, begun: Run) -> Run
     requires decimal { IsTrue decimal → IsDecimal (raw grammar.word) }
     requires ready { IsReady (steps_of grammar) }
     requires within { begun.size ≤ length text.now }
@@ -448,7 +360,7 @@ fn groups(grammar: Grammar, decimal: bool, text: &[u8], part: Part, begun: Run) 
 
 // Reads the digits of `part` that follow, and separators between them.
 #[inline(always)]
-fn digits(grammar: Grammar, decimal: bool, text: &[u8], part: Part, begun: Run) -> Run
+const fn digits(grammar: Grammar, decimal: bool, text: &[u8], part: Part, begun: Run) -> Run
     requires decimal { IsTrue decimal → IsDecimal (raw grammar.word) }
     requires ready { IsReady (steps_of grammar) }
     requires within { begun.size ≤ length text.now }
@@ -478,7 +390,7 @@ fn digits(grammar: Grammar, decimal: bool, text: &[u8], part: Part, begun: Run) 
 
 // Reads the digits behind the zero that begins the integer. None are read if `decimal` is true.
 #[inline(always)]
-fn behind_zero(grammar: Grammar, decimal: bool, text: &[u8], zero: Run) -> Run
+const fn behind_zero(grammar: Grammar, decimal: bool, text: &[u8], zero: Run) -> Run
     requires decimal { IsTrue decimal → IsDecimal (raw grammar.word) }
     requires ready { IsReady (steps_of grammar) }
     requires within { zero.size ≤ length text.now }
@@ -504,7 +416,7 @@ fn behind_zero(grammar: Grammar, decimal: bool, text: &[u8], zero: Run) -> Run
 // Reads a front of `text` with which some literal begins. Unless `fronts` is true, a front that is a literal, but not all of
 // `text`, may not be said to be one, which takes less time.
 #[inline(always)]
-pub(crate) fn plain(grammar: Grammar, decimal: bool, text: &[u8], fronts: bool) -> Counted
+pub(crate) const fn plain(grammar: Grammar, decimal: bool, text: &[u8], fronts: bool) -> Counted
     requires decimal { IsTrue decimal → IsDecimal (raw grammar.word) }
     requires ready { IsReady (steps_of grammar) }
     ensures found { HasFound (steps_of grammar) text.now result }
@@ -585,7 +497,13 @@ const fn without_prefix(grammar: Grammar, text: &[u8], sign: usize) -> Counted
 
 // Reads the integer, and what follows it.
 #[inline(always)]
-fn integer(grammar: Grammar, decimal: bool, text: &[u8], fronts: bool, opening: Opening) -> Counted
+const fn integer(
+    grammar: Grammar,
+    decimal: bool,
+    text: &[u8],
+    fronts: bool,
+    opening: Opening,
+) -> Counted
     requires decimal { IsTrue decimal → IsDecimal (raw grammar.word) }
     requires ready { IsReady (steps_of grammar) }
     requires opened { IsOpened (steps_of grammar) text.now opening }
@@ -628,7 +546,7 @@ fn integer(grammar: Grammar, decimal: bool, text: &[u8], fronts: bool, opening: 
 
 // Reads the fraction behind its decimal point, and what follows it.
 #[inline(always)]
-fn fraction(
+const fn fraction(
     grammar: Grammar,
     decimal: bool,
     text: &[u8],
@@ -669,7 +587,7 @@ fn fraction(
 
 // Reads what follows the digits of the mantissa, an exponent or the suffix.
 #[inline(always)]
-fn behind_mantissa(
+const fn behind_mantissa(
     grammar: Grammar,
     decimal: bool,
     text: &[u8],
@@ -727,7 +645,7 @@ const fn all_sums(sizes: Sizes, mantissa: Run, exponent: Sum) -> Sums
 
 // Reads the exponent behind its character, and what follows it.
 #[inline(always)]
-fn exponent(
+const fn exponent(
     grammar: Grammar,
     decimal: bool,
     text: &[u8],

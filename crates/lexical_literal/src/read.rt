@@ -87,7 +87,7 @@ impl Syntax {
     // Reads a front of `text` with which some literal begins. Unless `fronts` is true, a front that is a literal, but not all of
     // `text`, may not be said to be one, which takes less time.
     #[inline(always)]
-    pub(crate) fn begin(&self, decimal: bool, text: &[u8], fronts: bool) -> Counted
+    pub(crate) const fn begin(&self, decimal: bool, text: &[u8], fronts: bool) -> Counted
         requires radix { IsTrue decimal → IsDecimal (raw self.now.word) }
         requires usual { IsTrue decimal → IsUsual self.now }
         ensures found { HasBegun (notation_of self.now) text.now result }

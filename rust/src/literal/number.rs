@@ -67,7 +67,7 @@ impl Syntax {
     // Returns what `read` returns for any syntax.
     #[inline(never)]
     pub(crate) const fn read_generally<'t>(&self, text: &'t [u8]) -> Result<Literal<'t>, ReadError> {
-        let counted = self.begin_any(text, false);
+        let counted = self.begin(false, text, false);
         if self.is_whole(text, counted) {
             Ok(self.literal(text, counted.counts, counted.sums))
         } else if counted.exact {

@@ -6,7 +6,7 @@
 //! decimal, which takes less time where the compiler knows it. Then reading also stops behind a leading zero, and where the digits
 //! of a part are absent, so that fewer paths join.
 
-use crate::digit::{char_is_digit_const, char_to_digit_const, char_to_valid_digit_const};
+use crate::digit::char_to_digit_const;
 use crate::format_flags::base_prefix;
 use crate::literal::steps::{
     after_point, allows_minus, allows_plus, awaits_integer, digit_value, digits_of, has_digit, is_complete, is_digit,
@@ -200,16 +200,6 @@ const fn separated(grammar: Grammar, decimal: bool, text: &[u8], part: Part, ind
 // Reads the digits that follow others. They do not change the stage.
 #[inline(always)]
 const fn more_digits(grammar: Grammar, decimal: bool, text: &[u8], part: Part, begun: Run) -> Run {
-    if decimal && matches!(part, Part::Fraction) {
-        one_by_one(grammar, decimal, text, part, eight_by_eight(grammar, text, part, begun))
-    } else {
-        one_by_one(grammar, decimal, text, part, begun)
-    }
-}
-
-// Reads the digits that follow others.
-#[inline(always)]
-const fn one_by_one(grammar: Grammar, decimal: bool, text: &[u8], part: Part, begun: Run) -> Run {
     let mut size = begun.size;
     let mut sum = begun.sum;
     while let Some(value) = value_at(grammar, decimal, text, part, size) {
@@ -217,45 +207,6 @@ const fn one_by_one(grammar: Grammar, decimal: bool, text: &[u8], part: Part, be
         size += 1;
     }
     reached(begun, size, sum)
-}
-
-// Reads decimal digits that follow others, as long as there are eight.
-#[inline(always)]
-const fn eight_by_eight(_grammar: Grammar, text: &[u8], _part: Part, begun: Run) -> Run {
-    let mut rest = text.split_at(begun.size).1;
-    let mut sum = begun.sum;
-    while let Some((bytes, more)) = rest.split_first_chunk::<8>() {
-        let Some(eight) = eight(*bytes) else {
-            break;
-        };
-        sum = sum.wrapping_mul(100_000_000).wrapping_add(eight as u64);
-        rest = more;
-    }
-    reached(begun, text.len() - rest.len(), sum)
-}
-
-// Returns the number that eight bytes represent, if all of them are decimal digits.
-#[inline(always)]
-const fn eight(bytes: [u8; 8]) -> Option<u32> {
-    let [a, b, c, d, e, f, g, h] = bytes;
-    let first = is_digit_pair(a, b) & is_digit_pair(c, d);
-    if first & is_digit_pair(e, f) & is_digit_pair(g, h) {
-        Some((pair(a, b) * 100 + pair(c, d)) * 10_000 + (pair(e, f) * 100 + pair(g, h)))
-    } else {
-        None
-    }
-}
-
-// Returns whether two bytes are decimal digits.
-#[inline(always)]
-const fn is_digit_pair(a: u8, b: u8) -> bool {
-    char_is_digit_const(a, 10) & char_is_digit_const(b, 10)
-}
-
-// Returns the number that two decimal digits represent.
-#[inline(always)]
-const fn pair(a: u8, b: u8) -> u32 {
-    char_to_valid_digit_const(a, 10) * 10 + char_to_valid_digit_const(b, 10)
 }
 
 // Reads the digits that follow others, and separators between them. They do not change the stage.

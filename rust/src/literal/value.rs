@@ -416,7 +416,8 @@ impl Syntax {
     /// If `text` is not a literal, or if its value is not one of the type, returns why.
     pub fn parse<T: FromLiteral>(&self, text: impl AsRef<[u8]>) -> Result<T, ParseError> {
         let text = text.as_ref();
-        // A decimal literal of few digits need not be in memory to have a value.
+        // A decimal literal need not be in memory to have a value, unless its digits have to be looked at again. With up to 19
+        // digits, a number fits 64 bits.
         if self.is_decimal() {
             let counted = self.begin(true, text, false);
             if self.is_whole(text, counted) {

@@ -3,7 +3,7 @@ use Rattle.lexical_util.specs.Record.{raw}
 use Rattle.lexical_literal.specs.Notation.{radix_of}
 use Rattle.lexical_literal.specs.Additions.Sizes.{steps_of}
 use Rattle.lexical_literal.specs.Additions.Plain.{IsRunOn, reached}
-use Rattle.lexical_literal.proofs.plain.one_by_one.Given as goal
+use Rattle.lexical_literal.proofs.plain.more_digits.Given as goal
 
 abbrev pub invariant-loop-value : goal.invariant-loop-value
 invariant-loop-value l = record {
