@@ -6,6 +6,7 @@
 `build --check` compares index.html with its sources. In Chromium, the code that the page shows builds its word, and one
 walk through the page takes the steps of a user. A test is skipped by name if the machine lacks its programs.
 """
+import itertools
 import os
 import pathlib
 import re
@@ -564,6 +565,15 @@ class Walk(unittest.TestCase):
                 return [first, second, ...document.querySelectorAll("#read .separator")].map((it) => it.textContent ?? it).join("|");
             })).filter((it) => it.split("|").slice(0, 2).join() !== it.split("|").slice(2).join());""")
         self.assertEqual(wrong, [])
+
+    def test_links_show_the_form_of_their_word(self):
+        """In each order of lines, the one without a syntax is shown, and those that cannot be read are told and left out."""
+        for lines in itertools.permutations([":shown", "bad:x", f"{STANDARD} 101 46 :a", f"{STANDARD} 101 44 :b"]):
+            for kept in (lines, lines[1:]):
+                self.run_script("history.replaceState(null, '', arguments[0]); page.read();", f"#word={MIXED}&forms=" + "%0A".join(kept))
+                names = [it.split(":")[1] for it in kept if it != "bad:x"] + ([] if ":shown" in kept else ["hexadecimal"])
+                self.assertEqual((self.texts("#forms button") or names, self.value()), (names, MIXED))
+                self.assertEqual("forms=bad:x" in self.text("#told"), "bad:x" in kept)
 
     def test_forms_are_added(self):
         """Each choice adds the forms that it names behind the last one."""
