@@ -987,6 +987,20 @@ class Walk(unittest.TestCase):
         self.assertEqual(self.focused(), "tab-grammar")
         self.assertIn('Integer  ::= [1-9] Digit* | "0"', self.text("#code"))
 
+    def test_the_grammar_and_the_expression_are_those_of_all_forms(self):
+        wrong = self.run_script("""const { languages } = page.data;
+            const texts = [...new Set(languages.flatMap((it) => it.numbers.replaceAll("!", "").split("\\n")))];
+            const code = (tab) => (page.chooseTab(tab), find("code").textContent);
+            return languages.flatMap(({ name, forms }) => {
+                page.jump({ forms, at: 0, language: name, numbers: "" });
+                const expression = new RegExp(`^(?:${code("regex")})$`);
+                const answers = page.library.numbers({ forms, specials: ["", "", ""] }, texts.join("\\n"));
+                const lost = forms.filter((form) => !code("grammar").includes(page.library.explain(form).grammar));
+                const others = texts.filter((text, index) => expression.test(text) === Boolean(answers[index].error));
+                return [...lost.map((it) => it.name), ...others].map((it) => `${name} ${it}`);
+            });""")
+        self.assertEqual(wrong, [])
+
     def test_good_and_bad_have_marks(self):
         wrong = self.run_script("""page.change({ numbers: "1\\n0x\\n!1\\n!x" });
             const shows = (it) => getComputedStyle(it, "::before").content[1] === (it.matches(".good") ? "\\u2713" : "\\u2717");
