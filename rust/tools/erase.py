@@ -97,7 +97,7 @@ REPLACED = [
 ]
 
 # Files in which each function is const in plain Rust. Rattle's `split_at` is not, nor is what calls it.
-CONST = ("lexical_literal/src/read.rt", "list.rt", "span.rt", "lexical_literal/src/literal.rt")
+CONST = ("lexical_literal/src/read.rt", "list.rt", "plain.rt", "span.rt", "lexical_literal/src/literal.rt")
 
 # Texts that plain Rust replaces in every file, wherever they occur.
 EVERYWHERE = [

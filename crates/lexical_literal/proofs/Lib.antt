@@ -13,6 +13,7 @@ mod PartLemmas
 mod PassedLemmas
 mod MadeLemmas
 mod WriterLemmas
+mod EightLemmas
 mod ExampleLemmas
 mod CountLemmas
 mod PlainLemmas

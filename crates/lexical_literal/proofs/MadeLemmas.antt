@@ -1,9 +1,9 @@
 -- What the lengths of its parts tell of a literal, and what a syntax without conditions is.
-use Rattle.std.proofs.Common.{ℕ, ◌≡◌, ◌≢◌, ◌==◌, ◌||◌, not, false, List, length, take, arith}
-use Rattle.std.specs.List.{list_any}
+use Rattle.std.proofs.Common.{ℕ, ◌≡◌, ◌≢◌, ◌==◌, ◌||◌, not, false, List, length, take, ap, arith}
+use Rattle.lexical_literal.specs.Additions.Plain.{IsUsual}
 use Rattle.lexical_literal.specs.Groups.{has_sizes}
 use Rattle.lexical_literal.specs.Literal.{is_minus, is_present}
-use Rattle.lexical_literal.specs.Notation.{all_conditions, has, notation_of}
+use Rattle.lexical_literal.specs.Notation.{notation_of}
 use Rattle.lexical_literal.specs.declared.syntax.Grammar.{Grammar}
 
 -- The sign is what the text begins with, if it is there.
@@ -20,6 +20,6 @@ first n k some = grind arith
 pub second : (n k : ℕ) → n ≡ 0 → not (k == 0) ≡ (not (n == 0) || not (k == 0))
 second n k none = grind arith
 
--- Without conditions, groups have no sizes.
-pub free : (g : Grammar) → list_any (has g.conditions) all_conditions ≡ false → has_sizes (notation_of g) ≡ false
-free g none = grind arith
+-- Without conditions but `NegativeSign`, groups have no sizes.
+pub usual_sizes : (g : Grammar) → IsUsual g → has_sizes (notation_of g) ≡ false
+usual_sizes g usual = ap (λ k. has_sizes (notation_of (record g { conditions = k }))) usual.1

@@ -85,8 +85,12 @@ pushed radix run value bytes = record {
   sum = (run.sum * radix % 2 ^ 64 + value) % 2 ^ 64;
 }
 
-pushed_sum : (radix s v : ℕ) → (s * radix % 2 ^ 64 + v) % 2 ^ 64 % 2 ^ 64 ≡ (s * radix + v) % 2 ^ 64
+pub pushed_sum : (radix s v : ℕ) → (s * radix % 2 ^ 64 + v) % 2 ^ 64 % 2 ^ 64 ≡ (s * radix + v) % 2 ^ 64
 pushed_sum radix s v = mod-mod (s * radix % 2 ^ 64 + v) (2 ^ 64) ∙ mod-add-mod (s * radix) (2 ^ 64) v
+
+-- A run of no bytes.
+pub run_self : (m : Notation) (radix : ℕ) (text : List ℕ) (part : Part) (run : Run) → IsRunOn m radix text part run run
+run_self m radix text part run = grind arith
 
 -- One digit, wherever it leads.
 one_digit : (m : Notation) (radix : ℕ) (text : List ℕ) (part : Part) (run : Run) (stage : Stage) (v : ℕ) → IsDigitAt radix text run.size v

@@ -93,7 +93,22 @@ impl<'a> Literal<'a> {
     pub fn has_negative_exponent(&self) -> bool
         ensures { result ≡ is_minus self.now.literal.exponent_sign }
     {
-        self.counts[6] != 0 && is_minus(self.cut().exponent_sign)
+        let [
+            sign,
+            prefix,
+            integer,
+            point,
+            fraction,
+            character,
+            exponent_sign,
+            ..
+        ] = self.counts;
+        exponent_sign != 0
+            && is_minus(
+                self.text
+                    .split_at(sign + prefix + integer + point + fraction + character)
+                    .1,
+            )
     }
 
     /// Returns the number that the digits of the integer and the fraction represent together, if they are so few behind their

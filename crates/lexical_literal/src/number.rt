@@ -29,7 +29,24 @@ impl Syntax {
     pub fn read<'a>(&self, text: &'a [u8]) -> Result<Literal<'a>, ReadError>
         ensures { IsRead self.now text.now result }
     {
-        let counted = self.begin(self.is_decimal(), text, false);
+        if self.is_decimal() {
+            let counted = self.begin(true, text, false);
+            if self.is_whole(text, counted) {
+                return Ok(self.literal(text, counted.counts, counted.sums));
+            }
+            if counted.exact {
+                return self.refuse(text, counted.at);
+            }
+        }
+        self.read_generally(text)
+    }
+
+    // Returns what `read` returns for any syntax.
+    #[inline(never)]
+    fn read_generally<'a>(&self, text: &'a [u8]) -> Result<Literal<'a>, ReadError>
+        ensures { IsRead self.now text.now result }
+    {
+        let counted = self.begin(false, text, false);
         if self.is_whole(text, counted) {
             Ok(self.literal(text, counted.counts, counted.sums))
         } else if counted.exact {

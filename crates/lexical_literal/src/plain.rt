@@ -1,14 +1,16 @@
 //! How the parts of a literal are read, one after another.
 //!
 //! Reading may stop anywhere here: where it stops, one step decides whether it goes on. If `decimal` is true, all digits are
-//! decimal, which takes less time where the compiler knows it.
+//! decimal, which takes less time where the compiler knows it. Then reading also stops behind a leading zero, and where the digits
+//! of a part are absent, so that fewer paths join.
 
-ghost use Rattle.std.specs.Prelude.{◌≡◌, ◌<◌, ◌≤◌, ◌+◌, ◌-◌, ◌*◌, ◌%◌, ◌^◌, ◌∷◌, [], false, true, IfSome, IsNone, IsTrue, get_or, length};
+ghost use Rattle.std.specs.Prelude.{◌≡◌, ◌<◌, ◌≤◌, ◌+◌, ◌-◌, ◌*◌, ◌%◌, ◌^◌, ◌∷◌, [], false, true, IfSome, IsNone, IsTrue, Some, get_or, length, map};
+ghost use Rattle.lexical_util.specs.Digits.{byte_value, digit_of, numeral};
 ghost use Rattle.lexical_util.specs.Record.{raw};
 ghost use Rattle.lexical_literal.specs.Notation.{Notation, radix_of};
 ghost use Rattle.lexical_literal.specs.Additions.Longest.{HasFound};
 ghost use Rattle.lexical_literal.specs.Additions.Plain.{IsAt, IsBegun, IsDecimal, IsDigitAt, IsOpened, IsOver, IsPassed, IsReadOn, IsReady, IsRefused};
-ghost use Rattle.lexical_literal.specs.Additions.Plain.{IsRunOn, IsSeparated, IsSign, behind_sign, counts_of, fresh, is_free, at_stage};
+ghost use Rattle.lexical_literal.specs.Additions.Plain.{IsRunOn, IsSeparated, IsSign, behind_sign, counts_of, fresh, is_free, at_stage, reached};
 ghost use Rattle.lexical_literal.specs.Additions.Sizes.{steps_of};
 ghost use Rattle.lexical_literal.specs.Additions.Read.{AreSums, IsMantissa, IsSummed, cut};
 ghost use Rattle.lexical_literal.specs.Additions.Summary.{Cuts, after_mark, after_point, awaits_integer, cuts_of, has_digit, is_bare, is_fresh};
@@ -18,11 +20,11 @@ ghost use Rattle.lexical_literal.specs.declared.syntax.Condition.TheVariants as 
 
 use crate::steps::{
     START, Stage, Summary, after_point, allows_minus, allows_plus, awaits_integer, digit_value,
-    digits_of, is_complete, is_digit, is_exponent_character, is_point, is_run, is_separator,
-    is_signed, may_follow, radix_of, takes,
+    digits_of, has_digit, is_complete, is_digit, is_exponent_character, is_point, is_run,
+    is_separator, is_signed, may_follow, radix_of, takes,
 };
 use crate::syntax::{Condition, Grammar};
-use lexical_base::digit::char_to_digit_const;
+use lexical_base::digit::{char_is_digit_const, char_to_digit_const, char_to_valid_digit_const};
 use lexical_util::format::{Part, Role};
 use lexical_util::format_flags::base_prefix;
 
@@ -233,6 +235,16 @@ const fn value_at(
     }
 }
 
+// Returns the number that the digits of `sum` and one more represent, modulo `2 ^ 64`.
+#[inline(always)]
+const fn add(grammar: Grammar, decimal: bool, part: Part, sum: u64, value: u32) -> u64
+    requires decimal { IsTrue decimal → IsDecimal (raw grammar.word) }
+    ensures { result ≡ (sum * radix_of (raw grammar.word) part % 2 ^ 64 + value) % 2 ^ 64 }
+{
+    let radix = if decimal { 10 } else { radix_of(grammar, part) };
+    sum.wrapping_mul(radix).wrapping_add(value as u64)
+}
+
 // Returns the run with one more digit, whose byte is the last of `bytes` more.
 #[inline(always)]
 const fn push(
@@ -253,12 +265,25 @@ const fn push(
       sum = (run.sum * radix_of (raw grammar.word) part % 2 ^ 64 + value) % 2 ^ 64;
     } }
 {
-    let radix = if decimal { 10 } else { radix_of(grammar, part) };
-    let sum = run.sum.wrapping_mul(radix);
     Run {
         size: run.size + bytes,
         digits: run.digits + 1,
-        sum: sum.wrapping_add(value as u64),
+        sum: add(grammar, decimal, part, run.sum, value),
+        ..run
+    }
+}
+
+// Returns the run with as many digits more as bytes, up to the index `size`, and another sum.
+#[inline(always)]
+const fn reached(run: Run, size: usize, sum: u64) -> Run
+    requires size { run.size ≤ size }
+    requires digits { run.digits ≤ run.size }
+    ensures { result ≡ reached run size sum }
+{
+    Run {
+        size,
+        digits: run.digits + (size - run.size),
+        sum,
         ..run
     }
 }
@@ -288,7 +313,7 @@ const fn separated(
 
 // Reads the digits that follow others. They do not change the stage.
 #[inline(always)]
-const fn more_digits(grammar: Grammar, decimal: bool, text: &[u8], part: Part, begun: Run) -> Run
+fn more_digits(grammar: Grammar, decimal: bool, text: &[u8], part: Part, begun: Run) -> Run
     requires decimal { IsTrue decimal → IsDecimal (raw grammar.word) }
     requires ready { IsReady (steps_of grammar) }
     requires within { begun.size ≤ length text.now }
@@ -301,16 +326,105 @@ const fn more_digits(grammar: Grammar, decimal: bool, text: &[u8], part: Part, b
     ensures run { IsRunOn (steps_of grammar) (radix_of (raw grammar.word) part) text.now part begun result }
     ensures over { IsOver (steps_of grammar) text.now part result }
 {
-    let mut run = begun;
-    while let Some(value) = value_at(grammar, decimal, text, part, run.size) {
-        run = push(grammar, decimal, part, run, value, 1);
+    if decimal && matches!(part, Part::Fraction) {
+        one_by_one(
+            grammar,
+            decimal,
+            text,
+            part,
+            eight_by_eight(grammar, text, part, begun),
+        )
+    } else {
+        one_by_one(grammar, decimal, text, part, begun)
     }
-    run
+}
+
+// Reads the digits that follow others.
+#[inline(always)]
+const fn one_by_one(grammar: Grammar, decimal: bool, text: &[u8], part: Part, begun: Run) -> Run
+    requires decimal { IsTrue decimal → IsDecimal (raw grammar.word) }
+    requires ready { IsReady (steps_of grammar) }
+    requires within { begun.size ≤ length text.now }
+    requires digits { begun.digits ≤ begun.size }
+    requires run { is_run begun.stage ≡ true }
+    requires part { part_of begun.stage ≡ part }
+    ensures within { result.size ≤ length text.now }
+    ensures digits { result.digits ≤ result.size }
+    ensures stage { result.stage ≡ begun.stage }
+    ensures run { IsRunOn (steps_of grammar) (radix_of (raw grammar.word) part) text.now part begun result }
+    ensures over { IsOver (steps_of grammar) text.now part result }
+{
+    let mut size = begun.size;
+    let mut sum = begun.sum;
+    while let Some(value) = value_at(grammar, decimal, text, part, size) {
+        sum = add(grammar, decimal, part, sum, value);
+        size += 1;
+    }
+    reached(begun, size, sum)
+}
+
+// Reads decimal digits that follow others, as long as there are eight.
+#[inline(always)]
+fn eight_by_eight(_grammar: Grammar, text: &[u8], _part: Part, begun: Run) -> Run
+    requires decimal { IsDecimal (raw _grammar.word) }
+    requires ready { IsReady (steps_of _grammar) }
+    requires within { begun.size ≤ length text.now }
+    requires digits { begun.digits ≤ begun.size }
+    requires run { is_run begun.stage ≡ true }
+    requires part { part_of begun.stage ≡ _part }
+    ensures within { result.size ≤ length text.now }
+    ensures digits { result.digits ≤ result.size }
+    ensures stage { result.stage ≡ begun.stage }
+    ensures run { IsRunOn (steps_of _grammar) (radix_of (raw _grammar.word) _part) text.now _part begun result }
+{
+    let mut rest = text.split_at(begun.size).1;
+    let mut sum = begun.sum;
+    while let Some((bytes, more)) = rest.split_first_chunk::<8>() {
+        let Some(eight) = eight(*bytes) else {
+            break;
+        };
+        sum = sum.wrapping_mul(100_000_000).wrapping_add(eight as u64);
+        rest = more;
+    }
+    reached(begun, text.len() - rest.len(), sum)
+}
+
+// Returns the number that eight bytes represent, if all of them are decimal digits.
+#[inline(always)]
+const fn eight(bytes: [u8; 8]) -> Option<u32>
+    ensures digits { IfSome result (λ number. map (λ byte. digit_of byte 10) bytes ≡ map (λ byte. Some (byte_value byte)) bytes) }
+    ensures number { IfSome result (λ number. number ≡ numeral 10 bytes) }
+{
+    let [a, b, c, d, e, f, g, h] = bytes;
+    let first = is_digit_pair(a, b) & is_digit_pair(c, d);
+    if first & is_digit_pair(e, f) & is_digit_pair(g, h) {
+        Some((pair(a, b) * 100 + pair(c, d)) * 10_000 + (pair(e, f) * 100 + pair(g, h)))
+    } else {
+        None
+    }
+}
+
+// Returns whether two bytes are decimal digits.
+#[inline(always)]
+const fn is_digit_pair(a: u8, b: u8) -> bool
+    ensures { IsTrue result → (digit_of a 10 ≡ Some (byte_value a)) × (digit_of b 10 ≡ Some (byte_value b)) }
+{
+    char_is_digit_const(a, 10) & char_is_digit_const(b, 10)
+}
+
+// Returns the number that two decimal digits represent.
+#[inline(always)]
+const fn pair(a: u8, b: u8) -> u32
+    requires { (digit_of a 10 ≡ Some (byte_value a)) × (digit_of b 10 ≡ Some (byte_value b)) }
+    ensures value { result ≡ byte_value a * 10 + byte_value b }
+    ensures small { result < 100 }
+{
+    char_to_valid_digit_const(a, 10) * 10 + char_to_valid_digit_const(b, 10)
 }
 
 // Reads the digits that follow others, and separators between them. They do not change the stage.
 #[inline(always)]
-const fn groups(grammar: Grammar, decimal: bool, text: &[u8], part: Part, begun: Run) -> Run
+fn groups(grammar: Grammar, decimal: bool, text: &[u8], part: Part, begun: Run) -> Run
     requires decimal { IsTrue decimal → IsDecimal (raw grammar.word) }
     requires ready { IsReady (steps_of grammar) }
     requires within { begun.size ≤ length text.now }
@@ -334,7 +448,7 @@ const fn groups(grammar: Grammar, decimal: bool, text: &[u8], part: Part, begun:
 
 // Reads the digits of `part` that follow, and separators between them.
 #[inline(always)]
-const fn digits(grammar: Grammar, decimal: bool, text: &[u8], part: Part, begun: Run) -> Run
+fn digits(grammar: Grammar, decimal: bool, text: &[u8], part: Part, begun: Run) -> Run
     requires decimal { IsTrue decimal → IsDecimal (raw grammar.word) }
     requires ready { IsReady (steps_of grammar) }
     requires within { begun.size ≤ length text.now }
@@ -362,9 +476,9 @@ const fn digits(grammar: Grammar, decimal: bool, text: &[u8], part: Part, begun:
     }
 }
 
-// Reads the digits behind the zero that begins the integer.
+// Reads the digits behind the zero that begins the integer. None are read if `decimal` is true.
 #[inline(always)]
-const fn behind_zero(grammar: Grammar, decimal: bool, text: &[u8], zero: Run) -> Run
+fn behind_zero(grammar: Grammar, decimal: bool, text: &[u8], zero: Run) -> Run
     requires decimal { IsTrue decimal → IsDecimal (raw grammar.word) }
     requires ready { IsReady (steps_of grammar) }
     requires within { zero.size ≤ length text.now }
@@ -378,7 +492,7 @@ const fn behind_zero(grammar: Grammar, decimal: bool, text: &[u8], zero: Run) ->
     ensures part { part_of result.stage ≡ Part.Integer }
 {
     match value_at(grammar, decimal, text, Part::Integer, zero.size) {
-        Some(value) if may_follow(grammar, Stage::Bare) => {
+        Some(value) if !decimal && may_follow(grammar, Stage::Bare) => {
             let one = push(grammar, decimal, Part::Integer, zero, value, 1);
             let stage = Stage::Led;
             groups(grammar, decimal, text, Part::Integer, Run { stage, ..one })
@@ -390,7 +504,7 @@ const fn behind_zero(grammar: Grammar, decimal: bool, text: &[u8], zero: Run) ->
 // Reads a front of `text` with which some literal begins. Unless `fronts` is true, a front that is a literal, but not all of
 // `text`, may not be said to be one, which takes less time.
 #[inline(always)]
-pub(crate) const fn plain(grammar: Grammar, decimal: bool, text: &[u8], fronts: bool) -> Counted
+pub(crate) fn plain(grammar: Grammar, decimal: bool, text: &[u8], fronts: bool) -> Counted
     requires decimal { IsTrue decimal → IsDecimal (raw grammar.word) }
     requires ready { IsReady (steps_of grammar) }
     ensures found { HasFound (steps_of grammar) text.now result }
@@ -471,13 +585,7 @@ const fn without_prefix(grammar: Grammar, text: &[u8], sign: usize) -> Counted
 
 // Reads the integer, and what follows it.
 #[inline(always)]
-const fn integer(
-    grammar: Grammar,
-    decimal: bool,
-    text: &[u8],
-    fronts: bool,
-    opening: Opening,
-) -> Counted
+fn integer(grammar: Grammar, decimal: bool, text: &[u8], fronts: bool, opening: Opening) -> Counted
     requires decimal { IsTrue decimal → IsDecimal (raw grammar.word) }
     requires ready { IsReady (steps_of grammar) }
     requires opened { IsOpened (steps_of grammar) text.now opening }
@@ -497,6 +605,9 @@ const fn integer(
         sum: 0,
     };
     let run = digits(grammar, decimal, text, Part::Integer, begun);
+    if decimal && !has_digit(run.stage) {
+        return stopped(grammar, text, at_stage(run.size, run.stage), false);
+    }
     let sizes = Sizes {
         sign,
         prefix,
@@ -517,7 +628,7 @@ const fn integer(
 
 // Reads the fraction behind its decimal point, and what follows it.
 #[inline(always)]
-const fn fraction(
+fn fraction(
     grammar: Grammar,
     decimal: bool,
     text: &[u8],
@@ -544,6 +655,9 @@ const fn fraction(
         ..integer
     };
     let run = digits(grammar, decimal, text, Part::Fraction, begun);
+    if decimal && !has_digit(run.stage) {
+        return stopped(grammar, text, at_stage(run.size, run.stage), false);
+    }
     let sizes = Sizes {
         point: 1,
         fraction: run.size - from,
@@ -555,7 +669,7 @@ const fn fraction(
 
 // Reads what follows the digits of the mantissa, an exponent or the suffix.
 #[inline(always)]
-const fn behind_mantissa(
+fn behind_mantissa(
     grammar: Grammar,
     decimal: bool,
     text: &[u8],
@@ -613,7 +727,7 @@ const fn all_sums(sizes: Sizes, mantissa: Run, exponent: Sum) -> Sums
 
 // Reads the exponent behind its character, and what follows it.
 #[inline(always)]
-const fn exponent(
+fn exponent(
     grammar: Grammar,
     decimal: bool,
     text: &[u8],
@@ -641,6 +755,9 @@ const fn exponent(
         sum: 0,
     };
     let run = digits(grammar, decimal, text, Part::Exponent, begun);
+    if decimal && !has_digit(run.stage) {
+        return stopped(grammar, text, at_stage(run.size, run.stage), false);
+    }
     let at = at_stage(run.size, run.stage);
     let exponent = Sum {
         digits: run.digits,

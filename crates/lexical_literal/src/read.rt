@@ -4,7 +4,7 @@ ghost use Rattle.std.specs.Prelude.{◌≡◌, ◌+◌, ◌++◌, ◌∷◌, ◌
 ghost use Rattle.std.specs.Prelude.{[], false, get_or, true, length, slice_get, take};
 ghost use Rattle.lexical_literal.specs.Additions.Explained.{tail_byte};
 ghost use Rattle.lexical_literal.specs.Additions.Longest.{HasBegun, HasFound, IsFronted, IsLongest, IsMeasured, IsStopped, IsUnderway};
-ghost use Rattle.lexical_literal.specs.Additions.Plain.{HasSizes, IsDecimal, IsReady};
+ghost use Rattle.lexical_literal.specs.Additions.Plain.{HasSizes, IsDecimal, IsReady, IsUsual};
 ghost use Rattle.lexical_literal.specs.Additions.Read.{IsSummed};
 ghost use Rattle.lexical_literal.specs.Additions.Sizes.{goes, steps_of};
 ghost use Rattle.lexical_util.specs.Record.{raw};
@@ -12,8 +12,7 @@ ghost use Rattle.lexical_literal.specs.Additions.Summary.{HasLengths, count, cut
 ghost use Rattle.lexical_literal.specs.Cause.{IsRefusal, tail_of, tail_size};
 ghost use Rattle.lexical_literal.specs.Front.{NoLiteral};
 ghost use Rattle.lexical_literal.specs.Literal.{Literal, Reads, text_of};
-ghost use Rattle.lexical_literal.specs.Notation.{all_conditions, has, notation_of};
-ghost use Rattle.std.specs.List.{list_any};
+ghost use Rattle.lexical_literal.specs.Notation.{notation_of};
 ghost use Rattle.lexical_literal.specs.declared.groups.Group.{Group};
 ghost use Rattle.lexical_literal.specs.Parts.{literal_of};
 
@@ -22,7 +21,7 @@ use crate::groups::{FIRST, Group, fits, group_after, grow, has_sizes};
 use crate::plain::{At, BEGIN, Counted, is_decimal, plain};
 use crate::span::marks;
 use crate::steps::{Piece, is_complete, part_of, piece_number, piece_of, step};
-use crate::syntax::{Grammar, Syntax};
+use crate::syntax::{Grammar, Syntax, is_usual};
 use lexical_util::format::{Part, Role};
 
 /// The parts of a literal, in the order of the text. An absent part has no bytes.
@@ -75,27 +74,27 @@ impl Syntax {
         (stop, self.longest(text))
     }
 
-    // Returns whether all digits are decimal, no base prefix is read, and there are no conditions.
+    // Returns whether all digits are decimal, no base prefix is read, and the syntax is a usual one.
     #[inline(always)]
     pub(crate) const fn is_decimal(&self) -> bool
         ensures radix { IsTrue result → IsDecimal (raw self.now.word) }
-        ensures none { IsTrue result → list_any (has self.now.conditions) all_conditions ≡ false }
+        ensures usual { IsTrue result → IsUsual self.now }
     {
         let grammar = self.grammar();
-        is_decimal(grammar) && grammar.conditions.is_none()
+        is_usual(grammar) && is_decimal(grammar)
     }
 
     // Reads a front of `text` with which some literal begins. Unless `fronts` is true, a front that is a literal, but not all of
     // `text`, may not be said to be one, which takes less time.
     #[inline(always)]
-    pub(crate) const fn begin(&self, decimal: bool, text: &[u8], fronts: bool) -> Counted
+    pub(crate) fn begin(&self, decimal: bool, text: &[u8], fronts: bool) -> Counted
         requires radix { IsTrue decimal → IsDecimal (raw self.now.word) }
-        requires none { IsTrue decimal → list_any (has self.now.conditions) all_conditions ≡ false }
+        requires usual { IsTrue decimal → IsUsual self.now }
         ensures found { HasBegun (notation_of self.now) text.now result }
         ensures summed { IsSummed (raw self.now.word) text.now result }
     {
         if decimal {
-            return plain(self.free_grammar(), decimal, text, fronts);
+            return plain(self.usual_grammar(), decimal, text, fronts);
         }
         let grammar = self.grammar();
         let counted = plain(grammar, decimal, text, fronts);

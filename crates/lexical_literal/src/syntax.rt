@@ -1,22 +1,26 @@
 //! A lawful format with the bytes that a format does not define.
 
-ghost use Rattle.std.specs.Prelude.{false, ◌≡◌, if◌then◌else◌, length, not, IfErr, Some, None};
+ghost use Rattle.std.specs.Prelude.{false, ◌≡◌, IsTrue, if◌then◌else◌, length, not, IfErr, Some, None};
 ghost use Rattle.std.specs.List.{find, list_any};
 ghost use Rattle.lexical_util.specs.Record.{raw};
 ghost use Rattle.std.specs.Result.{OkIff};
 ghost use Rattle.lexical_util.specs.NormalForm.{normal_form_of};
 ghost use Rattle.lexical_util.specs.Options.{OptionsFit, IsOptionsError};
 ghost use Rattle.lexical_util.specs.declared.lawful.Rejected.TheVariants as rejected;
-ghost use Rattle.lexical_literal.specs.Additions.Plain.{HasSizes, IsReady};
+ghost use Rattle.lexical_literal.specs.Additions.Plain.{HasSizes, IsReady, IsUsual};
 ghost use Rattle.lexical_literal.specs.Additions.Sizes.{steps_of};
 ghost use Rattle.lexical_literal.specs.declared.syntax.Condition.{Condition};
+ghost use Rattle.lexical_literal.specs.declared.syntax.Condition.TheVariants as conditions;
 ghost use Rattle.lexical_literal.specs.declared.syntax.Options.{Options};
 ghost use Rattle.lexical_literal.specs.Notation.{all_conditions, has, is_same, kept, no_conditions, notation_of, number_of, IsOnlyRole};
 ghost use Rattle.lexical_literal.specs.Syntax.{IsSyntax, contradiction, fault, limits, missing};
 
 use crate::steps::role_at;
 use lexical_util::format::{Format, FormatError, NumberFormat, Part, Role};
-use lexical_util::format_flags::{base_prefix, base_suffix, digit_separator};
+use lexical_util::format_flags::{
+    BASE_PREFIX, EXPONENT_BASE, EXPONENT_RADIX, MANTISSA_RADIX, REQUIRED_EXPONENT_NOTATION,
+    REQUIRED_MANTISSA_SIGN, base_prefix, base_suffix, digit_separator,
+};
 use lexical_util::laws::flags::role_facts;
 use std::marker::Model;
 
@@ -121,6 +125,14 @@ impl Conditions {
         ensures { result ≡ not (list_any (has self) all_conditions) }
     {
         matches!(self.first(), None)
+    }
+
+    // Returns whether there are none but `NegativeSign`, of which the number is the third.
+    #[inline(always)]
+    const fn are_usual(self) -> bool
+        ensures { IsTrue result → self ≡ kept (is_same conditions.NegativeSign) (number_of self) }
+    {
+        matches!(self.numbers, [0, 0, _, 0, 0, 0])
     }
 
     // Returns the first of them.
@@ -333,18 +345,43 @@ impl Syntax {
     }
 }
 
+// The bits of a format that most decimal formats share, and their values: neither a sign nor an exponent is required, there is no
+// base prefix, and the radixes and the base are 10.
+const SHARED: u128 = REQUIRED_MANTISSA_SIGN
+    | REQUIRED_EXPONENT_NOTATION
+    | BASE_PREFIX
+    | MANTISSA_RADIX
+    | EXPONENT_BASE
+    | EXPONENT_RADIX;
+
+const DECIMAL: u128 = 0x0A0A0A00 << 96;
+
+// Returns whether the format has the bits that decimal formats share, and there are no conditions but `NegativeSign`.
+#[inline(always)]
+pub(crate) const fn is_usual(grammar: Grammar) -> bool
+    ensures { IsTrue result → IsUsual grammar }
+{
+    grammar.word & SHARED == DECIMAL && grammar.conditions.are_usual()
+}
+
 impl Syntax {
-    // Returns the same of a syntax without conditions, which the compiler then knows.
+    // Returns the same of a usual syntax, of which the compiler then knows the bits and the conditions.
     #[inline(always)]
-    pub(crate) const fn free_grammar(&self) -> Grammar
-        requires { list_any (has self.now.conditions) all_conditions ≡ false }
+    pub(crate) const fn usual_grammar(&self) -> Grammar
+        requires { IsUsual self.now }
         ensures value { result ≡ self.now }
         ensures ready { IsReady (steps_of self.now) }
         ensures sizes { HasSizes (notation_of self.now) }
     {
+        let Grammar {
+            word,
+            options,
+            conditions,
+        } = self.grammar();
         Grammar {
-            conditions: Conditions::NONE,
-            ..self.grammar()
+            word: word - (word & SHARED) + DECIMAL,
+            options,
+            conditions: conditions.only(Condition::NegativeSign),
         }
     }
 }

@@ -40,10 +40,15 @@ impl Syntax {
     /// Returns what [`read`][Self::read] returns, also in a constant.
     pub const fn read_bytes<'t>(&self, text: &'t [u8]) -> Result<Literal<'t>, ReadError> {
         if self.is_decimal() {
-            self.read_parts(true, text)
-        } else {
-            self.read_generally(text)
+            let counted = self.begin(true, text, false);
+            if self.is_whole(text, counted) {
+                return Ok(self.literal(text, counted.counts, counted.sums));
+            }
+            if counted.exact {
+                return self.refuse(text, counted.at);
+            }
         }
+        self.read_generally(text)
     }
 
     /// Returns what `then` makes of what [`read`][Self::read] returns. A decimal literal need not be in memory for it.
@@ -59,16 +64,10 @@ impl Syntax {
         then(self.read_generally(text))
     }
 
-    // Returns the same for any syntax.
+    // Returns what `read` returns for any syntax.
     #[inline(never)]
     pub(crate) const fn read_generally<'t>(&self, text: &'t [u8]) -> Result<Literal<'t>, ReadError> {
-        self.read_parts(false, text)
-    }
-
-    // Returns the same. All digits are decimal if `decimal` is true.
-    #[inline(always)]
-    const fn read_parts<'t>(&self, decimal: bool, text: &'t [u8]) -> Result<Literal<'t>, ReadError> {
-        let counted = self.begin(decimal, text, false);
+        let counted = self.begin_any(text, false);
         if self.is_whole(text, counted) {
             Ok(self.literal(text, counted.counts, counted.sums))
         } else if counted.exact {

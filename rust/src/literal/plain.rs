@@ -3,12 +3,13 @@
 //! How the parts of a literal are read, one after another.
 //!
 //! Reading may stop anywhere here: where it stops, one step decides whether it goes on. If `decimal` is true, all digits are
-//! decimal, which takes less time where the compiler knows it.
+//! decimal, which takes less time where the compiler knows it. Then reading also stops behind a leading zero, and where the digits
+//! of a part are absent, so that fewer paths join.
 
-use crate::digit::char_to_digit_const;
+use crate::digit::{char_is_digit_const, char_to_digit_const, char_to_valid_digit_const};
 use crate::format_flags::base_prefix;
 use crate::literal::steps::{
-    after_point, allows_minus, allows_plus, awaits_integer, digit_value, digits_of, is_complete, is_digit,
+    after_point, allows_minus, allows_plus, awaits_integer, digit_value, digits_of, has_digit, is_complete, is_digit,
     is_exponent_character, is_point, is_run, is_separator, is_signed, may_follow, radix_of, takes, Stage, Summary,
     START,
 };
@@ -167,12 +168,23 @@ const fn value_at(grammar: Grammar, decimal: bool, text: &[u8], part: Part, inde
     }
 }
 
+// Returns the number that the digits of `sum` and one more represent, modulo `2 ^ 64`.
+#[inline(always)]
+const fn add(grammar: Grammar, decimal: bool, part: Part, sum: u64, value: u32) -> u64 {
+    let radix = if decimal { 10 } else { radix_of(grammar, part) };
+    sum.wrapping_mul(radix).wrapping_add(value as u64)
+}
+
 // Returns the run with one more digit, whose byte is the last of `bytes` more.
 #[inline(always)]
 const fn push(grammar: Grammar, decimal: bool, part: Part, run: Run, value: u32, bytes: usize) -> Run {
-    let radix = if decimal { 10 } else { radix_of(grammar, part) };
-    let sum = run.sum.wrapping_mul(radix);
-    Run { size: run.size + bytes, digits: run.digits + 1, sum: sum.wrapping_add(value as u64), ..run }
+    Run { size: run.size + bytes, digits: run.digits + 1, sum: add(grammar, decimal, part, run.sum, value), ..run }
+}
+
+// Returns the run with as many digits more as bytes, up to the index `size`, and another sum.
+#[inline(always)]
+const fn reached(run: Run, size: usize, sum: u64) -> Run {
+    Run { size, digits: run.digits + (size - run.size), sum, ..run }
 }
 
 // Returns the value of the digit behind a separator at `index`, if a separator may be there.
@@ -188,11 +200,62 @@ const fn separated(grammar: Grammar, decimal: bool, text: &[u8], part: Part, ind
 // Reads the digits that follow others. They do not change the stage.
 #[inline(always)]
 const fn more_digits(grammar: Grammar, decimal: bool, text: &[u8], part: Part, begun: Run) -> Run {
-    let mut run = begun;
-    while let Some(value) = value_at(grammar, decimal, text, part, run.size) {
-        run = push(grammar, decimal, part, run, value, 1);
+    if decimal && matches!(part, Part::Fraction) {
+        one_by_one(grammar, decimal, text, part, eight_by_eight(grammar, text, part, begun))
+    } else {
+        one_by_one(grammar, decimal, text, part, begun)
     }
-    run
+}
+
+// Reads the digits that follow others.
+#[inline(always)]
+const fn one_by_one(grammar: Grammar, decimal: bool, text: &[u8], part: Part, begun: Run) -> Run {
+    let mut size = begun.size;
+    let mut sum = begun.sum;
+    while let Some(value) = value_at(grammar, decimal, text, part, size) {
+        sum = add(grammar, decimal, part, sum, value);
+        size += 1;
+    }
+    reached(begun, size, sum)
+}
+
+// Reads decimal digits that follow others, as long as there are eight.
+#[inline(always)]
+const fn eight_by_eight(_grammar: Grammar, text: &[u8], _part: Part, begun: Run) -> Run {
+    let mut rest = text.split_at(begun.size).1;
+    let mut sum = begun.sum;
+    while let Some((bytes, more)) = rest.split_first_chunk::<8>() {
+        let Some(eight) = eight(*bytes) else {
+            break;
+        };
+        sum = sum.wrapping_mul(100_000_000).wrapping_add(eight as u64);
+        rest = more;
+    }
+    reached(begun, text.len() - rest.len(), sum)
+}
+
+// Returns the number that eight bytes represent, if all of them are decimal digits.
+#[inline(always)]
+const fn eight(bytes: [u8; 8]) -> Option<u32> {
+    let [a, b, c, d, e, f, g, h] = bytes;
+    let first = is_digit_pair(a, b) & is_digit_pair(c, d);
+    if first & is_digit_pair(e, f) & is_digit_pair(g, h) {
+        Some((pair(a, b) * 100 + pair(c, d)) * 10_000 + (pair(e, f) * 100 + pair(g, h)))
+    } else {
+        None
+    }
+}
+
+// Returns whether two bytes are decimal digits.
+#[inline(always)]
+const fn is_digit_pair(a: u8, b: u8) -> bool {
+    char_is_digit_const(a, 10) & char_is_digit_const(b, 10)
+}
+
+// Returns the number that two decimal digits represent.
+#[inline(always)]
+const fn pair(a: u8, b: u8) -> u32 {
+    char_to_valid_digit_const(a, 10) * 10 + char_to_valid_digit_const(b, 10)
 }
 
 // Reads the digits that follow others, and separators between them. They do not change the stage.
@@ -224,11 +287,11 @@ const fn digits(grammar: Grammar, decimal: bool, text: &[u8], part: Part, begun:
     }
 }
 
-// Reads the digits behind the zero that begins the integer.
+// Reads the digits behind the zero that begins the integer. None are read if `decimal` is true.
 #[inline(always)]
 const fn behind_zero(grammar: Grammar, decimal: bool, text: &[u8], zero: Run) -> Run {
     match value_at(grammar, decimal, text, Part::Integer, zero.size) {
-        Some(value) if may_follow(grammar, Stage::Bare) => {
+        Some(value) if !decimal && may_follow(grammar, Stage::Bare) => {
             let one = push(grammar, decimal, Part::Integer, zero, value, 1);
             let stage = Stage::Led;
             groups(grammar, decimal, text, Part::Integer, Run { stage, ..one })
@@ -284,6 +347,9 @@ const fn integer(grammar: Grammar, decimal: bool, text: &[u8], fronts: bool, ope
     let Opening { sign, prefix, size, stage } = opening;
     let begun = Run { size, stage, digits: 0, sum: 0 };
     let run = digits(grammar, decimal, text, Part::Integer, begun);
+    if decimal && !has_digit(run.stage) {
+        return stopped(grammar, text, at_stage(run.size, run.stage), false);
+    }
     let sizes = Sizes { sign, prefix, integer: run.size - size, point: 0, fraction: 0, places: 0 };
     let at = at_stage(run.size, run.stage);
     if run.size < text.len() && is_point(grammar, text[run.size]) && takes(grammar, at.read, false, Role::Point) {
@@ -299,6 +365,9 @@ const fn fraction(grammar: Grammar, decimal: bool, text: &[u8], fronts: bool, si
     let stage = after_point(integer.stage);
     let begun = Run { size: from, stage, ..integer };
     let run = digits(grammar, decimal, text, Part::Fraction, begun);
+    if decimal && !has_digit(run.stage) {
+        return stopped(grammar, text, at_stage(run.size, run.stage), false);
+    }
     let sizes = Sizes { point: 1, fraction: run.size - from, places: run.digits - integer.digits, ..sizes };
     behind_mantissa(grammar, decimal, text, fronts, sizes, run)
 }
@@ -340,6 +409,9 @@ const fn exponent(grammar: Grammar, decimal: bool, text: &[u8], fronts: bool, si
     let from = size + sign;
     let begun = Run { size: from, stage: behind_sign(Part::Exponent, sign), digits: 0, sum: 0 };
     let run = digits(grammar, decimal, text, Part::Exponent, begun);
+    if decimal && !has_digit(run.stage) {
+        return stopped(grammar, text, at_stage(run.size, run.stage), false);
+    }
     let at = at_stage(run.size, run.stage);
     let exponent = Sum { digits: run.digits, value: run.sum };
     let scale = [1, sign, run.size - from];

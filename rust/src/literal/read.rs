@@ -7,7 +7,7 @@ use crate::literal::groups::{fits, group_after, grow, has_sizes, Group, FIRST};
 use crate::literal::plain::{is_decimal, plain, At, Counted, BEGIN};
 use crate::literal::span::marks;
 use crate::literal::steps::{is_complete, part_of, piece_number, piece_of, step, Piece};
-use crate::literal::syntax::{Grammar, Syntax};
+use crate::literal::syntax::{is_usual, Grammar, Syntax};
 use crate::word::{Part, Role};
 
 /// The parts of a literal, in the order of the text. An absent part has no bytes.
@@ -53,11 +53,11 @@ impl Syntax {
         (stop, self.longest(text))
     }
 
-    // Returns whether all digits are decimal, no base prefix is read, and there are no conditions.
+    // Returns whether all digits are decimal, no base prefix is read, and the syntax is a usual one.
     #[inline(always)]
     pub(crate) const fn is_decimal(&self) -> bool {
         let grammar = self.as_grammar();
-        is_decimal(grammar) && grammar.conditions.is_none()
+        is_usual(grammar) && is_decimal(grammar)
     }
 
     // Reads a front of `text` with which some literal begins. Unless `fronts` is true, a front that is a literal, but not all of
@@ -65,7 +65,7 @@ impl Syntax {
     #[inline(always)]
     pub(crate) const fn begin(&self, decimal: bool, text: &[u8], fronts: bool) -> Counted {
         if decimal {
-            return plain(self.free_grammar(), decimal, text, fronts);
+            return plain(self.usual_grammar(), decimal, text, fronts);
         }
         let grammar = self.as_grammar();
         let counted = plain(grammar, decimal, text, fronts);

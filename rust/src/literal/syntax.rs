@@ -2,7 +2,10 @@
 
 //! A lawful format with the bytes that a format does not define.
 
-use crate::format_flags::{base_prefix, base_suffix, digit_separator};
+use crate::format_flags::{
+    base_prefix, base_suffix, digit_separator, BASE_PREFIX, EXPONENT_BASE, EXPONENT_RADIX, MANTISSA_RADIX,
+    REQUIRED_EXPONENT_NOTATION, REQUIRED_MANTISSA_SIGN,
+};
 use crate::literal::steps::role_at;
 use crate::word::{Format, FormatError, FormatView, Part, Role};
 
@@ -93,6 +96,12 @@ impl Conditions {
     #[must_use]
     pub const fn is_none(self) -> bool {
         matches!(self.first(), None)
+    }
+
+    // Returns whether there are none but `NegativeSign`, of which the number is the third.
+    #[inline(always)]
+    const fn are_usual(self) -> bool {
+        matches!(self.numbers, [0, 0, _, 0, 0, 0])
     }
 
     // Returns the first of them.
@@ -243,11 +252,29 @@ impl Syntax {
     }
 }
 
+// The bits of a format that most decimal formats share, and their values: neither a sign nor an exponent is required, there is no
+// base prefix, and the radixes and the base are 10.
+const SHARED: u128 =
+    REQUIRED_MANTISSA_SIGN | REQUIRED_EXPONENT_NOTATION | BASE_PREFIX | MANTISSA_RADIX | EXPONENT_BASE | EXPONENT_RADIX;
+
+const DECIMAL: u128 = 0x0A0A0A00 << 96;
+
+// Returns whether the format has the bits that decimal formats share, and there are no conditions but `NegativeSign`.
+#[inline(always)]
+pub(crate) const fn is_usual(grammar: Grammar) -> bool {
+    grammar.word & SHARED == DECIMAL && grammar.conditions.are_usual()
+}
+
 impl Syntax {
-    // Returns the same of a syntax without conditions, which the compiler then knows.
+    // Returns the same of a usual syntax, of which the compiler then knows the bits and the conditions.
     #[inline(always)]
-    pub(crate) const fn free_grammar(&self) -> Grammar {
-        Grammar { conditions: Conditions::NONE, ..self.as_grammar() }
+    pub(crate) const fn usual_grammar(&self) -> Grammar {
+        let Grammar { word, options, conditions } = self.as_grammar();
+        Grammar {
+            word: word - (word & SHARED) + DECIMAL,
+            options,
+            conditions: conditions.only(Condition::NegativeSign),
+        }
     }
 }
 

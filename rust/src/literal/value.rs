@@ -4,7 +4,7 @@ use core::fmt::{self, Write};
 use core::ops::Range;
 
 use crate::format_flags::Part;
-use crate::literal::plain::At;
+use crate::literal::plain::{At, Sums};
 use crate::literal::{FormError, Literal, Number, ReadError, Sign, Special, Spelling, Syntax};
 
 mod float;
@@ -135,6 +135,14 @@ impl Target {
     #[must_use]
     pub const fn integer(name: &'static str, least: i128, largest: u128) -> Target {
         Target { name, limits: Some((least, largest)) }
+    }
+
+    /// Returns whether the type may have values of more than 64 bits.
+    const fn has_long_values(&self) -> bool {
+        match self.limits {
+            Some((_, largest)) => largest > u64::MAX as u128,
+            None => true,
+        }
     }
 }
 
@@ -407,18 +415,30 @@ impl Syntax {
     /// If `text` is not a literal, or if its value is not one of the type, returns why.
     pub fn parse<T: FromLiteral>(&self, text: impl AsRef<[u8]>) -> Result<T, ParseError> {
         let text = text.as_ref();
-        // A decimal literal need not be in memory to have a value.
+        // A decimal literal of few digits need not be in memory to have a value.
         if self.is_decimal() {
             let counted = self.begin(true, text, false);
             if self.is_whole(text, counted) {
-                if let Ok(value) = T::from_literal(self.literal(text, counted.counts, counted.sums)) {
-                    return Ok(value);
+                if counted.sums.mantissa.digits <= 19 && counted.sums.exponent.digits <= 19 {
+                    if let Ok(value) = T::from_literal(self.literal(text, counted.counts, counted.sums)) {
+                        return Ok(value);
+                    }
+                } else if T::TARGET.has_long_values() {
+                    if let Ok(value) = self.long_value(text, counted.counts, counted.sums) {
+                        return Ok(value);
+                    }
                 }
             } else if counted.exact {
                 return self.refuse_value(text, counted.at);
             }
         }
         self.parse_generally(text)
+    }
+
+    // Returns the value of a literal of many digits. Were it inlined, those of few digits would take longer.
+    #[inline(never)]
+    fn long_value<T: FromLiteral>(&self, text: &[u8], counts: [usize; 9], sums: Sums) -> Result<T, ValueErrorKind> {
+        T::from_literal(self.literal(text, counts, sums))
     }
 
     // Returns what `parse` returns for any text.

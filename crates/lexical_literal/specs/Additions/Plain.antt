@@ -1,5 +1,5 @@
 -- What is read of a text part after part.
-use Rattle.std.specs.Prelude.{ℕ, ◌≡◌, ◌<◌, ◌≤◌, ◌+◌, ◌-◌, ◌%◌, ◌^◌, ◌==◌, ◌&&◌, if◌then◌else◌, Bool, not, IsTrue, List, [], ◌∷◌, None, Some, true, false, drop}
+use Rattle.std.specs.Prelude.{ℕ, ◌≡◌, ◌<◌, ◌≤◌, ◌+◌, ◌-◌, ◌%◌, ◌^◌, ◌==◌, ◌&&◌, if◌then◌else◌, Bool, not, IsTrue, List, [], ◌∷◌, None, Some, true, false, drop, bit_and}
 use Rattle.std.specs.Prelude.{get_or, length, take}
 use Rattle.std.specs.Int.Digits.{number_from_digits_after}
 use Rattle.lexical_util.specs.Digits.{digit_of}
@@ -12,7 +12,7 @@ use Rattle.lexical_util.specs.declared.format_flags.Part.{Part}
 use Rattle.lexical_util.specs.declared.format_flags.Part.TheVariants as parts
 use Rattle.lexical_literal.specs.Groups.{has_size, has_sizes}
 use Rattle.lexical_util.specs.Record.{Record}
-use Rattle.lexical_literal.specs.Notation.{Notation, radix_of, set_of_role}
+use Rattle.lexical_literal.specs.Notation.{Notation, is_same, kept, number_of, radix_of, set_of_role}
 use Rattle.lexical_literal.specs.Additions.Summary.{Cuts, add_more, after_mark, cuts_of, digits_piece, has_digit, is_run, is_signed}
 use Rattle.lexical_literal.specs.Additions.Summary.{lacks_prefix, no_cuts, part_of, piece_of, scan, start, step, takes, tally}
 use Rattle.lexical_literal.specs.declared.plain.At.{At}
@@ -23,6 +23,8 @@ use Rattle.lexical_literal.specs.declared.steps.Piece.{Piece}
 use Rattle.lexical_literal.specs.declared.steps.Stage.{Stage}
 use Rattle.lexical_literal.specs.declared.steps.Stage.TheVariants as stages
 use Rattle.lexical_literal.specs.declared.syntax.Condition.TheVariants as conditions
+use Rattle.lexical_literal.specs.declared.syntax.Grammar.{Grammar}
+use Rattle.lexical_literal.specs.declared.syntax.TheConstants as constants
 
 -- `HasRoles m` holds if no byte plays two roles, 0 is a digit, the mantissa has one radix, and integers have neither a
 -- decimal point nor an exponent.
@@ -106,6 +108,10 @@ between text from end = take (end - from) (drop from text)
 abbrev pub IsDecimal : Record → Type 0
 IsDecimal r = (part : Part) → radix_of r part ≡ 10
 
+-- `IsUsual g` holds if the format of `g` has the bits that most decimal formats share, and if it has no conditions but `NegativeSign`.
+abbrev pub IsUsual : Grammar → Type 0
+IsUsual g = (bit_and g.word constants.SHARED ≡ constants.DECIMAL) × (g.conditions ≡ kept (is_same conditions.NegativeSign) (number_of g.conditions))
+
 -- `IsDigitAt radix text index value` holds if the byte at `index` is the digit of `radix` with this value.
 abbrev pub IsDigitAt : ℕ → List ℕ → ℕ → ℕ → Type 0
 IsDigitAt radix text index value = (index < length text) × (digit_of (get_or text index 0) radix ≡ Some value)
@@ -123,6 +129,10 @@ pub record IsRunOn (m : Notation) (radix : ℕ) (text : List ℕ) (part : Part) 
   pub within : begun.size ≤ length text → run.size ≤ length text
   pub digits : run.digits ≡ begun.digits + length (digits_in radix (between text begun.size run.size))
   pub sum : run.sum % 2 ^ 64 ≡ number_from_digits_after radix begun.sum (digits_in radix (between text begun.size run.size)) % 2 ^ 64
+
+-- `reached run size sum` is `run` with as many digits more as bytes, up to the index `size`, and with the sum `sum`.
+abbrev pub reached : Run → ℕ → ℕ → Run
+reached run size sum = record { size = size; stage = run.stage; digits = run.digits + (size - run.size); sum = sum }
 
 -- `IsOver m text part run` holds if no digit of `part` follows the digits of `run`, if it has any but a zero.
 abbrev pub IsOver : Notation → List ℕ → Part → Run → Type 0

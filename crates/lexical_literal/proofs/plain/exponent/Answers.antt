@@ -1,7 +1,7 @@
 -- The exponent, and its sign.
 use Rattle.std.proofs.Common.{◌+◌, ◌-◌, sym, subst}
 use Rattle.lexical_literal.specs.Additions.Sizes.{steps_of}
-use Rattle.lexical_literal.specs.Additions.Plain.{IsAt, IsReadOn, counts_of, at_stage}
+use Rattle.lexical_literal.specs.Additions.Plain.{IsAt, IsBegun, IsReadOn, counts_of, at_stage}
 use Rattle.lexical_literal.specs.Additions.Summary.{cuts_of}
 use Rattle.lexical_literal.specs.declared.plain.At.{At}
 use Rattle.lexical_literal.specs.declared.steps.Piece.TheVariants as pieces
@@ -19,3 +19,15 @@ end-requires-clause-at c =
     (exponent_at m text c.args.sizes (c.args.mantissa.size + 1) sign run.size run.stage c.requires.at c.in-Some.ensures
     (subst (λ stage. IsReadOn m text (at_stage from stage) pieces.Exponent (at_stage run.size run.stage)) c.behind_sign.ensures
     c.digits-run.ensures.run.on))
+
+pub stopped-requires-then-not-has_digit-clause-begun : goal.stopped-requires-then-not-has_digit-clause-begun
+stopped-requires-then-not-has_digit-clause-begun c =
+    let m = steps_of c.args.grammar in
+    let text = c.args.text.now in
+    let run = c.digits-run.result in
+    let sign = c.in-Some.sign in
+    let from = c.args.mantissa.size + 1 + sign in
+    subst (IsBegun m text) (sym c.at_stage-then-not-has_digit.ensures)
+    (exponent_at m text c.args.sizes (c.args.mantissa.size + 1) sign run.size run.stage c.requires.at c.in-Some.ensures
+    (subst (λ stage. IsReadOn m text (at_stage from stage) pieces.Exponent (at_stage run.size run.stage)) c.behind_sign.ensures
+    c.digits-run.ensures.run.on)).begun

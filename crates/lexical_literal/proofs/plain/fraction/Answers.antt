@@ -1,8 +1,8 @@
 -- The fraction, and what follows it.
-use Rattle.std.proofs.Common.{◌+◌, ◌-◌, subst}
+use Rattle.std.proofs.Common.{◌+◌, ◌-◌, subst, sym}
 use Rattle.lexical_util.specs.Record.{raw}
 use Rattle.lexical_literal.specs.Additions.Sizes.{steps_of}
-use Rattle.lexical_literal.specs.Additions.Plain.{IsReadOn, at_stage}
+use Rattle.lexical_literal.specs.Additions.Plain.{IsBegun, IsReadOn, at_stage}
 use Rattle.lexical_literal.specs.Additions.Summary.{after_point, has_digit}
 use Rattle.lexical_literal.specs.declared.steps.Piece.TheVariants as pieces
 use Rattle.lexical_literal.proofs.JoinLemmas.{fraction_at}
@@ -23,3 +23,14 @@ behind_mantissa-requires-clause-at c =
 pub behind_mantissa-requires-clause-mantissa : goal.behind_mantissa-requires-clause-mantissa
 behind_mantissa-requires-clause-mantissa c = fraction_sum (steps_of c.args.grammar) (raw c.args.grammar.word) c.args.text.now c.args.sizes
     c.after_point-stage.result c.args.integer c.digits-run.result c.requires.none.0 c.requires.none.1 c.requires.mantissa c.digits-run.ensures.run
+
+pub stopped-requires-clause-begun : goal.stopped-requires-clause-begun
+stopped-requires-clause-begun c =
+    let m = steps_of c.args.grammar in
+    let text = c.args.text.now in
+    let run = c.digits-run.result in
+    let from = c.args.integer.size + 1 in
+    subst (IsBegun m text) (sym c.at_stage.ensures)
+    (fraction_at m text (record c.args.sizes { point = 1 }) from run.size (after_point (has_digit c.args.integer.stage)) run.stage c.requires.none.1 c.requires.at
+    (subst (λ stage. IsReadOn m text (at_stage from stage) pieces.Fraction (at_stage run.size run.stage)) c.after_point-stage.ensures
+    c.digits-run.ensures.run.on)).begun

@@ -1,6 +1,6 @@
 -- The integer, and what follows it.
 use Rattle.std.proofs.Common.{◌≡◌, ◌-◌, sym, subst, ◌∙◌, refl, true, false}
-use Rattle.lexical_literal.specs.Additions.Plain.{integer_sizes}
+use Rattle.lexical_literal.specs.Additions.Plain.{IsBegun, integer_sizes}
 use Rattle.lexical_literal.specs.Additions.Sizes.{steps_of}
 use Rattle.lexical_literal.specs.Additions.Summary.{takes}
 use Rattle.lexical_literal.specs.declared.plain.At.{At}
@@ -22,3 +22,9 @@ fraction-requires-clause-at c =
 pub behind_mantissa-requires-clause-at : goal.behind_mantissa-requires-clause-at
 behind_mantissa-requires-clause-at c = integer_at (steps_of c.args.grammar) c.args.text.now c.args.opening c.requires.opened c.digits-run.result.size
     c.digits-run.result.stage c.digits-run.ensures.run.on
+
+pub stopped-requires-clause-begun : goal.stopped-requires-clause-begun
+stopped-requires-clause-begun c =
+    let run = c.digits-run.result in
+    subst (IsBegun (steps_of c.args.grammar) c.args.text.now) (sym c.at_stage.ensures)
+    (integer_at (steps_of c.args.grammar) c.args.text.now c.args.opening c.requires.opened run.size run.stage c.digits-run.ensures.run.on).begun

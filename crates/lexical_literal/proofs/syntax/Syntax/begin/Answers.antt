@@ -9,14 +9,14 @@ use Rattle.lexical_literal.specs.Additions.Sizes.{steps_of}
 use Rattle.lexical_literal.specs.Notation.{notation_of}
 use Rattle.lexical_literal.specs.declared.syntax.Grammar.{Grammar}
 use Rattle.lexical_literal.proofs.LongestLemmas.{begun_free}
-use Rattle.lexical_literal.proofs.MadeLemmas.{free}
+use Rattle.lexical_literal.proofs.MadeLemmas.{usual_sizes}
 use Rattle.lexical_literal.proofs.syntax.Syntax.begin.Goals as goal
 
 pub plain-requires : goal.plain-requires
 plain-requires c =
     record {
-      decimal = subst (λ (g : Grammar). IsTrue c.args.decimal → IsDecimal (raw g.word)) (sym c.free_grammar.ensures.value) c.requires.radix;
-      ready = subst (λ (g : Grammar). IsReady (steps_of g)) (sym c.free_grammar.ensures.value) c.free_grammar.ensures.ready;
+      decimal = subst (λ (g : Grammar). IsTrue c.args.decimal → IsDecimal (raw g.word)) (sym c.usual_grammar.ensures.value) c.requires.radix;
+      ready = subst (λ (g : Grammar). IsReady (steps_of g)) (sym c.usual_grammar.ensures.value) c.usual_grammar.ensures.ready;
     }
 
 pub plain-counted-requires : goal.plain-counted-requires
@@ -28,9 +28,9 @@ plain-counted-requires c =
 
 pub returns-then-decimal-clause-found : goal.returns-then-decimal-clause-found
 returns-then-decimal-clause-found c =
-    begun_free (notation_of c.args.self.now) c.free_grammar.ensures.ready c.free_grammar.ensures.sizes c.args.text.now c.plain.result
-    (subst (λ (g : Grammar). HasFound (steps_of g) c.args.text.now c.plain.result) c.free_grammar.ensures.value c.plain.ensures.found)
-    (free c.args.self.now (c.requires.none c.if-decimal.true))
+    begun_free (notation_of c.args.self.now) c.usual_grammar.ensures.ready c.usual_grammar.ensures.sizes c.args.text.now c.plain.result
+    (subst (λ (g : Grammar). HasFound (steps_of g) c.args.text.now c.plain.result) c.usual_grammar.ensures.value c.plain.ensures.found)
+    (usual_sizes c.args.self.now (c.requires.usual c.if-decimal.true))
 
 pub sized-requires-clause-ready : goal.sized-requires-clause-ready
 sized-requires-clause-ready c = subst (λ (g : Grammar). IsReady (steps_of g)) (sym c.grammar.ensures.value) c.grammar.ensures.ready

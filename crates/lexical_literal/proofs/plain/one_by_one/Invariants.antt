@@ -1,0 +1,16 @@
+use Rattle.std.proofs.Common.{length, ◌-◌, ◌≡◌, ◌≤◌}
+use Rattle.lexical_util.specs.Record.{raw}
+use Rattle.lexical_literal.specs.Notation.{radix_of}
+use Rattle.lexical_literal.specs.Additions.Sizes.{steps_of}
+use Rattle.lexical_literal.specs.Additions.Plain.{IsRunOn, reached}
+use Rattle.lexical_literal.proofs.plain.one_by_one.Given as goal
+
+abbrev pub invariant-loop-value : goal.invariant-loop-value
+invariant-loop-value l = record {
+  within : l.size ≤ length l.text;
+  more : l.begun.size ≤ l.size;
+  on : IsRunOn (steps_of l.grammar) (radix_of (raw l.grammar.word) l.part) l.text l.part l.begun (reached l.begun l.size l.sum);
+}
+
+abbrev pub decreases-loop-value : goal.decreases-loop-value
+decreases-loop-value l = length l.text - l.size

@@ -1,0 +1,33 @@
+-- A text with a byte that is refused is no literal.
+use Rattle.std.proofs.Common.{ℕ, List, Result, Ok, Err, IsErrAnd, arith}
+use Rattle.lexical_literal.specs.Cause.{Explained, IsRefusal}
+use Rattle.lexical_literal.specs.Front.{NoLiteral}
+use Rattle.lexical_literal.specs.Notation.{notation_of}
+use Rattle.lexical_literal.specs.Parts.{IsRead}
+use Rattle.lexical_literal.specs.Read.{Read}
+use Rattle.lexical_literal.specs.declared.syntax.Grammar.{Grammar}
+use Rattle.lexical_literal.proofs.LongestLemmas.{none_whole}
+use Rattle.lexical_literal.proofs.PieceLemmas.{is_read, measured_cut}
+use Rattle.lexical_literal.proofs.syntax.Syntax.read_generally.Goals as goal
+
+refused : (g : Grammar) (text : List ℕ) (r : Result Read Explained) → NoLiteral (notation_of g) text
+    → IsErrAnd r (λ error. IsRefusal (notation_of g) text error.refusal) → IsRead g text r
+refused g text (Ok _) none is = absurd is
+refused g text (Err _) none is = record { found = tt; only = λ l reads. absurd (none l reads); error = is }
+
+pub refuse-requires-clause-refused : goal.refuse-requires-clause-refused
+refuse-requires-clause-refused c =
+    let stop = c.begin-counted.ensures.found.exact c.if-counted.true in none_whole _ _ _ stop.1 (λ all. absurd (omega (arith, all, stop.0)))
+
+pub returns-then-counted : goal.returns-then-counted
+returns-then-counted c =
+    let stop = c.begin-counted.ensures.found.exact c.if-counted.true in
+    refused c.args.self.now c.args.text.now c.refuse.result (none_whole _ _ _ stop.1 (λ all. absurd (omega (arith, all, stop.0))))
+    c.refuse.ensures
+
+pub literal-requires-clause-cut : goal.literal-requires-clause-cut
+literal-requires-clause-cut c = measured_cut c.args.self.now c.args.text.now c.begin-counted.result.counts (c.is_whole.ensures.measured c.if-is_whole.true)
+
+pub returns-then-is_whole : goal.returns-then-is_whole
+returns-then-is_whole c = is_read c.args.self.now c.args.text.now c.begin-counted.result.counts (c.is_whole.ensures.measured c.if-is_whole.true)
+    c.literal.result c.literal.ensures
