@@ -70,17 +70,19 @@ SHOWN = """const [shown, tried] = arguments;
         const told = answers.map((answer) => trial.told(answer));
         const tests = answers.map(({ text, error }) => ({ text, isRefused: Boolean(error) }));
         const codes = ["rust", "c", "python"].map((tab) => (trial.answers = tests, page.chooseTab(tab), find("code").textContent));
-        return [link, again, wordText(trial.forms[0].normal), codes, told];
+        const names = trial.forms.map(({ name }) => name).join("|");
+        return [link, again, wordText(trial.forms[0].normal), names, codes, told];
     })];"""
 # Programs that print what the code reads: of each text its value, `none` if it has none, or `refused`.
 RUST = """#![deny(warnings)]
-use peltzivar::{literal::{FormError, Number}, Format};
+use peltzivar::literal::{FormError, Forms, Number};
 fn value(it: Number<'_>) -> String {
     let integer = i128::try_from(it).map(|it| it.to_string()).or_else(|_| u128::try_from(it).map(|it| it.to_string()));
     integer.or_else(|_| f64::try_from(it).map(|it| it.to_string())).unwrap_or("none".into())
 }
-fn show(format: Format, read: fn(&str) -> Result<Number<'_>, FormError>) {
-    println!("{}", format.normal_form());
+fn show(forms: &Forms<'_>, read: fn(&str) -> Result<Number<'_>, FormError>) {
+    let names: Vec<_> = forms.into_iter().map(|form| form.name()).collect();
+    println!("{}\\n{}", forms[0].syntax().format().normal_form(), names.join("|"));
     include_str!("texts").lines().for_each(|text| println!("{}", read(text).map_or("refused".into(), value)));
 }
 """
@@ -93,6 +95,8 @@ static void show(bool (*make_forms)(void), const peltzivar_forms *forms, read *r
     FILE *file = fopen("texts", "r");
     const peltzivar_word *word = &forms->forms->syntax.format;
     if (make_forms() && test()) print(word->low, word->high);
+    for (size_t it = 0; it < forms->count; it++) printf("%s%s", it ? "|" : "", forms->forms[it].name);
+    puts("");
     for (char text[256]; fgets(text, sizeof text, file);) {
         text[strcspn(text, "\n")] = 0;
         if (!read_number(text, &literal, &special)) puts("refused");
@@ -104,8 +108,8 @@ static void show(bool (*make_forms)(void), const peltzivar_forms *forms, read *r
 }
 """
 PYTHON = """from peltzivar import LiteralError
-def show(syntax, read):
-    print(syntax.format)
+def show(forms, read):
+    print(next(iter(forms.values())).format, "|".join(forms), sep="\\n")
     for text in open("texts").read().split("\\n"):
         try:
             print(repr(read(text).value))
@@ -287,15 +291,15 @@ class Walk(unittest.TestCase):
         run("make", "--silent", "-C", TOP / "c", f"BUILD={BUILD}")
         for language, program in enumerate((self.rust, self.c, self.python)):
             lines = iter(program(folder, [codes[language] for *_, codes, _ in states]).splitlines())
-            for link, again, word, _, told in states:
-                self.assertEqual((again, next(lines)), (link, word))
+            for link, again, word, names, _, told in states:
+                self.assertEqual((again, next(lines), next(lines)), (link, word, names))
                 for text, wanted, value in zip(tried, told, lines):
                     self.assertTrue(is_same(wanted, value), (program, link, text, wanted, value))
 
     def rust(self, folder, codes):
         codes = [code.replace("#[test]\nfn", "pub fn") for code in codes]
         modules = "".join(f"mod m{index} {{\n{code}}}\n" for index, code in enumerate(codes))
-        show = [("show(m{0}::FORMS[0].syntax().format(), m{0}::read); m{0}::numbers();" if "fn read" in it else 'println!("{{:#034X}}", m{0}::WORD);') for it in codes]
+        show = [("show(&m{0}::FORMS, m{0}::read); m{0}::numbers();" if "fn read" in it else 'println!("{{:#034X}}\\n", m{0}::WORD);') for it in codes]
         calls = " ".join(call.format(index) for index, call in enumerate(show))
         (folder / "main.rs").write_text(f"{RUST}{modules}fn main() {{ {calls} }}\n")
         (folder / "Cargo.toml").write_text(
@@ -306,14 +310,14 @@ class Walk(unittest.TestCase):
     def c(self, folder, codes):
         names = r"\b(SETTINGS|SPECIALS|WORD|LIST|FORMS|make_forms|read_number|test_numbers)\b"
         parts = [re.sub(names, rf"\1_{index}", code) for index, code in enumerate(codes)]
-        show = [("show(make_forms_{0}, &FORMS_{0}, read_number_{0}, test_numbers_{0});" if "make" in it else "print(WORD_{0}.low, WORD_{0}.high);") for it in codes]
+        show = [("show(make_forms_{0}, &FORMS_{0}, read_number_{0}, test_numbers_{0});" if "make" in it else "print(WORD_{0}.low, WORD_{0}.high); puts(\"\");") for it in codes]
         calls = " ".join(call.format(index) for index, call in enumerate(show))
         (folder / "main.c").write_text("".join([*parts, C, f"int main(void) {{ {calls} }}\n"]))
         run("cc", "-Wall", "-Wextra", "-Werror", "-I", TOP / "c", "-o", folder / "main", folder / "main.c", BUILD / "release/libpeltzivar_c.a")
         return run(folder / "main", cwd=folder)
 
     def python(self, folder, codes):
-        calls = ((code, "show(next(iter(forms.values())), read)\ntest_numbers()" if "def read" in code else "print(view)") for code in codes)
+        calls = ((code, "show(forms, read)\ntest_numbers()" if "def read" in code else "print(view, end='\\n\\n')") for code in codes)
         (folder / "main.py").write_text(PYTHON + "".join(f"{code}{call}\n" for code, call in calls))
         variables = {"PELTZIVAR_LIBRARY": f"{BUILD}/release/libpeltzivar_c.so", "PYTHONPATH": str(TOP / "c"), "PYTHONDONTWRITEBYTECODE": "1"}
         return run(sys.executable, "main.py", cwd=folder, env={**os.environ, **variables})
@@ -486,7 +490,8 @@ class Walk(unittest.TestCase):
                     const kept = forms.filter((form, at) => isSame([form], [page.state.forms[at]])).length;
                     const isAsTold = isAdded || (find("count").textContent === counted && find("read").querySelector("p").textContent === then);
                     const isRight = kept === forms.length - !isAdded && page.state.forms.length === forms.length + Boolean(isAdded);
-                    return isAsTold && isRight && page.trial.answers[0].isExpected ? [] : [[name, text, button.textContent, then, kept]];
+                    const isShown = !forms[page.state.at] || !isSame([forms[page.state.at]], [page.form]);
+                    return isAsTold && isRight && isShown && page.trial.answers[0].isExpected ? [] : [[name, text, button.textContent, then, kept]];
                 });
             }));""")
         self.assertEqual(wrong, [])
