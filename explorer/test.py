@@ -465,6 +465,8 @@ class Walk(unittest.TestCase):
         self.click("#no_special")
         self.assertEqual((self.value("#language"), self.text("#count")), ("", "3 of 4 as expected"))
         self.assertIn("The format is not that of Rust any more", self.text("#told"))
+        self.click("#undo")
+        self.assertEqual((self.value("#language"), self.text("#told")), ("RUST", ""))
 
     def test_a_language_is_changed_in_the_form_that_goes_furthest(self):
         self.type("#literal", "\n0x1_000.5")
