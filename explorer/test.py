@@ -473,6 +473,7 @@ class Walk(unittest.TestCase):
         Select(self.find("#language")).select_by_value("JAVA")
         self.click("#read p .link", "hexadecimal float")
         self.assertEqual(self.focused(), "required_exponent_notation")
+        self.assertEqual(self.text("#forms [aria-pressed=true]"), "hexadecimal float")
         self.click("#read .use", "set required_exponent_notation=false in hexadecimal float")
         self.assertEqual((self.text("#count"), self.value("#language")), ("1 of 1 as expected", ""))
 
@@ -905,6 +906,17 @@ class Walk(unittest.TestCase):
         self.assertEqual(self.text("#verdict"), "Not valid: 2 reasons")
         self.assertAlmostEqual(self.run_script(place), before, delta=2)
         self.assertEqual(self.run_script("return document.querySelector('.bar').getBoundingClientRect().top"), 0)
+
+    def test_what_differs_is_marked_and_the_code_stays_beside_the_settings(self):
+        for link in self.links():
+            wrong = self.run_script("""const names = page.library.differences(page.form).map(({ name }) => name);
+                return [...document.querySelectorAll("#controls .control")].filter((it) => it.matches(".changed") !== names.includes(it.dataset.field))
+                    .map((it) => it.dataset.field);""")
+            self.assertEqual(wrong, [], link)
+        self.emulate(1280, 720, False)
+        self.load(f"#word={MIXED}")
+        top = self.run_script("find('conditions').scrollIntoView(); return find('code').getBoundingClientRect().top")
+        self.assertTrue(0 < top < 720, top)
 
     def test_the_answer_is_in_view(self):
         lines = ["", "#numbers=0x1F%0A-0x1_000.8p3%0A!1F%0A0x1h", "#numbers=1,234.5%0A1.234,5%0A!1,5%0A12h"]
