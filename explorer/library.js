@@ -126,11 +126,11 @@ class Library {
 
     /* Returns the text of a form. */
     formText(form) {
-        return `${wordText(form.word)} ${form.exponent} ${form.point} ${this.conditionsOf(form)}:${form.name}`;
+        return `${wordText(form.word)} ${form.exponent} ${form.point} ${this.conditionsText(form)}:${form.name}`;
     }
 
     /* Returns the conditions of a form as settings. */
-    conditionsOf({ conditions }) {
+    conditionsText({ conditions }) {
         return this.differences({ ...this.usual, conditions }).map(({ text }) => text).join(" ");
     }
 

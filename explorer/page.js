@@ -250,7 +250,7 @@ class Page {
 
     fragment() {
         const { form, state: { forms: list, at, numbers, language } } = this;
-        const conditions = this.library.conditionsOf(form);
+        const conditions = this.library.conditionsText(form);
         const isOwn = !this.languageOf(this.state) && (list.length > 1 || language || form.name);
         const lines = list.map((it, index) => (index === at ? `:${it.name}` : this.library.formText(it)));
         const [forms, tab] = [isOwn ? lines.join("\n") : "", this.tab === "rust" ? "" : this.tab];

@@ -6,6 +6,7 @@
 `build --check` compares index.html with its sources. In Chromium, the code that the page shows builds its word, and one
 walk through the page takes the steps of a user. A test is skipped by name if the machine lacks its programs.
 """
+import itertools
 import os
 import pathlib
 import re
@@ -69,17 +70,19 @@ SHOWN = """const [shown, tried] = arguments;
         const told = answers.map((answer) => trial.told(answer));
         const tests = answers.map(({ text, error }) => ({ text, isRefused: Boolean(error) }));
         const codes = ["rust", "c", "python"].map((tab) => (trial.answers = tests, page.chooseTab(tab), find("code").textContent));
-        return [link, again, wordText(trial.forms[0].normal), codes, told];
+        const names = trial.forms.map(({ name }) => name).join("|");
+        return [link, again, wordText(trial.forms[0].normal), names, codes, told];
     })];"""
 # Programs that print what the code reads: of each text its value, `none` if it has none, or `refused`.
 RUST = """#![deny(warnings)]
-use peltzivar::{literal::{FormError, Number}, Format};
+use peltzivar::literal::{FormError, Forms, Number};
 fn value(it: Number<'_>) -> String {
     let integer = i128::try_from(it).map(|it| it.to_string()).or_else(|_| u128::try_from(it).map(|it| it.to_string()));
     integer.or_else(|_| f64::try_from(it).map(|it| it.to_string())).unwrap_or("none".into())
 }
-fn show(format: Format, read: fn(&str) -> Result<Number<'_>, FormError>) {
-    println!("{}", format.normal_form());
+fn show(forms: &Forms<'_>, read: fn(&str) -> Result<Number<'_>, FormError>) {
+    let names: Vec<_> = forms.into_iter().map(|form| form.name()).collect();
+    println!("{}\\n{}", forms[0].syntax().format().normal_form(), names.join("|"));
     include_str!("texts").lines().for_each(|text| println!("{}", read(text).map_or("refused".into(), value)));
 }
 """
@@ -92,6 +95,8 @@ static void show(bool (*make_forms)(void), const peltzivar_forms *forms, read *r
     FILE *file = fopen("texts", "r");
     const peltzivar_word *word = &forms->forms->syntax.format;
     if (make_forms() && test()) print(word->low, word->high);
+    for (size_t it = 0; it < forms->count; it++) printf("%s%s", it ? "|" : "", forms->forms[it].name);
+    puts("");
     for (char text[256]; fgets(text, sizeof text, file);) {
         text[strcspn(text, "\n")] = 0;
         if (!read_number(text, &literal, &special)) puts("refused");
@@ -103,8 +108,8 @@ static void show(bool (*make_forms)(void), const peltzivar_forms *forms, read *r
 }
 """
 PYTHON = """from peltzivar import LiteralError
-def show(syntax, read):
-    print(syntax.format)
+def show(forms, read):
+    print(next(iter(forms.values())).format, "|".join(forms), sep="\\n")
     for text in open("texts").read().split("\\n"):
         try:
             print(repr(read(text).value))
@@ -286,15 +291,15 @@ class Walk(unittest.TestCase):
         run("make", "--silent", "-C", TOP / "c", f"BUILD={BUILD}")
         for language, program in enumerate((self.rust, self.c, self.python)):
             lines = iter(program(folder, [codes[language] for *_, codes, _ in states]).splitlines())
-            for link, again, word, _, told in states:
-                self.assertEqual((again, next(lines)), (link, word))
+            for link, again, word, names, _, told in states:
+                self.assertEqual((again, next(lines), next(lines)), (link, word, names))
                 for text, wanted, value in zip(tried, told, lines):
                     self.assertTrue(is_same(wanted, value), (program, link, text, wanted, value))
 
     def rust(self, folder, codes):
         codes = [code.replace("#[test]\nfn", "pub fn") for code in codes]
         modules = "".join(f"mod m{index} {{\n{code}}}\n" for index, code in enumerate(codes))
-        show = [("show(m{0}::FORMS[0].syntax().format(), m{0}::read); m{0}::numbers();" if "fn read" in it else 'println!("{{:#034X}}", m{0}::WORD);') for it in codes]
+        show = [("show(&m{0}::FORMS, m{0}::read); m{0}::numbers();" if "fn read" in it else 'println!("{{:#034X}}\\n", m{0}::WORD);') for it in codes]
         calls = " ".join(call.format(index) for index, call in enumerate(show))
         (folder / "main.rs").write_text(f"{RUST}{modules}fn main() {{ {calls} }}\n")
         (folder / "Cargo.toml").write_text(
@@ -305,14 +310,14 @@ class Walk(unittest.TestCase):
     def c(self, folder, codes):
         names = r"\b(SETTINGS|SPECIALS|WORD|LIST|FORMS|make_forms|read_number|test_numbers)\b"
         parts = [re.sub(names, rf"\1_{index}", code) for index, code in enumerate(codes)]
-        show = [("show(make_forms_{0}, &FORMS_{0}, read_number_{0}, test_numbers_{0});" if "make" in it else "print(WORD_{0}.low, WORD_{0}.high);") for it in codes]
+        show = [("show(make_forms_{0}, &FORMS_{0}, read_number_{0}, test_numbers_{0});" if "make" in it else "print(WORD_{0}.low, WORD_{0}.high); puts(\"\");") for it in codes]
         calls = " ".join(call.format(index) for index, call in enumerate(show))
         (folder / "main.c").write_text("".join([*parts, C, f"int main(void) {{ {calls} }}\n"]))
         run("cc", "-Wall", "-Wextra", "-Werror", "-I", TOP / "c", "-o", folder / "main", folder / "main.c", BUILD / "release/libpeltzivar_c.a")
         return run(folder / "main", cwd=folder)
 
     def python(self, folder, codes):
-        calls = ((code, "show(next(iter(forms.values())), read)\ntest_numbers()" if "def read" in code else "print(view)") for code in codes)
+        calls = ((code, "show(forms, read)\ntest_numbers()" if "def read" in code else "print(view, end='\\n\\n')") for code in codes)
         (folder / "main.py").write_text(PYTHON + "".join(f"{code}{call}\n" for code, call in calls))
         variables = {"PELTZIVAR_LIBRARY": f"{BUILD}/release/libpeltzivar_c.so", "PYTHONPATH": str(TOP / "c"), "PYTHONDONTWRITEBYTECODE": "1"}
         return run(sys.executable, "main.py", cwd=folder, env={**os.environ, **variables})
@@ -460,12 +465,15 @@ class Walk(unittest.TestCase):
         self.click("#no_special")
         self.assertEqual((self.value("#language"), self.text("#count")), ("", "3 of 4 as expected"))
         self.assertIn("The format is not that of Rust any more", self.text("#told"))
+        self.click("#undo")
+        self.assertEqual((self.value("#language"), self.text("#told")), ("RUST", ""))
 
     def test_a_language_is_changed_in_the_form_that_goes_furthest(self):
         self.type("#literal", "\n0x1_000.5")
         Select(self.find("#language")).select_by_value("JAVA")
         self.click("#read p .link", "hexadecimal float")
         self.assertEqual(self.focused(), "required_exponent_notation")
+        self.assertEqual(self.text("#forms [aria-pressed=true]"), "hexadecimal float")
         self.click("#read .use", "set required_exponent_notation=false in hexadecimal float")
         self.assertEqual((self.text("#count"), self.value("#language")), ("1 of 1 as expected", ""))
 
@@ -485,7 +493,8 @@ class Walk(unittest.TestCase):
                     const kept = forms.filter((form, at) => isSame([form], [page.state.forms[at]])).length;
                     const isAsTold = isAdded || (find("count").textContent === counted && find("read").querySelector("p").textContent === then);
                     const isRight = kept === forms.length - !isAdded && page.state.forms.length === forms.length + Boolean(isAdded);
-                    return isAsTold && isRight && page.trial.answers[0].isExpected ? [] : [[name, text, button.textContent, then, kept]];
+                    const isShown = !forms[page.state.at] || !isSame([forms[page.state.at]], [page.form]);
+                    return isAsTold && isRight && isShown && page.trial.answers[0].isExpected ? [] : [[name, text, button.textContent, then, kept]];
                 });
             }));""")
         self.assertEqual(wrong, [])
@@ -564,6 +573,15 @@ class Walk(unittest.TestCase):
                 return [first, second, ...document.querySelectorAll("#read .separator")].map((it) => it.textContent ?? it).join("|");
             })).filter((it) => it.split("|").slice(0, 2).join() !== it.split("|").slice(2).join());""")
         self.assertEqual(wrong, [])
+
+    def test_links_show_the_form_of_their_word(self):
+        """In each order of lines, the one without a syntax is shown, and those that cannot be read are told and left out."""
+        for lines in itertools.permutations([":shown", "bad:x", f"{STANDARD} 101 46 :a", f"{STANDARD} 101 44 :b"]):
+            for kept in (lines, lines[1:]):
+                self.run_script("history.replaceState(null, '', arguments[0]); page.read();", f"#word={MIXED}&forms=" + "%0A".join(kept))
+                names = [it.split(":")[1] for it in kept if it != "bad:x"] + ([] if ":shown" in kept else ["hexadecimal"])
+                self.assertEqual((self.texts("#forms button") or names, self.value()), (names, MIXED))
+                self.assertEqual("forms=bad:x" in self.text("#told"), "bad:x" in kept)
 
     def test_forms_are_added(self):
         """Each choice adds the forms that it names behind the last one."""
@@ -889,6 +907,17 @@ class Walk(unittest.TestCase):
         self.assertAlmostEqual(self.run_script(place), before, delta=2)
         self.assertEqual(self.run_script("return document.querySelector('.bar').getBoundingClientRect().top"), 0)
 
+    def test_what_differs_is_marked_and_the_code_stays_beside_the_settings(self):
+        for link in self.links():
+            wrong = self.run_script("""const names = page.library.differences(page.form).map(({ name }) => name);
+                return [...document.querySelectorAll("#controls .control")].filter((it) => it.matches(".changed") !== names.includes(it.dataset.field))
+                    .map((it) => it.dataset.field);""")
+            self.assertEqual(wrong, [], link)
+        self.emulate(1280, 720, False)
+        self.load(f"#word={MIXED}")
+        top = self.run_script("find('conditions').scrollIntoView(); return find('code').getBoundingClientRect().top")
+        self.assertTrue(0 < top < 720, top)
+
     def test_the_answer_is_in_view(self):
         lines = ["", "#numbers=0x1F%0A-0x1_000.8p3%0A!1F%0A0x1h", "#numbers=1,234.5%0A1.234,5%0A!1,5%0A12h"]
         for width, height in ((1280, 720), (1366, 657), (1000, 700)):
@@ -976,6 +1005,20 @@ class Walk(unittest.TestCase):
         self.find("#tab-regex").send_keys(Keys.ARROW_LEFT)
         self.assertEqual(self.focused(), "tab-grammar")
         self.assertIn('Integer  ::= [1-9] Digit* | "0"', self.text("#code"))
+
+    def test_the_grammar_and_the_expression_are_those_of_all_forms(self):
+        wrong = self.run_script("""const { languages } = page.data;
+            const texts = [...new Set(languages.flatMap((it) => it.numbers.replaceAll("!", "").split("\\n")))];
+            const code = (tab) => (page.chooseTab(tab), find("code").textContent);
+            return languages.flatMap(({ name, forms }) => {
+                page.jump({ forms, at: 0, language: name, numbers: "" });
+                const expression = new RegExp(`^(?:${code("regex")})$`);
+                const answers = page.library.numbers({ forms, specials: ["", "", ""] }, texts.join("\\n"));
+                const lost = forms.filter((form) => !code("grammar").includes(page.library.explain(form).grammar));
+                const others = texts.filter((text, index) => expression.test(text) === Boolean(answers[index].error));
+                return [...lost.map((it) => it.name), ...others].map((it) => `${name} ${it}`);
+            });""")
+        self.assertEqual(wrong, [])
 
     def test_good_and_bad_have_marks(self):
         wrong = self.run_script("""page.change({ numbers: "1\\n0x\\n!1\\n!x" });
