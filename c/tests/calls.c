@@ -327,7 +327,7 @@ static void test_writing(void) {
         && peltzivar_format_literal(&english, &literal, NULL, text, sizeof text, NULL) == PELTZIVAR_WRITE_LONG);
     memset(&literal, 0, sizeof literal);
     CHECK(peltzivar_format_f64(&json, HUGE_VAL, NULL, text, sizeof text, &needed) == PELTZIVAR_WRITE_SPECIAL && needed == 327);
-    CHECK(!peltzivar_format_f64(&hexadecimal, -0x1.8p-70, NULL, text, sizeof text, NULL) && !strcmp(text, "-0x6p-12"));
+    CHECK(!peltzivar_format_f64(&hexadecimal, -1.5 / 1180591620717411303424.0, NULL, text, sizeof text, NULL) && !strcmp(text, "-0x6p-12"));
     CHECK(make_syntax("radix=3", &other) && peltzivar_format_f64(&other, 0.5, NULL, text, sizeof text, NULL) == PELTZIVAR_WRITE_RADIX);
     CHECK(peltzivar_format_i64(&c, -1, NULL, text, sizeof text, NULL) == PELTZIVAR_WRITE_NEGATIVE);
     CHECK(peltzivar_format_literal(&json, &literal, NULL, text, sizeof text, NULL) == PELTZIVAR_WRITE_ARGUMENT);

@@ -64,7 +64,11 @@ impl Float for f64 {
 
     #[inline(always)]
     fn bits(self) -> Option<u64> {
-        if self.is_nan() { None } else { Some(self.to_bits()) }
+        if self.is_nan() {
+            None
+        } else {
+            Some(self.to_bits())
+        }
     }
 
     #[inline(always)]
@@ -97,7 +101,11 @@ impl Float for f32 {
 
     #[inline(always)]
     fn bits(self) -> Option<u64> {
-        if self.is_nan() { None } else { Some(self.to_bits() as u64) }
+        if self.is_nan() {
+            None
+        } else {
+            Some(self.to_bits() as u64)
+        }
     }
 
     #[inline(always)]
