@@ -137,7 +137,7 @@ REPLACED += [
     ("short_text.rt", "#[derive(Drop)]\n#[doc(hidden)]", "#[derive(Clone,\nCopy)]"),
     ("big.rt", "#[derive(Drop)]\n", ""),
     ("long.rt", "#[derive(Drop)]\n", ""),
-    ("list.rt", "#[derive(Clone, Copy)]", "#[derive(Debug, Clone, Copy, PartialEq, Eq, Hash)]"),
+    ("list.rt", "#[derive(Clone, Copy)]\npub struct", "#[derive(Debug, Clone, Copy, PartialEq, Eq, Hash)]\npub struct"),
     ("list.rt", "#[derive(Drop)]\npub struct", "#[derive(Debug, Clone, Copy, PartialEq, Eq)]\npub struct"),
     ("list.rt", "#[derive(Drop)]\npub enum", "#[derive(Debug, Clone, Copy, PartialEq, Eq, Hash)]\npub enum"),
     # Calls with these names are written by hand: they take a text or bytes.
@@ -156,6 +156,7 @@ REPLACED += [
     ("lexical_number/src/word.rt", "MOST[radix as usize] as usize", "if radix <= 36 { MOST[radix as usize] as usize } else { 0 }"),
     # Programs have one copy of these.
     ("lexical_literal/src/list.rt", "syntax.begin(false, text, false)", "syntax.begin_any(text, false)"),
+    ("lexical_literal/src/list.rt", "self.begin(false, text, false)", "self.begin_any(text, false)"),
     ("lexical_literal/src/read.rt", "self.begin(false, text, true)", "self.begin_any(text, true)"),
     # A decimal literal need not be in memory where another one would be.
     ("lexical_value/src/float.rt", "binary_size(F::DOUBLE, literal)", "binary_size(F::DOUBLE, &{ *literal })"),

@@ -153,7 +153,7 @@ fronts_more text forms i d inside longest old (Some found) has none = best_more 
 
 -- The first form that reads the text.
 pub found_is : (forms : List Form) (text : List ℕ) (i : ℕ) (d : Form) (read : Read) → i < length forms
-    → ReadsForm text read (get_or forms i d) → NoForm (take i forms) text → IsFoundForm forms text (Ok (i, read))
+    → ReadsForm text read (get_or forms i d) → NoForm (take i forms) text → IsFoundForm forms text (Some (i, read))
 found_is forms text i d read inside is before = grind (arith, slice_get-get_or)
 
 -- All forms have been tried.

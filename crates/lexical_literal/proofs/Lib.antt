@@ -28,6 +28,7 @@ mod JointLemmas
 mod BlameLemmas
 mod PartOfLemmas
 mod OneCauseLemmas
+mod ExcludeLemmas
 mod FormLemmas
 mod GroupLemmas
 mod SizeLemmas

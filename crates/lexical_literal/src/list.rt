@@ -1,19 +1,20 @@
 //! Numbers that have several forms, such as `10`, `0x1F` and `0b1`.
 
-ghost use Rattle.std.specs.Prelude.{◌≡◌, ◌<◌, All, IsSomeAnd, SomeIff, length, slice_get};
-ghost use Rattle.lexical_literal.specs.Additions.Forms.{IsFoundForm, IsFoundFrontForm, IsFurthestForm, further, longer};
+ghost use Rattle.std.specs.Prelude.{◌≡◌, ◌<◌, IsSomeAnd, IsTrue, None, SomeIff, length, slice_get};
+ghost use Rattle.lexical_literal.specs.Additions.Forms.{IsFoundForm, IsFoundFrontForm, IsFurthestForm, PlaysNoRole, further, longer, sign_size};
 ghost use Rattle.lexical_literal.specs.Additions.Longest.{IsStopped};
-ghost use Rattle.lexical_literal.specs.Forms.{IsErrorOfForm, IsFormError, IsFrontByForms, IsReadByForms, special_by};
+ghost use Rattle.lexical_literal.specs.Forms.{IsErrorOfForm, IsFormError, IsFrontByForms, IsReadByForms, NoForm, special_by};
 ghost use Rattle.lexical_literal.specs.Front.{NoLiteral};
 ghost use Rattle.lexical_literal.specs.Notation.{notation_of};
 
 use crate::cause::ReadError;
-use crate::groups::FIRST;
 use crate::literal::Literal;
-use crate::plain::{At, BEGIN};
+use crate::plain::At;
 use crate::read::Found;
 use crate::specials::{Special, Specials};
-use crate::syntax::Syntax;
+use crate::steps::{is_digit, role_at};
+use crate::syntax::{Condition, Grammar, Syntax};
+use lexical_util::format::Part;
 use std::marker::Model;
 
 /// A form of numbers: its name, such as `hexadecimal`, and its syntax.
@@ -153,10 +154,10 @@ impl<'a> Forms<'a> {
         ensures { IsReadByForms self.now text.now result }
     {
         match self.find(text) {
-            Ok((form, literal)) => Ok(Number::Literal { literal, form }),
-            Err(error) => match self.special(text) {
+            Some((form, literal)) => Ok(Number::Literal { literal, form }),
+            None => match self.special(text) {
                 Some(special) => Ok(Number::Special(special)),
-                None => Err(error),
+                None => Err(self.refuse(text, self.furthest(text))),
             },
         }
     }
@@ -188,26 +189,41 @@ impl<'a> Forms<'a> {
         self.specials.read(&self.forms[0].syntax, text)
     }
 
-    // Returns the index of the first form of which `text` is a literal, and the literal, or why it is one of no form.
-    fn find<'t>(&self, text: &'t [u8]) -> Result<(usize, Literal<'t>), FormError>
+    // Returns the index of the first form of which `text` is a literal, and the literal. A form that the first bytes exclude is not
+    // asked.
+    fn find<'t>(&self, text: &'t [u8]) -> Option<(usize, Literal<'t>)>
         ensures { IsFoundForm self.now.forms text.now result }
+    {
+        let mut form = 0;
+        while form < self.forms.len() {
+            let syntax = &self.forms[form].syntax;
+            if !excludes(syntax.grammar(), text) {
+                let counted = syntax.begin(false, text, false);
+                if syntax.is_whole(text, counted) {
+                    return Some((form, syntax.literal(text, counted.counts, counted.sums)));
+                }
+                let stop = syntax.reach(text, counted);
+                if let Some(counts) = syntax.lengths(text, stop) {
+                    return Some((form, syntax.summed(text, counts)));
+                }
+            }
+            form += 1;
+        }
+        None
+    }
+
+    // Returns the form that goes furthest in `text`, the first of equals, and where it stops.
+    fn furthest(&self, text: &[u8]) -> Option<(usize, At)>
+        ensures { IsFurthestForm self.now.forms text.now result }
     {
         let mut furthest = None;
         let mut form = 0;
         while form < self.forms.len() {
-            let syntax = &self.forms[form].syntax;
-            let counted = syntax.begin(false, text, false);
-            if syntax.is_whole(text, counted) {
-                return Ok((form, syntax.literal(text, counted.counts, counted.sums)));
-            }
-            let stop = syntax.reach(text, counted);
-            match syntax.lengths(text, stop) {
-                Some(counts) => return Ok((form, syntax.summed(text, counts))),
-                None => furthest = further(furthest, form, stop),
-            }
+            let stop = self.forms[form].syntax.stop_in(text);
+            furthest = further(furthest, form, stop);
             form += 1;
         }
-        Err(self.refuse(text, furthest))
+        furthest
     }
 
     // Returns the longest front of `text` that is a literal of a form, with the index of the form, the first of equals, or
@@ -235,7 +251,7 @@ impl<'a> Forms<'a> {
     #[cold]
     fn refuse(&self, text: &[u8], furthest: Option<(usize, At)>) -> FormError
         requires furthest { IsFurthestForm self.now.forms text.now furthest }
-        requires none { All (λ form. NoLiteral (notation_of form.syntax) text.now) self.now.forms }
+        requires none { NoForm self.now.forms text.now }
         ensures { IsFormError self.now.forms text.now result }
     {
         let Some((first, stop)) = furthest else {
@@ -248,7 +264,7 @@ impl<'a> Forms<'a> {
         let forms = self.as_slice();
         let mut form = first + 1;
         while form < forms.len() {
-            let reached = forms[form].syntax.walk(text, BEGIN, FIRST);
+            let reached = forms[form].syntax.stop_in(text);
             if reached.size == stop.size {
                 let other = self.error_at(text, form, reached);
                 if !other.error.is_byte() {
@@ -265,7 +281,7 @@ impl<'a> Forms<'a> {
     fn error_at(&self, text: &[u8], form: usize, stop: At) -> FormError
         requires inside { form < length self.now.forms }
         requires stopped { IsSomeAnd (slice_get self.now.forms form) (λ form. IsStopped (notation_of form.syntax) text.now stop) }
-        requires none { All (λ form. NoLiteral (notation_of form.syntax) text.now) self.now.forms }
+        requires none { NoForm self.now.forms text.now }
         ensures index { result.form ≡ form }
         ensures error { IsSomeAnd (slice_get self.now.forms result.form) (IsErrorOfForm text.now result) }
     {
@@ -305,5 +321,52 @@ const fn further(furthest: Option<(usize, At)>, form: usize, stop: At) -> Option
     match furthest {
         Some((_, best)) if best.size >= stop.size => furthest,
         _ => Some((form, stop)),
+    }
+}
+
+impl Syntax {
+    // Returns where reading `text` stops.
+    #[cold]
+    fn stop_in(&self, text: &[u8]) -> At
+        ensures { IsStopped (notation_of self.now) text.now result }
+    {
+        let counted = self.begin(false, text, false);
+        self.reach(text, counted)
+    }
+}
+
+// Returns whether the first bytes behind the sign exclude that `text` is a literal: there is not the prefix that is required, or
+// the second plays no role.
+#[inline(always)]
+const fn excludes(grammar: Grammar, text: &[u8]) -> bool
+    ensures { IsTrue result → NoLiteral (notation_of grammar) text.now }
+{
+    let sign = sign_size(text);
+    let is_long = sign + 1 < text.len();
+    if grammar.conditions.has(Condition::BasePrefix) {
+        !(is_long && text[sign] == b'0' && grammar.view().is_base_prefix(text[sign + 1]))
+    } else {
+        is_long && plays_no_role(grammar, text[sign + 1])
+    }
+}
+
+// Returns whether `byte` plays no role, and is no zero, which a prefix begins with.
+#[inline(always)]
+const fn plays_no_role(grammar: Grammar, byte: u8) -> bool
+    ensures { IsTrue result → PlaysNoRole (notation_of grammar) byte }
+{
+    byte != b'0'
+        && matches!(role_at(grammar, Part::Integer, byte), None)
+        && !is_digit(grammar, Part::Exponent, byte)
+}
+
+// Returns the length of the sign with which `text` begins.
+#[inline(always)]
+const fn sign_size(text: &[u8]) -> usize
+    ensures { result ≡ sign_size text.now }
+{
+    match text {
+        [b'+' | b'-', ..] => 1,
+        _ => 0,
     }
 }

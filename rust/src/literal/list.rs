@@ -3,12 +3,13 @@
 //! Numbers that have several forms, such as `10`, `0x1F` and `0b1`.
 
 use crate::literal::cause::ReadError;
-use crate::literal::groups::FIRST;
 use crate::literal::literal::Literal;
-use crate::literal::plain::{At, BEGIN};
+use crate::literal::plain::At;
 use crate::literal::read::Found;
 use crate::literal::specials::{Special, Specials};
-use crate::literal::syntax::Syntax;
+use crate::literal::steps::{is_digit, role_at};
+use crate::literal::syntax::{Condition, Grammar, Syntax};
+use crate::word::Part;
 
 /// A form of numbers: its name, such as `hexadecimal`, and its syntax.
 #[derive(Debug, Clone, Copy, PartialEq, Eq, Hash)]
@@ -109,10 +110,10 @@ impl<'a> Forms<'a> {
     /// cause is not a wrong byte, or the first if the cause of each is one. So `0b12` has the error of the binary form.
     pub const fn read_bytes<'t>(&self, text: &'t [u8]) -> Result<Number<'t>, FormError> {
         match self.find(text) {
-            Ok((form, literal)) => Ok(Number::Literal { literal, form }),
-            Err(error) => match self.special(text) {
+            Some((form, literal)) => Ok(Number::Literal { literal, form }),
+            None => match self.special(text) {
                 Some(special) => Ok(Number::Special(special)),
-                None => Err(error),
+                None => Err(self.refuse(text, self.furthest(text))),
             },
         }
     }
@@ -140,24 +141,37 @@ impl<'a> Forms<'a> {
         self.specials.read(&self.forms[0].syntax, text)
     }
 
-    // Returns the index of the first form of which `text` is a literal, and the literal, or why it is one of no form.
-    const fn find<'t>(&self, text: &'t [u8]) -> Result<(usize, Literal<'t>), FormError> {
-        let mut furthest = None;
+    // Returns the index of the first form of which `text` is a literal, and the literal. A form that the first bytes exclude is not
+    // asked.
+    const fn find<'t>(&self, text: &'t [u8]) -> Option<(usize, Literal<'t>)> {
         let mut form = 0;
         while form < self.forms.len() {
             let syntax = &self.forms[form].syntax;
-            let counted = syntax.begin_any(text, false);
-            if syntax.is_whole(text, counted) {
-                return Ok((form, syntax.literal(text, counted.counts, counted.sums)));
-            }
-            let stop = syntax.reach(text, counted);
-            match syntax.lengths(text, stop) {
-                Some(counts) => return Ok((form, syntax.summed(text, counts))),
-                None => furthest = further(furthest, form, stop),
+            if !excludes(syntax.as_grammar(), text) {
+                let counted = syntax.begin_any(text, false);
+                if syntax.is_whole(text, counted) {
+                    return Some((form, syntax.literal(text, counted.counts, counted.sums)));
+                }
+                let stop = syntax.reach(text, counted);
+                if let Some(counts) = syntax.lengths(text, stop) {
+                    return Some((form, syntax.summed(text, counts)));
+                }
             }
             form += 1;
         }
-        Err(self.refuse(text, furthest))
+        None
+    }
+
+    // Returns the form that goes furthest in `text`, the first of equals, and where it stops.
+    const fn furthest(&self, text: &[u8]) -> Option<(usize, At)> {
+        let mut furthest = None;
+        let mut form = 0;
+        while form < self.forms.len() {
+            let stop = self.forms[form].syntax.stop_in(text);
+            furthest = further(furthest, form, stop);
+            form += 1;
+        }
+        furthest
     }
 
     // Returns the longest front of `text` that is a literal of a form, with the index of the form, the first of equals, or
@@ -190,7 +204,7 @@ impl<'a> Forms<'a> {
         let forms = self.as_slice();
         let mut form = first + 1;
         while form < forms.len() {
-            let reached = forms[form].syntax.walk(text, BEGIN, FIRST);
+            let reached = forms[form].syntax.stop_in(text);
             if reached.size == stop.size {
                 let other = self.error_at(text, form, reached);
                 if !other.error.is_byte() {
@@ -227,5 +241,42 @@ const fn further(furthest: Option<(usize, At)>, form: usize, stop: At) -> Option
     match furthest {
         Some((_, best)) if best.size >= stop.size => furthest,
         _ => Some((form, stop)),
+    }
+}
+
+impl Syntax {
+    // Returns where reading `text` stops.
+    #[cold]
+    const fn stop_in(&self, text: &[u8]) -> At {
+        let counted = self.begin_any(text, false);
+        self.reach(text, counted)
+    }
+}
+
+// Returns whether the first bytes behind the sign exclude that `text` is a literal: there is not the prefix that is required, or
+// the second plays no role.
+#[inline(always)]
+const fn excludes(grammar: Grammar, text: &[u8]) -> bool {
+    let sign = sign_size(text);
+    let is_long = sign + 1 < text.len();
+    if grammar.conditions.has(Condition::BasePrefix) {
+        !(is_long && text[sign] == b'0' && grammar.view().is_base_prefix(text[sign + 1]))
+    } else {
+        is_long && plays_no_role(grammar, text[sign + 1])
+    }
+}
+
+// Returns whether `byte` plays no role, and is no zero, which a prefix begins with.
+#[inline(always)]
+const fn plays_no_role(grammar: Grammar, byte: u8) -> bool {
+    byte != b'0' && matches!(role_at(grammar, Part::Integer, byte), None) && !is_digit(grammar, Part::Exponent, byte)
+}
+
+// Returns the length of the sign with which `text` begins.
+#[inline(always)]
+const fn sign_size(text: &[u8]) -> usize {
+    match text {
+        [b'+' | b'-', ..] => 1,
+        _ => 0,
     }
 }

@@ -1,10 +1,12 @@
 -- What one pass over several forms finds.
-use Rattle.std.specs.Prelude.{ℕ, if◌then◌else◌, nat_lt, IfErr, IfOk, IsErr, IsSomeAnd, List, Option, Some, None, Result, All, slice_get}
+use Rattle.std.specs.Prelude.{ℕ, ◌≡◌, [], ◌∷◌, false, if◌then◌else◌, nat_lt, IfErr, IfOk, IfSome, IsErr, IsNone, IsSomeAnd, List, Option, Some, None, Result, All, slice_get}
+use Rattle.lexical_util.specs.Roles.{signs}
+use Rattle.lexical_util.specs.declared.feature_format.roles.Role.{Role}
 use Rattle.lexical_literal.specs.Additions.Longest.{IsCountedFront, IsStopped}
 use Rattle.lexical_literal.specs.Forms.{HasFront, IsFirst, IsFormError, IsGreatest, NoForm}
 use Rattle.lexical_literal.specs.Front.{IsValidUpTo, NoFront, NoLiteral}
 use Rattle.lexical_literal.specs.Read.{Read}
-use Rattle.lexical_literal.specs.Notation.{notation_of}
+use Rattle.lexical_literal.specs.Notation.{Notation, notation_of, set_of_role}
 use Rattle.lexical_literal.specs.declared.list.FormError.{FormError}
 use Rattle.lexical_literal.specs.declared.read.Found.{Found}
 use Rattle.lexical_literal.specs.declared.plain.At.{At}
@@ -24,12 +26,21 @@ abbrev pub longer : Option (ℕ × Found) → ℕ → Option Found → Option (�
 longer longest form None = longest
 longer longest form (Some found) = greater (λ (found : Found). found.size) longest form found
 
--- `IsFoundForm forms text result` holds if `result` has the first form of which `text` is a literal and the literal, or the error of
--- a text that is a literal of no form.
-pub record IsFoundForm (forms : List Form) (text : List ℕ) (result : Result (ℕ × Read) FormError) : Type 0 where
-  pub found : IfOk result (λ found. IsFirst forms text found.0 found.1)
-  pub none : IsErr result → NoForm forms text
-  pub error : IfErr result (IsFormError forms text)
+-- `IsFoundForm forms text result` holds if `result` has the first form of which `text` is a literal and the literal, or if it is
+-- `None` and `text` is a literal of no form.
+pub record IsFoundForm (forms : List Form) (text : List ℕ) (result : Option (ℕ × Read)) : Type 0 where
+  pub found : IfSome result (λ found. IsFirst forms text found.0 found.1)
+  pub none : IsNone result → NoForm forms text
+
+-- `sign_size text` is the length of the sign with which `text` begins.
+abbrev pub sign_size : List ℕ → ℕ
+sign_size [] = 0
+sign_size (byte ∷ text) = if signs byte then 1 else 0
+
+-- `PlaysNoRole m byte` holds if `byte` plays no role, and is not the zero of a prefix.
+pub record PlaysNoRole (m : Notation) (byte : ℕ) : Type 0 where
+  pub not_zero : byte ≡ 48 → ⊥
+  pub none : (role : Role) → set_of_role m role byte ≡ false
 
 -- `IsFoundFrontForm forms text result` holds if `result` has the longest front of `text` that is a literal of a form, of the
 -- first form of equals, and the lengths of its parts, or the error of a text for which there is no such front.

@@ -1,11 +1,13 @@
--- The first form that reads the text, or the error of the one that goes furthest.
-use Rattle.std.proofs.Common.{◌+◌, refl, sym, subst}
+-- The first form that reads the text.
+use Rattle.std.proofs.Common.{◌≡◌, IsNone, None, Option, Some, refl, sym, subst}
 use Rattle.std.proofs.lemmas.List.Elements.{All-more}
 use Rattle.lexical_literal.specs.Front.{NoLiteral}
 use Rattle.lexical_literal.specs.Notation.{notation_of}
-use Rattle.lexical_literal.proofs.FormLemmas.{IsBest, all_tried, best_more, found_is, furthest_is, goes}
+use Rattle.lexical_literal.specs.declared.syntax.Grammar.{Grammar}
+use Rattle.lexical_literal.proofs.FormLemmas.{all_tried, found_is}
 use Rattle.lexical_literal.proofs.PieceLemmas.{measured_cut, whole_read}
 use Rattle.lexical_literal.proofs.list.Forms.find.Goals as goal
+use Rattle.lexical_literal.proofs.list.Forms.find.Goals.{then-not-excludes+else-is_whole+in_default, else-not-excludes}
 
 pub literal-requires-clause-cut : goal.literal-requires-clause-cut
 literal-requires-clause-cut c = measured_cut _ c.args.text.now c.begin-counted.result.counts
@@ -17,37 +19,27 @@ summed-requires c = measured_cut _ c.args.text.now c.in-Some.counts c.in-Some.en
 pub returns-then-is_whole : goal.returns-then-is_whole
 returns-then-is_whole c = rw (← c.self.view_is) (found_is c.self.inside.forms.now c.args.text.now c.loop-form.form c.index-self-form.result c.literal.result
     c.loop-form-test.true (whole_read _ c.args.text.now c.begin-counted.result.counts (c.is_whole.ensures.measured c.if-is_whole.true) c.literal.result
-    c.literal.ensures) c.loop-form.invariant.none)
+    c.literal.ensures) c.loop-form.invariant)
 
 pub returns-in-Some : goal.returns-in-Some
 returns-in-Some c = rw (← c.self.view_is) (found_is c.self.inside.forms.now c.args.text.now c.loop-form.form c.index-self-form.result c.summed.result
     c.loop-form-test.true (whole_read _ c.args.text.now c.in-Some.counts c.in-Some.ensures.some c.summed.result c.summed.ensures)
-    c.loop-form.invariant.none)
+    c.loop-form.invariant)
 
 pub loop-form-preserved : goal.loop-form-preserved
-loop-form-preserved c =
-    let forms = c.self.inside.forms.now in
-    let i = c.loop-form.form in
-    record {
-      none = All-more (λ g. NoLiteral (notation_of g.syntax) c.args.text.now) forms i c.index-self-form.result c.loop-form-test.true c.loop-form.invariant.none
-          (c.in-None.ensures.none refl);
-      furthest = subst (IsBest (goes c.args.text.now) forms (i + 1)) (sym c.further-furthest.ensures)
-          (best_more (goes c.args.text.now) forms i c.index-self-form.result c.loop-form-test.true c.reach-stop.result
-          c.reach-stop.ensures c.loop-form.furthest c.loop-form.invariant.furthest);
-    }
-
-pub refuse-requires-clause-furthest : goal.refuse-requires-clause-furthest
-refuse-requires-clause-furthest c = rw (← c.self.view_is) (furthest_is c.self.inside.forms.now c.args.text.now c.loop-form.form
-    c.loop-form-test.false c.self.invariant c.loop-form.furthest c.loop-form.invariant.furthest)
-
-pub refuse-requires-clause-none : goal.refuse-requires-clause-none
-refuse-requires-clause-none c = rw (← c.self.view_is) (all_tried c.self.inside.forms.now c.args.text.now c.loop-form.form
-    c.loop-form-test.false (λ g. NoLiteral (notation_of g.syntax) c.args.text.now) c.loop-form.invariant.none)
+loop-form-preserved c = All-more (λ g. NoLiteral (notation_of g.syntax) c.args.text.now) c.self.inside.forms.now c.loop-form.form
+    c.index-self-form.result c.loop-form-test.true c.loop-form.invariant (elim c.if-not-excludes.branch [
+      | then-not-excludes+else-is_whole+in_default w ↦ w.lengths.ensures.none (none_else _ w.in_default.not-Some)
+      | else-not-excludes w ↦ subst (λ (g : Grammar). NoLiteral (notation_of g) c.args.text.now) c.grammar.ensures.value
+          (c.excludes.ensures w.if-not-excludes.false)
+    ]) where
+      none_else : {X : Type 0} (o : Option X) → ((x : X) → o ≡ Some x → ⊥) → IsNone o
+      none_else None not = refl
+      none_else (Some x) not = absurd (not x refl)
 
 pub returns : goal.returns
 returns c = record {
   found = tt;
   none = λ _. rw (← c.self.view_is) (all_tried c.self.inside.forms.now c.args.text.now c.loop-form.form
-      c.loop-form-test.false (λ g. NoLiteral (notation_of g.syntax) c.args.text.now) c.loop-form.invariant.none);
-  error = c.refuse.ensures;
+      c.loop-form-test.false (λ g. NoLiteral (notation_of g.syntax) c.args.text.now) c.loop-form.invariant);
 }

@@ -30,16 +30,16 @@ loop-form-preserved c =
     let forms = c.args.self.now.forms in
     let text = c.args.text.now in
     let form = c.loop-form.form in
-    let goes = at_index (λ g. GoesTo text g c.walk-reached.result.size) forms c.as_slice-forms.result.now
+    let goes = at_index (λ g. GoesTo text g c.stop_in-reached.result.size) forms c.as_slice-forms.result.now
     c.index-forms-form.result form c.as_slice-forms.ensures.list c.loop-form-test.true
-    c.walk-reached.ensures.valid in
+    c.stop_in-reached.ensures.valid in
     elim c.if-reached-stop.branch [
       | then-reached-stop+else-not-is_byte-2 w ↦
           wrong_byte c.args.self.now.forms c.args.text.now c.in-Some.first c.in-Some.stop.size a.0 form w.error_at-other.result w.error_at-other.ensures.index w.error_at-other.ensures.error
           (subst (λ n. IsSomeAnd (slice_get forms form) (λ g. GoesTo text g n)) w.if-reached-stop.true goes) (sym w.if-not-is_byte-2.ensures)
           c.loop-form.invariant
       | else-reached-stop w ↦ elsewhere c.args.self.now.forms c.args.text.now c.in-Some.first c.in-Some.stop.size a.0 form
-          c.walk-reached.result.size goes w.if-reached-stop.false c.loop-form.invariant
+          c.stop_in-reached.result.size goes w.if-reached-stop.false c.loop-form.invariant
     ]
 
 pub returns-then-not-is_byte-2 : goal.returns-then-not-is_byte-2
@@ -48,9 +48,9 @@ returns-then-not-is_byte-2 c =
     let forms = c.args.self.now.forms in
     let text = c.args.text.now in
     let form = c.loop-form.form in
-    let goes = at_index (λ g. GoesTo text g c.walk-reached.result.size) forms c.as_slice-forms.result.now
+    let goes = at_index (λ g. GoesTo text g c.stop_in-reached.result.size) forms c.as_slice-forms.result.now
     c.index-forms-form.result form c.as_slice-forms.ensures.list c.loop-form-test.true
-    c.walk-reached.ensures.valid in
+    c.stop_in-reached.ensures.valid in
     other_error c.args.self.now.forms c.args.text.now c.in-Some.first c.in-Some.stop.size a.0 form c.error_at-other.result c.error_at-other.ensures.index c.error_at-other.ensures.error
     (subst (λ n. IsSomeAnd (slice_get forms form) (λ g. GoesTo text g n)) c.if-reached-stop.true goes)
     (sym c.if-not-is_byte-2.ensures) c.loop-form.invariant

@@ -1,0 +1,96 @@
+-- Each byte of a literal plays a role, and a literal with a required prefix begins with it.
+use Rattle.std.proofs.Common.{ℕ, ◌≡◌, ◌+◌, ◌<◌, ◌==◌, ◌||◌, Bool, true, false, if◌then◌else◌, None, List, [], ◌∷◌, ◌++◌, length, get_or, IsTrue, ap, sym, subst, refl, ◌∙◌, arith}
+use Rattle.std.specs.List.{AllByRecursion}
+use Rattle.std.proofs.lemmas.Bool.{false≢true, and_parts}
+use Rattle.std.proofs.lemmas.Bool.Decides.{nat_tests}
+use Rattle.lexical_util.specs.Ascii.{ByteSet}
+use Rattle.lexical_util.specs.Roles.{signs}
+use Rattle.lexical_util.specs.declared.feature_format.roles.Role.{Role}
+use Rattle.lexical_util.specs.declared.feature_format.roles.Role.TheVariants as roles
+use Rattle.lexical_util.specs.declared.format_flags.Part.{Part}
+use Rattle.lexical_util.specs.declared.format_flags.Part.TheVariants as parts
+use Rattle.lexical_literal.specs.Additions.Forms.{PlaysNoRole, sign_size}
+use Rattle.lexical_literal.specs.Literal.{Literal, Reads, is_none_or_one, is_none_or_prefix, is_present, text_of}
+use Rattle.lexical_literal.specs.Front.{NoLiteral}
+use Rattle.lexical_literal.specs.Additions.Summary.{role_at}
+use Rattle.lexical_literal.specs.Notation.{Notation, notation_of, set_of_role}
+use Rattle.lexical_literal.specs.declared.syntax.Grammar.{Grammar}
+use Rattle.lexical_literal.specs.Readings.{AllIn, run_byte, prefix_byte}
+use Rattle.lexical_literal.specs.declared.syntax.Condition.TheVariants as conditions
+use Rattle.lexical_literal.proofs.PartLemmas.{parts_have_roles}
+use Rattle.lexical_literal.proofs.ScanLemmas.{no_role}
+
+module _ (m : Notation) where
+  abbrev Play : List ℕ → Type 0
+  Play = AllByRecursion (λ byte. PlaysNoRole m byte → ⊥)
+
+  play_all : (A : ByteSet) → ((byte : ℕ) → IsTrue (A byte) → PlaysNoRole m byte → ⊥) → (bytes : List ℕ) → AllIn A bytes → Play bytes
+  play_all A plays [] all = tt
+  play_all A plays (b ∷ bytes) all = (plays b all.0, play_all A plays bytes all.1)
+
+  play_both : (xs ys : List ℕ) → Play xs → Play ys → Play (xs ++ ys)
+  play_both [] ys a b = b
+  play_both (x ∷ xs) ys a b = (a.0, play_both xs ys a.1 b)
+
+  play_at : (xs : List ℕ) (i : ℕ) → Play xs → i < length xs → PlaysNoRole m (get_or xs i 0) → ⊥
+  play_at [] i all below none = omega (arith, below)
+  play_at (x ∷ xs) ℕ.zero all below none = all.0 none
+  play_at (x ∷ xs) (ℕ.suc i) all below none = play_at xs i all.1 (omega (arith, below)) none
+
+  play_sign : (b : ℕ) → IsTrue (signs b) → PlaysNoRole m b → ⊥
+  play_sign b has none = false≢true (sym (none.none roles.Sign) ∙ has)
+
+  play_prefix : (b : ℕ) → IsTrue (prefix_byte m b) → PlaysNoRole m b → ⊥
+  play_prefix b has none = let no = none.none roles.Prefix in let zero = none.not_zero in grind (arith, nat_tests)
+
+  play_run : (part : Part) (b : ℕ) → IsTrue (run_byte m part b) → PlaysNoRole m b → ⊥
+  play_run parts.Integer b has none = let digit = none.none roles.Digit in let separator = none.none roles.Separator in grind arith
+  play_run parts.Fraction b has none = let digit = none.none roles.Digit in let separator = none.none roles.Separator in grind arith
+  play_run parts.Exponent b has none = let digit = none.none roles.Digit in let separator = none.none roles.Separator in grind arith
+
+  literal_plays : (l : Literal) (text : List ℕ) → Reads m l text → Play (text_of l)
+  literal_plays l text reads =
+      let is = parts_have_roles m l reads.literal.spelled in
+      play_both l.sign _ (play_all signs play_sign l.sign is.sign)
+      (play_both l.prefix _ (play_all (prefix_byte m) play_prefix l.prefix is.prefix)
+      (play_both l.integer _ (play_all (run_byte m parts.Integer) (play_run parts.Integer) l.integer is.integer)
+      (play_both l.point _ (play_all m.point (λ b has none. false≢true (sym (none.none roles.Point) ∙ has)) l.point is.point)
+      (play_both l.fraction _ (play_all (run_byte m parts.Fraction) (play_run parts.Fraction) l.fraction is.fraction)
+      (play_both l.exponent_character _
+      (play_all m.exponent_character (λ b has none. false≢true (sym (none.none roles.Exponent) ∙ has)) l.exponent_character is.exponent_character)
+      (play_both l.exponent_sign _ (play_all signs play_sign l.exponent_sign is.exponent_sign)
+      (play_both l.exponent _ (play_all (run_byte m parts.Exponent) (play_run parts.Exponent) l.exponent is.exponent)
+      (play_all m.suffix (λ b has none. false≢true (sym (none.none roles.Suffix) ∙ has)) l.suffix is.suffix))))))))
+
+  -- A text with a byte that plays no role is not a literal.
+  pub no_role_excludes : (text : List ℕ) (i : ℕ) → i < length text → PlaysNoRole m (get_or text i 0) → NoLiteral m text
+  no_role_excludes text i below none l reads =
+      play_at text i (subst Play (sym reads.whole) (literal_plays l text reads)) below none
+
+  -- `BeginsPrefixed text` holds if a zero and the base prefix are behind the sign of `text`.
+  pub record BeginsPrefixed (text : List ℕ) : Type 0 where
+    pub inside : sign_size text + 1 < length text
+    pub zero : get_or text (sign_size text) 0 ≡ 48
+    pub prefix : m.prefix (get_or text (sign_size text + 1) 0) ≡ true
+
+  begins : (sign prefix rest : List ℕ) → IsTrue (is_none_or_one signs sign) → IsTrue (is_none_or_prefix m.prefix prefix) → IsTrue (is_present prefix)
+      → BeginsPrefixed (sign ++ (prefix ++ rest))
+  begins [] (first ∷ byte ∷ []) rest one is here = grind (arith, nat_tests)
+  begins (sign ∷ []) (first ∷ byte ∷ []) rest one is here = grind (arith, nat_tests)
+  begins sign prefix rest one is here = grind (arith, nat_tests)
+
+  -- A literal with a required prefix begins with it.
+  pub prefix_begins : (l : Literal) (text : List ℕ) → Reads m l text → IsTrue (m.condition conditions.BasePrefix) → BeginsPrefixed text
+  prefix_begins l text reads required = subst BeginsPrefixed (sym reads.whole)
+      (begins l.sign l.prefix _ reads.literal.spelled.sign reads.literal.spelled.prefix (reads.literal.conditions conditions.BasePrefix required))
+
+-- A byte that has no role behind the beginning of the integer, and is no digit of an exponent.
+module _ (g : Grammar) (b : ℕ) where
+  none_of : role_at (notation_of g) parts.Integer b ≡ None → (notation_of g).digit parts.Exponent b ≡ false → (r : Role)
+      → set_of_role (notation_of g) r b ≡ false
+  none_of first digit roles.Digit = grind arith
+  none_of first digit r = no_role (notation_of g) parts.Integer b r (λ same. cc) first
+
+  pub plays_none : role_at (notation_of g) parts.Integer b ≡ None → (notation_of g).digit parts.Exponent b ≡ false → (b ≡ 48 → ⊥)
+      → PlaysNoRole (notation_of g) b
+  plays_none first digit zero = record { not_zero = zero; none = none_of first digit }
