@@ -42,36 +42,56 @@ fn rows() -> impl Iterator<Item = (Language, &'static str)> {
     })
 }
 
-/// The digits of a mantissa without zeros at both ends, the primes whose powers it is multiplied by, and whether it is
-/// negative. Two literals of the same radix have the same value if these are the same.
-type Value = (Vec<u8>, BTreeMap<u32, i128>, bool);
+/// A value: what is left of the mantissa when it is divided by primes up to 31, with the lowest 32 bits first, how often each
+/// prime divides the value, and whether it is negative. Two literals have the same value if and only if these are the same.
+type Value = (Vec<u32>, BTreeMap<u32, i128>, bool);
+
+const PRIMES: [u32; 11] = [2, 3, 5, 7, 11, 13, 17, 19, 23, 29, 31];
+
+/// Divides a number, and returns the remainder.
+fn divide(number: &mut [u32], by: u32) -> u32 {
+    number.iter_mut().rev().fold(0, |rest, word| {
+        let whole = rest << 32 | u64::from(*word);
+        *word = (whole / u64::from(by)) as u32;
+        whole % u64::from(by)
+    }) as u32
+}
 
 /// Returns the value of a literal of a syntax, whose exponent is short in the tests.
 fn value(literal: &Literal, syntax: &Syntax) -> Value {
-    let mut digits = Vec::from_iter(literal.digits(Part::Integer).skip_while(|digit| *digit == 0));
-    digits.extend(literal.digits(Part::Fraction));
-    let mut place = -(literal.digits(Part::Fraction).count() as i128);
-    while digits.last() == Some(&0) {
-        digits.pop();
-        place += 1;
-    }
-    let zeros = digits.iter().take_while(|digit| **digit == 0).count();
-    digits.drain(..zeros);
-    let radix = i128::from(literal.radix(Part::Exponent));
-    let size = literal.digits(Part::Exponent).fold(0, |size, digit| size * radix + i128::from(digit));
-    let exponent = if literal.exponent_sign() == b"-" { -size } else { size };
     let (radix, base) = (syntax.format().mantissa_radix(), syntax.format().exponent_base());
-    let mut powers = BTreeMap::new();
-    for (mut factor, count) in [(radix, place), (base, exponent)] {
-        for prime in 2..=36 {
-            while factor % prime == 0 {
-                *powers.entry(prime).or_insert(0) += count;
-                factor /= prime;
-            }
-        }
+    let mut number = Vec::new();
+    for digit in literal.digits(Part::Integer).chain(literal.digits(Part::Fraction)) {
+        let carry = number.iter_mut().fold(u64::from(digit), |carry, word| {
+            let sum = u64::from(*word) * u64::from(radix) + carry;
+            *word = sum as u32;
+            sum >> 32
+        });
+        number.extend((carry > 0).then_some(carry as u32));
     }
-    powers.retain(|_, count| *count != 0 && !digits.is_empty());
-    (digits, powers, literal.is_negative())
+    let place = -(literal.digits(Part::Fraction).count() as i128);
+    let scale = i128::from(literal.radix(Part::Exponent));
+    let size = literal.digits(Part::Exponent).fold(0, |size, digit| size * scale + i128::from(digit));
+    let exponent = if literal.exponent_sign() == b"-" { -size } else { size };
+    let mut powers = BTreeMap::new();
+    for prime in PRIMES {
+        let times = |mut number: u32| (0..).find(|_| number % prime != 0 || { number /= prime; false }).unwrap();
+        let mut count = place * times(radix) + exponent * times(base);
+        while number.iter().any(|word| *word > 0) && divide(&mut number.clone(), prime) == 0 {
+            divide(&mut number, prime);
+            count += 1;
+        }
+        powers.extend((count != 0 && number.iter().any(|word| *word > 0)).then_some((prime, count)));
+    }
+    while number.last() == Some(&0) {
+        number.pop();
+    }
+    (number, powers, literal.is_negative())
+}
+
+/// Returns whether a value is whole.
+fn is_whole(value: &Value) -> bool {
+    value.1.values().all(|count| *count > 0)
 }
 
 /// Returns whether an error is why a literal of `source` cannot be written in `target`.
@@ -79,9 +99,10 @@ fn is_reason(error: WriteError, literal: &Literal, source: &Syntax, target: &Syn
     let (from, to) = (source.format(), target.format());
     let has_exponent = !literal.exponent_character().is_empty();
     match error {
-        WriteError::Radix => from.radix() != to.radix(),
+        // The numbers of the tests have fewer than 128 bits, unless they have an exponent.
+        WriteError::Radix => from.radix() != to.radix() && (has_exponent || !is_whole(&value(literal, source))),
         WriteError::Negative => literal.is_negative() && target.conditions().has(Condition::NegativeSign),
-        WriteError::Fraction => target.point().is_none() && value(literal, source).1.values().any(|count| *count < 0),
+        WriteError::Fraction => target.point().is_none() && !is_whole(&value(literal, source)),
         WriteError::Exponent => has_exponent && from.exponent_base() != from.radix(),
         _ => false,
     }
@@ -159,7 +180,8 @@ fn flags_add_what_they_require() {
         ("-0e-6", none.required_exponent_sign(true), Ok("-0e-6")),
         ("5e6", none.required_exponent_sign(true), Ok("5e+6")),
         ("1.50", none.no_exponent_notation(true), Ok("1.50")),
-        ("5", none.mantissa_radix(8), Err(WriteError::Radix)),
+        ("15", none.mantissa_radix(8), Ok("17")),
+        ("1.5", none.mantissa_radix(8), Err(WriteError::Radix)),
         ("5e6", none.exponent_radix(binary), Ok("5e110")),
         ("5e6", none.exponent_base(binary), Ok("5000000")),
         (&long, none, Ok(&long)),

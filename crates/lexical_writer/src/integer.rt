@@ -8,7 +8,6 @@ ghost use Rattle.lexical_value.specs.Integer.{IsInteger};
 ghost use Rattle.lexical_writer.specs.Layout.{IsWhole, literal_of, whole_refusal};
 
 use crate::layout::{Amount, Layout, Style, WriteError, needs_exponent};
-use crate::run::Source;
 use lexical_literal::syntax::{Condition, Syntax};
 use lexical_number::integer::Integer;
 
@@ -38,11 +37,5 @@ pub fn format_integer<T: Integer>(
     if needs_exponent(syntax) {
         return Err(WriteError::Float);
     }
-    let amount = Amount {
-        negative,
-        integer: Source::Number(size),
-        fraction: None,
-        exponent: None,
-    };
-    amount.lay_out(syntax, style)
+    Amount::of_size(negative, size).lay_out(syntax, style)
 }

@@ -4,15 +4,12 @@
 
 use crate::literal::syntax::{Condition, Conditions, Options, Syntax};
 use crate::literal::writer::digits::{only_if, put_if_any, without_zeros};
-use crate::literal::writer::run::{Groups, Run, Source};
+use crate::literal::writer::run::{Pattern, Run, Source};
 use crate::literal::writer::sink::{Sink, Window};
 use crate::number::parts::count;
 use crate::word::{base_prefix, base_suffix, digit_separator, FormatView};
 
-// Digits without groups.
-const NO_GROUPS: Groups = Groups { last: 0, higher: 0 };
-
-/// How many digits a group of the integer has. Where the format does not allow separators between them, there are none.
+/// How many digits a group has. Where the format does not allow separators between digits, there are no groups.
 #[derive(Debug, Clone, Copy, PartialEq, Eq, Hash)]
 #[non_exhaustive]
 pub enum Grouping {
@@ -24,16 +21,57 @@ pub enum Grouping {
     Of(usize),
 }
 
-/// How numbers are written where a syntax leaves a choice.
+/// Whether a number is written with an exponent where the syntax leaves a choice.
+#[derive(Debug, Clone, Copy, PartialEq, Eq, Hash)]
+#[non_exhaustive]
+pub enum ExponentStyle {
+    /// If it has one: a literal keeps its exponent, and an integer has none.
+    AsNumber,
+    /// With none. The point moves in its place where it moves by whole digits and the text has at most 800 bytes.
+    Never,
+    /// With one. A number without an exponent has the exponent 0.
+    Always,
+    /// If it has one that is at least this number, or at most minus this number. The point moves in the place of another one,
+    /// as for `Never`.
+    From(u32),
+}
+
+/// How numbers are written where a syntax leaves a choice. Each field is a wish: what the syntax forbids is not done, and what
+/// it requires is.
 #[derive(Debug, Clone, Copy, PartialEq, Eq, Hash)]
 #[non_exhaustive]
 pub struct Style {
-    /// How many digits a group of the integer has.
+    /// How many digits a group of the integer has, counted from the right.
     pub group: Grouping,
+    /// How many digits a group of the fraction has, counted from the left.
+    pub fraction_group: Grouping,
     /// Whether the base prefix is written, if the format has one.
     pub prefix: bool,
     /// Whether the base suffix is written, if the format has one.
     pub suffix: bool,
+    /// Whether digits that are letters are in lowercase.
+    pub lowercase: bool,
+    /// How many digits the integer has at least. Zeros are added where the format allows leading zeros.
+    pub min_digits: u8,
+    /// Whether the integer of a literal keeps its leading zeros, if its point does not move and the format allows them.
+    pub keep_leading_zeros: bool,
+    /// Whether there is an exponent.
+    pub exponent: ExponentStyle,
+}
+
+impl Style {
+    /// The style that makes no wish: groups where a condition of the syntax has a size, the base prefix and the base suffix if
+    /// the format has them, uppercase digits, no zeros that are not required, and the exponent that the number has.
+    pub const PLAIN: Style = Style {
+        group: Grouping::AsSyntax,
+        fraction_group: Grouping::AsSyntax,
+        prefix: true,
+        suffix: true,
+        lowercase: false,
+        min_digits: 0,
+        keep_leading_zeros: false,
+        exponent: ExponentStyle::AsNumber,
+    };
 }
 
 /// Why a number cannot be written as a literal of a syntax.
@@ -143,10 +181,18 @@ const fn base_byte(condition: bool, byte: u8) -> Option<u8> {
     only_if(condition && byte != 0, byte)
 }
 
-// Returns a run without groups.
+// Returns 1 if `condition` is true, and 0 otherwise.
+const fn one_if(condition: bool) -> usize {
+    condition as usize
+}
+
+// Returns the number of digits of a source, or 0 if it is not bytes, so that it has no zeros to be kept.
 #[inline]
-const fn plain_run<'a>(source: Source<'a>, radix: u32, zero: bool) -> Run<'a> {
-    Run { source, radix, zero, groups: NO_GROUPS, separator: 0 }
+fn kept_digits(source: Source, radix: u32) -> usize {
+    match source {
+        Source::Bytes(bytes) => count(bytes, radix),
+        Source::Number(_) | Source::Padded(_) => 0,
+    }
 }
 
 // Returns the digits of a source without the zeros that they begin with.
@@ -166,6 +212,13 @@ fn has_digits(source: Source, radix: u32) -> bool {
         Source::Bytes(bytes) => count(bytes, radix) > 0,
         Source::Number(number) => number > 0,
         Source::Padded(padded) => padded.count(radix) > 0,
+    }
+}
+
+impl Amount<'_> {
+    // Returns a number without a fraction and an exponent.
+    pub(crate) const fn of_size(negative: bool, size: u128) -> Amount<'static> {
+        Amount { negative, integer: Source::Number(size), fraction: None, exponent: None }
     }
 }
 
@@ -191,25 +244,46 @@ impl<'a> Amount<'a> {
         let conditions = syntax.conditions();
         let options = syntax.options().unwrap_or(Options { exponent: 0, point: 0 });
         let power = self.exponent.unwrap_or(Power { negative: false, source: Source::Number(0) });
-        let exponent = self.exponent.is_some() | needs_exponent(syntax);
+        let exponent = self.exponent.is_some()
+            | needs_exponent(syntax)
+            | (wants_exponent(style.exponent) & allows_exponent(syntax));
         let point = self.fraction.is_some() | (exponent & format.no_exponent_without_fraction());
+        let prefix = base_byte(style.prefix | conditions.has(Condition::BasePrefix), base_prefix(format.word()));
         Ok(Layout {
             sign: sign_of(self.negative, format.required_mantissa_sign()),
-            prefix: base_byte(style.prefix | conditions.has(Condition::BasePrefix), base_prefix(format.word())),
+            prefix,
             integer: Run {
                 source: lean(self.integer, radix),
                 radix,
-                zero: self.has_zero(format),
-                groups: groups_of(format, conditions, style),
-                separator: digit_separator(format.word()),
+                least: self.least_digits(format, style, prefix.is_some(), point | exponent),
+                pattern: integer_pattern(format, conditions, style),
             },
             point: only_if(point, options.point),
-            fraction: plain_run(self.fraction(), radix, point & format.required_fraction_digits()),
+            fraction: self.fraction_run(format, conditions, style, point),
             exponent_character: only_if(exponent, options.exponent),
             exponent_sign: sign_of(power.negative, exponent & format.required_exponent_sign()),
-            exponent: plain_run(lean(power.source, exponent_radix), exponent_radix, exponent),
+            exponent: Run {
+                source: lean(power.source, exponent_radix),
+                radix: exponent_radix,
+                least: one_if(exponent),
+                pattern: no_groups(style.lowercase),
+            },
             suffix: base_byte(style.suffix | conditions.has(Condition::BaseSuffix), base_suffix(format.word())),
         })
+    }
+
+    // Returns the fraction, which has a point or not.
+    #[inline]
+    fn fraction_run(&self, format: FormatView, conditions: Conditions, style: Style, point: bool) -> Run<'a> {
+        let radix = format.mantissa_radix();
+        let run = Run {
+            source: self.fraction(),
+            radix,
+            least: one_if(point & format.required_fraction_digits()),
+            pattern: no_groups(style.lowercase),
+        };
+        let pattern = fraction_pattern(format, conditions, style, &run);
+        Run { source: run.source, radix, least: run.least, pattern }
     }
 
     // Returns why the number cannot be written, if it cannot.
@@ -231,6 +305,18 @@ impl<'a> Amount<'a> {
         format.required_integer_digits() || has_digits(self.integer, radix) || !has_digits(self.fraction(), radix)
     }
 
+    // Returns how many integer digits are written at least, behind a base prefix or not, of a float or not.
+    #[inline]
+    fn least_digits(&self, format: FormatView, style: Style, prefix: bool, float: bool) -> usize {
+        let zero = one_if(self.has_zero(format));
+        let forbidden = if float { format.no_float_leading_zeros() } else { format.no_integer_leading_zeros() };
+        if forbidden && !prefix {
+            return zero;
+        }
+        let kept = if style.keep_leading_zeros { kept_digits(self.integer, format.mantissa_radix()) } else { 0 };
+        zero.max(kept.max(style.min_digits as usize))
+    }
+
     // Returns the fraction digits, if there are any.
     #[inline]
     fn fraction(&self) -> Source<'a> {
@@ -247,6 +333,17 @@ pub(crate) fn needs_exponent(syntax: &Syntax) -> bool {
     syntax.format().view().required_exponent_notation() && syntax.options().is_some()
 }
 
+// Returns whether a literal can have an exponent.
+#[inline]
+pub(crate) fn allows_exponent(syntax: &Syntax) -> bool {
+    syntax.options().is_some() && !syntax.format().view().no_exponent_notation()
+}
+
+// Returns whether a number without an exponent is to have one.
+const fn wants_exponent(wish: ExponentStyle) -> bool {
+    matches!(wish, ExponentStyle::Always)
+}
+
 // Returns the error of a sign, a fraction or an exponent that is refused, the first if several are.
 const fn first_error(sign: bool, fraction: bool, exponent: bool) -> Option<WriteError> {
     if sign {
@@ -260,15 +357,37 @@ const fn first_error(sign: bool, fraction: bool, exponent: bool) -> Option<Write
     }
 }
 
-// Returns the groups of an integer.
+// Returns the pattern of an integer.
 #[inline]
-const fn groups_of(format: FormatView, conditions: Conditions, style: Style) -> Groups {
+const fn integer_pattern(format: FormatView, conditions: Conditions, style: Style) -> Pattern {
     let last = group_size(conditions.number(Condition::IntegerGroupSize), style.group);
-    if last == 0 || !format.integer_internal_digit_separator() || digit_separator(format.word()) == 0 {
-        return NO_GROUPS;
-    }
     let higher = either(conditions.number(Condition::HigherGroupSize), last);
-    Groups { last, higher }
+    let allowed = format.integer_internal_digit_separator();
+    pattern_of(format, allowed, last, higher, style.lowercase)
+}
+
+// Returns the pattern of a fraction with the digits of `run`. Its groups are counted from the left.
+#[inline]
+fn fraction_pattern(format: FormatView, conditions: Conditions, style: Style, run: &Run) -> Pattern {
+    let condition = conditions.number(Condition::FractionGroupSize);
+    let size = group_size(condition, style.fraction_group);
+    let last = if size == 0 { 0 } else { (run.length().saturating_sub(1) % size as u128) as usize + 1 };
+    let allowed = format.fraction_internal_digit_separator();
+    pattern_of(format, allowed, last, size, style.lowercase)
+}
+
+// Returns the pattern of digits in groups, unless there are none, or the format does not allow them.
+const fn pattern_of(format: FormatView, allowed: bool, last: usize, higher: usize, lowercase: bool) -> Pattern {
+    let separator = digit_separator(format.word());
+    if last == 0 || !allowed || separator == 0 {
+        return no_groups(lowercase);
+    }
+    Pattern { last, higher, separator, lowercase }
+}
+
+// Returns the pattern of digits without separators.
+const fn no_groups(lowercase: bool) -> Pattern {
+    Pattern { last: 0, higher: 0, separator: 0, lowercase }
 }
 
 // Returns how many digits a group has, where a condition requires `size` digits, or 0 for digits without groups.
