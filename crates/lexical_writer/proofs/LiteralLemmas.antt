@@ -209,7 +209,7 @@ digits_if : (exponent some : Bool) (byte : ℕ)
     → (is_absent (option_to_list (only_if exponent byte)) || (nat_lt 0 (one_if exponent) || some)) ≡ true
 digits_if exponent some byte = grind (arith, nat_tests)
 
-float_if : (point exponent : Bool) (a b : ℕ)
+pub float_if : (point exponent : Bool) (a b : ℕ)
     → (is_present (option_to_list (only_if point a)) || is_present (option_to_list (only_if exponent b))) ≡ (point || exponent)
 float_if point exponent a b = grind arith
 

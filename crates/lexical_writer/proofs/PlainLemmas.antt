@@ -4,7 +4,7 @@ use Rattle.std.proofs.Common.{Option, Some, None, is_some, unwrap_or, List, [], 
 use Rattle.std.proofs.Math.Nat.{dvd_of_mod-eq-zero, div-mul_cancel, mul-div_cancel, one-le-pow, pow-suc, pow-zero}
 use Rattle.std.proofs.lemmas.Bool.{cases_lt, false≢true}
 use Rattle.std.proofs.lemmas.Bool.Decides.{nat_tests}
-use Rattle.std.proofs.lemmas.Int.Digits.{number_after_append, number_digits_of}
+use Rattle.std.proofs.lemmas.Int.Digits.{number_after_append, number_after_ge, number_digits_of}
 use Rattle.std.proofs.lemmas.List.{append_assoc, drop_all, length-append, length-drop, length-replicate, take-append-drop, take_all}
 use Rattle.std.proofs.lemmas.List.Elements.{filter_map-append}
 use Rattle.std.specs.Int.Digits.{digits_of, number_from_digits, number_from_digits_after}
@@ -15,16 +15,18 @@ use Rattle.lexical_literal.specs.Parts.{literal_of}
 use Rattle.lexical_literal.specs.Read.{mantissa}
 use Rattle.lexical_literal.specs.declared.read.Parts.{Parts}
 use Rattle.lexical_literal.specs.declared.syntax.Grammar.{Grammar}
+use Rattle.lexical_number.specs.Leading.{number_after}
 use Rattle.lexical_number.specs.Number.{digits_in, number}
 use Rattle.lexical_value.specs.Value.{denominator, numerator, power, scale}
 use Rattle.lexical_writer.specs.Conversion.{SameFraction}
-use Rattle.lexical_writer.specs.Digits.{size_of, values_of}
+use Rattle.lexical_writer.specs.Digits.{padded_values, size_of, values_of}
 use Rattle.lexical_writer.specs.Layout.{HasNumber, given_fraction, given_power, number_of_size}
 use Rattle.lexical_writer.specs.Moved.{IsMoved, factors, has_zeros, moved_by, moved_fraction, moved_integer, too_far, trimmed}
 use Rattle.lexical_writer.specs.declared.layout.Amount.{Amount}
 use Rattle.lexical_writer.specs.declared.layout.Power.{Power}
 use Rattle.lexical_writer.specs.declared.layout.WriteError.{WriteError}
 use Rattle.lexical_writer.specs.declared.layout.WriteError.TheVariants as errors
+use Rattle.lexical_writer.specs.declared.run.Padded.{Padded}
 use Rattle.lexical_writer.specs.declared.run.Source.{Source}
 use Rattle.lexical_writer.specs.declared.run.Source.TheVariants as sources
 use Rattle.lexical_writer.proofs.ConversionLemmas.{zero_scaled}
@@ -195,6 +197,31 @@ size_values radix (sources.Bytes bytes) two = refl
 size_values radix (sources.Number n) two = sym (number_digits_of radix n two)
 size_values radix (sources.Padded padded) two = refl
 
+-- The number of digits between zeros is that of its pieces.
+pub padded_number : (radix : ℕ) (padded : Padded) → number_from_digits radix (padded_values radix padded)
+    ≡ number_after radix (number_after radix 0 padded.first.now) padded.second.now * radix ^ padded.after
+padded_number radix padded =
+    let first = digits_in radix padded.first.now in
+    let second = digits_in radix padded.second.now in
+    zeros_number radix padded.before (first ++ (second ++ replicate padded.after 0))
+    ∙ number_after_append radix 0 first (second ++ replicate padded.after 0)
+    ∙ number_after_append radix (number_from_digits radix first) second (replicate padded.after 0)
+    ∙ zeros_after radix (number_from_digits_after radix (number_from_digits radix first) second) padded.after
+
+pub pieces_least : (radix : ℕ) (padded : Padded) → 0 < radix
+    → (number_after radix 0 padded.first.now ≤ number_from_digits radix (padded_values radix padded))
+    × (number_after radix (number_after radix 0 padded.first.now) padded.second.now ≤ number_from_digits radix (padded_values radix padded))
+pieces_least radix padded some =
+    let whole = number_after radix (number_after radix 0 padded.first.now) padded.second.now in
+    let first : number_after radix 0 padded.first.now ≤ whole = number_after_ge radix _ (digits_in radix padded.second.now) some in
+    let more : whole ≤ number_from_digits radix (padded_values radix padded) =
+    subst (λ n. whole ≤ n) (sym (padded_number radix padded)) (at_least_once whole (radix ^ padded.after) (one-le-pow padded.after radix some)) in
+    (omega (arith, first, more), more)
+  where
+    at_least_once : (n k : ℕ) → 0 < k → n ≤ n * k
+    at_least_once n zero some = absurd (omega (arith, some))
+    at_least_once n (suc k) some = omega arith
+
 -- `IsWorth radix amount up down` holds if the digits of `amount` in `radix` represent `up` over `down`.
 abbrev pub IsWorth : ℕ → Amount → ℕ → ℕ → Type 0
 IsWorth radix amount up down = number_from_digits radix (values_of radix amount.integer ++ values_of radix (given_fraction amount)) * down
@@ -247,16 +274,16 @@ moved_is_worth only r parts amount n by m two =
     one_power true radix n none = ap (λ n. radix ^ n) none ∙ pow-zero radix
     one_power false radix n none = refl
 
-    none_worth : (n a u v d w f t : ℕ) → n ≡ 0 → a * (f * d) ≡ (n * u) * t → d ≡ 1 → a * (f * w) ≡ (n * v) * t
-    none_worth n a u v d w f t none is one =
-        let zero_is : a * f ≡ 0 = ap (λ d. a * d) {x = f} {y = f * 1} (omega arith) ∙ ap (λ d. a * (f * d)) (sym one) ∙ is ∙ ap (λ n. (n * u) * t) none ∙ omega arith in
-        regrouped a f w ∙ ap (λ m. m * w) zero_is ∙ empty v w t ∙ sym (ap (λ n. (n * v) * t) none)
-
     regrouped : (a b c : ℕ) → a * (b * c) ≡ (a * b) * c
     regrouped a b c = omega arith
 
     empty : (v w t : ℕ) → 0 * w ≡ (0 * v) * t
     empty v w t = omega arith
+
+    none_worth : (n a u v d w f t : ℕ) → n ≡ 0 → a * (f * d) ≡ (n * u) * t → d ≡ 1 → a * (f * w) ≡ (n * v) * t
+    none_worth n a u v d w f t none is one =
+        let zero_is : a * f ≡ 0 = ap (λ d. a * d) {x = f} {y = f * 1} (omega arith) ∙ ap (λ d. a * (f * d)) (sym one) ∙ is ∙ ap (λ n. (n * u) * t) none ∙ omega arith in
+        regrouped a f w ∙ ap (λ m. m * w) zero_is ∙ empty v w t ∙ sym (ap (λ n. (n * v) * t) none)
 
 -- What has the digits of an amount without an exponent has its worth.
 pub same_worth : (g : Grammar) (amount : Amount) (up down : ℕ) → IsWorth ((raw g.word).byte layout.mantissa_radix) amount up down
@@ -282,14 +309,14 @@ same_worth g amount up down worth none two l has =
     (λ j. up * (scale_is j * (if no_sign j then one j else 1))) ∙ crossed whole up down (radix ^ length rest) factor.0 worth
     ∙ sym (λ j. (mantissa_is j * (if no_sign j then 1 else one j)) * down)
   where
-    crossed : (n u d t q : ℕ) → n * d ≡ u * t → u * ((t * q) * 1) ≡ ((n * q) * 1) * d
-    crossed n u d t q is = first u t q ∙ ap (λ m. m * q) (sym is) ∙ second n d q
-
     first : (u t q : ℕ) → u * ((t * q) * 1) ≡ (u * t) * q
     first u t q = omega arith
 
     second : (n d q : ℕ) → (n * d) * q ≡ ((n * q) * 1) * d
     second n d q = omega arith
+
+    crossed : (n u d t q : ℕ) → n * d ≡ u * t → u * ((t * q) * 1) ≡ ((n * q) * 1) * d
+    crossed n u d t q is = first u t q ∙ ap (λ m. m * q) (sym is) ∙ second n d q
 
 -- What has the digits of a number whose point has moved has the value of the literal.
 pub same_moved : (only : Bool) (r : Record) (parts : Parts) (g : Grammar) (amount : Amount) (n : ℕ) → moved_by only r parts ≡ Ok n

@@ -118,13 +118,19 @@ abbrev pub radix_error : WriteError → WriteError
 radix_error errors.Fraction = errors.Fraction
 radix_error _ = errors.Radix
 
+-- `number_error g radix amount` is why the number that `amount` represents in `radix` is not written in another radix, or `None` if it is:
+-- it is not whole, or has more than 128 bits.
+abbrev pub number_error : Grammar → ℕ → Amount → Option WriteError
+number_error g radix amount =
+    if is_some amount.fraction then Some (if lacks_options g.options then errors.Fraction else errors.Radix)
+    else (if nat_lt (2 ^ 128 - 1) (size_of radix amount.integer) then Some errors.Radix else None)
+
 -- `IsNumber g style radix amount result` holds if `result` is what is written for the number that `amount` represents in `radix`, or why
--- it is not: it is not whole, or has more than 128 bits.
+-- it is not.
 abbrev pub IsNumber : Grammar → Style → ℕ → Amount → Result Layout WriteError → Type 0
-IsNumber g style radix amount result =
-    if is_some amount.fraction then result ≡ Err (if lacks_options g.options then errors.Fraction else errors.Radix)
-    else (if nat_lt (2 ^ 128 - 1) (size_of radix amount.integer) then result ≡ Err errors.Radix
-    else IsLaidOut g style (number_of_size amount.negative (size_of radix amount.integer)) result)
+IsNumber g style radix amount (Ok layout) = (number_error g radix amount ≡ None)
+    × (written layout ≡ laid_out g style (number_of_size amount.negative (size_of radix amount.integer)))
+IsNumber g style radix amount (Err error) = number_error g radix amount ≡ Some error
 
 -- `IsInRadix r parts g style result` holds if `result` is what is written for the number that `parts` represents, or why it is not,
 -- where the radixes differ.

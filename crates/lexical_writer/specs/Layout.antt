@@ -1,5 +1,5 @@
 -- How a number is laid out as a literal.
-use Rattle.std.specs.Prelude.{ℕ, ◌≡◌, suc, ℤ, pos, negsuc, ◌+◌, ◌-◌, ◌%◌, ◌==◌, ◌&&◌, ◌||◌, not, max, Bool, false, true, if◌then◌else◌, List, ◌++◌, length, Option, Some, None}
+use Rattle.std.specs.Prelude.{ℕ, ◌≡◌, suc, ℤ, pos, negsuc, ◌+◌, ◌-◌, ◌%◌, ◌*◌, ◌==◌, ◌&&◌, ◌||◌, not, max, Bool, false, true, if◌then◌else◌, List, ◌++◌, length, Option, Some, None}
 use Rattle.std.specs.Prelude.{Result, Ok, Err, is_some, option_to_list, unwrap_or}
 use Rattle.std.specs.Int.Digits.{digits_of}
 use Rattle.lexical_util.specs.Layout as layout
@@ -11,6 +11,8 @@ use Rattle.lexical_literal.specs.declared.syntax.Conditions.{Conditions}
 use Rattle.lexical_literal.specs.declared.syntax.Grammar.{Grammar}
 use Rattle.lexical_literal.specs.declared.syntax.Options.{Options}
 use Rattle.lexical_number.specs.Number.{digits_in, number, places}
+use Rattle.lexical_number.specs.Numeral.{with_sign}
+use Rattle.lexical_value.specs.Value.{denominator, numerator}
 use Rattle.lexical_writer.specs.Digits.{at_least, grouped, no_groups, only_if, run_text, size_of, values_of}
 use Rattle.lexical_writer.specs.declared.layout.Amount.{Amount}
 use Rattle.lexical_writer.specs.declared.layout.Grouping.{Grouping}
@@ -230,6 +232,12 @@ number_of_size negative n = record { negative = negative; integer = sources.Numb
 abbrev pub whole : ℤ → Amount
 whole (pos n) = number_of_size false n
 whole (negsuc n) = number_of_size true (suc n)
+
+-- `HasValue r l z` holds if the value of `l` in the format `r` is the integer `z`, or -0 for 0.
+pub record HasValue (r : Record) (l : Literal) (z : ℤ) : Type 0 where
+  pub size : ℕ
+  pub sign : z ≡ with_sign (is_minus l.sign) size
+  pub fraction : size * denominator r l ≡ numerator r l
 
 -- `whole_refusal g z` is why the integer `z` cannot be written as a literal of `g`, or `None` if it can: `z` is below 0 and no literal
 -- is, or else each literal has an exponent.

@@ -2,7 +2,7 @@
 
 ghost use Rattle.std.specs.Prelude.{◌≡◌, ◌&&◌, false, true, IfOk, None};
 ghost use Rattle.lexical_util.specs.Record.{raw};
-ghost use Rattle.lexical_util.specs.Rules.{IsRadix};
+ghost use Rattle.lexical_util.specs.Rules.{IsRadix, Lawful};
 ghost use Rattle.lexical_literal.specs.Literal.{Reads, text_of, is_minus};
 ghost use Rattle.lexical_literal.specs.Notation.{has, lacks_options, notation_of};
 ghost use Rattle.lexical_literal.specs.Parts.{literal_of};
@@ -49,6 +49,7 @@ fn convert<'a>(
     syntax: &Syntax,
     style: Style,
 ) -> Result<Layout<'a>, WriteError>
+    requires { Lawful format }
     ensures literal { IfOk result (λ layout. Reads (notation_of syntax.now) (written layout) (text_of (written layout))) }
     ensures value { IfOk result (λ layout.
         SameFraction (raw format) (literal_of parts.now) (raw syntax.now.word) (written layout)) }
@@ -171,12 +172,12 @@ fn shorten<'a>(
     ensures literal { IfOk result (λ layout. Reads (notation_of syntax.now) (written layout) (text_of (written layout))) }
     ensures number { IfOk result (λ layout. HasNumber syntax.now amount.now (written layout)) }
     ensures parts { IsShort syntax.now style amount.now result }
-    ensures lawful { IfOk result (λ layout. IsSyntax syntax.now) }
+    ensures lawful { IsSyntax syntax.now }
 {
-    if amount.lay_out(syntax, Style::PLAIN)?.is_long() {
-        Err(WriteError::Long)
-    } else {
-        amount.lay_out(syntax, style)
+    match amount.lay_out(syntax, Style::PLAIN) {
+        Err(error) => Err(error),
+        Ok(plain) if plain.is_long() => Err(WriteError::Long),
+        Ok(_) => amount.lay_out(syntax, style),
     }
 }
 
@@ -187,7 +188,8 @@ fn change_radix<'a>(
     syntax: &Syntax,
     style: Style,
 ) -> Result<Layout<'a>, WriteError>
-    requires { is_refused parts.now syntax.now ≡ false }
+    requires sign { is_refused parts.now syntax.now ≡ false }
+    requires lawful { Lawful format }
     ensures literal { IfOk result (λ layout. Reads (notation_of syntax.now) (written layout) (text_of (written layout))) }
     ensures value { IfOk result (λ layout.
         SameFraction (raw format) (literal_of parts.now) (raw syntax.now.word) (written layout)) }
@@ -208,10 +210,12 @@ fn write_number<'a>(
     syntax: &Syntax,
     style: Style,
 ) -> Result<Layout<'a>, WriteError>
-    requires { IsRadix radix }
+    requires radix { IsRadix radix }
+    requires sign { (amount.now.negative && has syntax.now.conditions Condition.NegativeSign) ≡ false }
     ensures literal { IfOk result (λ layout. Reads (notation_of syntax.now) (written layout) (text_of (written layout))) }
     ensures number { IfOk result (λ layout. HasNumber syntax.now (number_of_size amount.now.negative (size_of radix amount.now.integer)) (written layout)) }
     ensures parts { IsNumber syntax.now style radix amount.now result }
+    ensures lawful { IfOk result (λ layout. IsSyntax syntax.now) }
 {
     if amount.fraction.is_some() {
         return Err(if is_whole(syntax) {

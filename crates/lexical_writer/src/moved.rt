@@ -77,9 +77,12 @@ fn shifted(number: u128, radix: u32, places: usize) -> Option<u128>
     requires { 0 < radix }
     ensures { SomeIff result (number * radix ^ places ≤ 2 ^ 128 - 1) (number * radix ^ places) }
 {
+    if number == 0 {
+        return Some(0);
+    }
     let mut size = number;
     let mut left = places;
-    while left > 0 && size > 0 {
+    while left > 0 {
         let Some(longer) = size.checked_mul(radix as u128) else {
             return None;
         };
@@ -110,8 +113,12 @@ impl<'a> Padded<'a> {
         ensures { SomeIff result (number_from_digits radix (padded_values radix self.now) ≤ 2 ^ 128 - 1)
             (number_from_digits radix (padded_values radix self.now)) }
     {
-        let front = size_after(0, self.first, radix)?;
-        let whole = size_after(front, self.second, radix)?;
+        let Some(front) = size_after(0, self.first, radix) else {
+            return None;
+        };
+        let Some(whole) = size_after(front, self.second, radix) else {
+            return None;
+        };
         shifted(whole, radix, self.after)
     }
 
