@@ -110,17 +110,28 @@ impl<'a> Specials<'a> {
 
     // Returns whether a spelling, with the sign of a special value, is read as this value.
     const fn is_read_back(&self, syntax: &Syntax, special: Special, word: &'a [u8]) -> bool {
-        let grammar = syntax.as_grammar();
-        let sign = written_sign(grammar, special);
-        let back = match sign {
-            None => self.read(syntax, word),
-            Some(_) if !allows(grammar, sign) => None,
-            Some(_) => match self.spelling(grammar, word) {
-                Some(spelling) => Some(Special { sign, spelling }),
-                None => None,
-            },
+        let sign = written_sign(syntax.as_grammar(), special);
+        is_value(special, self.read_signed(syntax, sign, word))
+    }
+
+    // Returns the special value that a word is behind a sign.
+    const fn read_signed(&self, syntax: &Syntax, sign: Option<Sign>, word: &[u8]) -> Option<Special> {
+        let Some(given) = sign else {
+            return self.read(syntax, word);
         };
-        is_value(special, back)
+        self.behind(syntax.as_grammar(), given, word)
+    }
+
+    // Returns the special value that a word is behind a sign that is there.
+    const fn behind(&self, grammar: Grammar, sign: Sign, word: &[u8]) -> Option<Special> {
+        let sign = Some(sign);
+        if !allows(grammar, sign) {
+            return None;
+        }
+        match self.spelling(grammar, word) {
+            Some(spelling) => Some(Special { sign, spelling }),
+            None => None,
+        }
     }
 
     // Returns the first spelling that `text` matches.

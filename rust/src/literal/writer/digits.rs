@@ -92,11 +92,21 @@ pub(crate) fn put_if_any<S: Sink>(sink: &mut S, byte: Option<u8>) {
     }
 }
 
+// Returns the character of a digit.
+#[inline(always)]
+const fn character(digit: u32, lowercase: bool) -> u8 {
+    let uppercase = digit_to_char(digit);
+    if lowercase {
+        uppercase.to_ascii_lowercase()
+    } else {
+        uppercase
+    }
+}
+
 // Writes a digit and, where a group ends, a separator. Behind the digit, `left` more are to be written.
 #[inline(always)]
 fn put_digit<S: Sink>(sink: &mut S, digit: u32, left: u128, run: &Run) {
-    let uppercase = digit_to_char(digit);
-    sink.put(if run.pattern.lowercase { uppercase.to_ascii_lowercase() } else { uppercase });
+    sink.put(character(digit, run.pattern.lowercase));
     put_if_any(sink, only_if(ends_group(run.pattern, left), run.pattern.separator));
 }
 

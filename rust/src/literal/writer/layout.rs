@@ -74,25 +74,26 @@ impl Style {
     };
 }
 
-/// Why a number cannot be written as a literal of a syntax.
+/// Why a number cannot be written as a literal of a syntax: no literal has its sign and its value, or the writer has a limit.
 #[derive(Debug, Clone, Copy, PartialEq, Eq, Hash)]
 #[non_exhaustive]
 pub enum WriteError {
-    /// The mantissa radixes differ, or the exponent has another radix and more than 128 bits.
-    Radix,
+    /// The number is NaN or infinity, which no literal is. No spelling is read back as this value.
+    Special,
     /// The number is below 0, or -0, and no literal has the sign `-`.
     Negative,
     /// The number is not whole, and the literals of the syntax are integers.
     Fraction,
-    /// No literal has the exponent of the number, which does not move the point by whole digits.
-    Exponent,
     /// The number is an integer of Rust, and each literal has an exponent.
     Float,
-    /// The number is NaN or infinity, which no literal is.
-    Special,
-    /// No literal has the exponent of the number, and if the point moves, the text has more than 800 bytes.
+    /// A limit: the mantissa radixes differ, and the number is not whole or has more than 128 bits, or its point does not
+    /// move by whole digits. Or the exponent radixes differ, and the exponent has more than 128 bits.
+    Radix,
+    /// A limit: no literal has the exponent of the number, which does not move the point by whole digits.
+    Exponent,
+    /// A limit: no literal has the exponent of the number, and if the point moves, the text has more than 800 bytes.
     Long,
-    /// The buffer is too short for the text, which has this number of bytes.
+    /// A limit: the buffer is too short for the text, which has this number of bytes.
     Buffer(usize),
 }
 
@@ -240,36 +241,65 @@ impl<'a> Amount<'a> {
         if let Some(refusal) = self.refusal(syntax) {
             return Err(refusal);
         }
-        let (radix, exponent_radix) = (format.mantissa_radix(), format.exponent_radix());
         let conditions = syntax.conditions();
         let options = syntax.options().unwrap_or(Options { exponent: 0, point: 0 });
-        let power = self.exponent.unwrap_or(Power { negative: false, source: Source::Number(0) });
-        let exponent = self.exponent.is_some()
-            | needs_exponent(syntax)
-            | (wants_exponent(style.exponent) & allows_exponent(syntax));
-        let point = self.fraction.is_some() | (exponent & format.no_exponent_without_fraction());
+        let power = self.power();
+        let exponent = self.has_exponent(syntax, style);
+        let point = self.has_point(syntax, style);
         let prefix = base_byte(style.prefix | conditions.has(Condition::BasePrefix), base_prefix(format.word()));
+        let float = point | exponent;
         Ok(Layout {
             sign: sign_of(self.negative, format.required_mantissa_sign()),
             prefix,
-            integer: Run {
-                source: lean(self.integer, radix),
-                radix,
-                least: self.least_digits(format, style, prefix.is_some(), point | exponent),
-                pattern: integer_pattern(format, conditions, style),
-            },
+            integer: self.integer_run(format, conditions, style, prefix.is_some(), float),
             point: only_if(point, options.point),
             fraction: self.fraction_run(format, conditions, style, point),
             exponent_character: only_if(exponent, options.exponent),
             exponent_sign: sign_of(power.negative, exponent & format.required_exponent_sign()),
-            exponent: Run {
-                source: lean(power.source, exponent_radix),
-                radix: exponent_radix,
-                least: one_if(exponent),
-                pattern: no_groups(style.lowercase),
-            },
+            exponent: exponent_run(power.source, format, style, exponent),
             suffix: base_byte(style.suffix | conditions.has(Condition::BaseSuffix), base_suffix(format.word())),
         })
+    }
+
+    // Returns the exponent, or one without digits.
+    #[inline]
+    fn power(&self) -> Power<'a> {
+        match self.exponent {
+            Some(power) => power,
+            None => Power { negative: false, source: Source::Number(0) },
+        }
+    }
+
+    // Returns whether there is an exponent character.
+    #[inline]
+    fn has_exponent(&self, syntax: &Syntax, style: Style) -> bool {
+        self.exponent.is_some() || needs_exponent(syntax) || wants_exponent(style.exponent) && allows_exponent(syntax)
+    }
+
+    // Returns whether there is a decimal point.
+    #[inline]
+    fn has_point(&self, syntax: &Syntax, style: Style) -> bool {
+        self.fraction.is_some()
+            || self.has_exponent(syntax, style) && syntax.format().view().no_exponent_without_fraction()
+    }
+
+    // Returns the integer, behind a base prefix or not, of a float or not.
+    #[inline]
+    fn integer_run(
+        &self,
+        format: FormatView,
+        conditions: Conditions,
+        style: Style,
+        prefix: bool,
+        float: bool,
+    ) -> Run<'a> {
+        let radix = format.mantissa_radix();
+        Run {
+            source: lean(self.integer, radix),
+            radix,
+            least: self.least_digits(format, style, prefix, float),
+            pattern: integer_pattern(format, conditions, style),
+        }
     }
 
     // Returns the fraction, which has a point or not.
@@ -325,6 +355,13 @@ impl<'a> Amount<'a> {
             None => Source::Number(0),
         }
     }
+}
+
+// Returns the digits of the exponent, which are required or not.
+#[inline]
+fn exponent_run<'a>(source: Source<'a>, format: FormatView, style: Style, exponent: bool) -> Run<'a> {
+    let radix = format.exponent_radix();
+    Run { source: lean(source, radix), radix, least: one_if(exponent), pattern: no_groups(style.lowercase) }
 }
 
 // Returns whether each literal has an exponent.

@@ -98,10 +98,10 @@ fn move_point<'a>(
 
 // Returns how a number is written whose point has moved, or why it is not.
 fn shorten<'a>(amount: &Amount<'a>, syntax: &Syntax, style: Style) -> Result<Layout<'a>, WriteError> {
-    if amount.lay_out(syntax, Style::PLAIN)?.is_long() {
-        Err(WriteError::Long)
-    } else {
-        amount.lay_out(syntax, style)
+    match amount.lay_out(syntax, Style::PLAIN) {
+        Err(error) => Err(error),
+        Ok(plain) if plain.is_long() => Err(WriteError::Long),
+        Ok(_) => amount.lay_out(syntax, style),
     }
 }
 

@@ -57,9 +57,12 @@ fn size_after(front: u128, bytes: &[u8], radix: u32) -> Option<u128> {
 
 // Returns a number with as many zeros behind its digits as `places`, or `None` if it has more than 128 bits.
 fn shifted(number: u128, radix: u32, places: usize) -> Option<u128> {
+    if number == 0 {
+        return Some(0);
+    }
     let mut size = number;
     let mut left = places;
-    while left > 0 && size > 0 {
+    while left > 0 {
         let Some(longer) = size.checked_mul(radix as u128) else {
             return None;
         };
@@ -83,8 +86,12 @@ impl Source<'_> {
 impl<'a> Padded<'a> {
     // Returns the number that the digits represent, or `None` if it has more than 128 bits.
     fn size(&self, radix: u32) -> Option<u128> {
-        let front = size_after(0, self.first, radix)?;
-        let whole = size_after(front, self.second, radix)?;
+        let Some(front) = size_after(0, self.first, radix) else {
+            return None;
+        };
+        let Some(whole) = size_after(front, self.second, radix) else {
+            return None;
+        };
         shifted(whole, radix, self.after)
     }
 
