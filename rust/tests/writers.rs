@@ -2,8 +2,8 @@
 
 use peltzivar::format::FLAG_MASK;
 use peltzivar::literal::{
-    Condition, Conditions, ExponentStyle, Form, FromLiteral, Language, Literal, Sign, Special, Specials, Spelling, Style,
-    Syntax, WriteError, WriteInteger,
+    Condition, Conditions, ExponentStyle, Form, FromLiteral, Language, Literal, Sign, Special, Specials, Spelling,
+    Style, Syntax, WriteError, WriteInteger,
 };
 use peltzivar::{Format, NumberFormatBuilder, Part};
 use std::{collections::BTreeMap, fmt::Debug, num::NonZeroU8};
@@ -83,13 +83,13 @@ fn value(literal: &Literal, syntax: &Syntax) -> Value {
         number.pop();
     }
     let mut powers = BTreeMap::new();
-    for prime in PRIMES.into_iter().filter(|_| !number.is_empty()) {
-        let times = |number: u32| (1..).find(|power| number % prime.pow(*power) != 0).unwrap() - 1;
+    for prime in if number.is_empty() { &[] } else { &PRIMES[..] } {
+        let times = |number: u32| (1..).find(|power| number % prime.pow(*power) != 0).unwrap_or(1) - 1;
         let mut count = place * i128::from(times(radix)) + exponent * i128::from(times(base));
-        while divide(&mut number, prime) {
+        while divide(&mut number, *prime) {
             count += 1;
         }
-        powers.extend((count != 0).then_some((prime, count)));
+        powers.extend((count != 0).then_some((*prime, count)));
     }
     while number.last() == Some(&0) {
         number.pop();
@@ -350,7 +350,9 @@ fn special_values_are_read_back() {
         .into_iter()
         .flat_map(|sign| [Spelling::Nan, Spelling::Inf, Spelling::Infinity].map(|spelling| (sign, spelling)))
     {
-        for (format, plus) in [(builder, ""), (builder.required_mantissa_sign(true), "+"), (builder.no_special(true), "")] {
+        for (format, plus) in
+            [(builder, ""), (builder.required_mantissa_sign(true), "+"), (builder.no_special(true), "")]
+        {
             let syntax = Syntax::integers(format.build_format_or_panic());
             let written = specials.format(&syntax, Special { sign, spelling });
             if syntax.format().no_special() {
@@ -363,7 +365,7 @@ fn special_values_are_read_back() {
             assert_eq!((written.to_string(), format!("{written:>5}")), (text.clone(), format!("{text:>5}")));
             assert_eq!(format!("{written:05}"), format!("{text:>5}"));
             assert_eq!(written.write_into(&mut [0; 8]), Ok(&*text));
-            let back = specials.read(&syntax, &text).unwrap();
+            let back = specials.read(&syntax, text.as_bytes()).unwrap();
             let (nan, minus) = (back.spelling == Spelling::Nan, back.sign == Some(Sign::Minus));
             assert_eq!((nan, minus), (spelling == Spelling::Nan, sign == Some(Sign::Minus)));
         }
