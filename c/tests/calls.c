@@ -287,8 +287,8 @@ static void test_columns(void) {
 
 /* Numbers are written as literals, and a buffer that is too short has the beginning. */
 static void test_writing(void) {
-    static const peltzivar_style styles[] = {{.group = 3}, {.group = 3, .without_base = true}}, bare = {.without_base = true};
-    static const peltzivar_style ones = {.group = 1, .fraction_group = 1, .min_digits = 255, .exponent = PELTZIVAR_STYLE_ALWAYS};
+    static const peltzivar_style styles[] = {{3, 0, false, false, false, 0, 0, 0}, {3, 0, true, false, false, 0, 0, 0}}, bare = {0, 0, true, false, false, 0, 0, 0};
+    static const peltzivar_style ones = {1, 1, false, false, false, 255, PELTZIVAR_STYLE_ALWAYS, 0};
     static const peltzivar_i128 least = {0, INT64_MIN}, wide = {1234567, 0};
     const peltzivar_syntax json = first_form("JSON"), english = first_form("CSV_EN"), c = first_form("C");
     char integer[PELTZIVAR_INTEGER_SIZE], real[PELTZIVAR_FLOAT_SIZE];
@@ -338,20 +338,20 @@ static void test_styles(void) {
         const char *text, *settings, *wanted;
         peltzivar_style style;
     } rows[] = {
-        {"12345.6789", "digit_separator='_'\ninternal_digit_separator=true", "12_345.678_9", {.group = 3, .fraction_group = 3}},
-        {"12345.6789", "", "12345.6789", {.group = 3, .fraction_group = 3}},
-        {"1234567", "digit_separator='_'\ninternal_digit_separator=true\ninteger_group_size=3", "1_234_567", {0}},
-        {"1234567", "digit_separator='_'\ninternal_digit_separator=true\ninteger_group_size=3", "1234567", {.group = PELTZIVAR_NO_GROUPS}},
-        {"171", "radix=16\nbase_prefix='x'\nexponent='p'", "0x0ab", {.lowercase = true, .min_digits = 3}},
-        {"7", "no_integer_leading_zeros=true", "7", {.min_digits = 3}},
-        {"007.5", "", "007.5", {.keep_leading_zeros = true}},
-        {"1.2e3", "", "1200", {.exponent = PELTZIVAR_STYLE_NEVER}},
-        {"1e800", "", "1e800", {.exponent = PELTZIVAR_STYLE_NEVER}},
-        {"1200", "", "1200e0", {.exponent = PELTZIVAR_STYLE_ALWAYS}},
-        {"1.2e2", "", "120", {.exponent = PELTZIVAR_STYLE_FROM, .exponent_from = 3}},
-        {"1.2e3", "", "1.2e3", {.exponent = PELTZIVAR_STYLE_FROM, .exponent_from = 3}},
+        {"12345.6789", "digit_separator='_'\ninternal_digit_separator=true", "12_345.678_9", {3, 3, false, false, false, 0, 0, 0}},
+        {"12345.6789", "", "12345.6789", {3, 3, false, false, false, 0, 0, 0}},
+        {"1234567", "digit_separator='_'\ninternal_digit_separator=true\ninteger_group_size=3", "1_234_567", {0, 0, false, false, false, 0, 0, 0}},
+        {"1234567", "digit_separator='_'\ninternal_digit_separator=true\ninteger_group_size=3", "1234567", {PELTZIVAR_NO_GROUPS, 0, false, false, false, 0, 0, 0}},
+        {"171", "radix=16\nbase_prefix='x'\nexponent='p'", "0x0ab", {0, 0, false, true, false, 3, 0, 0}},
+        {"7", "no_integer_leading_zeros=true", "7", {0, 0, false, false, false, 3, 0, 0}},
+        {"007.5", "", "007.5", {0, 0, false, false, true, 0, 0, 0}},
+        {"1.2e3", "", "1200", {0, 0, false, false, false, 0, PELTZIVAR_STYLE_NEVER, 0}},
+        {"1e800", "", "1e800", {0, 0, false, false, false, 0, PELTZIVAR_STYLE_NEVER, 0}},
+        {"1200", "", "1200e0", {0, 0, false, false, false, 0, PELTZIVAR_STYLE_ALWAYS, 0}},
+        {"1.2e2", "", "120", {0, 0, false, false, false, 0, PELTZIVAR_STYLE_FROM, 3}},
+        {"1.2e3", "", "1.2e3", {0, 0, false, false, false, 0, PELTZIVAR_STYLE_FROM, 3}},
     };
-    static const peltzivar_specials specials = {.nan = "nan", .inf = "nan", .infinity = "inf"};
+    static const peltzivar_specials specials = {"nan", "nan", "inf"};
     static const peltzivar_special minus = {PELTZIVAR_SPELLING_INF, '-'}, none = {0, 0};
     peltzivar_syntax source, target;
     peltzivar_literal literal;

@@ -138,7 +138,6 @@ static void test_written(const peltzivar_syntax *syntax, bool is_lawful, const p
     const peltzivar_style style = {
         .group = (uint8_t)(draw() % 5 ? draw() % 5 : PELTZIVAR_NO_GROUPS), .fraction_group = (uint8_t)(draw() % 5), .without_base = draw() % 2,
         .lowercase = draw() % 2, .keep_leading_zeros = draw() % 2, .min_digits = (uint8_t)(draw() % 2 ? draw() : 0),
-        .exponent = (peltzivar_exponent_style)(draw() % 4 == PELTZIVAR_STYLE_ALWAYS ? 0 : draw() % 5), .exponent_from = (uint32_t)(draw() % 9),
     };
     peltzivar_syntax other;
     peltzivar_literal again;

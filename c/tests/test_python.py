@@ -306,7 +306,7 @@ class Literals(unittest.TestCase):
         self.assertEqual(hexadecimal.format_number(grouped.read("255")), "0xFF")
         specials = Specials(nan="nan", inf="nan", infinity="inf")
         self.assertEqual(specials.format(grouped, Special("-", Spelling.INF)), "-inf")
-        self.assertRaises(ValueError, specials.format, Syntax(Format(no_special=True)), Special("", Spelling.NAN))
+        self.assertRaises(ValueError, specials.format, Syntax.of(no_special=True), Special("", Spelling.NAN))
         self.assertEqual(Syntax.integers(Format()).format_number(Decimal("1.0")), "1")
         self.assertEqual([hexadecimal.format_number(2**128 // 3), hexadecimal.format_number(31, without_base=True)], ["0x" + "5" * 32, "1F"])
         wrong = [(german, math.inf, "NaN or infinity"), (german, Decimal("NaN"), "NaN or infinity"), (hexadecimal, 1.5, "radix")]
