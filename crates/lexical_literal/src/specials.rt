@@ -124,12 +124,7 @@ impl<'a> Specials<'a> {
     }
 
     // Returns the special value that a word is behind a sign.
-    const fn read_signed(
-        &self,
-        syntax: &Syntax,
-        sign: Option<Sign>,
-        word: &[u8],
-    ) -> Option<Special>
+    const fn read_signed(&self, syntax: &Syntax, sign: Option<Sign>, word: &[u8]) -> Option<Special>
         ensures { result ≡ special_of (notation_of syntax.now) self.now (signed sign word.now) }
     {
         let Some(given) = sign else {

@@ -326,19 +326,42 @@ const NO_EXPONENT: u128 = 0x0A0A0A00_00000000_00000000_00000040;
 
 const PREFIX: u128 = 0x0A101000_78000000_00000000_00003000;
 
-const LEAST: Style = Style { min_digits: 3, ..PLAIN };
+const LEAST: Style = Style {
+    min_digits: 3,
+    ..PLAIN
+};
 
-const KEPT: Style = Style { keep_leading_zeros: true, ..PLAIN };
+const KEPT: Style = Style {
+    keep_leading_zeros: true,
+    ..PLAIN
+};
 
-const GROUPS: Style = Style { group: Grouping::Of(3), fraction_group: Grouping::Of(3), ..PLAIN };
+const GROUPS: Style = Style {
+    group: Grouping::Of(3),
+    fraction_group: Grouping::Of(3),
+    ..PLAIN
+};
 
-const LOWER: Style = Style { lowercase: true, min_digits: 4, ..PLAIN };
+const LOWER: Style = Style {
+    lowercase: true,
+    min_digits: 4,
+    ..PLAIN
+};
 
-const ALWAYS: Style = Style { exponent: ExponentStyle::Always, ..PLAIN };
+const ALWAYS: Style = Style {
+    exponent: ExponentStyle::Always,
+    ..PLAIN
+};
 
-const NEVER: Style = Style { exponent: ExponentStyle::Never, ..PLAIN };
+const NEVER: Style = Style {
+    exponent: ExponentStyle::Never,
+    ..PLAIN
+};
 
-const FROM_3: Style = Style { exponent: ExponentStyle::From(3), ..PLAIN };
+const FROM_3: Style = Style {
+    exponent: ExponentStyle::From(3),
+    ..PLAIN
+};
 
 // A text, a format, whether its literals can be floats, a style, and what is written.
 #[rattlefmt::skip]
@@ -393,10 +416,30 @@ fn literals_are_written_in_a_style(rt: HostRuntime) {
 #[test]
 fn what_is_not_whole_or_too_long_is_refused(rt: HostRuntime) {
     let mut buffer = [0u8; 8];
-    assert!(rt; matches!(converted("12.5", BARE, false, PLAIN, &mut buffer), Err(WriteError::Fraction)));
-    assert!(rt; matches!(converted("0x1.8", BARE, false, PLAIN, &mut buffer), Err(WriteError::Fraction)));
-    assert!(rt; matches!(converted("0x1.8", BARE, true, PLAIN, &mut buffer), Err(WriteError::Radix)));
-    assert!(rt; matches!(converted("1^800", BARE, false, NEVER, &mut buffer), Err(WriteError::Long)));
+    assert!(rt;
+        matches!(
+            converted("12.5", BARE, false, PLAIN, &mut buffer),
+            Err(WriteError::Fraction)
+        )
+    );
+    assert!(rt;
+        matches!(
+            converted("0x1.8", BARE, false, PLAIN, &mut buffer),
+            Err(WriteError::Fraction)
+        )
+    );
+    assert!(rt;
+        matches!(
+            converted("0x1.8", BARE, true, PLAIN, &mut buffer),
+            Err(WriteError::Radix)
+        )
+    );
+    assert!(rt;
+        matches!(
+            converted("1^800", BARE, false, NEVER, &mut buffer),
+            Err(WriteError::Long)
+        )
+    );
 }
 
 // Returns whether a clone is equal to the value.

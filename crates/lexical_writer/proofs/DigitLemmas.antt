@@ -2,7 +2,7 @@
 use Rattle.std.proofs.Common.{ℕ, ◌≡◌, ◌+◌, ◌*◌, ◌<◌, ◌≤◌, ◌||◌, Bool, true, false, cond, nat_lt, List, [], ◌∷◌, ◌++◌, length, drop, get_or}
 use Rattle.std.proofs.Common.{Option, ◌-◌, ◌/◌, ◌%◌, map, set, slice_get, option_to_list, Some, None, refl, sym, ap, ◌∙◌, arith, suc, zero, drop-cons, add-one, replicate, append-nil, subst, inl, inr}
 use Rattle.std.proofs.lemmas.Bool.{cases_lt}
-use Rattle.std.proofs.lemmas.Int.Digits.{all_below_base_digits_of, digits_of_step, first_digits_of, length-digits_of_step, number_after_append}
+use Rattle.std.proofs.lemmas.Int.Digits.{all_below_base_digits_of, digits_of_step, length-digits_of_step, number_after_append}
 use Rattle.std.proofs.lemmas.List.{append_assoc, drop-set, length-append, length-map, length-set, map_push}
 use Rattle.std.proofs.lemmas.Bool.Decides.{nat_tests}
 use Rattle.std.proofs.Math.Nat.{div-div-eq-div-mul}

@@ -2,7 +2,7 @@
 use Rattle.std.proofs.Common.{ℕ, ◌≡◌, ◌<◌, ◌≤◌, ◌+◌, ◌-◌, ◌*◌, ◌%◌, ◌==◌, ◌&&◌, ◌||◌, not, max, nat_le, nat_lt, if◌then◌else◌, Bool, true, false, IsTrue, List, [], ◌∷◌}
 use Rattle.std.proofs.Common.{drop, inl, inr, cond, length, Option, Some, None, Result, Ok, Err, IfOk, is_some, option_to_list, unwrap_or, refl, sym, subst, ap, ◌∙◌, arith}
 use Rattle.std.proofs.Math.Nat.{mod-lt}
-use Rattle.std.proofs.lemmas.Bool.{and_from, cases_lt, false_from_ne_true, false≢true, lt-ltb, ltb-true, or_left, or_right, and_right}
+use Rattle.std.proofs.lemmas.Bool.{and_from, cases_lt, false_from_ne_true, false≢true, lt-ltb, ltb-true, or_left, or_right}
 use Rattle.std.proofs.lemmas.Bool.Decides.{nat_tests}
 use Rattle.std.proofs.lemmas.Int.Digits.{all_below_base_digits_of, number_digits_of}
 use Rattle.std.specs.Int.Digits.{AllBelowBase, digits_of, number_from_digits}

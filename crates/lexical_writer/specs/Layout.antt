@@ -175,7 +175,7 @@ exponent_text r style exponent source = grouped (no_groups style.lowercase)
 abbrev pub fraction_text : Record → Conditions → Style → Bool → Amount → List ℕ
 fraction_text r c style point amount =
     let digits = at_least (one_if (point && r.flag layout.required_fraction_digits))
-        (values_of (r.byte layout.mantissa_radix) (given_fraction amount)) in
+    (values_of (r.byte layout.mantissa_radix) (given_fraction amount)) in
     grouped (fraction_pattern r c style (length digits)) digits
 
 -- `laid_out g style amount` is the literal of `g` that is written for `amount`.

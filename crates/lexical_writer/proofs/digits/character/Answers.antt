@@ -1,5 +1,5 @@
 -- The character is that of the digit, in either case.
-use Rattle.std.proofs.Common.{◌≡◌, ap, sym, ◌∙◌, Bool, true, false}
+use Rattle.std.proofs.Common.{ap, sym, ◌∙◌}
 use Rattle.std.proofs.lemmas.Option.{get_or_from_slice_get}
 use Rattle.std.specs.Char.{to_ascii_lowercase}
 use Rattle.lexical_base.specs.Digits.{digit_characters}

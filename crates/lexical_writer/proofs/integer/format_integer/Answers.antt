@@ -1,5 +1,5 @@
 -- Each integer is laid out, and its value is that of the integer.
-use Rattle.std.proofs.Common.{ℕ, ℤ, ◌≡◌, ◌<◌, ◌*◌, ◌^◌, ◌&&◌, ◌||◌, append-nil, refl, Bool, true, false, Some, suc, zero, Result, Ok, Err, IfOk, IfErr, subst, sym, ap, ◌∙◌, arith}
+use Rattle.std.proofs.Common.{ℕ, ℤ, ◌≡◌, ◌<◌, ◌*◌, ◌&&◌, ◌||◌, append-nil, refl, Bool, true, false, Some, suc, zero, Result, Ok, Err, IfOk, IfErr, subst, sym, ap, ◌∙◌, arith}
 use Rattle.std.proofs.Math.Nat.{pow-zero}
 use Rattle.std.proofs.lemmas.Int.Digits.{number_digits_of}
 use Rattle.std.specs.Int.Digits.{digits_of, number_from_digits}

@@ -1,5 +1,5 @@
 -- What is written of a whole number in another radix has its value.
-use Rattle.std.proofs.Common.{ℕ, ◌≡◌, ◌≤◌, false, Bool, None, Option, Some, Result, Ok, Err, IfOk, is_some, if◌then◌else◌, ap, subst, sym, ◌∙◌, arith}
+use Rattle.std.proofs.Common.{ℕ, ◌≡◌, ◌≤◌, false, Bool, None, Option, Some, Result, Ok, Err, IfOk, if◌then◌else◌, ap, subst, sym, ◌∙◌, arith}
 use Rattle.lexical_util.specs.Layout as layouts
 use Rattle.lexical_util.specs.Record.{Record, raw}
 use Rattle.lexical_util.specs.Rules.{IsRadix}

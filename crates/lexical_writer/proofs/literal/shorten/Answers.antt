@@ -1,5 +1,5 @@
 -- A number without an exponent that is not refused is laid out.
-use Rattle.std.proofs.Common.{◌≡◌, ◌&&◌, ◌||◌, Bool, true, false, Option, None, Some, Result, Ok, Err, is_some, if◌then◌else◌, nat_lt, length, ap, sym, ◌∙◌, arith}
+use Rattle.std.proofs.Common.{◌≡◌, ◌&&◌, ◌||◌, Bool, false, Option, None, Some, Result, Ok, Err, is_some, if◌then◌else◌, nat_lt, length, ap, sym, ◌∙◌, arith}
 use Rattle.lexical_util.specs.Layout as layouts
 use Rattle.lexical_util.specs.Record.{raw}
 use Rattle.lexical_literal.specs.Literal.{Literal, text_of}

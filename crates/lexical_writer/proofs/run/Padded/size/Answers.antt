@@ -1,5 +1,5 @@
 -- The pieces are read one after the other.
-use Rattle.std.proofs.Common.{◌≤◌, ◌≡◌, ◌*◌, ◌^◌, ◌-◌, ap, subst, sym, ◌∙◌, arith}
+use Rattle.std.proofs.Common.{◌≤◌, ◌*◌, ◌^◌, ◌-◌, ap, subst, sym, ◌∙◌, arith}
 use Rattle.std.specs.Option.{SomeIff}
 use Rattle.lexical_number.specs.Leading.{number_after}
 use Rattle.lexical_writer.proofs.PlainLemmas.{padded_number, pieces_least}
