@@ -451,33 +451,50 @@ PELTZIVAR_MUST_USE size_t peltzivar_parse_f32_column(const peltzivar_forms *form
  * PELTZIVAR_WRITE_BUFFER. If the number cannot be written, it leaves the buffer and *needed unchanged and returns why.
  * Reading the text returns the same value. */
 
-/* How numbers are written where a syntax leaves a choice: the number of integer digits in a group, if the format allows
- * separators between them, or 0 for groups only where the syntax has sizes, and whether the base prefix and the base
- * suffix are left out. Conditions come first: the sizes of a syntax replace any group, and a required prefix or suffix is
- * written. A null pointer is the same as zeros. */
+/* Whether a number is written with an exponent where the syntax leaves a choice. */
+typedef uint8_t peltzivar_exponent_style;
+enum {
+    PELTZIVAR_STYLE_AS_NUMBER = 0, /* A literal keeps its exponent, and an integer has none. */
+    PELTZIVAR_STYLE_NEVER = 1, /* The point moves in its place, if it moves by whole digits and fits 800 bytes. */
+    PELTZIVAR_STYLE_ALWAYS = 2, /* A number without an exponent has the exponent 0. */
+    PELTZIVAR_STYLE_FROM = 3 /* The point moves if the exponent is between -exponent_from and exponent_from. */
+};
+
+/* As a group of a style, no separators. */
+#define PELTZIVAR_NO_GROUPS 255
+
+/* How numbers are written where a syntax leaves a choice. Zeros make no wish, and a null pointer is the same as zeros. What
+ * the syntax forbids is not done, and what it requires is. `group` and `fraction_group` are how many digits a group of the
+ * integer and the fraction has, unless the syntax has a size. With 0, there are groups only where it has one.
+ * `without_base` leaves out the base prefix and the base suffix. `lowercase` writes digits in lowercase. `min_digits` is how
+ * many integer digits there are at least, with zeros before the others. `keep_leading_zeros` keeps those of a literal whose
+ * point does not move. `exponent_from` is the number of PELTZIVAR_STYLE_FROM. */
 typedef struct {
-    uint8_t group;
-    bool without_base;
+    uint8_t group, fraction_group;
+    bool without_base, lowercase, keep_leading_zeros;
+    uint8_t min_digits;
+    peltzivar_exponent_style exponent;
+    uint32_t exponent_from;
 } peltzivar_style;
 
 /* Whether a number is written. */
 typedef uint8_t peltzivar_write_status;
 enum {
     PELTZIVAR_WRITE_OK = 0,
-    PELTZIVAR_WRITE_RADIX = 1, /* The radixes differ, no float has a value in them, or an exponent is too long. */
+    PELTZIVAR_WRITE_RADIX = 1, /* Radixes or bases differ, and the number is not whole or has more than 128 bits, or no float has a value in them. */
     PELTZIVAR_WRITE_NEGATIVE = 2, /* No literal has the sign `-`. */
     PELTZIVAR_WRITE_FRACTION = 3, /* Literals are integers, and the number is not whole. */
     PELTZIVAR_WRITE_EXPONENT = 4, /* No literal has the exponent, which does not move the point by whole digits. */
     PELTZIVAR_WRITE_FLOAT = 5, /* Each literal has an exponent, and the number is of an integer type. */
-    PELTZIVAR_WRITE_SPECIAL = 6, /* The number is NaN or infinity. */
+    PELTZIVAR_WRITE_SPECIAL = 6, /* The number is NaN or infinity, and no spelling is read back as it. */
     PELTZIVAR_WRITE_BUFFER = 7, /* The buffer is too short. */
     PELTZIVAR_WRITE_ARGUMENT = 8, /* The syntax is null or refused, or no call has made the literal. */
     PELTZIVAR_WRITE_LONG = 9 /* Without an exponent, which no literal has, the text has more than 800 bytes. */
 };
 
 /* The sizes of buffers for any integer of the next three calls, and for any float of peltzivar_format_f64. */
-#define PELTZIVAR_INTEGER_SIZE 260
-#define PELTZIVAR_FLOAT_SIZE 1601
+#define PELTZIVAR_INTEGER_SIZE 519
+#define PELTZIVAR_FLOAT_SIZE 2112
 
 /* Write an integer, with its digits in the mantissa radix. */
 PELTZIVAR_MUST_USE peltzivar_write_status peltzivar_format_i64(const peltzivar_syntax *syntax, int64_t value,
@@ -496,6 +513,10 @@ PELTZIVAR_MUST_USE peltzivar_write_status peltzivar_format_f64(const peltzivar_s
  * allowed, the point moves: 1.2e3 is 1200. */
 PELTZIVAR_MUST_USE peltzivar_write_status peltzivar_format_literal(const peltzivar_syntax *syntax,
     const peltzivar_literal *literal, const peltzivar_style *style, char *text, size_t len, size_t *needed);
+
+/* Writes NaN or infinity: its sign, and the first of the spellings that peltzivar_read_special reads back as this value. */
+PELTZIVAR_MUST_USE peltzivar_write_status peltzivar_format_special(const peltzivar_syntax *syntax,
+    const peltzivar_specials *specials, peltzivar_special special, char *text, size_t len, size_t *needed);
 
 /* Returns what a status means, such as "no literal has the sign '-'". PELTZIVAR_WRITE_OK has an empty string. */
 const char *peltzivar_write_description(peltzivar_write_status status);

@@ -371,7 +371,13 @@ class _Forms(Structure):
 class _Style(Structure):
     _fields_ = [
         ("group", c_uint8),
+        ("fraction_group", c_uint8),
         ("without_base", c_bool),
+        ("lowercase", c_bool),
+        ("keep_leading_zeros", c_bool),
+        ("min_digits", c_uint8),
+        ("exponent", c_uint8),
+        ("exponent_from", c_uint32),
     ]
 
 
@@ -446,6 +452,7 @@ _CALLS: Dict[str, Tuple[Any, List[Any]]] = {
     "format_i128": (c_uint8, [POINTER(_Syntax), _I128, POINTER(_Style), c_char_p, c_size_t, POINTER(c_size_t)]),
     "format_f64": (c_uint8, [POINTER(_Syntax), c_double, POINTER(_Style), c_char_p, c_size_t, POINTER(c_size_t)]),
     "format_literal": (c_uint8, [POINTER(_Syntax), POINTER(_Literal), POINTER(_Style), c_char_p, c_size_t, POINTER(c_size_t)]),
+    "format_special": (c_uint8, [POINTER(_Syntax), POINTER(_Specials), _Special, c_char_p, c_size_t, POINTER(c_size_t)]),
     "write_description": (c_char_p, [c_uint8]),
     "build": (c_bool, [POINTER(_Edit), c_size_t, POINTER(_Word)]),
     "edit_word": (c_bool, [_Word, POINTER(_Edit), c_size_t, POINTER(_Word)]),
@@ -1897,7 +1904,16 @@ class Syntax(_Reader):
         return _text(_library.regex, self._by, size=_SOURCE_SIZE)
 
     def format_number(
-        self, value: Union[SupportsIndex, SupportsFloat], *, group: int = 0, without_base: bool = False
+        self,
+        value: Union[SupportsIndex, SupportsFloat],
+        *,
+        group: Optional[int] = None,
+        fraction_group: Optional[int] = None,
+        without_base: bool = False,
+        lowercase: bool = False,
+        min_digits: int = 0,
+        keep_leading_zeros: bool = False,
+        exponent: Union[int, str, None] = None,
     ) -> str:
         """Returns a number as a literal. Reading the text returns the same value.
 
@@ -1906,27 +1922,49 @@ class Syntax(_Reader):
             '1.234.567,50'
 
         Takes an int, a float, a Decimal, a `Literal`, or an object with `__index__` or `__float__`, as those of numpy,
-        but no bool. Of a float, the digits are those of `repr`. `group` is the number of integer digits in a group, if
-        the format allows separators between them. If the syntax has an `integer_group_size`, its sizes replace any
-        `group`, also 0, for which there are no groups otherwise. `without_base` leaves out the base prefix and the base
-        suffix, unless conditions require them. Raises ValueError for NaN and infinity, for a sign `-` if no literal has one, for a number that is
-        not whole if literals are integers, for an int if each literal has an exponent, for an int of more than 4300
-        digits in radix 10, as `str` does, for another mantissa radix than that of the syntax, which is 10 for a Decimal,
-        and, of a float, for radixes that are neither both 10 nor both powers of two. A `Literal` keeps its exponent, and a Decimal has one
+        but no bool. Of a float, the digits are those of `repr`. A `Literal` keeps its exponent, and a Decimal has one
         from 1E+401 on and below 1E-400. Where no exponent is allowed, the point moves, and the text has at most 800
         bytes.
+
+        The other arguments are wishes: what the syntax forbids is not done, and what it requires is. `group` and
+        `fraction_group` are the numbers of digits in a group of the integer, counted from the right, and of the
+        fraction, counted from the left. If the syntax has a size, this replaces them, also None, for which there are no
+        groups otherwise, but not 0, for which there are none. `without_base` leaves out the base prefix and the base
+        suffix. `lowercase` writes digits in lowercase, and `min_digits` at least so many integer digits, with zeros
+        before the others. `keep_leading_zeros` keeps those of a `Literal` whose point does not move. `exponent` is
+        "never", for a point that moves in place of an exponent, "always", or a number from which on, and below minus
+        which, an exponent is kept, and otherwise moves the point.
+
+        Raises ValueError for NaN and infinity, for a sign `-` if no literal has one, for a number that is not whole if
+        literals are integers, for an int if each literal has an exponent, for an int of more than 4300 digits in radix
+        10, as `str` does, for another mantissa radix than that of the syntax, which is 10 for a float and a Decimal, if
+        the number is not whole or has more than 128 bits, and, of a float, for another exponent base.
         """
-        style, needed = _Style(_number("group", group), _typed("without_base", without_base, bool)), c_size_t(64)
+        sizes = ((group, "group"), (fraction_group, "fraction_group"))
+        groups = (0 if size is None else _number(name, size, 255, "a number from 0 to 254") or 255 for size, name in sizes)
+        flags = (("without_base", without_base), ("lowercase", lowercase), ("keep_leading_zeros", keep_leading_zeros))
+        if exponent is not None and exponent not in ("never", "always"):
+            wish = 3, _number("exponent", exponent, 1 << 32, '"never", "always" or a number from 0 to 4294967295')
+        else:
+            wish = (None, "never", "always").index(exponent), 0
+        flags_of, least = (_typed(name, flag, bool) for name, flag in flags), _number("min_digits", min_digits)
+        style = _Style(*groups, *flags_of, least, *wish)
         call, number, _literal = _writing(value, self._fields.mantissa_radix)
-        for _ in range(2):
-            buffer = create_string_buffer(needed.value)
-            if not (status := call(self._by, number, style, buffer, len(buffer), needed)):
-                return buffer.value.decode()
-        raise ValueError(_library.write_description(status).decode())
+        return _written(call, self._by, number, style)
 
     @property
     def _named(self) -> Any:
         return {"": self}
+
+
+def _written(call: Any, *arguments: Any) -> str:
+    """Returns the text that a call writes."""
+    needed = c_size_t(64)
+    for _ in range(2):
+        buffer = create_string_buffer(needed.value)
+        if not (status := call(*arguments, buffer, len(buffer), needed)):
+            return buffer.value.decode()
+    raise ValueError(_library.write_description(status).decode())
 
 
 def _writing(value: Any, radix: int) -> Tuple[Any, Any, Optional[Literal[Any]]]:
@@ -2022,6 +2060,17 @@ class Specials:
         letters and digit separators it may have. A text can also be a literal, such as `inf` in radix 36."""
         data, special, by = _encoded("a text", text), _Special(), _typed("syntax", syntax, Syntax)._by
         return _made(special, _library.read_special(by, self._spellings(), data, len(data), special))
+
+    def format(self, syntax: Syntax, special: Special) -> str:
+        """Returns a special value as a text: its sign, if that is `-` or one is required, and the first of its spellings
+        that is read back, in the order inf, infinity. Raises ValueError if there is none.
+
+            >>> Specials(nan="NaN", infinity="Infinity").format(Syntax(), Special("-", Spelling.INF))
+            '-Infinity'
+        """
+        sign, spelling = _typed("special", special, Special).sign, special.spelling.value
+        special_of = _Special(spelling, ord(sign or "\0"))
+        return _written(_library.format_special, _typed("syntax", syntax, Syntax)._by, self._spellings(), special_of)
 
     def _spellings(self) -> _Specials:
         spellings = [_encoded("a spelling", "" if it is None else it) for it in (self.nan, self.inf, self.infinity)]

@@ -1,7 +1,7 @@
 //! Literals of one language as literals of another one: `cargo run --example convert -- C PYTHON` reads literals of C on
 //! standard input, one on each line, and prints them as Python writes them, or says why it cannot.
 
-use peltzivar::literal::{Language, Number, Sign, Special, Spelling, Style, WriteError};
+use peltzivar::literal::{Language, Number, Style, WriteError};
 use std::io::{self, BufRead, Write};
 
 /// Returns a number as the first form of a language that can have it. Without such a form, returns the last error. A text
@@ -9,7 +9,10 @@ use std::io::{self, BufRead, Write};
 fn convert(number: Number<'_>, target: Language) -> Result<String, WriteError> {
     let literal = match number {
         Number::Literal { literal, .. } => literal,
-        Number::Special(special) => return spell(special, target),
+        Number::Special(special) => {
+            let text = target.specials().format(&target.forms()[0].syntax, special)?;
+            return Ok(text.to_string());
+        }
     };
     let mut result = Err(WriteError::Radix);
     for (index, form) in target.forms().as_slice().iter().enumerate() {
@@ -20,19 +23,6 @@ fn convert(number: Number<'_>, target: Language) -> Result<String, WriteError> {
         }
     }
     result
-}
-
-/// Returns a special value with the first spelling that a language has for it.
-fn spell(special: Special, target: Language) -> Result<String, WriteError> {
-    let specials = target.forms().specials();
-    let word = match special.spelling {
-        Spelling::Nan => specials.nan,
-        _ => specials.inf.or(specials.infinity),
-    };
-    let sign = if special.sign == Some(Sign::Minus) { "-" } else { "" };
-    let text = format!("{sign}{}", String::from_utf8_lossy(word.ok_or(WriteError::Special)?));
-    target.read(&text).map_err(|_| WriteError::Special)?;
-    Ok(text)
 }
 
 fn main() -> io::Result<()> {

@@ -128,4 +128,4 @@ pub use number::Digits;
 pub use specials::{Sign, Special, Specials, Spelling};
 pub use syntax::{Condition, Conditions, ConditionsError, ConditionsErrorKind, Syntax};
 pub use value::{FromLiteral, ParseError, Plain, Target, ValueError, ValueErrorKind};
-pub use writer::{Grouping, Style, WriteError, WriteFloat, WriteInteger, Written};
+pub use writer::{ExponentStyle, Grouping, Style, WriteError, WriteFloat, WriteInteger, Written};

@@ -2,10 +2,12 @@
 
 use peltzivar::format::FLAG_MASK;
 use peltzivar::literal::{
-    Condition, Conditions, Form, FromLiteral, Language, Literal, Style, Syntax, WriteError, WriteInteger,
+    Condition, Conditions, ExponentStyle, Form, FromLiteral, Language, Literal, Sign, Special, Specials, Spelling,
+    Style, Syntax, WriteError, WriteInteger,
 };
 use peltzivar::{Format, NumberFormatBuilder, Part};
-use std::{collections::BTreeMap, fmt::Debug, num::NonZeroU8};
+use std::collections::{BTreeMap, HashSet};
+use std::{fmt::Debug, num::NonZeroU8};
 
 const LITERALS: &str = include_str!("literals.txt");
 
@@ -42,46 +44,74 @@ fn rows() -> impl Iterator<Item = (Language, &'static str)> {
     })
 }
 
-/// The digits of a mantissa without zeros at both ends, the primes whose powers it is multiplied by, and whether it is
-/// negative. Two literals of the same radix have the same value if these are the same.
-type Value = (Vec<u8>, BTreeMap<u32, i128>, bool);
+/// A value: what is left of the mantissa when it is divided by primes up to 31, with the lowest 32 bits first, how often each
+/// prime divides the value, and whether it is negative. Two literals have the same value if and only if these are the same.
+type Value = (Vec<u32>, BTreeMap<u32, i128>, bool);
+
+const PRIMES: [u32; 11] = [2, 3, 5, 7, 11, 13, 17, 19, 23, 29, 31];
+
+/// Divides a number if there is no remainder, and returns whether there is none.
+fn divide(number: &mut [u32], by: u32) -> bool {
+    let whole = |rest: u64, word: u32| rest << 32 | u64::from(word);
+    if number.iter().rev().fold(0, |rest, word| whole(rest, *word) % u64::from(by)) > 0 {
+        return false;
+    }
+    number.iter_mut().rev().fold(0, |rest, word| {
+        let whole = whole(rest, *word);
+        *word = (whole / u64::from(by)) as u32;
+        whole % u64::from(by)
+    });
+    true
+}
 
 /// Returns the value of a literal of a syntax, whose exponent is short in the tests.
 fn value(literal: &Literal, syntax: &Syntax) -> Value {
-    let mut digits = Vec::from_iter(literal.digits(Part::Integer).skip_while(|digit| *digit == 0));
-    digits.extend(literal.digits(Part::Fraction));
-    let mut place = -(literal.digits(Part::Fraction).count() as i128);
-    while digits.last() == Some(&0) {
-        digits.pop();
-        place += 1;
-    }
-    let zeros = digits.iter().take_while(|digit| **digit == 0).count();
-    digits.drain(..zeros);
-    let radix = i128::from(literal.radix(Part::Exponent));
-    let size = literal.digits(Part::Exponent).fold(0, |size, digit| size * radix + i128::from(digit));
-    let exponent = if literal.exponent_sign() == b"-" { -size } else { size };
     let (radix, base) = (syntax.format().mantissa_radix(), syntax.format().exponent_base());
-    let mut powers = BTreeMap::new();
-    for (mut factor, count) in [(radix, place), (base, exponent)] {
-        for prime in 2..=36 {
-            while factor % prime == 0 {
-                *powers.entry(prime).or_insert(0) += count;
-                factor /= prime;
-            }
-        }
+    let mut number = Vec::new();
+    for digit in literal.digits(Part::Integer).chain(literal.digits(Part::Fraction)) {
+        let carry = number.iter_mut().fold(u64::from(digit), |carry, word| {
+            let sum = u64::from(*word) * u64::from(radix) + carry;
+            *word = sum as u32;
+            sum >> 32
+        });
+        number.extend((carry > 0).then_some(carry as u32));
     }
-    powers.retain(|_, count| *count != 0 && !digits.is_empty());
-    (digits, powers, literal.is_negative())
+    let place = -(literal.digits(Part::Fraction).count() as i128);
+    let scale = i128::from(literal.radix(Part::Exponent));
+    let size = literal.digits(Part::Exponent).fold(0, |size, digit| size * scale + i128::from(digit));
+    let exponent = if literal.exponent_sign() == b"-" { -size } else { size };
+    while number.last() == Some(&0) {
+        number.pop();
+    }
+    let mut powers = BTreeMap::new();
+    for prime in if number.is_empty() { &[] } else { &PRIMES[..] } {
+        let times = |number: u32| (1..).find(|power| number % prime.pow(*power) != 0).unwrap_or(1) - 1;
+        let mut count = place * i128::from(times(radix)) + exponent * i128::from(times(base));
+        while divide(&mut number, *prime) {
+            count += 1;
+        }
+        powers.extend((count != 0).then_some((*prime, count)));
+    }
+    while number.last() == Some(&0) {
+        number.pop();
+    }
+    (number, powers, literal.is_negative())
+}
+
+/// Returns whether a value is whole.
+fn is_whole(value: &Value) -> bool {
+    value.1.values().all(|count| *count > 0)
 }
 
 /// Returns whether an error is why a literal of `source` cannot be written in `target`.
-fn is_reason(error: WriteError, literal: &Literal, source: &Syntax, target: &Syntax) -> bool {
+fn is_reason(error: WriteError, literal: &Literal, exact: &Value, source: &Syntax, target: &Syntax) -> bool {
     let (from, to) = (source.format(), target.format());
     let has_exponent = !literal.exponent_character().is_empty();
     match error {
-        WriteError::Radix => from.radix() != to.radix(),
+        // The numbers of the tests have fewer than 128 bits, unless they have an exponent.
+        WriteError::Radix => from.radix() != to.radix() && (has_exponent || !is_whole(exact)),
         WriteError::Negative => literal.is_negative() && target.conditions().has(Condition::NegativeSign),
-        WriteError::Fraction => target.point().is_none() && value(literal, source).1.values().any(|count| *count < 0),
+        WriteError::Fraction => target.point().is_none() && !is_whole(exact),
         WriteError::Exponent => has_exponent && from.exponent_base() != from.radix(),
         _ => false,
     }
@@ -94,6 +124,7 @@ fn literals_are_written_in_other_languages() {
         let number = language.read(text).unwrap();
         let (literal, form) = (number.literal().unwrap(), number.form().unwrap());
         let source = language.forms()[form].syntax();
+        let exact = value(&literal, &source);
         for target in Language::ALL {
             for form in target.forms() {
                 let style = Style::PLAIN.group(text.len() % 5);
@@ -103,13 +134,13 @@ fn literals_are_written_in_other_languages() {
                         let read = form.syntax().read(&back).unwrap_or_else(|error| {
                             panic!("{language} {text:?} in {target} {}: {back:?}: {error}", form.name())
                         });
-                        let same = value(&read, &form.syntax()) == value(&literal, &source);
+                        let same = value(&read, &form.syntax()) == exact;
                         assert!(same, "{language} {text:?} in {target}: {back:?}");
                         "written".to_string()
                     }
                     Err(error) => {
                         assert!(
-                            is_reason(error, &literal, &source, &form.syntax()),
+                            is_reason(error, &literal, &exact, &source, &form.syntax()),
                             "{language} {text:?} in {target}: {error:?}"
                         );
                         format!("{error:?}")
@@ -159,7 +190,8 @@ fn flags_add_what_they_require() {
         ("-0e-6", none.required_exponent_sign(true), Ok("-0e-6")),
         ("5e6", none.required_exponent_sign(true), Ok("5e+6")),
         ("1.50", none.no_exponent_notation(true), Ok("1.50")),
-        ("5", none.mantissa_radix(8), Err(WriteError::Radix)),
+        ("15", none.mantissa_radix(8), Ok("17")),
+        ("1.5", none.mantissa_radix(8), Err(WriteError::Radix)),
         ("5e6", none.exponent_radix(binary), Ok("5e110")),
         ("5e6", none.exponent_base(binary), Ok("5000000")),
         (&long, none, Ok(&long)),
@@ -261,6 +293,92 @@ fn texts_of_each_length_are_printed_and_written() {
 }
 
 #[test]
+fn a_style_is_a_wish() {
+    let none = NumberFormatBuilder::new().required_digits(false);
+    let zeros = none.no_integer_leading_zeros(true).no_float_leading_zeros(true);
+    let (forbidden, required) = (none.no_exponent_notation(true), none.required_exponent_notation(true));
+    let grouped = none.digit_separator(NonZeroU8::new(b'_')).internal_digit_separator(true);
+    let hexadecimal = none.mantissa_radix(16).base_prefix(NonZeroU8::new(b'x')).no_integer_leading_zeros(true);
+    let (plain, never) = (Style::PLAIN, Style::PLAIN.exponent(ExponentStyle::Never));
+    let (always, from) = (plain.exponent(ExponentStyle::Always), plain.exponent(ExponentStyle::From(3)));
+    let (least, kept, groups) = (plain.min_digits(3), plain.keep_leading_zeros(), plain.group(3).fraction_group(3));
+    for (text, target, style, wanted) in [
+        ("12345.6789", grouped, groups, "12_345.678_9"),
+        ("12345.6789", none, groups, "12345.6789"),
+        ("0.123456", grouped, groups, "0.123_456"),
+        ("12", grouped, groups.min_digits(5), "00_012"),
+        ("7", none, least, "007"),
+        (".5", none, least, "000.5"),
+        ("1234", none, least, "1234"),
+        ("7", zeros, least, "7"),
+        ("7.5", zeros, least, "7.5"),
+        ("007.5", none, kept, "007.5"),
+        ("007.5", none, plain, "7.5"),
+        ("007.5", zeros, kept, "7.5"),
+        ("007.5^1", forbidden, kept, "75"),
+        ("171", hexadecimal, plain.lowercase(), "0xab"),
+        ("171", hexadecimal, least, "0x0AB"),
+        ("171", hexadecimal, least.without_base(), "AB"),
+        ("1200", none, always, "1200^0"),
+        ("1.5^3", none, always, "1.5^3"),
+        ("1200", forbidden, always, "1200"),
+        ("5", none.required_exponent_sign(true).no_exponent_without_fraction(true), always, "5.^+0"),
+        ("1.2^3", none, never, "1200"),
+        ("1.2^3", required, never, "1.2^3"),
+        ("5", required, never, "5^0"),
+        ("1^800", none, never, "1^800"),
+        ("1.2^2", none, from, "120"),
+        ("1.2^3", none, from, "1.2^3"),
+        ("1.2^-2", none, from, "0.012"),
+        ("1.2^-3", none, from, "1.2^-3"),
+        ("1200000", none, from, "1200000"),
+    ] {
+        let source = Syntax::new_or_panic(none.build_format_or_panic(), b'^', b'.');
+        let target = Syntax::new_or_panic(target.build_format_or_panic(), b'^', b'.');
+        let literal = source.read(text).unwrap();
+        assert_eq!(target.format_literal(&literal, style).unwrap().to_string(), wanted, "{text} {style:?}");
+    }
+    let floats = Syntax::new_or_panic(none.build_format_or_panic(), b'^', b'.');
+    let texts = [always, never.min_digits(3)].map(|style| floats.format_integer(-12, style).unwrap().to_string());
+    assert_eq!(texts, ["-12^0", "-012"]);
+}
+
+#[test]
+fn special_values_are_read_back() {
+    let builder = NumberFormatBuilder::new();
+    let specials = Specials { nan: Some(b"nan"), inf: Some(b"nan"), infinity: Some("\u{221E}".as_bytes()) };
+    for (sign, spelling) in [None, Some(Sign::Plus), Some(Sign::Minus)]
+        .into_iter()
+        .flat_map(|sign| [Spelling::Nan, Spelling::Inf, Spelling::Infinity].map(|spelling| (sign, spelling)))
+    {
+        for (format, plus) in
+            [(builder, ""), (builder.required_mantissa_sign(true), "+"), (builder.no_special(true), "")]
+        {
+            let syntax = Syntax::integers(format.build_format_or_panic());
+            let written = specials.format(&syntax, Special { sign, spelling });
+            if syntax.format().no_special() {
+                assert_eq!(written.unwrap_err(), WriteError::Special);
+                continue;
+            }
+            let word = if spelling == Spelling::Nan { "nan" } else { "\u{221E}" };
+            let text = format!("{}{word}", if sign == Some(Sign::Minus) { "-" } else { plus });
+            let written = written.unwrap();
+            assert_eq!((written.to_string(), format!("{written:>5}")), (text.clone(), format!("{text:>5}")));
+            assert_eq!(format!("{written:05}"), format!("{text:>5}"));
+            assert_eq!(written.write_into(&mut [0; 8]), Ok(&*text));
+            let back = specials.read(&syntax, text.as_bytes()).unwrap();
+            let (nan, minus) = (back.spelling == Spelling::Nan, back.sign == Some(Sign::Minus));
+            assert_eq!((nan, minus), (spelling == Spelling::Nan, sign == Some(Sign::Minus)));
+        }
+    }
+    let syntax = Syntax::integers(builder.build_format_or_panic());
+    let conditions = syntax.with_conditions(Conditions::NONE.no_negative_mantissa_sign(true)).unwrap();
+    let minus = Special { sign: Some(Sign::Minus), spelling: Spelling::Nan };
+    assert_eq!(specials.format(&conditions, minus).unwrap_err(), WriteError::Special);
+    assert_eq!(Specials::default().format(&syntax, minus).unwrap_err(), WriteError::Special);
+}
+
+#[test]
 fn the_style_and_conditions_decide_on_prefix_suffix_and_groups() {
     let builder = NumberFormatBuilder::new().mantissa_radix(16).base_prefix(NonZeroU8::new(b'x'));
     let builder = builder.digit_separator(NonZeroU8::new(b',')).integer_internal_digit_separator(true);
@@ -324,30 +442,79 @@ fn random_digits(state: &mut u64, radix: u128, most: u64) -> String {
 }
 
 /// Returns whether a number was written with the right value, or refused for a reason.
-fn is_right(literal: &Literal, source: &Syntax, target: &Syntax, style: Style) -> bool {
+fn is_right(literal: &Literal, exact: &Value, source: &Syntax, target: &Syntax, style: Style) -> bool {
     match target.format_literal(literal, style).map(|text| text.to_string()) {
-        Ok(text) => target.read(&text).is_ok_and(|read| value(&read, target) == value(literal, source)),
+        Ok(text) => target.read(&text).is_ok_and(|read| value(&read, target) == *exact),
         Err(WriteError::Long) => {
             target.exponent().is_none_or(|_| target.format().exponent_base() != source.format().exponent_base())
                 || target.format().no_exponent_notation()
         }
-        Err(error) => is_reason(error, literal, source, target),
+        Err(error) => is_reason(error, literal, exact, source, target),
     }
 }
 
+/// Returns whether a text is a literal with the value of an integer.
+fn is_integer(text: &str, integer: i64, target: &Syntax) -> bool {
+    let decimal = Syntax::integers(NumberFormatBuilder::new().build_format_or_panic());
+    let digits = integer.to_string();
+    let exact = value(&decimal.read(&digits).unwrap(), &decimal);
+    target.read(text).is_ok_and(|read| value(&read, target) == exact)
+}
+
+/// Returns the values of all literals of at most `most` bytes among five that a syntax names, and whether one is an integer.
+fn literals_of(target: &Syntax, most: u32) -> (HashSet<Value>, bool) {
+    let format = target.format();
+    let others = [format.base_prefix(), format.base_suffix(), format.digit_separator()]
+        .map(|it| it.map_or(b'-', NonZeroU8::get));
+    let options = [target.point(), target.exponent()].map(|it| it.unwrap_or(b'-'));
+    let mut bytes = Vec::from_iter(*b"01-");
+    bytes.extend(options.into_iter().chain(others).filter(|byte| *byte != b'-').take(2));
+    let (mut values, mut integers) = (HashSet::new(), false);
+    for length in 1..=most {
+        for index in 0..bytes.len().pow(length) {
+            let digit = |place| bytes[index / bytes.len().pow(place) % bytes.len()];
+            if let Ok(literal) = target.read_bytes(&Vec::from_iter((0..length).map(digit))) {
+                values.insert(value(&literal, target));
+                integers |= !literal.is_float();
+            }
+        }
+    }
+    (values, integers)
+}
+
+/// Each number is written in one of eight styles and, if `ALL_STYLES` is in the environment, in all.
 #[test]
 fn numbers_are_read_back_or_refused_in_any_syntax() {
     let state = &mut 20_261_127;
-    for _ in 0..500 {
+    let all = std::env::var_os("ALL_STYLES").is_some();
+    for turn in 0..500 {
         let target = random_syntax(state);
-        let styles = [Style::PLAIN, Style::PLAIN.without_base(), Style::PLAIN.group(1 + below(state, 4) as usize)];
+        // What no literal has is searched in vain.
+        let (values, integers) = literals_of(&target, if all { 8 } else { u32::from(turn % 10 == 0) * 5 });
+        let size = 1 + below(state, 4) as usize;
+        let least = Style::PLAIN.min_digits(below(state, 12) as u8);
+        let styles = [
+            Style::PLAIN,
+            Style::PLAIN.without_base(),
+            Style::PLAIN.group(size).fraction_group(5 - size),
+            least.group(0).fraction_group(0).lowercase(),
+            least.keep_leading_zeros().group(size),
+            Style::PLAIN.exponent(ExponentStyle::Never).without_base(),
+            least.exponent(ExponentStyle::Always).lowercase(),
+            Style::PLAIN.exponent(ExponentStyle::From(size as u32)).fraction_group(size),
+        ];
+        let chosen = |index: usize| if all { &styles[..] } else { &styles[index % 8..][..1] };
         for index in 0..400 {
             let value = (u64::from(below(state, 1 << 32) as u32) << 32) as i64 >> below(state, 64);
-            match target.format_integer(value, styles[index % 3]).map(|text| text.to_string()) {
-                Ok(text) => assert_eq!(target.parse::<i64>(&text), Ok(value), "{text} in {target}"),
-                Err(WriteError::Negative) => assert!(value < 0 && target.conditions().has(Condition::NegativeSign)),
-                Err(error) => {
-                    assert_eq!((error, target.format().required_exponent_notation()), (WriteError::Float, true))
+            for style in chosen(index) {
+                match target.format_integer(value, *style).map(|text| text.to_string()) {
+                    Ok(text) if style.exponent == ExponentStyle::Always => assert!(is_integer(&text, value, &target)),
+                    Ok(text) => assert_eq!(target.parse::<i64>(&text), Ok(value), "{text} in {target}"),
+                    Err(WriteError::Negative) => assert!(value < 0 && values.iter().all(|it| !it.2)),
+                    Err(error) => {
+                        let float = target.format().required_exponent_notation() && !integers;
+                        assert_eq!((error, float), (WriteError::Float, true));
+                    }
                 }
             }
         }
@@ -362,8 +529,13 @@ fn numbers_are_read_back_or_refused_in_any_syntax() {
             let power = if exponent.is_empty() { "" } else { power };
             let text = format!("{sign}{integer}{point}{fraction}{power}{exponent}");
             if let Ok(literal) = source.read(&text) {
-                for style in styles {
-                    assert!(is_right(&literal, &source, &target, style), "{text} of {source} in {target}");
+                let exact = value(&literal, &source);
+                for style in chosen(index) {
+                    let right = is_right(&literal, &exact, &source, &target, *style);
+                    let error = target.format_literal(&literal, *style).err();
+                    let none = matches!(error, Some(WriteError::Negative | WriteError::Fraction));
+                    assert!(!none || !values.contains(&exact), "{text} of {source} in {target}");
+                    assert!(right, "{text} of {source} in {target}, {style:?}");
                 }
             }
         }

@@ -1,6 +1,6 @@
 -- How a text is compared with a spelling.
 use Rattle.std.proofs.Common.{ℕ, ◌≡◌, ◌≤◌, ◌⊎◌, inl, inr, ◌+◌, ◌-◌, Bool, true, false, ◌==◌, ◌&&◌}
-use Rattle.std.proofs.Common.{◌||◌, if◌then◌else◌, nat_lt, List, [], ◌∷◌, length, get_or, drop, refl, arith}
+use Rattle.std.proofs.Common.{Some, None, option_map, ◌||◌, if◌then◌else◌, nat_lt, List, [], ◌∷◌, length, get_or, drop, refl, arith}
 use Rattle.std.proofs.lemmas.Bool.{cases_lt}
 use Rattle.std.proofs.lemmas.Bool.Decides.{nat_tests}
 use Rattle.std.proofs.lemmas.List.{drop_more, drop_all}
@@ -9,7 +9,10 @@ use Rattle.lexical_util.specs.Record.{raw}
 use Rattle.lexical_util.specs.Roles.{cased}
 use Rattle.lexical_literal.specs.Literal.{is_absent}
 use Rattle.lexical_literal.specs.Notation.{Notation, notation_of}
-use Rattle.lexical_literal.specs.Specials.{is_spelled, letter_of, special_separator}
+use Rattle.lexical_literal.specs.Specials.{allows, is_spelled, letter_of, signed, special_of, special_separator, spelling_of}
+use Rattle.lexical_literal.specs.declared.specials.Sign.{Sign}
+use Rattle.lexical_literal.specs.declared.specials.Sign.TheVariants as signs
+use Rattle.lexical_literal.specs.declared.specials.Specials.{Specials}
 use Rattle.lexical_literal.specs.declared.syntax.Grammar.{Grammar}
 
 -- No other byte is a separator.
@@ -95,3 +98,9 @@ module _ (m : Notation) (x : ℕ) where
     | inl inside ↦ let last = drop_more word n 0 inside in let same = now.same in grind (arith, nat_tests)
     | inr past ↦ let last = drop_all n word past in let same = now.same in let within = now.within in grind (arith, nat_tests)
   ]
+
+-- A sign before a word is the sign of the text.
+pub of_signed : (m : Notation) (specials : Specials) (sign : Sign) (word : List ℕ) → special_of m specials (signed (Some sign) word)
+    ≡ (if allows m (Some sign) then option_map (λ spelling. record { sign = Some sign; spelling = spelling }) (spelling_of m specials word) else None)
+of_signed m specials signs.Plus word = refl
+of_signed m specials signs.Minus word = refl

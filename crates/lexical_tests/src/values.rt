@@ -16,7 +16,7 @@ use lexical_value::parse::{ParseError, parse_float, parse_integer};
 use lexical_writer::float::format_float;
 use lexical_writer::float_digits::FloatDigits;
 use lexical_writer::integer::format_integer;
-use lexical_writer::layout::{Grouping, Style, WriteError};
+use lexical_writer::layout::{ExponentStyle, Grouping, Style, WriteError};
 use lexical_writer::literal::format_literal;
 use std::test::Fail;
 
@@ -262,11 +262,7 @@ fn a_tie_of_770_digits_is_even_unless_a_digit_follows(rt: HostRuntime) {
     assert!(rt; bits(DECIMAL, ABOVE_A_TIE) == Some((below + 1, 0)));
 }
 
-const PLAIN: Style = Style {
-    group: Grouping::AsSyntax,
-    prefix: true,
-    suffix: true,
-};
+const PLAIN: Style = Style::PLAIN;
 
 #[test]
 fn numbers_are_written(rt: HostRuntime) -> Result<(), Fail> {
@@ -317,27 +313,165 @@ fn floats_are_written_by_their_shortest_digits(rt: HostRuntime) {
     assert_eq!(rt; is_float_text(f64::INFINITY, Err(WriteError::Special)), Some(true));
 }
 
-// Returns what is written of a text of the standard format as an integer.
-fn whole<'a>(text: &str, buffer: &'a mut [u8]) -> Result<&'a [u8], WriteError> {
-    let format = Format::new(STANDARD).map_err(|_| WriteError::Special)?;
-    let syntax = Syntax::new(format, b'e', b'.').map_err(|_| WriteError::Special)?;
+// Returns what is written of a text of a format without requirements, which may be a float, in another format.
+fn converted<'a>(
+    text: &str,
+    word: u128,
+    floats: bool,
+    style: Style,
+    buffer: &'a mut [u8],
+) -> Result<&'a [u8], WriteError> {
+    let format = Format::new(text_format(text)).map_err(|_| WriteError::Special)?;
+    let syntax = Syntax::new(format, b'^', b'.').map_err(|_| WriteError::Special)?;
     let literal = syntax
         .read(text.as_bytes())
         .map_err(|_| WriteError::Special)?;
-    let layout = format_literal(&literal, &Syntax::integers(format), PLAIN)?;
+    let format = Format::new(word).map_err(|_| WriteError::Special)?;
+    let target = match Syntax::new(format, b'^', b'.') {
+        Ok(target) if floats => target,
+        _ => Syntax::integers(format),
+    };
+    let layout = format_literal(&literal, &target, style)?;
     let length = layout.write(buffer);
     buffer.get(..length).ok_or(WriteError::Buffer(length))
 }
 
+// Returns the format of a text: hexadecimal with a prefix, and otherwise decimal.
+fn text_format(text: &str) -> u128 {
+    if text.contains('x') {
+        0x0A101000_78000000_00000000_00000000
+    } else {
+        0x0A0A0A00_00000000_00000000_00000000
+    }
+}
+
+// Decimal formats without requirements, with groups of any size in both parts, without leading zeros, and with an exponent.
+const BARE: u128 = 0x0A0A0A00_00000000_00000000_00000000;
+
+const GROUPED: u128 = 0x0A0A0A00_0000005F_00000003_00000000;
+
+const NO_ZEROS: u128 = 0x0A0A0A00_00000000_00000000_00003000;
+
+const EXPONENT: u128 = 0x0A0A0A00_00000000_00000000_00004000;
+
+const NO_EXPONENT: u128 = 0x0A0A0A00_00000000_00000000_00000040;
+
+const PREFIX: u128 = 0x0A101000_78000000_00000000_00003000;
+
+const LEAST: Style = Style {
+    min_digits: 3,
+    ..PLAIN
+};
+
+const KEPT: Style = Style {
+    keep_leading_zeros: true,
+    ..PLAIN
+};
+
+const GROUPS: Style = Style {
+    group: Grouping::Of(3),
+    fraction_group: Grouping::Of(3),
+    ..PLAIN
+};
+
+const LOWER: Style = Style {
+    lowercase: true,
+    min_digits: 4,
+    ..PLAIN
+};
+
+const ALWAYS: Style = Style {
+    exponent: ExponentStyle::Always,
+    ..PLAIN
+};
+
+const NEVER: Style = Style {
+    exponent: ExponentStyle::Never,
+    ..PLAIN
+};
+
+const FROM_3: Style = Style {
+    exponent: ExponentStyle::From(3),
+    ..PLAIN
+};
+
+// A text, a format, whether its literals can be floats, a style, and what is written.
+#[rattlefmt::skip]
+const WRITTEN: [(&str, u128, bool, Style, &[u8]); 36] = [
+    ("-12.50^2", NO_EXPONENT, true, PLAIN, b"-1250"),
+    ("1.50", NO_EXPONENT, true, PLAIN, b"1.50"),
+    ("1.0", BARE, false, PLAIN, b"1"),
+    ("0^-9", BARE, false, PLAIN, b"0"),
+    ("12.50^1", NO_EXPONENT, true, PLAIN, b"125"),
+    ("1^-7", NO_EXPONENT, true, PLAIN, b"0.0000001"),
+    ("0xFF", BARE, true, PLAIN, b"255"),
+    ("-0x10.0^2", BARE, false, PLAIN, b"-4096"),
+    ("255", PREFIX, true, PLAIN, b"0xFF"),
+    ("12345.6789", GROUPED, true, GROUPS, b"12_345.678_9"),
+    ("12345.6789", GROUPED, true, PLAIN, b"12345.6789"),
+    ("12345.6789", BARE, true, GROUPS, b"12345.6789"),
+    ("0xAB", PREFIX, true, LOWER, b"0x00ab"),
+    ("7", BARE, true, LEAST, b"007"),
+    (".5", BARE, true, LEAST, b"000.5"),
+    ("7", NO_ZEROS, true, LEAST, b"7"),
+    ("7.5", NO_ZEROS, true, LEAST, b"7.5"),
+    ("0x7", PREFIX, true, LEAST, b"0x007"),
+    ("007.5", BARE, true, KEPT, b"007.5"),
+    ("007.5", BARE, true, PLAIN, b"7.5"),
+    ("007.5", NO_ZEROS, true, KEPT, b"7.5"),
+    ("007.5^1", NO_EXPONENT, true, KEPT, b"75"),
+    ("1200", BARE, true, ALWAYS, b"1200^0"),
+    ("1.5^3", BARE, true, ALWAYS, b"1.5^3"),
+    ("1200", NO_EXPONENT, true, ALWAYS, b"1200"),
+    ("1200", BARE, false, ALWAYS, b"1200"),
+    ("1.2^3", BARE, true, NEVER, b"1200"),
+    ("1.2^3", BARE, true, PLAIN, b"1.2^3"),
+    ("1.2^3", EXPONENT, true, NEVER, b"1.2^3"),
+    ("5", EXPONENT, true, NEVER, b"5^0"),
+    ("1^800", BARE, true, NEVER, b"1^800"),
+    ("1.2^2", BARE, true, FROM_3, b"120"),
+    ("1.2^3", BARE, true, FROM_3, b"1.2^3"),
+    ("1.2^-3", BARE, true, FROM_3, b"1.2^-3"),
+    ("1.2^-2", BARE, true, FROM_3, b"0.012"),
+    ("1200000", BARE, true, FROM_3, b"1200000"),
+];
+
 #[test]
-fn the_point_moves_where_no_exponent_is_allowed(rt: HostRuntime) {
+fn literals_are_written_in_a_style(rt: HostRuntime) {
+    for (text, word, floats, style, wanted) in &WRITTEN {
+        let mut buffer = [0u8; 16];
+        let written = converted(*text, *word, *floats, *style, &mut buffer);
+        assert!(rt; matches!(written, Ok(it) if it == *wanted), "{text}");
+    }
+}
+
+#[test]
+fn what_is_not_whole_or_too_long_is_refused(rt: HostRuntime) {
     let mut buffer = [0u8; 8];
-    assert!(rt; matches!(whole("-12.50e2", &mut buffer), Ok(b"-1250")));
-    assert!(rt; matches!(whole("120e-1", &mut buffer), Ok(b"12")));
-    assert!(rt; matches!(whole("1.0", &mut buffer), Ok(b"1")));
-    assert!(rt; matches!(whole("0e-9", &mut buffer), Ok(b"0")));
-    assert!(rt; matches!(whole("12.5", &mut buffer), Err(WriteError::Fraction)));
-    assert!(rt; matches!(whole("1e800", &mut buffer), Err(WriteError::Long)));
+    assert!(rt;
+        matches!(
+            converted("12.5", BARE, false, PLAIN, &mut buffer),
+            Err(WriteError::Fraction)
+        )
+    );
+    assert!(rt;
+        matches!(
+            converted("0x1.8", BARE, false, PLAIN, &mut buffer),
+            Err(WriteError::Fraction)
+        )
+    );
+    assert!(rt;
+        matches!(
+            converted("0x1.8", BARE, true, PLAIN, &mut buffer),
+            Err(WriteError::Radix)
+        )
+    );
+    assert!(rt;
+        matches!(
+            converted("1^800", BARE, false, NEVER, &mut buffer),
+            Err(WriteError::Long)
+        )
+    );
 }
 
 // Returns whether a clone is equal to the value.

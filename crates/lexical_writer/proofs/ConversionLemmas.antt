@@ -1,5 +1,5 @@
 -- What is written of a literal has its value.
-use Rattle.std.proofs.Common.{ℕ, ◌≡◌, ◌*◌, ◌^◌, ◌&&◌, ◌||◌, ◌⊎◌, inl, inr, if◌then◌else◌, Bool, true, false, List, [], ◌∷◌, ◌++◌, length}
+use Rattle.std.proofs.Common.{ℕ, ◌≡◌, ◌≤◌, ◌*◌, ◌^◌, ◌&&◌, ◌||◌, ◌⊎◌, inl, inr, if◌then◌else◌, Bool, true, false, List, [], ◌∷◌, ◌++◌, length}
 use Rattle.std.proofs.Common.{Some, None, Ok, unwrap_or, sym, ap, ◌∙◌, arith}
 use Rattle.std.proofs.Math.Nat.{pow-suc, pow-zero}
 use Rattle.std.proofs.lemmas.Bool.Decides.{nat_tests}
@@ -16,8 +16,9 @@ use Rattle.lexical_number.specs.Number.{digits_in, number}
 use Rattle.lexical_literal.specs.Read.{mantissa}
 use Rattle.lexical_value.specs.Value.{power, scale}
 use Rattle.lexical_writer.specs.Conversion.{SameFraction, amount_of, fraction_of, source_of}
-use Rattle.lexical_writer.specs.Digits.{or_zero, size_of, values_of}
-use Rattle.lexical_writer.specs.Layout.{HasNumber, given_fraction, given_power}
+use Rattle.lexical_writer.proofs.DigitLemmas.{enough}
+use Rattle.lexical_writer.specs.Digits.{at_least, size_of, values_of}
+use Rattle.lexical_writer.specs.Layout.{HasNumber, given_fraction, given_power, one_if}
 use Rattle.lexical_writer.specs.declared.layout.Amount.{Amount}
 use Rattle.lexical_writer.specs.declared.run.Source.{Source}
 use Rattle.lexical_writer.specs.declared.run.Source.TheVariants as sources
@@ -27,11 +28,14 @@ cross m s q u d = omega arith
 
 -- A 0 that stands for absent digits makes the number and the scale larger by the same factor.
 pub zero_scaled : (radix n : ℕ) (none : Bool) (digits : List ℕ) → (q : ℕ) × (number_from_digits_after radix n
-    (or_zero none digits) ≡ number_from_digits_after radix n digits * q)
-    × (radix ^ length (or_zero none digits) ≡ radix ^ length digits * q)
+    (at_least (one_if none) digits) ≡ number_from_digits_after radix n digits * q)
+    × (radix ^ length (at_least (one_if none) digits) ≡ radix ^ length digits * q)
 zero_scaled radix n true [] = (radix, omega arith, pow-suc radix 0)
 zero_scaled radix n false [] = (1, omega arith, omega arith)
-zero_scaled radix n none (d ∷ digits) = (1, omega arith, omega arith)
+zero_scaled radix n none (d ∷ digits) =
+    let most : (none : Bool) → one_if none ≤ length (d ∷ digits) = λ none. grind (arith, nat_tests) in
+    let same = enough (one_if none) (d ∷ digits) (most none) in
+    (1, ap (number_from_digits_after radix n) same ∙ omega arith, ap (λ (ds : List ℕ). radix ^ length ds) same ∙ omega arith)
 
 -- The digits of the exponent represent the number that they represent in the literal.
 source_is : (bytes : Bor (List ℕ)) (from to : ℕ) (source : Source) → source_of bytes from to ≡ Ok source → size_of to source ≡ number from bytes.now
@@ -48,7 +52,6 @@ no_number radix bytes a none = grind arith
 module _ (r : Record) (parts : Parts) (s : Record) where
   -- `IsAmount amount` holds if `amount` has the signs and the digits of `parts`. An exponent that it lacks is 0.
   record IsAmount (amount : Amount) : Type 0 where
-    radix : r.byte layout.mantissa_radix ≡ s.byte layout.mantissa_radix
     negative : amount.negative ≡ is_minus parts.sign.now
     integer : size_of (s.byte layout.mantissa_radix) amount.integer ≡ number (s.byte layout.mantissa_radix) parts.integer.now
     fraction : values_of (s.byte layout.mantissa_radix) (given_fraction amount) ≡ digits_in (s.byte layout.mantissa_radix) parts.fraction.now
@@ -58,7 +61,6 @@ module _ (r : Record) (parts : Parts) (s : Record) where
 
   is_amount : (amount : Amount) → amount_of r parts s ≡ Ok amount → IsAmount amount
   is_amount amount is = record {
-    radix = grind (arith, nat_tests);
     negative = grind (arith, nat_tests);
     integer = grind (arith, nat_tests);
     fraction =
@@ -78,9 +80,9 @@ same_powers given negative written b c n k sign is (inr none) =
     (grind arith, grind arith)
 
 -- What has the digits of the amount of a literal has its value.
-pub same_fraction : (r : Record) (parts : Parts) (g : Grammar) (amount : Amount) → amount_of r parts (raw g.word) ≡ Ok amount
-    → (l : Literal) → HasNumber g amount l → SameFraction r (literal_of parts) (raw g.word) l
-same_fraction r parts g amount is l has =
+pub same_fraction : (r : Record) (parts : Parts) (g : Grammar) (amount : Amount) → r.byte layout.mantissa_radix ≡ (raw g.word).byte layout.mantissa_radix
+    → amount_of r parts (raw g.word) ≡ Ok amount → (l : Literal) → HasNumber g amount l → SameFraction r (literal_of parts) (raw g.word) l
+same_fraction r parts g amount same is l has =
     let a = is_amount r parts (raw g.word) amount is in
     let s = raw g.word in
     let k = literal_of parts in
@@ -89,9 +91,9 @@ same_fraction r parts g amount is l has =
     let places = digits_in radix parts.fraction.now in
     let factor = zero_scaled radix front has.zero places in
     let given_mantissa : mantissa r k ≡ number_from_digits_after radix front places =
-    ap (λ b. number b (parts.integer.now ++ parts.fraction.now)) a.radix ∙ number_after-append radix 0 parts.integer.now parts.fraction.now in
-    let given_scale : scale r k ≡ radix ^ length places = ap (λ b. b ^ length (digits_in b parts.fraction.now)) a.radix in
-    let fraction : digits_in radix l.fraction ≡ or_zero has.zero places = has.fraction ∙ ap (or_zero has.zero) a.fraction in
+    ap (λ b. number b (parts.integer.now ++ parts.fraction.now)) same ∙ number_after-append radix 0 parts.integer.now parts.fraction.now in
+    let given_scale : scale r k ≡ radix ^ length places = ap (λ b. b ^ length (digits_in b parts.fraction.now)) same in
+    let fraction : digits_in radix l.fraction ≡ at_least (one_if has.zero) places = has.fraction ∙ ap (at_least (one_if has.zero)) a.fraction in
     let written_mantissa : mantissa s l ≡ number_from_digits_after radix front places * factor.0 =
     number_after-append radix 0 l.integer l.fraction ∙ (λ i. number_from_digits_after radix ((has.integer ∙ a.integer) i) (fraction i)) ∙ factor.1 in
     let written_scale : scale s l ≡ radix ^ length places * factor.0 = ap (λ digits. radix ^ length digits) fraction ∙ factor.2 in

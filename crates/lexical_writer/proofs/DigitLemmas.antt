@@ -2,8 +2,8 @@
 use Rattle.std.proofs.Common.{ℕ, ◌≡◌, ◌+◌, ◌*◌, ◌<◌, ◌≤◌, ◌||◌, Bool, true, false, cond, nat_lt, List, [], ◌∷◌, ◌++◌, length, drop, get_or}
 use Rattle.std.proofs.Common.{Option, ◌-◌, ◌/◌, ◌%◌, map, set, slice_get, option_to_list, Some, None, refl, sym, ap, ◌∙◌, arith, suc, zero, drop-cons, add-one, replicate, append-nil, subst, inl, inr}
 use Rattle.std.proofs.lemmas.Bool.{cases_lt}
-use Rattle.std.proofs.lemmas.Int.Digits.{all_below_base_digits_of, digits_of_step, first_digits_of, length-digits_of_step, number_after_append}
-use Rattle.std.proofs.lemmas.List.{append_assoc, drop-set, length-append, length-set, map_push}
+use Rattle.std.proofs.lemmas.Int.Digits.{all_below_base_digits_of, digits_of_step, length-digits_of_step, number_after_append}
+use Rattle.std.proofs.lemmas.List.{append_assoc, drop-set, length-append, length-map, length-set, map_push}
 use Rattle.std.proofs.lemmas.Bool.Decides.{nat_tests}
 use Rattle.std.proofs.Math.Nat.{div-div-eq-div-mul}
 use Rattle.std.proofs.lemmas.Nat.{div-mul-add, mod-mul-add}
@@ -11,11 +11,11 @@ use Rattle.std.proofs.lemmas.Option.{get_or_from_slice_get}
 use Rattle.std.specs.Int.Digits.{AllBelowBase, digits_of, number_from_digits, number_from_digits_after}
 use Rattle.std.specs.List.{cons_option}
 use Rattle.lexical_util.specs.Digits.{byte_value, digit_characters, digit_of}
-use Rattle.lexical_base.proofs.ValueLemmas.{digit_of-digit_character}
+use Rattle.lexical_base.proofs.ValueLemmas.{byte_value-digit_character, same_at}
 use Rattle.lexical_literal.specs.Literal.{is_present}
 use Rattle.lexical_number.specs.Number.{digits_in, number}
-use Rattle.lexical_writer.specs.Digits.{character, ends_group, grouped, grouped_front, no_groups, only_if, or_zero, padded_values, separated, values_of}
-use Rattle.lexical_writer.specs.declared.run.Groups.{Groups}
+use Rattle.lexical_writer.specs.Digits.{at_least, character, ends_group, grouped, grouped_front, no_groups, only_if, padded_values, separated, values_of}
+use Rattle.lexical_writer.specs.declared.run.Pattern.{Pattern}
 use Rattle.lexical_writer.specs.declared.run.Padded.{Padded}
 use Rattle.lexical_writer.specs.declared.run.Source.{Source}
 use Rattle.lexical_writer.specs.declared.run.Source.TheVariants as sources
@@ -118,57 +118,72 @@ lead radix i d bytes two inside is some =
     first ∙ sym (ap (λ digits. digits_of radix (number_from_digits radix digits)) first
     ∙ after radix 0 d (digits_in radix rest) two (omega arith) (below, digits_below radix rest))
 
+-- The character of a digit, in either case, has its value.
+pub character_value : (lowercase : Bool) (d : ℕ) → d < 36 → byte_value (character lowercase d) ≡ d
+unfolding byte_value
+character_value true d below = same_at (λ d. byte_value (character true d)) (λ d. d) 36 d refl below
+character_value false d below = byte_value-digit_character d below
+
+character_digit : (lowercase : Bool) (radix d : ℕ) → radix ≤ 36 → d < radix → digit_of (character lowercase d) radix ≡ Some d
+character_digit lowercase radix d small below =
+    let value = character_value lowercase d (omega (arith, small, below)) in
+    let test : nat_lt d radix ≡ true = grind (arith, nat_tests) in
+    rw (value, test) refl
+
 -- The digits among grouped ones are those that were grouped.
-pub grouped_digits : (radix separator : ℕ) (group : Groups) → radix ≤ 36 → (0 < group.higher → digit_of separator radix ≡ None) → (digits : List ℕ) → AllBelowBase radix digits
-    → digits_in radix (grouped separator group digits) ≡ digits
-grouped_digits radix separator group small apart [] all = refl
-grouped_digits radix separator group small apart (d ∷ digits) all =
-    let first = digit_of-digit_character d (omega (arith, all.0)) radix all.0 in
-    let between = skipped (ends_group group (length digits)) (λ is. apart (grind (arith, nat_tests))) in
-    let rest = grouped_digits radix separator group small apart digits all.1 in
-    ap (λ digit. cons_option digit (digits_in radix (separated separator group (length digits) ++ grouped separator group digits))) first
+pub grouped_digits : (radix : ℕ) (pattern : Pattern) → radix ≤ 36 → (0 < pattern.higher → digit_of pattern.separator radix ≡ None) → (digits : List ℕ)
+    → AllBelowBase radix digits → digits_in radix (grouped pattern digits) ≡ digits
+grouped_digits radix pattern small apart [] all = refl
+grouped_digits radix pattern small apart (d ∷ digits) all =
+    let first = character_digit pattern.lowercase radix d small all.0 in
+    let between = skipped (ends_group pattern (length digits)) (λ is. apart (grind (arith, nat_tests))) in
+    let rest = grouped_digits radix pattern small apart digits all.1 in
+    ap (λ digit. cons_option digit (digits_in radix (separated pattern (length digits) ++ grouped pattern digits))) first
     ∙ ap (λ digits. d ∷ digits) (between ∙ rest)
   where
-    skipped : (test : Bool) → (test ≡ true → digit_of separator radix ≡ None)
-        → digits_in radix (option_to_list (only_if test separator) ++ grouped separator group digits) ≡ digits_in radix (grouped separator group digits)
+    skipped : (test : Bool) → (test ≡ true → digit_of pattern.separator radix ≡ None)
+        → digits_in radix (option_to_list (only_if test pattern.separator) ++ grouped pattern digits) ≡ digits_in radix (grouped pattern digits)
     skipped true none = rw (none refl) refl
     skipped false none = refl
 
 -- Without groups, digits are written one after the other.
-pub grouped_plain : (separator : ℕ) (group : Groups) (digits : List ℕ) → group.higher ≡ 0 → grouped separator group digits ≡ map character digits
-grouped_plain separator group [] plain = refl
-grouped_plain separator group (d ∷ digits) plain =
-    let none : ends_group group (length digits) ≡ false = grind (arith, nat_tests) in
-    rw (none, grouped_plain separator group digits plain) refl
+pub grouped_plain : (pattern : Pattern) (digits : List ℕ) → pattern.higher ≡ 0 → grouped pattern digits ≡ map (character pattern.lowercase) digits
+grouped_plain pattern [] plain = refl
+grouped_plain pattern (d ∷ digits) plain =
+    let none : ends_group pattern (length digits) ≡ false = grind (arith, nat_tests) in
+    rw (none, grouped_plain pattern digits plain) refl
 
-pub read_back : (radix n : ℕ) → 2 ≤ radix → radix ≤ 36 → digits_in radix (map character (digits_of radix n)) ≡ digits_of radix n
-read_back radix n two small = ap (digits_in radix) (sym (grouped_plain 0 no_groups (digits_of radix n) refl))
-    ∙ grouped_digits radix 0 no_groups small (λ some. absurd (omega (arith, some))) (digits_of radix n) (all_below_base_digits_of radix n two)
+pub read_back : (radix n : ℕ) (bytes : List ℕ) → 2 ≤ radix → radix ≤ 36 → bytes ≡ map (character false) (digits_of radix n)
+    → digits_in radix bytes ≡ digits_of radix n
+read_back radix n bytes two small is = ap (digits_in radix) (is ∙ sym (grouped_plain (no_groups false) (digits_of radix n) refl))
+    ∙ grouped_digits radix (no_groups false) small (λ some. absurd (omega (arith, some))) (digits_of radix n) (all_below_base_digits_of radix n two)
 
-pub plain_text : (separator : ℕ) (group : Groups) (radix n : ℕ) (none : Bool) → 2 ≤ radix → group.higher ≡ 0 → 0 < n
-    → grouped separator group (or_zero none (digits_of radix n)) ≡ map character (digits_of radix n)
-plain_text separator group radix n none two plain some =
-    go (digits_of radix n) (first_digits_of radix n two some)
-  where
-    go : (digits : List ℕ) → 0 < get_or digits 0 0 → grouped separator group (or_zero none digits) ≡ map character digits
-    go [] none = absurd (omega (arith, none))
-    go (d ∷ digits) some = grouped_plain separator group (d ∷ digits) plain
+-- Enough digits are those that there are.
+pub enough : (least : ℕ) (digits : List ℕ) → least ≤ length digits → at_least least digits ≡ digits
+enough least digits most = ap (λ k. replicate k 0 ++ digits) {x = least - length digits} {y = 0} (omega (arith, most))
+
+pub plain_text : (pattern : Pattern) (least : ℕ) (bytes digits : List ℕ) → bytes ≡ map (character false) digits → pattern.higher ≡ 0
+    → pattern.lowercase ≡ false → least ≤ length bytes → grouped pattern (at_least least digits) ≡ bytes
+plain_text pattern least bytes digits are plain upper most =
+    let count = ap length are ∙ length-map digits (character false) in
+    ap (grouped pattern) (enough least digits (omega (arith, most, count))) ∙ grouped_plain pattern digits plain
+    ∙ ap (λ lower. map (character lower) digits) upper ∙ sym are
 
 -- The last digit of what is left of a number is written before the digits that have been written.
 pub one_more : (radix n start c : ℕ) (buffer : List ℕ) → 2 ≤ radix → 0 < n → 1 ≤ start → start ≤ length buffer
     → slice_get digit_characters (n % radix) ≡ Some c
-    → map character (digits_of radix (n / radix)) ++ drop (start - 1) (set buffer (start - 1) c) ≡ map character (digits_of radix n) ++ drop start buffer
+    → map (character false) (digits_of radix (n / radix)) ++ drop (start - 1) (set buffer (start - 1) c) ≡ map (character false) (digits_of radix n) ++ drop start buffer
 one_more radix n start c buffer two some room inside is =
     let same : start ≡ start - 1 + 1 = omega arith in
-    let text : map character (digits_of radix n) ≡ map character (digits_of radix (n / radix)) ++ c ∷ [] =
-    ap (map character) (digits_of_step radix n two some) ∙ map_push character (digits_of radix (n / radix)) (n % radix)
-    ∙ ap (λ b. map character (digits_of radix (n / radix)) ++ b ∷ []) (get_or_from_slice_get digit_characters (n % radix) c 0 is) in
-    rw (drop-set buffer (start - 1) c (omega arith), text, append_assoc) (ap (λ k. map character (digits_of radix (n / radix)) ++ c ∷ drop k buffer) (sym same))
+    let text : map (character false) (digits_of radix n) ≡ map (character false) (digits_of radix (n / radix)) ++ c ∷ [] =
+    ap (map (character false)) (digits_of_step radix n two some) ∙ map_push (character false) (digits_of radix (n / radix)) (n % radix)
+    ∙ ap (λ b. map (character false) (digits_of radix (n / radix)) ++ b ∷ []) (get_or_from_slice_get digit_characters (n % radix) c 0 is) in
+    rw (drop-set buffer (start - 1) c (omega arith), text, append_assoc) (ap (λ k. map (character false) (digits_of radix (n / radix)) ++ c ∷ drop k buffer) (sym same))
 
 -- The last two digits, of which the last is written first.
 pub two_more : (n start a b : ℕ) (buffer : List ℕ) → 10 ≤ n → 2 ≤ start → start ≤ length buffer
     → slice_get digit_characters (n % 100 / 10) ≡ Some a → slice_get digit_characters (n % 100 % 10) ≡ Some b
-    → map character (digits_of 10 (n / 100)) ++ drop (start - 2) (set (set buffer (start - 1) b) (start - 2) a) ≡ map character (digits_of 10 n) ++ drop start buffer
+    → map (character false) (digits_of 10 (n / 100)) ++ drop (start - 2) (set (set buffer (start - 1) b) (start - 2) a) ≡ map (character false) (digits_of 10 n) ++ drop start buffer
 two_more n start a b buffer two room inside first second =
     let front : n / 10 / 10 ≡ n / 100 = div-div-eq-div-mul n 10 10 in
     let place : start - 1 - 1 ≡ start - 2 = omega arith in
@@ -176,71 +191,86 @@ two_more n start a b buffer two room inside first second =
     let low : n % 10 ≡ n % 100 % 10 = omega (arith, two) in
     let before = one_more 10 (n / 10) (start - 1) a (set buffer (start - 1) b) (omega arith) (omega (arith, two)) (omega (arith, room))
     (omega (arith, inside, length-set buffer (start - 1) b)) (ap (slice_get digit_characters) high ∙ first) in
-    sym (λ i. map character (digits_of 10 (front i)) ++ drop (place i) (set (set buffer (start - 1) b) (place i) a)) ∙ before
+    sym (λ i. map (character false) (digits_of 10 (front i)) ++ drop (place i) (set (set buffer (start - 1) b) (place i) a)) ∙ before
     ∙ one_more 10 n start b buffer (omega arith) (omega (arith, two)) (omega (arith, room)) inside (ap (slice_get digit_characters) low ∙ second)
 
 -- Whether grouped digits are present.
-pub grouped_present : (separator : ℕ) (group : Groups) (none : Bool) (digits : List ℕ)
-    → is_present (grouped separator group (or_zero none digits)) ≡ (none || is_present digits)
-grouped_present separator group true [] = refl
-grouped_present separator group false [] = refl
-grouped_present separator group true (d ∷ digits) = refl
-grouped_present separator group false (d ∷ digits) = refl
+grouped_some : (pattern : Pattern) (digits : List ℕ) → is_present (grouped pattern digits) ≡ is_present digits
+grouped_some pattern [] = refl
+grouped_some pattern (d ∷ digits) = refl
 
--- A 0 for absent digits is a digit, and does not change the number.
-pub zero_below : (radix : ℕ) (none : Bool) (digits : List ℕ) → 2 ≤ radix → AllBelowBase radix digits → AllBelowBase radix (or_zero none digits)
-zero_below radix true [] two all = (omega arith, tt)
-zero_below radix false [] two all = tt
-zero_below radix none (d ∷ digits) two all = all
+pub grouped_present : (pattern : Pattern) (least : ℕ) (digits : List ℕ)
+    → is_present (grouped pattern (at_least least digits)) ≡ (nat_lt 0 least || is_present digits)
+grouped_present pattern least digits = grouped_some pattern (at_least least digits) ∙ some least digits
+  where
+    behind : (k d : ℕ) (digits : List ℕ) → is_present (replicate k 0 ++ (d ∷ digits)) ≡ true
+    behind zero d digits = refl
+    behind (suc k) d digits = refl
 
-pub zero_number : (radix : ℕ) (none : Bool) (digits : List ℕ) → number_from_digits radix (or_zero none digits) ≡ number_from_digits radix digits
-zero_number radix true [] = omega arith
-zero_number radix false [] = refl
-zero_number radix none (d ∷ digits) = refl
+    or_true : (test : Bool) → (test || true) ≡ true
+    or_true true = refl
+    or_true false = refl
+
+    positive : (least : ℕ) → (nat_lt 0 (suc least) || false) ≡ true
+    positive least = grind (arith, nat_tests)
+
+    some : (least : ℕ) (digits : List ℕ) → is_present (at_least least digits) ≡ (nat_lt 0 least || is_present digits)
+    some zero [] = refl
+    some (suc least) [] = ap (λ k. is_present (replicate {A = ℕ} k 0 ++ [])) {x = suc least - 0} {y = suc least} (omega arith) ∙ sym (positive least)
+    some least (d ∷ digits) = behind (least - length (d ∷ digits)) d digits ∙ sym (or_true (nat_lt 0 least))
+
+-- Zeros before digits are digits, and do not change the number.
+pub least_below : (radix least : ℕ) (digits : List ℕ) → 2 ≤ radix → AllBelowBase radix digits → AllBelowBase radix (at_least least digits)
+least_below radix least digits two all = both_below radix _ _ (zeros_below radix (least - length digits) two) all
+
+pub least_number : (radix least : ℕ) (digits : List ℕ) → number_from_digits radix (at_least least digits) ≡ number_from_digits radix digits
+least_number radix least digits = zeros_number radix (least - length digits) digits
 
 -- What is written of digits is what is written of the first ones, and then of the others.
-pub grouped_parts : (separator : ℕ) (group : Groups) (left : ℕ) (xs ys : List ℕ) → left ≡ length (xs ++ ys)
-    → grouped separator group (xs ++ ys) ≡ grouped_front separator group left xs ++ grouped separator group ys
-grouped_parts separator group left [] ys is = refl
-grouped_parts separator group left (x ∷ xs) ys is =
+pub grouped_parts : (pattern : Pattern) (left : ℕ) (xs ys : List ℕ) → left ≡ length (xs ++ ys)
+    → grouped pattern (xs ++ ys) ≡ grouped_front pattern left xs ++ grouped pattern ys
+grouped_parts pattern left [] ys is = refl
+grouped_parts pattern left (x ∷ xs) ys is =
     let fewer : length (xs ++ ys) ≡ left - 1 = omega (arith, is) in
-    ap (λ rest. character x ∷ separated separator group (length (xs ++ ys)) ++ rest) (grouped_parts separator group (left - 1) xs ys (sym fewer))
-    ∙ ap (λ k. character x ∷ separated separator group k ++ (grouped_front separator group (left - 1) xs ++ grouped separator group ys)) fewer
-    ∙ sym (ap (λ rest. character x ∷ rest) (append_assoc (separated separator group (left - 1)) (grouped_front separator group (left - 1) xs)
-    (grouped separator group ys)))
+    ap (λ rest. character pattern.lowercase x ∷ separated pattern (length (xs ++ ys)) ++ rest) (grouped_parts pattern (left - 1) xs ys (sym fewer))
+    ∙ ap (λ k. character pattern.lowercase x ∷ separated pattern k ++ (grouped_front pattern (left - 1) xs ++ grouped pattern ys)) fewer
+    ∙ sym (ap (λ rest. character pattern.lowercase x ∷ rest) (append_assoc (separated pattern (left - 1)) (grouped_front pattern (left - 1) xs)
+    (grouped pattern ys)))
 
-grouped_last : (separator : ℕ) (group : Groups) (left : ℕ) (digits : List ℕ) → left ≡ length digits
-    → grouped_front separator group left digits ≡ grouped separator group digits
-grouped_last separator group left digits is =
-    sym (append-nil (grouped_front separator group left digits))
-    ∙ sym (grouped_parts separator group left digits [] (is ∙ sym (ap length (append-nil digits)))) ∙ ap (grouped separator group) (append-nil digits)
+grouped_last : (pattern : Pattern) (left : ℕ) (digits : List ℕ) → left ≡ length digits
+    → grouped_front pattern left digits ≡ grouped pattern digits
+grouped_last pattern left digits is =
+    sym (append-nil (grouped_front pattern left digits))
+    ∙ sym (grouped_parts pattern left digits [] (is ∙ sym (ap length (append-nil digits)))) ∙ ap (grouped pattern) (append-nil digits)
 
 -- Digits between zeros are written one part after the other.
-pub padded_text : (separator : ℕ) (group : Groups) (text a b c d : List ℕ) (n behind between last : ℕ) → n ≡ length (a ++ (b ++ (c ++ d)))
+pub padded_text : (pattern : Pattern) (text a b c d : List ℕ) (n behind between last : ℕ) → n ≡ length (a ++ (b ++ (c ++ d)))
     → behind ≡ n - length a → between ≡ behind - length b → last ≡ between - length c
-    → (((text ++ grouped_front separator group n a) ++ grouped_front separator group behind b) ++ grouped_front separator group between c)
-    ++ grouped_front separator group last d ≡ text ++ grouped separator group (a ++ (b ++ (c ++ d)))
-padded_text separator group text a b c d n behind between last all second third fourth =
+    → (((text ++ grouped_front pattern n a) ++ grouped_front pattern behind b) ++ grouped_front pattern between c)
+    ++ grouped_front pattern last d ≡ text ++ grouped pattern (a ++ (b ++ (c ++ d)))
+padded_text pattern text a b c d n behind between last all second third fourth =
     let whole = all ∙ length-append a (b ++ (c ++ d)) in
     let rest = length-append b (c ++ d) in
     let end = length-append c d in
-    let front = grouped_front separator group in
+    let front = grouped_front pattern in
     append_assoc ((text ++ front n a) ++ front behind b) (front between c) (front last d)
     ∙ append_assoc (text ++ front n a) (front behind b) (front between c ++ front last d)
     ∙ append_assoc text (front n a) (front behind b ++ (front between c ++ front last d))
-    ∙ ap (λ it. text ++ (front n a ++ (front behind b ++ (front between c ++ it)))) (grouped_last separator group last d (omega (arith, whole, rest, end, second, third, fourth)))
-    ∙ ap (λ it. text ++ (front n a ++ (front behind b ++ it))) (sym (grouped_parts separator group between c d (omega (arith, whole, rest, end, second, third))))
-    ∙ ap (λ it. text ++ (front n a ++ it)) (sym (grouped_parts separator group behind b (c ++ d) (omega (arith, whole, rest, second))))
-    ∙ ap (λ it. text ++ it) (sym (grouped_parts separator group n a (b ++ (c ++ d)) all))
+    ∙ ap (λ it. text ++ (front n a ++ (front behind b ++ (front between c ++ it)))) (grouped_last pattern last d (omega (arith, whole, rest, end, second, third, fourth)))
+    ∙ ap (λ it. text ++ (front n a ++ (front behind b ++ it))) (sym (grouped_parts pattern between c d (omega (arith, whole, rest, end, second, third))))
+    ∙ ap (λ it. text ++ (front n a ++ it)) (sym (grouped_parts pattern behind b (c ++ d) (omega (arith, whole, rest, second))))
+    ∙ ap (λ it. text ++ it) (sym (grouped_parts pattern n a (b ++ (c ++ d)) all))
 
 -- What is written of digits has at least as many bytes.
-grouped_longer : (separator : ℕ) (group : Groups) (digits : List ℕ) → length digits ≤ length (grouped separator group digits)
-grouped_longer separator group [] = omega arith
-grouped_longer separator group (d ∷ digits) =
-    let rest = grouped_longer separator group digits in
-    let all = length-append (separated separator group (length digits)) (grouped separator group digits) in
+grouped_longer : (pattern : Pattern) (digits : List ℕ) → length digits ≤ length (grouped pattern digits)
+grouped_longer pattern [] = omega arith
+grouped_longer pattern (d ∷ digits) =
+    let rest = grouped_longer pattern digits in
+    let all = length-append (separated pattern (length digits)) (grouped pattern digits) in
     omega (arith, rest, all)
 
-pub run_longer : (separator : ℕ) (group : Groups) (none : Bool) (digits : List ℕ) → length digits ≤ length (grouped separator group (or_zero none digits))
-run_longer separator group none [] = omega arith
-run_longer separator group none (d ∷ digits) = grouped_longer separator group (d ∷ digits)
+pub run_longer : (pattern : Pattern) (least : ℕ) (digits : List ℕ) → length digits ≤ length (grouped pattern (at_least least digits))
+run_longer pattern least digits =
+    let longer = grouped_longer pattern (at_least least digits) in
+    let all = length-append {A = ℕ} (replicate (least - length digits) 0) digits in
+    omega (arith, longer, all)

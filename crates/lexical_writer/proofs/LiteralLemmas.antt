@@ -1,21 +1,22 @@
 -- What is laid out is a literal with the digits of the amount.
-use Rattle.std.proofs.Common.{ℕ, ◌≡◌, ◌<◌, ◌≤◌, ◌==◌, ◌&&◌, ◌||◌, not, if◌then◌else◌, Bool, true, false, IsTrue, List, [], ◌∷◌}
-use Rattle.std.proofs.Common.{drop, inl, inr, cond, Option, Some, None, Result, Ok, Err, IfOk, is_some, option_to_list, unwrap_or, refl, sym, subst, ap, ◌∙◌, arith}
-use Rattle.std.proofs.lemmas.Bool.{cases_lt, false_from_ne_true, false≢true, lt-ltb, ltb-true, or_left, or_right, and_right}
+use Rattle.std.proofs.Common.{ℕ, ◌≡◌, ◌<◌, ◌≤◌, ◌+◌, ◌-◌, ◌*◌, ◌%◌, ◌==◌, ◌&&◌, ◌||◌, not, max, nat_le, nat_lt, if◌then◌else◌, Bool, true, false, IsTrue, List, [], ◌∷◌}
+use Rattle.std.proofs.Common.{drop, inl, inr, cond, length, Option, Some, None, Result, Ok, Err, IfOk, is_some, option_to_list, unwrap_or, refl, sym, subst, ap, ◌∙◌, arith}
+use Rattle.std.proofs.Math.Nat.{mod-lt}
+use Rattle.std.proofs.lemmas.Bool.{and_from, cases_lt, false_from_ne_true, false≢true, lt-ltb, ltb-true, or_left, or_right}
 use Rattle.std.proofs.lemmas.Bool.Decides.{nat_tests}
 use Rattle.std.proofs.lemmas.Int.Digits.{all_below_base_digits_of, number_digits_of}
 use Rattle.std.specs.Int.Digits.{AllBelowBase, digits_of, number_from_digits}
 use Rattle.lexical_util.specs.Ascii.{ByteSet}
 use Rattle.lexical_util.specs.Digits.{byte_value}
 use Rattle.lexical_util.specs.Layout as layout
-use Rattle.lexical_util.specs.Layout.{Flag}
-use Rattle.lexical_util.specs.Record.{Record, raw, effective_exponent_radix}
+use Rattle.lexical_util.specs.Layout.{Flag, separators_in}
+use Rattle.lexical_util.specs.Record.{Record, raw, effective_exponent_radix, separator_allowed}
 use Rattle.lexical_util.specs.Roles as sets
 use Rattle.lexical_util.specs.Unfoldable.{cased, IsPunctuation, Lawful, Holds}
 use Rattle.lexical_util.specs.declared.format_flags.Part.{Part}
 use Rattle.lexical_util.specs.declared.format_flags.Part.TheVariants as parts
-use Rattle.lexical_base.proofs.ValueLemmas.{byte_value-digit_character}
-use Rattle.lexical_literal.specs.Literal.{IsSpelled, Literal, Reads, condition, has_leading_zero, is_absent, is_none_or_one, is_plus, is_minus}
+use Rattle.lexical_literal.specs.Literal.{IsSpelled, Literal, Reads, condition, is_absent, is_none_or_one, is_plus, is_minus}
+use Rattle.lexical_literal.specs.Literal.{has_leading_zero, is_float, is_zero_led}
 use Rattle.lexical_literal.specs.Literal.{is_none_or_prefix, is_present, requirement, text_of}
 use Rattle.lexical_literal.specs.Notation.{Notation, all_conditions, has, lacks_options, notation_of, number_of, point_of, exponent_character_of, radix_of}
 use Rattle.lexical_literal.specs.Groups.{higher, is_grouped}
@@ -30,17 +31,18 @@ use Rattle.lexical_literal.specs.declared.syntax.Grammar.{Grammar}
 use Rattle.lexical_literal.specs.declared.syntax.Options.{Options}
 use Rattle.lexical_literal.proofs.RunLemmas.{rest_of_none}
 use Rattle.lexical_number.specs.Number.{digits_in, number}
-use Rattle.lexical_writer.specs.Digits.{character, grouped, no_groups, only_if, or_zero, size_of, values_of}
-use Rattle.lexical_writer.specs.Layout.{HasNumber, given_fraction, given_power, groups_of, has_exponent, has_point, has_zero, laid_out, options_of}
-use Rattle.lexical_writer.specs.Layout.{IsLaidOut, after_zero, base_byte, literal_of, refusal, sign_of}
+use Rattle.lexical_writer.specs.Digits.{at_least, character, grouped, no_groups, only_if, size_of, values_of}
+use Rattle.lexical_writer.specs.Layout.{HasNumber, fraction_pattern, fraction_text, given_fraction, given_power, has_exponent, has_point, has_zero}
+use Rattle.lexical_writer.specs.Layout.{IsLaidOut, after_zero, base_byte, integer_pattern, laid_out, least_digits, literal_of, one_if, options_of}
+use Rattle.lexical_writer.specs.Layout.{pattern_of, refusal, sign_of}
 use Rattle.lexical_writer.specs.declared.layout.Amount.{Amount}
 use Rattle.lexical_writer.specs.declared.layout.Layout.{Layout}
 use Rattle.lexical_writer.specs.declared.layout.WriteError.{WriteError}
 use Rattle.lexical_writer.specs.declared.layout.WriteError.TheVariants as errors
 use Rattle.lexical_writer.specs.declared.layout.Style.{Style}
-use Rattle.lexical_writer.specs.declared.run.Groups.{Groups}
-use Rattle.lexical_writer.proofs.DigitLemmas.{grouped_digits, grouped_present, values_below, zero_below, zero_number}
-use Rattle.lexical_writer.proofs.GroupLemmas.{Between, grouped_rest, no_leading_zero, right_groups, single_fits}
+use Rattle.lexical_writer.specs.declared.run.Pattern.{Pattern}
+use Rattle.lexical_writer.proofs.DigitLemmas.{character_value, grouped_digits, grouped_present, least_below, least_number, values_below}
+use Rattle.lexical_writer.proofs.GroupLemmas.{Between, grouped_rest, left_first, no_leading_zero, right_groups, single_fits}
 
 -- The flags of a lawful format agree.
 agree : (word : ℕ) → Lawful word → (((raw word).flag layout.no_exponent_notation && (raw word).flag layout.required_exponent_notation) ≡ false)
@@ -78,18 +80,25 @@ least r c none =
     let higher = first_none r c conditions.HigherGroupSize (drop 5 all_conditions) last.1 in
     (at_least_2 r c conditions.IntegerGroupSize refl last.0, at_least_2 r c conditions.HigherGroupSize refl higher.0)
 
-record AreRequired (m : Notation) (group : Groups) : Type 0 where
-  last : group.last ≡ m.number conditions.IntegerGroupSize
-  size : group.higher ≡ higher m
-  two : 2 ≤ group.last
-  some : 2 ≤ group.higher
+record AreRequired (m : Notation) (pattern : Pattern) : Type 0 where
+  last : pattern.last ≡ m.number conditions.IntegerGroupSize
+  size : pattern.higher ≡ higher m
+  two : 2 ≤ pattern.last
+  some : 2 ≤ pattern.higher
 
 required : (g : Grammar) (style : Style) → contradiction (raw g.word) g.conditions ≡ None → has g.conditions conditions.IntegerGroupSize ≡ true
-    → 0 < (groups_of (raw g.word) g.conditions style).higher → AreRequired (notation_of g) (groups_of (raw g.word) g.conditions style)
+    → 0 < (integer_pattern (raw g.word) g.conditions style).higher → AreRequired (notation_of g) (integer_pattern (raw g.word) g.conditions style)
 required g style none set groups =
     let last_least = (least (raw g.word) g.conditions none).0 set in
     let higher_least = (least (raw g.word) g.conditions none).1 in
     record { last = grind (arith, nat_tests); size = grind (arith, nat_tests); two = grind (arith, nat_tests); some = grind (arith, nat_tests) }
+
+-- The groups of a fraction have the size that a condition requires.
+required_fraction : (g : Grammar) (style : Style) (n : ℕ) → has g.conditions conditions.FractionGroupSize ≡ true
+    → 0 < (fraction_pattern (raw g.word) g.conditions style n).higher
+    → ((fraction_pattern (raw g.word) g.conditions style n).higher ≡ (notation_of g).number conditions.FractionGroupSize)
+    × ((fraction_pattern (raw g.word) g.conditions style n).last ≡ (n - 1) % (notation_of g).number conditions.FractionGroupSize + 1)
+required_fraction g style n set some = (grind (arith, nat_tests), grind (arith, nat_tests))
 
 -- Punctuation is not 0.
 some_byte : (r : Record) (byte : ℕ) → IsPunctuation r byte → (byte == 0) ≡ false
@@ -101,9 +110,9 @@ no_refusal : (n a b : Bool) → (if n then Some errors.Negative else (if a then 
     → (n ≡ false) × (a ≡ false) × (b ≡ false)
 no_refusal n a b none = (grind arith, grind arith, grind arith)
 
-exponent_none : (lacks forbidden required some : Bool) → (forbidden && required) ≡ false → ((lacks || forbidden) && some) ≡ false
-    → (lacks || forbidden) ≡ true → (some || (required && not lacks)) ≡ false
-exponent_none lacks forbidden required some agree can none = grind arith
+exponent_none : (lacks forbidden required some wish : Bool) → (forbidden && required) ≡ false → ((lacks || forbidden) && some) ≡ false
+    → (lacks || forbidden) ≡ true → (some || ((required && not lacks) || (wish && not (lacks || forbidden)))) ≡ false
+exponent_none lacks forbidden required some wish agree can none = grind arith
 
 one_byte : (S : ByteSet) (lacks test : Bool) (byte : ℕ) → (lacks ≡ true → test ≡ false) → (lacks ≡ false → S byte ≡ true)
     → is_none_or_one S (option_to_list (only_if test byte)) ≡ true
@@ -112,15 +121,17 @@ one_byte S lacks test byte none some = grind arith
 absent_unless : (b : Bool) (byte : ℕ) → is_absent (option_to_list (only_if b byte)) ≡ not b
 absent_unless b byte = grind arith
 
-zero_or_digits : (required integer absent some : Bool) → (((required || (integer || absent)) || some) || not absent) ≡ true
-zero_or_digits required integer absent some = grind arith
+zero_or_digits : (zero required integer absent least some : Bool) → zero ≡ (required || (integer || absent)) → (zero ≡ true → least ≡ true)
+    → ((least || some) || not absent) ≡ true
+zero_or_digits true required integer absent least some is more = let there = more refl in grind arith
+zero_or_digits false required integer absent least some is more = grind arith
 
 or_more : (integer zero some : Bool) → (integer || some) ≡ true → (integer || (zero || some)) ≡ true
 or_more integer zero some is = grind arith
 
-fraction_digits : (point required some : Bool) (byte : ℕ) → required ≡ true
-    → (is_absent (option_to_list (only_if point byte)) || ((point && required) || some)) ≡ true
-fraction_digits point required some byte is = grind arith
+fraction_digits_present : (point required some : Bool) (byte : ℕ) → required ≡ true
+    → (is_absent (option_to_list (only_if point byte)) || (nat_lt 0 (one_if (point && required)) || some)) ≡ true
+fraction_digits_present point required some byte is = grind (arith, nat_tests)
 
 -- A plus sign is written where a sign is required, if `here` is true.
 no_plus : (here negative forbidden required : Bool) → (forbidden && required) ≡ false → forbidden ≡ true
@@ -132,14 +143,16 @@ some_sign : (here negative required : Bool) (byte : ℕ) → required ≡ true
 some_sign here negative required byte is = grind arith
 
 -- Without a decimal point, there is no fraction, and without an exponent character, no exponent.
-no_fraction : (amount : Amount) (other required : Bool) (byte radix : ℕ) → is_absent (option_to_list (only_if (is_some amount.fraction || other) byte)) ≡ true
-    → grouped 0 no_groups (or_zero ((is_some amount.fraction || other) && required) (values_of radix (given_fraction amount))) ≡ []
-no_fraction amount other required byte radix absent = grind arith
+no_fraction : (r : Record) (c : Conditions) (style : Style) (amount : Amount) (other : Bool) (byte : ℕ)
+    → is_absent (option_to_list (only_if (is_some amount.fraction || other) byte)) ≡ true
+    → fraction_text r c style (is_some amount.fraction || other) amount ≡ []
+no_fraction r c style amount other byte absent = grind arith
 
-no_power : (amount : Amount) (other required : Bool) (byte radix : ℕ) → is_absent (option_to_list (only_if (is_some amount.exponent || other) byte)) ≡ true
+no_power : (amount : Amount) (other required lowercase : Bool) (byte radix : ℕ)
+    → is_absent (option_to_list (only_if (is_some amount.exponent || other) byte)) ≡ true
     → (option_to_list (sign_of (given_power amount).negative ((is_some amount.exponent || other) && required)) ≡ [])
-    × (grouped 0 no_groups (or_zero (is_some amount.exponent || other) (digits_of radix (size_of radix (given_power amount).source))) ≡ [])
-no_power amount other required byte radix absent = (grind arith, grind arith)
+    × (grouped (no_groups lowercase) (at_least (one_if (is_some amount.exponent || other)) (digits_of radix (size_of radix (given_power amount).source))) ≡ [])
+no_power amount other required lowercase byte radix absent = (grind arith, grind arith)
 
 -- Digits of a fraction make a float.
 fraction_is_float : (integer : Bool) (amount : Amount) (other exponent : Bool) (radix byte : ℕ)
@@ -158,6 +171,71 @@ own : (counts : Bool) (byte : ℕ) → (byte == 0) ≡ false → cased counts by
 unfolding cased
 own counts byte some = grind (arith, nat_tests)
 
+-- Groups are only where the format allows separators between digits.
+groups_allowed : (r : Record) (allowed lowercase : Bool) (last size : ℕ) → 0 < (pattern_of r allowed last size lowercase).higher
+    → (allowed ≡ true) × ((r.byte layout.digit_separator == 0) ≡ false)
+    × ((pattern_of r allowed last size lowercase).separator ≡ r.byte layout.digit_separator)
+groups_allowed r allowed lowercase last size some =
+    go (last == 0 || not allowed || r.byte layout.digit_separator == 0) refl some
+  where
+    go : (test : Bool) → (last == 0 || not allowed || r.byte layout.digit_separator == 0) ≡ test
+        → 0 < (if test then no_groups lowercase else record { last = last; higher = size; separator = r.byte layout.digit_separator; lowercase = lowercase }).higher
+        → (allowed ≡ true) × ((r.byte layout.digit_separator == 0) ≡ false)
+        × ((if test then no_groups lowercase else record { last = last; higher = size; separator = r.byte layout.digit_separator; lowercase = lowercase }).separator
+        ≡ r.byte layout.digit_separator)
+    go true is some = absurd (omega (arith, some))
+    go false is some = (grind arith, grind arith, refl)
+
+internal_allowed : (r : Record) (part : Part) → r.flag (separators_in part).internal ≡ true → separator_allowed r ≡ true
+internal_allowed r parts.Integer set = grind arith
+internal_allowed r parts.Fraction set = grind arith
+internal_allowed r parts.Exponent set = grind arith
+
+-- Tests of sizes.
+equal_test : (a b : ℕ) → a ≡ b → (a == b) ≡ true
+equal_test a b same = grind (arith, nat_tests)
+
+within_test : (count most size : ℕ) → 0 < count → count ≤ most → most ≡ size → (nat_lt 0 count && nat_le count size) ≡ true
+within_test count most size some within same = grind (arith, nat_tests)
+
+least_some : (zero : Bool) (other : ℕ) → zero ≡ true → nat_lt 0 (max (one_if zero) other) ≡ true
+least_some zero other is = grind (arith, nat_tests)
+
+point_if : (exponent flag fraction : Bool) (a b : ℕ) → flag ≡ true
+    → (is_absent (option_to_list (only_if exponent a)) || is_present (option_to_list (only_if (fraction || (exponent && flag)) b))) ≡ true
+point_if exponent flag fraction a b set = grind arith
+
+digits_if : (exponent some : Bool) (byte : ℕ)
+    → (is_absent (option_to_list (only_if exponent byte)) || (nat_lt 0 (one_if exponent) || some)) ≡ true
+digits_if exponent some byte = grind (arith, nat_tests)
+
+pub float_if : (point exponent : Bool) (a b : ℕ)
+    → (is_present (option_to_list (only_if point a)) || is_present (option_to_list (only_if exponent b))) ≡ (point || exponent)
+float_if point exponent a b = grind arith
+
+-- Where leading zeros are forbidden, there are none, or there is a prefix.
+least_one : (r : Record) (style : Style) (float : Bool) (amount : Amount)
+    → r.flag (if float then layout.no_float_leading_zeros else layout.no_integer_leading_zeros) ≡ true → least_digits r style false float amount ≤ 1
+least_one r style float amount set = go _ set (has_zero r amount) _
+  where
+    go : (flag : Bool) → flag ≡ true → (zero : Bool) (wish : ℕ) → max (one_if zero) (if false || not flag then wish else 0) ≤ 1
+    go true set true wish = omega arith
+    go true set false wish = omega arith
+    go false set zero wish = absurd (false≢true set)
+
+zero_led : (D : ByteSet) (prefix : Option ℕ) (run : List ℕ) → (is_some prefix ≡ false → has_leading_zero D run ≡ false)
+    → not (is_absent (after_zero prefix) && has_leading_zero D run) ≡ true
+zero_led D None run none = ap not (none refl)
+zero_led D (Some byte) run none = refl
+
+not_false : (test : Bool) → not test ≡ false → test ≡ true
+not_false true is = refl
+not_false false is = absurd (false≢true (sym is))
+
+by_kind : (kind led : Bool) → (kind ≡ false → not led ≡ true) → (kind || not led) ≡ true
+by_kind true led none = refl
+by_kind false led none = none refl
+
 module _ (g : Grammar) (style : Style) (amount : Amount) (is : IsSyntax g)
     (apart : (byte : ℕ) → byte_value byte < (raw g.word).byte layout.mantissa_radix → IsTrue (sets.used_separator (raw g.word) byte) → ⊥)
     (can : refusal g amount ≡ None) where
@@ -173,63 +251,79 @@ module _ (g : Grammar) (style : Style) (amount : Amount) (is : IsSyntax g)
   abbrev radix : ℕ
   radix = r.byte layout.mantissa_radix
 
-  abbrev separator : ℕ
-  separator = r.byte layout.digit_separator
+  abbrev pattern : Pattern
+  pattern = integer_pattern r g.conditions style
 
-  abbrev group : Groups
-  group = groups_of r g.conditions style
+  abbrev exponent : Bool
+  exponent = has_exponent g style amount
+
+  abbrev point : Bool
+  point = has_point g style amount
+
+  abbrev least_integer : ℕ
+  least_integer = least_digits r style (is_some (base_byte (style.prefix || has g.conditions conditions.BasePrefix) (r.byte layout.base_prefix)))
+      (point || exponent) amount
+
+  abbrev least_fraction : ℕ
+  least_fraction = one_if (point && r.flag layout.required_fraction_digits)
+
+  abbrev fraction_digits : List ℕ
+  fraction_digits = at_least least_fraction (values_of radix (given_fraction amount))
+
+  abbrev fraction_groups : Pattern
+  fraction_groups = fraction_pattern r g.conditions style (length fraction_digits)
 
   abbrev exponent_radix : ℕ
   exponent_radix = effective_exponent_radix r
 
   -- The digits of each part are digits of this part, and represent the same number.
-  digit : (part : Part) (d : ℕ) → d < radix_of r part → m.digit part (character d) ≡ true
-  digit part d below =
+  digit : (part : Part) (lowercase : Bool) (d : ℕ) → d < radix_of r part → m.digit part (character lowercase d) ≡ true
+  digit part lowercase d below =
       let small : radix_of r part ≤ 36 = (radixes g.word is.lawful part).1 in
-      lt-ltb (byte_value (character d)) (radix_of r part) (omega (arith, byte_value-digit_character d (omega arith)))
+      lt-ltb (byte_value (character lowercase d)) (radix_of r part) (omega (arith, character_value lowercase d (omega arith)))
 
-  run : (part : Part) (separator : ℕ) (group : Groups) (zero : Bool) (digits : List ℕ) → Between m part separator group → AllBelowBase (radix_of r part) digits
-      → (is_run m part (grouped separator group (or_zero zero digits)) ≡ true)
-      × (digits_in (radix_of r part) (grouped separator group (or_zero zero digits)) ≡ or_zero zero digits)
-  run part separator group zero digits between all =
+  run : (part : Part) (pattern : Pattern) (least : ℕ) (digits : List ℕ) → Between m part pattern → AllBelowBase (radix_of r part) digits
+      → (is_run m part (grouped pattern (at_least least digits)) ≡ true)
+      × (digits_in (radix_of r part) (grouped pattern (at_least least digits)) ≡ at_least least digits)
+  run part pattern least digits between all =
       let radix = radixes g.word is.lawful part in
-      let below = zero_below (radix_of r part) zero digits radix.0 all in (
-        sym (rest_of_none m part _) ∙ grouped_rest m part (radix_of r part) separator group (digit part) between (or_zero zero digits) false false below
-            (λ is. absurd (false≢true is)),
-        grouped_digits (radix_of r part) separator group radix.1 (λ some. ap (λ test. cond test (Some (byte_value separator)) None) (between some).2)
-            (or_zero zero digits) below,
+      let below = least_below (radix_of r part) least digits radix.0 all in (
+        sym (rest_of_none m part _) ∙ grouped_rest m part (radix_of r part) pattern (digit part pattern.lowercase) between (at_least least digits) false false
+            below (λ is. absurd (false≢true is)),
+        grouped_digits (radix_of r part) pattern radix.1 (λ some. ap (λ test. cond test (Some (byte_value pattern.separator)) None) (between some).2)
+            (at_least least digits) below,
       )
 
-  between : Between m parts.Integer separator group
-  between some =
-      let internal : r.flag layout.integer_internal_digit_separator ≡ true = grind arith in
-      let byte : (separator == 0) ≡ false = grind arith in
-      let role = own true separator byte in
-      let in_use : sets.used_separator r separator ≡ true = grind arith in
-      (in_use, internal, false_from_ne_true _ (λ below. apart separator (ltb-true _ _ below) in_use))
+  between : (part : Part) (allowed lowercase : Bool) (last size : ℕ) → m.flag (separators_in part).internal ≡ allowed → radix_of r part ≡ radix
+      → Between m part (pattern_of r allowed last size lowercase)
+  between part allowed lowercase last size flag same some =
+      let are = groups_allowed r allowed lowercase last size some in
+      let byte = r.byte layout.digit_separator in
+      let in_use : sets.used_separator r byte ≡ true = and_from _ _ (internal_allowed r part (flag ∙ are.0)) (own true byte are.1) in
+      rw are.2 (in_use, flag ∙ are.0, false_from_ne_true _ (λ below. apart byte (subst (λ k. byte_value byte < k) same (ltb-true _ _ below)) in_use))
 
-  plain : (part : Part) → Between m part 0 no_groups
-  plain part some = absurd (omega (arith, some))
+  plain : (part : Part) (lowercase : Bool) → Between m part (no_groups lowercase)
+  plain part lowercase some = absurd (omega (arith, some))
 
   integer_run : (is_run m parts.Integer l.integer ≡ true)
-      × (digits_in radix l.integer ≡ or_zero (has_zero r amount) (digits_of radix (size_of radix amount.integer)))
-  integer_run = run parts.Integer separator group (has_zero r amount) (digits_of radix (size_of radix amount.integer)) between
+      × (digits_in radix l.integer ≡ at_least least_integer (digits_of radix (size_of radix amount.integer)))
+  integer_run = run parts.Integer pattern least_integer (digits_of radix (size_of radix amount.integer)) (between parts.Integer _ _ _ _ refl refl)
       (all_below_base_digits_of radix (size_of radix amount.integer) (radixes g.word is.lawful parts.Integer).0)
 
-  fraction_run : (is_run m parts.Fraction l.fraction ≡ true) × (digits_in radix l.fraction
-      ≡ or_zero (has_point g amount && r.flag layout.required_fraction_digits) (values_of radix (given_fraction amount)))
-  fraction_run = run parts.Fraction 0 no_groups (has_point g amount && r.flag layout.required_fraction_digits) (values_of radix (given_fraction amount))
-      (plain parts.Fraction) (values_below radix (given_fraction amount) (radixes g.word is.lawful parts.Fraction).0)
+  fraction_run : (is_run m parts.Fraction l.fraction ≡ true) × (digits_in radix l.fraction ≡ fraction_digits)
+  fraction_run = run parts.Fraction fraction_groups least_fraction (values_of radix (given_fraction amount)) (between parts.Fraction _ _ _ _ refl refl)
+      (values_below radix (given_fraction amount) (radixes g.word is.lawful parts.Fraction).0)
 
   exponent_run : (is_run m parts.Exponent l.exponent ≡ true)
-      × (digits_in exponent_radix l.exponent ≡ or_zero (has_exponent g amount) (digits_of exponent_radix (size_of exponent_radix (given_power amount).source)))
+      × (digits_in exponent_radix l.exponent ≡ at_least (one_if exponent) (digits_of exponent_radix (size_of exponent_radix (given_power amount).source)))
   exponent_run =
       let size = size_of exponent_radix (given_power amount).source in
-      run parts.Exponent 0 no_groups (has_exponent g amount) (digits_of exponent_radix size) (plain parts.Exponent)
+      run parts.Exponent (no_groups style.lowercase) (one_if exponent) (digits_of exponent_radix size) (plain parts.Exponent style.lowercase)
       (all_below_base_digits_of exponent_radix size (radixes g.word is.lawful parts.Exponent).0)
 
-  same_number : (radix n : ℕ) (zero : Bool) (bytes : List ℕ) → 2 ≤ radix → digits_in radix bytes ≡ or_zero zero (digits_of radix n) → number radix bytes ≡ n
-  same_number radix n zero bytes two is = ap (number_from_digits radix) is ∙ zero_number radix zero (digits_of radix n) ∙ number_digits_of radix n two
+  same_number : (radix n least : ℕ) (bytes : List ℕ) → 2 ≤ radix → digits_in radix bytes ≡ at_least least (digits_of radix n) → number radix bytes ≡ n
+  same_number radix n least bytes two is =
+      ap (number_from_digits radix) is ∙ least_number radix least (digits_of radix n) ∙ number_digits_of radix n two
 
   minus : (negative required : Bool) → is_minus (option_to_list (sign_of negative required)) ≡ negative
   minus negative required = grind arith
@@ -238,28 +332,47 @@ module _ (g : Grammar) (style : Style) (amount : Amount) (is : IsSyntax g)
   has_number = record {
     sign = minus amount.negative _;
     integer = same_number radix _ _ l.integer (radixes g.word is.lawful parts.Integer).0 integer_run.1;
-    zero = has_point g amount && r.flag layout.required_fraction_digits;
+    zero = point && r.flag layout.required_fraction_digits;
     fraction = fraction_run.1;
     exponent_sign = minus (given_power amount).negative _;
     exponent = same_number exponent_radix _ _ l.exponent (radixes g.word is.lawful parts.Exponent).0 exponent_run.1;
   }
 
-  -- The integer is in groups.
-  no_separator : (d : ℕ) → d < radix → m.separator (character d) ≡ false
-  no_separator d below =
+  -- The integer and the fraction are in groups.
+  no_separator : (lowercase : Bool) (d : ℕ) → d < radix → m.separator (character lowercase d) ≡ false
+  no_separator lowercase d below =
       let small : radix ≤ 36 = (radixes g.word is.lawful parts.Integer).1 in
-      false_from_ne_true _ (λ in_use. apart (character d) (omega (arith, byte_value-digit_character d (omega arith))) in_use)
+      false_from_ne_true _ (λ in_use. apart (character lowercase d) (omega (arith, character_value lowercase d (omega arith))) in_use)
 
   in_groups : m.condition conditions.IntegerGroupSize ≡ true → is_grouped m parts.Integer l.integer ≡ true
   in_groups set =
-      let digits = or_zero (has_zero r amount) (digits_of radix (size_of radix amount.integer)) in
-      let all : AllBelowBase radix digits = zero_below radix (has_zero r amount) _ (radixes g.word is.lawful parts.Integer).0
+      let digits = at_least least_integer (digits_of radix (size_of radix amount.integer)) in
+      let all : AllBelowBase radix digits = least_below radix least_integer _ (radixes g.word is.lawful parts.Integer).0
       (all_below_base_digits_of radix (size_of radix amount.integer) (radixes g.word is.lawful parts.Integer).0) in
-      elim (cases_lt 0 group.higher) [
+      elim (cases_lt 0 pattern.higher) [
         | inl some ↦
             let are = required g style is.conditions set some in
-            right_groups m radix separator group no_separator (between some).0 are.last are.size are.two are.some digits all
-        | inr none ↦ single_fits m radix separator group no_separator parts.Integer digits all (omega (arith, none))
+            right_groups m radix pattern (no_separator pattern.lowercase) parts.Integer (between parts.Integer _ _ _ _ refl refl some).0
+            (equal_test _ _ are.last) (equal_test _ _ are.size) (let two = are.two in omega (arith, two)) some digits all
+            (λ inner count first most total. within_test count pattern.higher (higher m) first most are.size)
+        | inr none ↦ single_fits m radix pattern (no_separator pattern.lowercase) parts.Integer digits all (omega (arith, none))
+      ]
+
+  fraction_in_groups : m.condition conditions.FractionGroupSize ≡ true → is_grouped m parts.Fraction l.fraction ≡ true
+  fraction_in_groups set =
+      let all : AllBelowBase radix fraction_digits = least_below radix least_fraction _ (radixes g.word is.lawful parts.Fraction).0
+      (values_below radix (given_fraction amount) (radixes g.word is.lawful parts.Fraction).0) in
+      elim (cases_lt 0 fraction_groups.higher) [
+        | inl some ↦
+            let are = required_fraction g style (length fraction_digits) set some in
+            let size = fraction_groups.higher in
+            let last : fraction_groups.last ≡ (length fraction_digits - 1) % size + 1 = are.1 ∙ sym (ap (λ k. (length fraction_digits - 1) % k + 1) are.0) in
+            let least = mod-lt (length fraction_digits - 1) some in
+            right_groups m radix fraction_groups (no_separator fraction_groups.lowercase) parts.Fraction (between parts.Fraction _ _ _ _ refl refl some).0
+            (within_test _ size _ (omega (arith, last)) (omega (arith, last, least)) are.0) (equal_test _ _ are.0) (omega (arith, last)) some fraction_digits all
+            (λ inner count first most total. equal_test _ _ (left_first (length fraction_digits) size inner count (omega (arith, total, first)) first most
+            (total ∙ ap (λ k. inner * size + count + k) last) ∙ are.0))
+        | inr none ↦ single_fits m radix fraction_groups (no_separator fraction_groups.lowercase) parts.Fraction fraction_digits all (omega (arith, none))
       ]
 
   -- No exponent is written where none is allowed.
@@ -267,47 +380,57 @@ module _ (g : Grammar) (style : Style) (amount : Amount) (is : IsSyntax g)
       × (((lacks_options g.options || r.flag layout.no_exponent_notation) && is_some amount.exponent) ≡ false)
   allowed = no_refusal _ (lacks_options g.options && is_some amount.fraction) _ can
 
-  no_exponent : (lacks_options g.options || r.flag layout.no_exponent_notation) ≡ true → has_exponent g amount ≡ false
+  no_exponent : (lacks_options g.options || r.flag layout.no_exponent_notation) ≡ true → exponent ≡ false
   no_exponent none =
-      exponent_none (lacks_options g.options) (r.flag layout.no_exponent_notation) _ (is_some amount.exponent) (agree g.word is.lawful).0 allowed.2 none
+      exponent_none (lacks_options g.options) (r.flag layout.no_exponent_notation) _ (is_some amount.exponent) _ (agree g.word is.lawful).0 allowed.2 none
 
-  integer_present : is_present l.integer ≡ (has_zero r amount || is_present (digits_of radix (size_of radix amount.integer)))
-  integer_present = grouped_present separator group (has_zero r amount) (digits_of radix (size_of radix amount.integer))
+  integer_present : is_present l.integer ≡ (nat_lt 0 least_integer || is_present (digits_of radix (size_of radix amount.integer)))
+  integer_present = grouped_present pattern least_integer (digits_of radix (size_of radix amount.integer))
 
-  fraction_present : is_present l.fraction
-      ≡ ((has_point g amount && r.flag layout.required_fraction_digits) || is_present (values_of radix (given_fraction amount)))
-  fraction_present = grouped_present 0 no_groups (has_point g amount && r.flag layout.required_fraction_digits) (values_of radix (given_fraction amount))
+  fraction_present : is_present l.fraction ≡ (nat_lt 0 least_fraction || is_present (values_of radix (given_fraction amount)))
+  fraction_present = grouped_present fraction_groups least_fraction (values_of radix (given_fraction amount))
+
+  -- A 0 stands for absent digits.
+  some_zero : has_zero r amount ≡ true → nat_lt 0 least_integer ≡ true
+  some_zero zero = least_some (has_zero r amount) _ zero
 
   some_digits : (is_present l.integer || is_present (values_of radix (given_fraction amount))) ≡ true
-  some_digits = rw integer_present (zero_or_digits (r.flag layout.required_integer_digits) _ (is_absent (values_of radix (given_fraction amount))) _)
+  some_digits = rw integer_present (zero_or_digits (has_zero r amount) (r.flag layout.required_integer_digits) _
+      (is_absent (values_of radix (given_fraction amount))) _ _ refl some_zero)
 
-  no_lead : has_leading_zero (m.digit parts.Integer) l.integer ≡ false
-  no_lead = no_leading_zero (m.digit parts.Integer) radix separator group (size_of radix amount.integer) (has_zero r amount)
-      (radixes g.word is.lawful parts.Integer).0 (radixes g.word is.lawful parts.Integer).1 (digit parts.Integer)
+  no_lead : (float : Bool) → (point || exponent) ≡ float → r.flag (if float then layout.no_float_leading_zeros else layout.no_integer_leading_zeros) ≡ true
+      → not (is_zero_led m l) ≡ true
+  no_lead float kind set = zero_led (m.digit parts.Integer) _ l.integer (λ none. no_leading_zero (m.digit parts.Integer) radix least_integer pattern
+      (size_of radix amount.integer) (subst (λ k. k ≤ 1) (λ i. least_digits r style (sym none i) (sym kind i) amount) (least_one r style float amount set))
+      (radixes g.word is.lawful parts.Integer).0 (radixes g.word is.lawful parts.Integer).1 (digit parts.Integer pattern.lowercase))
 
   some_point : r.flag layout.no_exponent_without_fraction ≡ true → (is_absent l.exponent_character || is_present l.point) ≡ true
-  some_point set = grind arith
+  some_point set = point_if exponent _ (is_some amount.fraction) _ _ set
+
+  is_float_if : is_float l ≡ (point || exponent)
+  is_float_if = float_if point exponent _ _
 
   some_exponent : r.flag layout.required_exponent_notation ≡ true → (lacks_options g.options || is_present l.exponent_character) ≡ true
   some_exponent set = grind arith
 
   exponent_digits : (is_absent l.exponent_character || is_present l.exponent) ≡ true
   exponent_digits =
-      rw (grouped_present 0 no_groups (has_exponent g amount) (digits_of exponent_radix (size_of exponent_radix (given_power amount).source))) (grind arith)
+      rw (grouped_present (no_groups style.lowercase) (one_if exponent) (digits_of exponent_radix (size_of exponent_radix (given_power amount).source)))
+      (digits_if exponent _ _)
 
   met : (f : Flag) → IsTrue (m.flag f) → IsTrue (requirement f m l)
-  met layout.required_integer_digits set = integer_present ∙ or_left _ _ (or_left _ _ set)
-  met layout.required_fraction_digits set = rw fraction_present (fraction_digits (has_point g amount) _ _ _ set)
+  met layout.required_integer_digits set = integer_present ∙ or_left _ _ (some_zero (or_left _ _ set))
+  met layout.required_fraction_digits set = rw fraction_present (fraction_digits_present point _ _ _ set)
   met layout.required_exponent_digits set = exponent_digits
   met layout.required_mantissa_digits set = rw fraction_present (or_more (is_present l.integer) _ _ some_digits)
   met layout.no_positive_mantissa_sign set = no_plus true amount.negative _ _ (agree g.word is.lawful).1 set
   met layout.required_mantissa_sign set = some_sign true amount.negative _ 0 set
-  met layout.no_exponent_notation set = absent_unless (has_exponent g amount) _ ∙ ap not (no_exponent (or_right (lacks_options g.options) _ set))
-  met layout.no_positive_exponent_sign set = no_plus (has_exponent g amount) (given_power amount).negative _ _ (agree g.word is.lawful).2 set
-  met layout.required_exponent_sign set = some_sign (has_exponent g amount) (given_power amount).negative _ _ set
+  met layout.no_exponent_notation set = absent_unless exponent _ ∙ ap not (no_exponent (or_right (lacks_options g.options) _ set))
+  met layout.no_positive_exponent_sign set = no_plus exponent (given_power amount).negative _ _ (agree g.word is.lawful).2 set
+  met layout.required_exponent_sign set = some_sign exponent (given_power amount).negative _ _ set
   met layout.no_exponent_without_fraction set = some_point set
-  met layout.no_integer_leading_zeros set = or_right _ _ (ap not (and_right (is_absent l.prefix) _ no_lead))
-  met layout.no_float_leading_zeros set = or_right _ _ (ap not (and_right (is_absent l.prefix) _ no_lead))
+  met layout.no_integer_leading_zeros set = by_kind (is_float l) (is_zero_led m l) (λ kind. no_lead false (sym is_float_if ∙ kind) set)
+  met layout.no_float_leading_zeros set = by_kind (not (is_float l)) (is_zero_led m l) (λ kind. no_lead true (sym is_float_if ∙ not_false _ kind) set)
   met layout.required_exponent_notation set = some_exponent set
   met _ set = refl
 
@@ -317,9 +440,7 @@ module _ (g : Grammar) (style : Style) (amount : Amount) (is : IsSyntax g)
   conditions_met conditions.NegativeSign set = grind (arith, allowed)
   conditions_met conditions.IntegerGroupSize set = in_groups set
   conditions_met conditions.HigherGroupSize set = refl
-  conditions_met conditions.FractionGroupSize set =
-      single_fits m radix 0 no_groups no_separator parts.Fraction _ (zero_below radix _ _ (radixes g.word is.lawful parts.Fraction).0
-      (values_below radix (given_fraction amount) (radixes g.word is.lawful parts.Fraction).0)) refl
+  conditions_met conditions.FractionGroupSize set = fraction_in_groups set
 
   one_sign : (negative required : Bool) → is_none_or_one sets.signs (option_to_list (sign_of negative required)) ≡ true
   one_sign negative required = grind arith
@@ -338,7 +459,7 @@ module _ (g : Grammar) (style : Style) (amount : Amount) (is : IsSyntax g)
   in_role (Some o) fit some =
       (own true o.point (some_byte r o.point fit.point_is_punctuation), own _ o.exponent (some_byte r o.exponent fit.exponent_is_punctuation))
 
-  no_point : lacks_options g.options ≡ true → has_point g amount ≡ false
+  no_point : lacks_options g.options ≡ true → point ≡ false
   no_point lacks = let none = no_exponent (or_left _ (r.flag layout.no_exponent_notation) lacks) in let fraction = allowed.1 in grind arith
 
   spelled : IsSpelled m l
@@ -346,15 +467,15 @@ module _ (g : Grammar) (style : Style) (amount : Amount) (is : IsSyntax g)
     sign = one_sign amount.negative _;
     prefix = one_prefix (style.prefix || has g.conditions conditions.BasePrefix);
     integer = integer_run.0;
-    point = one_byte (point_of g.options) (lacks_options g.options) (has_point g amount) _ no_point (λ some. (in_role g.options is.fit some).0);
+    point = one_byte (point_of g.options) (lacks_options g.options) (point) _ no_point (λ some. (in_role g.options is.fit some).0);
     fraction = fraction_run.0;
-    exponent_character = one_byte (exponent_character_of r g.options) (lacks_options g.options) (has_exponent g amount) _
+    exponent_character = one_byte (exponent_character_of r g.options) (lacks_options g.options) (exponent) _
         (λ lacks. no_exponent (or_left _ _ lacks)) (λ some. (in_role g.options is.fit some).1);
     exponent_sign = one_sign (given_power amount).negative _;
     exponent = exponent_run.0;
     suffix = one_suffix (style.suffix || has g.conditions conditions.BaseSuffix);
-    after_point = no_fraction amount _ _ (options_of g).point radix;
-    after_character = no_power amount _ _ (options_of g).exponent exponent_radix;
+    after_point = no_fraction r g.conditions style amount _ (options_of g).point;
+    after_character = no_power amount _ _ style.lowercase (options_of g).exponent exponent_radix;
     some_number = fraction_is_float (is_present l.integer) amount _ (is_present l.exponent_character) radix (options_of g).point some_digits;
     requirements = met;
   }

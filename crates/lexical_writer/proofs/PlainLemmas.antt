@@ -1,13 +1,13 @@
 -- A number whose point has moved has the value of the literal.
 use Rattle.std.proofs.Common.{ℕ, zero, suc, ◌≡◌, ◌<◌, ◌≤◌, ◌+◌, ◌-◌, ◌*◌, ◌/◌, ◌%◌, ◌^◌, ◌==◌, ◌&&◌, ◌||◌, ◌⊎◌, inl, inr, not, nat_lt, Bool, true, false, if◌then◌else◌}
-use Rattle.std.proofs.Common.{Option, unwrap_or, List, ◌++◌, length, take, drop, replicate, Result, Ok, Err, refl, sym, ap, ◌∙◌, subst, arith, append-nil}
+use Rattle.std.proofs.Common.{Option, Some, None, is_some, unwrap_or, List, [], ◌++◌, length, take, drop, replicate, Result, Ok, Err, refl, sym, ap, ◌∙◌, subst, arith, append-nil}
 use Rattle.std.proofs.Math.Nat.{dvd_of_mod-eq-zero, div-mul_cancel, mul-div_cancel, one-le-pow, pow-suc, pow-zero}
 use Rattle.std.proofs.lemmas.Bool.{cases_lt, false≢true}
 use Rattle.std.proofs.lemmas.Bool.Decides.{nat_tests}
-use Rattle.std.proofs.lemmas.Int.Digits.{number_after_append, number_digits_of}
+use Rattle.std.proofs.lemmas.Int.Digits.{number_after_append, number_after_ge, number_digits_of}
 use Rattle.std.proofs.lemmas.List.{append_assoc, drop_all, length-append, length-drop, length-replicate, take-append-drop, take_all}
 use Rattle.std.proofs.lemmas.List.Elements.{filter_map-append}
-use Rattle.std.specs.Int.Digits.{number_from_digits, number_from_digits_after}
+use Rattle.std.specs.Int.Digits.{digits_of, number_from_digits, number_from_digits_after}
 use Rattle.lexical_util.specs.Layout as layout
 use Rattle.lexical_util.specs.Record.{Record, raw, effective_exponent_base, effective_exponent_radix}
 use Rattle.lexical_literal.specs.Literal.{Literal, is_absent, is_minus}
@@ -15,16 +15,18 @@ use Rattle.lexical_literal.specs.Parts.{literal_of}
 use Rattle.lexical_literal.specs.Read.{mantissa}
 use Rattle.lexical_literal.specs.declared.read.Parts.{Parts}
 use Rattle.lexical_literal.specs.declared.syntax.Grammar.{Grammar}
+use Rattle.lexical_number.specs.Leading.{number_after}
 use Rattle.lexical_number.specs.Number.{digits_in, number}
-use Rattle.lexical_value.specs.Value.{power, scale}
+use Rattle.lexical_value.specs.Value.{denominator, numerator, power, scale}
 use Rattle.lexical_writer.specs.Conversion.{SameFraction}
-use Rattle.lexical_writer.specs.Digits.{or_zero, size_of, values_of}
-use Rattle.lexical_writer.specs.Layout.{HasNumber, given_power}
+use Rattle.lexical_writer.specs.Digits.{padded_values, size_of, values_of}
+use Rattle.lexical_writer.specs.Layout.{HasNumber, given_fraction, given_power, number_of_size}
 use Rattle.lexical_writer.specs.Moved.{IsMoved, factors, has_zeros, moved_by, moved_fraction, moved_integer, too_far, trimmed}
 use Rattle.lexical_writer.specs.declared.layout.Amount.{Amount}
 use Rattle.lexical_writer.specs.declared.layout.Power.{Power}
 use Rattle.lexical_writer.specs.declared.layout.WriteError.{WriteError}
 use Rattle.lexical_writer.specs.declared.layout.WriteError.TheVariants as errors
+use Rattle.lexical_writer.specs.declared.run.Padded.{Padded}
 use Rattle.lexical_writer.specs.declared.run.Source.{Source}
 use Rattle.lexical_writer.specs.declared.run.Source.TheVariants as sources
 use Rattle.lexical_writer.proofs.ConversionLemmas.{zero_scaled}
@@ -195,6 +197,36 @@ size_values radix (sources.Bytes bytes) two = refl
 size_values radix (sources.Number n) two = sym (number_digits_of radix n two)
 size_values radix (sources.Padded padded) two = refl
 
+-- The number of digits between zeros is that of its pieces.
+pub padded_number : (radix : ℕ) (padded : Padded) → number_from_digits radix (padded_values radix padded)
+    ≡ number_after radix (number_after radix 0 padded.first.now) padded.second.now * radix ^ padded.after
+padded_number radix padded =
+    let first = digits_in radix padded.first.now in
+    let second = digits_in radix padded.second.now in
+    zeros_number radix padded.before (first ++ (second ++ replicate padded.after 0))
+    ∙ number_after_append radix 0 first (second ++ replicate padded.after 0)
+    ∙ number_after_append radix (number_from_digits radix first) second (replicate padded.after 0)
+    ∙ zeros_after radix (number_from_digits_after radix (number_from_digits radix first) second) padded.after
+
+pub pieces_least : (radix : ℕ) (padded : Padded) → 0 < radix
+    → (number_after radix 0 padded.first.now ≤ number_from_digits radix (padded_values radix padded))
+    × (number_after radix (number_after radix 0 padded.first.now) padded.second.now ≤ number_from_digits radix (padded_values radix padded))
+pieces_least radix padded some =
+    let whole = number_after radix (number_after radix 0 padded.first.now) padded.second.now in
+    let first : number_after radix 0 padded.first.now ≤ whole = number_after_ge radix _ (digits_in radix padded.second.now) some in
+    let more : whole ≤ number_from_digits radix (padded_values radix padded) =
+    subst (λ n. whole ≤ n) (sym (padded_number radix padded)) (at_least_once whole (radix ^ padded.after) (one-le-pow padded.after radix some)) in
+    (omega (arith, first, more), more)
+  where
+    at_least_once : (n k : ℕ) → 0 < k → n ≤ n * k
+    at_least_once n zero some = absurd (omega (arith, some))
+    at_least_once n (suc k) some = omega arith
+
+-- `IsWorth radix amount up down` holds if the digits of `amount` in `radix` represent `up` over `down`.
+abbrev pub IsWorth : ℕ → Amount → ℕ → ℕ → Type 0
+IsWorth radix amount up down = number_from_digits radix (values_of radix amount.integer ++ values_of radix (given_fraction amount)) * down
+    ≡ up * radix ^ length (values_of radix (given_fraction amount))
+
 -- Digits that are all zeros represent 0.
 no_mantissa : (radix : ℕ) (i f : List ℕ) → (is_absent (trimmed i) && is_absent (trimmed f)) ≡ true → number_from_digits radix (i ++ f) ≡ 0
 no_mantissa radix i f none =
@@ -205,84 +237,121 @@ no_mantissa radix i f none =
         let is = trimmed_is digits in
         ap (number_from_digits radix) (is.1 ∙ ap (λ ds. ds ++ replicate is.0 0) (absent_is (trimmed digits) none)) ∙ zeros_after radix 0 is.0 ∙ omega arith
 
--- Both sides of the equation of two values.
-both_worth : (n a u d f t q : ℕ) → a * (f * d) ≡ (n * u) * t → (n * u) * ((t * q) * 1) ≡ ((a * q) * 1) * (f * d)
-both_worth n a u d f t q is = first (n * u) t q ∙ sym (ap (λ m. m * q) is) ∙ second a (f * d) q
+-- The digits of a number whose point has moved are worth the literal.
+pub moved_is_worth : (only : Bool) (r : Record) (parts : Parts) (amount : Amount) (n : ℕ) → moved_by only r parts ≡ Ok n
+    → IsMoved (r.byte layout.mantissa_radix) (is_minus parts.exponent_sign.now) n parts amount → 2 ≤ r.byte layout.mantissa_radix
+    → IsWorth (r.byte layout.mantissa_radix) amount (numerator r (literal_of parts)) (denominator r (literal_of parts))
+moved_is_worth only r parts amount n by m two =
+    let radix = r.byte layout.mantissa_radix in
+    let left = is_minus parts.exponent_sign.now in
+    let base = effective_exponent_base r in
+    let e = number (effective_exponent_radix r) parts.exponent.now in
+    let i = digits_in radix parts.integer.now in
+    let f = digits_in radix parts.fraction.now in
+    let front = moved_integer left n i f in
+    let rest = trimmed (moved_fraction left n i f) in
+    let whole = number_from_digits radix (i ++ f) in
+    let written = number_from_digits radix (front ++ rest) in
+    let mantissa_is : mantissa r (literal_of parts) ≡ whole = ap (number_from_digits radix) (filter_map-append _ parts.integer.now parts.fraction.now) in
+    let digits : number_from_digits radix (values_of radix amount.integer ++ values_of radix (given_fraction amount)) ≡ written =
+    (λ j. number_from_digits radix (m.integer j ++ m.fraction j))
+    ∙ ap (λ n. number_from_digits_after radix n (front ++ rest)) {x = 0 * radix + 0} {y = 0} (omega arith) in
+    let up = if left then 1 else base ^ e in
+    let down = if left then base ^ e else 1 in
+    let worth = plain_worth left radix n i f (omega (arith, two)) in
+    let equal : written * (radix ^ length f * down) ≡ (whole * up) * radix ^ length rest =
+    elim (moves (too_far only parts) (has_zeros radix parts) base radix e (factors base radix) n (factor_power base radix) by) [
+      | inl none ↦
+          none_worth whole written (if left then 1 else radix ^ n) up (if left then radix ^ n else 1) down (radix ^ length f) (radix ^ length rest)
+          (no_mantissa radix i f none.0) worth (one_power left radix n none.1)
+      | inr power ↦
+          ap (λ p. written * (radix ^ length f * (if left then p else 1))) power ∙ worth
+          ∙ sym (ap (λ p. (whole * (if left then 1 else p)) * radix ^ length rest) power)
+    ] in
+    (λ j. digits j * (radix ^ length f * down)) ∙ equal ∙ sym (λ j. (mantissa_is j * up) * radix ^ length (m.fraction j))
   where
-    first : (m t q : ℕ) → m * ((t * q) * 1) ≡ (m * t) * q
-    first m t q = omega arith
+    one_power : (left : Bool) (radix n : ℕ) → n ≡ 0 → (if left then radix ^ n else 1) ≡ 1
+    one_power true radix n none = ap (λ n. radix ^ n) none ∙ pow-zero radix
+    one_power false radix n none = refl
 
-    second : (a d q : ℕ) → (a * d) * q ≡ ((a * q) * 1) * d
-    second a d q = omega arith
+    regrouped : (a b c : ℕ) → a * (b * c) ≡ (a * b) * c
+    regrouped a b c = omega arith
 
-none_worth : (n a u v d w f t q : ℕ) → n ≡ 0 → a * (f * d) ≡ (n * u) * t → d ≡ 1 → (n * v) * ((t * q) * 1) ≡ ((a * q) * 1) * (f * w)
-none_worth n a u v d w f t q none is one =
-    let zero_is : a * f ≡ 0 = ap (λ d. a * d) {x = f} {y = f * 1} (omega arith) ∙ ap (λ d. a * (f * d)) (sym one) ∙ is ∙ ap (λ n. (n * u) * t) none ∙ omega arith in
-    ap (λ n. (n * v) * ((t * q) * 1)) none ∙ empty v ((t * q) * 1) ∙ sym (second a f q w ∙ ap (λ m. m * (q * w)) zero_is ∙ omega arith)
+    empty : (v w t : ℕ) → 0 * w ≡ (0 * v) * t
+    empty v w t = omega arith
+
+    none_worth : (n a u v d w f t : ℕ) → n ≡ 0 → a * (f * d) ≡ (n * u) * t → d ≡ 1 → a * (f * w) ≡ (n * v) * t
+    none_worth n a u v d w f t none is one =
+        let zero_is : a * f ≡ 0 = ap (λ d. a * d) {x = f} {y = f * 1} (omega arith) ∙ ap (λ d. a * (f * d)) (sym one) ∙ is ∙ ap (λ n. (n * u) * t) none ∙ omega arith in
+        regrouped a f w ∙ ap (λ m. m * w) zero_is ∙ empty v w t ∙ sym (ap (λ n. (n * v) * t) none)
+
+-- What has the digits of an amount without an exponent has its worth.
+pub same_worth : (g : Grammar) (amount : Amount) (up down : ℕ) → IsWorth ((raw g.word).byte layout.mantissa_radix) amount up down
+    → amount.exponent ≡ None → 2 ≤ (raw g.word).byte layout.mantissa_radix → (l : Literal) → HasNumber g amount l
+    → up * denominator (raw g.word) l ≡ numerator (raw g.word) l * down
+same_worth g amount up down worth none two l has =
+    let s = raw g.word in
+    let radix = s.byte layout.mantissa_radix in
+    let front = values_of radix amount.integer in
+    let rest = values_of radix (given_fraction amount) in
+    let whole = number_from_digits radix (front ++ rest) in
+    let factor = zero_scaled radix (number_from_digits radix front) has.zero rest in
+    let integer : number radix l.integer ≡ number_from_digits radix front = has.integer ∙ size_values radix amount.integer two in
+    let mantissa_is : mantissa s l ≡ whole * factor.0 = ap (number_from_digits radix) (filter_map-append _ l.integer l.fraction)
+    ∙ number_after_append radix 0 (digits_in radix l.integer) (digits_in radix l.fraction)
+    ∙ (λ j. number_from_digits_after radix (integer j) (has.fraction j)) ∙ factor.1 ∙ ap (λ m. m * factor.0) (sym (number_after_append radix 0 front rest)) in
+    let scale_is : scale s l ≡ radix ^ length rest * factor.0 = ap (λ (ds : List ℕ). radix ^ length ds) has.fraction ∙ factor.2 in
+    let no_power : given_power amount ≡ record { negative = false; source = sources.Number 0 } =
+    ap (λ (power : Option Power). unwrap_or power (record { negative = false; source = sources.Number 0 })) none in
+    let no_sign : is_minus l.exponent_sign ≡ false = has.exponent_sign ∙ ap (λ (power : Power). power.negative) no_power in
+    let one : power s l ≡ 1 = ap (λ n. effective_exponent_base s ^ n) (has.exponent ∙ ap (λ (power : Power). size_of (effective_exponent_radix s) power.source) no_power)
+    ∙ pow-zero (effective_exponent_base s) in
+    (λ j. up * (scale_is j * (if no_sign j then one j else 1))) ∙ crossed whole up down (radix ^ length rest) factor.0 worth
+    ∙ sym (λ j. (mantissa_is j * (if no_sign j then 1 else one j)) * down)
   where
-    empty : (v m : ℕ) → (0 * v) * m ≡ 0
-    empty v m = omega arith
+    first : (u t q : ℕ) → u * ((t * q) * 1) ≡ (u * t) * q
+    first u t q = omega arith
 
-    second : (a f q w : ℕ) → ((a * q) * 1) * (f * w) ≡ (a * f) * (q * w)
-    second a f q w = omega arith
+    second : (n d q : ℕ) → (n * d) * q ≡ ((n * q) * 1) * d
+    second n d q = omega arith
+
+    crossed : (n u d t q : ℕ) → n * d ≡ u * t → u * ((t * q) * 1) ≡ ((n * q) * 1) * d
+    crossed n u d t q is = first u t q ∙ ap (λ m. m * q) (sym is) ∙ second n d q
 
 -- What has the digits of a number whose point has moved has the value of the literal.
 pub same_moved : (only : Bool) (r : Record) (parts : Parts) (g : Grammar) (amount : Amount) (n : ℕ) → moved_by only r parts ≡ Ok n
     → IsMoved (r.byte layout.mantissa_radix) (is_minus parts.exponent_sign.now) n parts amount
     → r.byte layout.mantissa_radix ≡ (raw g.word).byte layout.mantissa_radix → 2 ≤ (raw g.word).byte layout.mantissa_radix
     → (l : Literal) → HasNumber g amount l → SameFraction r (literal_of parts) (raw g.word) l
-same_moved only r parts g amount n by is_moved same two l has =
-    let s = raw g.word in
-    let k = literal_of parts in
-    let radix = s.byte layout.mantissa_radix in
-    let left = is_minus parts.exponent_sign.now in
-    let base = effective_exponent_base r in
-    let e = number (effective_exponent_radix r) parts.exponent.now in
-    let i = digits_in radix parts.integer.now in
-    let f = digits_in radix parts.fraction.now in
-    let m = subst (λ radix. IsMoved radix left n parts amount) same is_moved in
-    let front = moved_integer left n i f in
-    let rest = trimmed (moved_fraction left n i f) in
-    let whole = number_from_digits radix (i ++ f) in
-    let written = number_from_digits radix (front ++ rest) in
-    let factor = zero_scaled radix (number_from_digits radix front) has.zero rest in
-    let given_mantissa : mantissa r k ≡ whole = ap (λ b. number b (parts.integer.now ++ parts.fraction.now)) same
-    ∙ ap (number_from_digits radix) (filter_map-append _ parts.integer.now parts.fraction.now) in
-    let given_scale : scale r k ≡ radix ^ length f = ap (λ b. b ^ length (digits_in b parts.fraction.now)) same in
-    let size : number radix l.integer ≡ number_from_digits radix front = has.integer ∙ size_values radix amount.integer two
-    ∙ ap (number_from_digits radix) m.integer ∙ ap (λ n. number_from_digits_after radix n front) {x = 0 * radix + 0} {y = 0} (omega arith) in
-    let fraction : digits_in radix l.fraction ≡ or_zero has.zero rest = has.fraction ∙ ap (or_zero has.zero) m.fraction in
-    let written_mantissa : mantissa s l ≡ written * factor.0 = ap (number_from_digits radix) (filter_map-append _ l.integer l.fraction)
-    ∙ number_after_append radix 0 (digits_in radix l.integer) (digits_in radix l.fraction)
-    ∙ (λ j. number_from_digits_after radix (size j) (fraction j)) ∙ factor.1 ∙ ap (λ m. m * factor.0) (sym (number_after_append radix 0 front rest)) in
-    let written_scale : scale s l ≡ radix ^ length rest * factor.0 = ap (λ digits. radix ^ length digits) fraction ∙ factor.2 in
-    let no_power : given_power amount ≡ record { negative = false; source = sources.Number 0 } =
-    ap (λ (power : Option Power). unwrap_or power (record { negative = false; source = sources.Number 0 })) m.exponent in
-    let no_sign : is_minus l.exponent_sign ≡ false = has.exponent_sign ∙ ap (λ (power : Power). power.negative) no_power in
-    let one : power s l ≡ 1 = ap (λ n. effective_exponent_base s ^ n) (has.exponent ∙ ap (λ (power : Power). size_of (effective_exponent_radix s) power.source) no_power)
-    ∙ pow-zero (effective_exponent_base s) in
-    let up = if left then 1 else base ^ e in
-    let down = if left then base ^ e else 1 in
-    let worth = plain_worth left radix n i f (omega (arith, two)) in
-    let equal : (whole * up) * ((radix ^ length rest * factor.0) * 1) ≡ ((written * factor.0) * 1) * (radix ^ length f * down) =
-    elim (moves (too_far only parts) (has_zeros (r.byte layout.mantissa_radix) parts) base (r.byte layout.mantissa_radix) e (factors base (r.byte layout.mantissa_radix)) n
-    (factor_power base (r.byte layout.mantissa_radix)) by) [
-      | inl none ↦
-          let zeros : number_from_digits radix (i ++ f) ≡ 0 = no_mantissa radix i f (ap (λ b. is_absent (trimmed (digits_in b parts.integer.now))
-          && is_absent (trimmed (digits_in b parts.fraction.now))) (sym same) ∙ none.0) in
-          none_worth whole written (if left then 1 else radix ^ n) up (if left then radix ^ n else 1) down (radix ^ length f) (radix ^ length rest) factor.0 zeros worth
-          (one_power left radix n none.1)
-      | inr power ↦
-          let raised : base ^ e ≡ radix ^ n = power ∙ ap (λ b. b ^ n) same in
-          both_worth whole written up down (radix ^ length f) (radix ^ length rest) factor.0
-          (ap (λ p. written * (radix ^ length f * (if left then p else 1))) raised ∙ worth ∙ sym (ap (λ p. (whole * (if left then 1 else p)) * radix ^ length rest) raised))
-    ] in
+same_moved only r parts g amount n by m same two l has = record {
+  sign = sym (has.sign ∙ m.negative);
+  fraction = same_worth g amount _ _ (subst (λ radix. IsWorth radix amount (numerator r (literal_of parts)) (denominator r (literal_of parts))) same
+      (moved_is_worth only r parts amount n by m (subst (λ radix. 2 ≤ radix) (sym same) two))) m.exponent two l has;
+}
+
+-- What has the digits of a whole number in another radix has the value of the literal.
+pub same_number : (only : Bool) (r : Record) (parts : Parts) (g : Grammar) (amount : Amount) (n : ℕ) → moved_by only r parts ≡ Ok n
+    → IsMoved (r.byte layout.mantissa_radix) (is_minus parts.exponent_sign.now) n parts amount → 2 ≤ r.byte layout.mantissa_radix
+    → 2 ≤ (raw g.word).byte layout.mantissa_radix → is_some amount.fraction ≡ false → (l : Literal)
+    → HasNumber g (number_of_size amount.negative (size_of (r.byte layout.mantissa_radix) amount.integer)) l
+    → SameFraction r (literal_of parts) (raw g.word) l
+same_number only r parts g amount n by m two_r two_s whole l has =
+    let radix = r.byte layout.mantissa_radix in
+    let other = (raw g.word).byte layout.mantissa_radix in
+    let size = size_of radix amount.integer in
+    let up = numerator r (literal_of parts) in
+    let down = denominator r (literal_of parts) in
+    let none : values_of radix (given_fraction amount) ≡ [] = no_digits amount.fraction whole in
+    let worth : size * down ≡ up * 1 = ap (λ n. n * down) (size_values radix amount.integer two_r
+    ∙ ap (number_from_digits radix) (sym (append-nil (values_of radix amount.integer)) ∙ ap (λ ds. values_of radix amount.integer ++ ds) (sym none)))
+    ∙ moved_is_worth only r parts amount n by m two_r ∙ ap (λ p. up * p) (ap (λ (ds : List ℕ). radix ^ length ds) none ∙ pow-zero radix) in
     record {
       sign = sym (has.sign ∙ m.negative);
-      fraction = (λ j. (given_mantissa j * up) * (written_scale j * (if no_sign j then one j else 1))) ∙ equal
-          ∙ sym (λ j. (written_mantissa j * (if no_sign j then 1 else one j)) * (given_scale j * down));
+      fraction = same_worth g (number_of_size amount.negative size) up down
+          (ap (λ n. n * down) (ap (number_from_digits other) (append-nil (digits_of other size)) ∙ number_digits_of other size two_s) ∙ worth
+          ∙ sym (ap (λ p. up * p) (pow-zero other))) refl two_s l has;
     }
   where
-    one_power : (left : Bool) (radix n : ℕ) → n ≡ 0 → (if left then radix ^ n else 1) ≡ 1
-    one_power true radix n none = ap (λ n. radix ^ n) none ∙ pow-zero radix
-    one_power false radix n none = refl
+    no_digits : (fraction : Option Source) → is_some fraction ≡ false → values_of (r.byte layout.mantissa_radix) (unwrap_or fraction (sources.Number 0)) ≡ []
+    no_digits None none = refl
+    no_digits (Some source) none = absurd (false≢true (sym none))

@@ -1,7 +1,6 @@
 -- How a literal of one format is written as a literal of another one.
 use Rattle.std.specs.Prelude.{ℕ, ◌≡◌, ◌-◌, ◌*◌, ◌^◌, ◌==◌, ◌&&◌, ◌||◌, not, nat_le, nat_lt, true, false, Bool, if◌then◌else◌, is_some, length, List, Option, Some, None, Result, Ok, Err}
 use Rattle.std.specs.Borrow.{Bor}
-use Rattle.std.specs.Option.{option_or}
 use Rattle.std.specs.Result.{MatchResult, result_map_both}
 use Rattle.lexical_util.specs.Layout as layout
 use Rattle.lexical_util.specs.Record.{Record, raw, effective_exponent_base, effective_exponent_radix}
@@ -14,9 +13,12 @@ use Rattle.lexical_literal.specs.declared.read.Parts.{Parts}
 use Rattle.lexical_literal.specs.declared.syntax.Grammar.{Grammar}
 use Rattle.lexical_number.specs.Number.{number}
 use Rattle.lexical_value.specs.Value.{denominator, numerator}
-use Rattle.lexical_writer.specs.Layout.{IsLaidOut, laid_out, literal_of as written}
+use Rattle.lexical_writer.specs.Digits.{size_of}
+use Rattle.lexical_writer.specs.Layout.{IsLaidOut, allows_exponent, laid_out, literal_of as written, needs_exponent, number_of_size, plain_style}
 use Rattle.lexical_writer.specs.Moved.{IsMoved, moved_by}
 use Rattle.lexical_writer.specs.declared.layout.Amount.{Amount}
+use Rattle.lexical_writer.specs.declared.layout.ExponentStyle.{ExponentStyle}
+use Rattle.lexical_writer.specs.declared.layout.ExponentStyle.TheVariants as exponents
 use Rattle.lexical_writer.specs.declared.layout.Layout.{Layout}
 use Rattle.lexical_writer.specs.declared.layout.Power.{Power}
 use Rattle.lexical_writer.specs.declared.layout.Style.{Style}
@@ -56,8 +58,7 @@ power_of r parts s =
 -- `amount_of r parts s` is the number that `parts` represents, with digits for the format `s`, or why `s` cannot have it.
 abbrev pub amount_of : Record → Parts → Record → Result Amount WriteError
 amount_of r parts s =
-    if not (r.byte layout.mantissa_radix == s.byte layout.mantissa_radix) then Err errors.Radix
-    else result_map_both (λ power. record {
+    result_map_both (λ power. record {
       negative = is_minus parts.sign.now;
       integer = sources.Bytes parts.integer;
       fraction = fraction_of parts;
@@ -68,53 +69,88 @@ amount_of r parts s =
 abbrev pub is_refused : Parts → Grammar → Bool
 is_refused parts g = is_minus parts.sign.now && has g.conditions conditions.NegativeSign
 
--- `allows_exponent g` is true if literals of `g` can have an exponent.
-abbrev pub allows_exponent : Grammar → Bool
-allows_exponent g = not (lacks_options g.options || (raw g.word).flag layout.no_exponent_notation)
+-- `is_same_radix r g` is true if the format `r` and that of `g` have the same mantissa radix.
+abbrev pub is_same_radix : Record → Grammar → Bool
+is_same_radix r g = r.byte layout.mantissa_radix == (raw g.word).byte layout.mantissa_radix
 
--- `is_kept r parts g` is true if the point stays where it is: if literals of `g` can have the exponent of `parts` or, if there is none,
--- its fraction.
+-- `is_kept r parts g` is true if the point can stay where it is: if literals of `g` can have the exponent of `parts` or, if there is
+-- none, its fraction.
 abbrev pub is_kept : Record → Parts → Grammar → Bool
 is_kept r parts g =
     if has_power parts then allows_exponent g && effective_exponent_base r == effective_exponent_base (raw g.word)
     else not (lacks_options g.options && is_some (fraction_of parts))
 
+-- `is_unwanted wish size` is true if the point is to move in place of an exponent of this size.
+abbrev pub is_unwanted : ExponentStyle → ℕ → Bool
+is_unwanted exponents.Never size = true
+is_unwanted (exponents.From least) size = nat_lt size least
+is_unwanted _ size = false
+
+-- `is_wish r parts g style` is true if `parts` has an exponent that is unwanted, and literals of `g` need none.
+abbrev pub is_wish : Record → Parts → Grammar → Style → Bool
+is_wish r parts g style = (has_power parts && not (needs_exponent g))
+    && is_unwanted style.exponent (number (effective_exponent_radix r) parts.exponent.now)
+
 -- `IsKept r parts g style result` holds if `result` is what is written for `parts`, or why it cannot be written, where the point stays.
 abbrev pub IsKept : Record → Parts → Grammar → Style → Result Layout WriteError → Type 0
 IsKept r parts g style result = MatchResult (amount_of r parts (raw g.word)) (λ amount. IsLaidOut g style amount result) (λ error. result ≡ Err error)
 
--- `second_error fraction radix` is the error of the first of the two that is refused.
-abbrev pub second_error : Bool → Bool → Option WriteError
-second_error fraction radix = if fraction then Some errors.Fraction else (if radix then Some errors.Radix else None)
+-- `moved_error g amount` is why `amount`, which has no exponent, is not written where the point has moved, or `None` if it is. A text
+-- that makes no wish has at most 800 bytes.
+abbrev pub moved_error : Grammar → Amount → Option WriteError
+moved_error g amount =
+    if lacks_options g.options && is_some amount.fraction then Some errors.Fraction
+    else (if nat_lt 800 (length (text_of (laid_out g plain_style amount))) then Some errors.Long else None)
 
--- `moved_refusal r g amount` is why no text is written for `amount`, with digits for the format `r` and no exponent, or `None` if one
--- can be.
-abbrev pub moved_refusal : Record → Grammar → Amount → Option WriteError
-moved_refusal r g amount = second_error (lacks_options g.options && is_some amount.fraction)
-    (not (r.byte layout.mantissa_radix == (raw g.word).byte layout.mantissa_radix))
-
--- `moved_error r g style amount` is why `amount` is not written where the point has moved, or `None` if it is. A text that is written
--- has at most 800 bytes.
-abbrev pub moved_error : Record → Grammar → Style → Amount → Option WriteError
-moved_error r g style amount =
-    option_or (moved_refusal r g amount) (if nat_lt 800 (length (text_of (laid_out g style amount))) then Some errors.Long else None)
-
--- `IsShort r g style amount result` holds if `result` is what is written for `amount`, or why it is not.
-abbrev pub IsShort : Record → Grammar → Style → Amount → Result Layout WriteError → Type 0
-IsShort r g style amount (Ok layout) = (moved_error r g style amount ≡ None) × (written layout ≡ laid_out g style amount)
-IsShort r g style amount (Err error) = moved_error r g style amount ≡ Some error
+-- `IsShort g style amount result` holds if `result` is what is written for `amount`, or why it is not.
+abbrev pub IsShort : Grammar → Style → Amount → Result Layout WriteError → Type 0
+IsShort g style amount (Ok layout) = (moved_error g amount ≡ None) × (written layout ≡ laid_out g style amount)
+IsShort g style amount (Err error) = moved_error g amount ≡ Some error
 
 -- `IsPlain r parts g style result` holds if `result` is what is written for `parts`, or why it is not, where the point moves.
 abbrev pub IsPlain : Record → Parts → Grammar → Style → Result Layout WriteError → Type 0
 IsPlain r parts g style result = MatchResult (moved_by (lacks_options g.options) r parts)
-    (λ n. (amount : Amount) × IsMoved (r.byte layout.mantissa_radix) (is_minus parts.exponent_sign.now) n parts amount × IsShort r g style amount result)
+    (λ n. (amount : Amount) × IsMoved (r.byte layout.mantissa_radix) (is_minus parts.exponent_sign.now) n parts amount × IsShort g style amount result)
     (λ error. result ≡ Err error)
 
--- `IsConverted r parts g style result` holds if `result` is what is written for `parts`, or why it is not.
+-- `radix_error error` is why a number of another radix is not written, whose point does not move because of `error`.
+abbrev pub radix_error : WriteError → WriteError
+radix_error errors.Fraction = errors.Fraction
+radix_error _ = errors.Radix
+
+-- `number_error g radix amount` is why the number that `amount` represents in `radix` is not written in another radix, or `None` if it is:
+-- it is not whole, or has more than 128 bits.
+abbrev pub number_error : Grammar → ℕ → Amount → Option WriteError
+number_error g radix amount =
+    if is_some amount.fraction then Some (if lacks_options g.options then errors.Fraction else errors.Radix)
+    else (if nat_lt (2 ^ 128 - 1) (size_of radix amount.integer) then Some errors.Radix else None)
+
+-- `IsNumber g style radix amount result` holds if `result` is what is written for the number that `amount` represents in `radix`, or why
+-- it is not.
+abbrev pub IsNumber : Grammar → Style → ℕ → Amount → Result Layout WriteError → Type 0
+IsNumber g style radix amount (Ok layout) = (number_error g radix amount ≡ None)
+    × (written layout ≡ laid_out g style (number_of_size amount.negative (size_of radix amount.integer)))
+IsNumber g style radix amount (Err error) = number_error g radix amount ≡ Some error
+
+-- `IsInRadix r parts g style result` holds if `result` is what is written for the number that `parts` represents, or why it is not,
+-- where the radixes differ.
+abbrev pub IsInRadix : Record → Parts → Grammar → Style → Result Layout WriteError → Type 0
+IsInRadix r parts g style result = MatchResult (moved_by (lacks_options g.options) r parts)
+    (λ n. (amount : Amount) × IsMoved (r.byte layout.mantissa_radix) (is_minus parts.exponent_sign.now) n parts amount
+    × IsNumber g style (r.byte layout.mantissa_radix) amount result)
+    (λ error. result ≡ Err (radix_error error))
+
+-- `IsConverted r parts g style result` holds if `result` is what is written for `parts`, or why it is not. Where the point is to move,
+-- it stays if it cannot.
 pub record IsConverted (r : Record) (parts : Parts) (g : Grammar) (style : Style) (result : Result Layout WriteError) : Type 0 where
   pub refused : is_refused parts g ≡ true → result ≡ Err errors.Negative
-  pub kept : is_refused parts g ≡ false → is_kept r parts g ≡ true → IsKept r parts g style result
-  pub moved : is_refused parts g ≡ false → is_kept r parts g ≡ false → IsPlain r parts g style result
+  pub number : is_refused parts g ≡ false → is_same_radix r g ≡ false → IsInRadix r parts g style result
+  pub moved : is_refused parts g ≡ false → is_same_radix r g ≡ true → is_kept r parts g ≡ false → IsPlain r parts g style result
+  pub kept : is_refused parts g ≡ false → is_same_radix r g ≡ true → is_kept r parts g ≡ true → is_wish r parts g style ≡ false
+      → IsKept r parts g style result
+  pub wished : is_refused parts g ≡ false → is_same_radix r g ≡ true → is_kept r parts g ≡ true → is_wish r parts g style ≡ true
+      → (tried : Result Layout WriteError) × IsPlain r parts g style tried × MatchResult tried (λ layout. result ≡ tried)
+      (λ error. IsKept r parts g style result)
 
 -- `IsWritten read g style result` holds if `result` is what is written for bytes that are the parts of `read`, or why it cannot be
 -- written.

@@ -1,18 +1,19 @@
--- How digits are written: as uppercase characters, in groups.
+-- How digits are written: in which case, and in which groups.
 use Rattle.std.specs.Prelude.{ℕ, ◌-◌, ◌%◌, ◌==◌, ◌&&◌, nat_le, nat_lt, Bool, if◌then◌else◌, List, [], ◌∷◌, ◌++◌, length, replicate, slice_index, Option, Some, None, option_to_list}
+use Rattle.std.specs.Char.{to_ascii_lowercase}
 use Rattle.std.specs.Int.Digits.{digits_of, number_from_digits}
 use Rattle.lexical_util.specs.Digits.{digit_characters}
-use Rattle.lexical_literal.specs.Literal.{is_absent}
 use Rattle.lexical_number.specs.Number.{digits_in, number}
-use Rattle.lexical_writer.specs.declared.run.Groups.{Groups}
+use Rattle.lexical_writer.specs.declared.run.Pattern.{Pattern}
 use Rattle.lexical_writer.specs.declared.run.Padded.{Padded}
 use Rattle.lexical_writer.specs.declared.run.Run.{Run}
 use Rattle.lexical_writer.specs.declared.run.Source.{Source}
 use Rattle.lexical_writer.specs.declared.run.Source.TheVariants as sources
 
--- `character digit` is the character of `digit`: `0` to `9`, and then `A` to `Z`.
-abbrev pub character : ℕ → ℕ
-character digit = slice_index digit_characters digit
+-- `character lowercase digit` is the character of `digit`: `0` to `9`, and then `A` to `Z`, or `a` to `z` if `lowercase` is true.
+abbrev pub character : Bool → ℕ → ℕ
+character lowercase digit =
+    if lowercase then to_ascii_lowercase (slice_index digit_characters digit) else slice_index digit_characters digit
 
 -- `padded_values radix padded` lists the digits of `padded` in `radix`, with the zeros around them.
 abbrev pub padded_values : ℕ → Padded → List ℕ
@@ -30,40 +31,43 @@ size_of radix (sources.Bytes bytes) = number radix bytes.now
 size_of radix (sources.Number number) = number
 size_of radix (sources.Padded padded) = number_from_digits radix (padded_values radix padded)
 
--- `or_zero zero digits` is `digits` or, if there are none and `zero` is true, the digit 0.
-abbrev pub or_zero : Bool → List ℕ → List ℕ
-or_zero zero digits = if is_absent digits && zero then 0 ∷ [] else digits
+-- `at_least least digits` is `digits` with as many zeros before them as make their number `least`, if it is less.
+abbrev pub at_least : ℕ → List ℕ → List ℕ
+at_least least digits = replicate (least - length digits) 0 ++ digits
 
--- `ends_group groups left` is true if a group ends where `left` digits are left: those of the last group, and of whole groups
+-- `ends_group pattern left` is true if a group ends where `left` digits are left: those of the last group, and of whole groups
 -- before it.
-abbrev pub ends_group : Groups → ℕ → Bool
-ends_group groups left =
-    nat_lt 0 left && (nat_lt 0 groups.higher && (nat_le groups.last left && (left - groups.last) % groups.higher == 0))
+abbrev pub ends_group : Pattern → ℕ → Bool
+ends_group pattern left =
+    nat_lt 0 left && (nat_lt 0 pattern.higher && (nat_le pattern.last left && (left - pattern.last) % pattern.higher == 0))
 
--- `no_groups` are the groups of digits without separators.
-abbrev pub no_groups : Groups
-no_groups = record { last = 0; higher = 0 }
+-- `no_groups lowercase` is the pattern of digits without separators.
+abbrev pub no_groups : Bool → Pattern
+no_groups lowercase = record { last = 0; higher = 0; separator = 0; lowercase = lowercase }
 
 -- `only_if condition byte` is `byte` if `condition` is true, and absent otherwise.
 abbrev pub only_if : Bool → ℕ → Option ℕ
 only_if condition byte = if condition then Some byte else None
 
--- `separated separator groups left` is `separator` where a group ends.
-abbrev pub separated : ℕ → Groups → ℕ → List ℕ
-separated separator groups left = option_to_list (only_if (ends_group groups left) separator)
+-- `separated pattern left` is the separator where a group ends.
+abbrev pub separated : Pattern → ℕ → List ℕ
+separated pattern left = option_to_list (only_if (ends_group pattern left) pattern.separator)
 
--- `grouped_front separator groups left digits` has the characters of `digits`, which are the first of `left` digits, with
--- `separator` where a group ends.
-abbrev pub grouped_front : ℕ → Groups → ℕ → List ℕ → List ℕ
-grouped_front separator groups left [] = []
-grouped_front separator groups left (digit ∷ digits) =
-    character digit ∷ separated separator groups (left - 1) ++ grouped_front separator groups (left - 1) digits
+-- `grouped_front pattern left digits` has the characters of `digits`, which are the first of `left` digits, with a separator where a
+-- group ends.
+abbrev pub grouped_front : Pattern → ℕ → List ℕ → List ℕ
+grouped_front pattern left [] = []
+grouped_front pattern left (digit ∷ digits) =
+    character pattern.lowercase digit ∷ separated pattern (left - 1) ++ grouped_front pattern (left - 1) digits
 
--- `grouped separator groups digits` has the characters of `digits`, with `separator` between groups.
-abbrev pub grouped : ℕ → Groups → List ℕ → List ℕ
-grouped separator groups [] = []
-grouped separator groups (digit ∷ digits) = character digit ∷ separated separator groups (length digits) ++ grouped separator groups digits
+-- `grouped pattern digits` has the characters of `digits`, with separators between groups.
+abbrev pub grouped : Pattern → List ℕ → List ℕ
+grouped pattern [] = []
+grouped pattern (digit ∷ digits) = character pattern.lowercase digit ∷ separated pattern (length digits) ++ grouped pattern digits
 
--- `run_text run` is what is written of `run`.
+-- `run_digits run` lists the digits that are written of `run`, and `run_text run` is what is written.
+abbrev pub run_digits : Run → List ℕ
+run_digits run = at_least run.least (values_of run.radix run.source)
+
 abbrev pub run_text : Run → List ℕ
-run_text run = grouped run.separator run.groups (or_zero run.zero (values_of run.radix run.source))
+run_text run = grouped run.pattern (run_digits run)

@@ -1,5 +1,5 @@
 -- How a number is laid out as a literal.
-use Rattle.std.specs.Prelude.{ℕ, ◌≡◌, suc, ℤ, pos, negsuc, ◌==◌, ◌&&◌, ◌||◌, not, Bool, false, true, if◌then◌else◌, List, ◌++◌, Option, Some, None}
+use Rattle.std.specs.Prelude.{ℕ, ◌≡◌, suc, ℤ, pos, negsuc, ◌+◌, ◌-◌, ◌%◌, ◌*◌, ◌==◌, ◌&&◌, ◌||◌, not, max, Bool, false, true, if◌then◌else◌, List, ◌++◌, length, Option, Some, None}
 use Rattle.std.specs.Prelude.{Result, Ok, Err, is_some, option_to_list, unwrap_or}
 use Rattle.std.specs.Int.Digits.{digits_of}
 use Rattle.lexical_util.specs.Layout as layout
@@ -10,15 +10,19 @@ use Rattle.lexical_literal.specs.declared.syntax.Condition.TheVariants as condit
 use Rattle.lexical_literal.specs.declared.syntax.Conditions.{Conditions}
 use Rattle.lexical_literal.specs.declared.syntax.Grammar.{Grammar}
 use Rattle.lexical_literal.specs.declared.syntax.Options.{Options}
-use Rattle.lexical_number.specs.Number.{digits_in, number}
-use Rattle.lexical_writer.specs.Digits.{grouped, no_groups, only_if, or_zero, run_text, size_of, values_of}
+use Rattle.lexical_number.specs.Number.{digits_in, number, places}
+use Rattle.lexical_number.specs.Numeral.{with_sign}
+use Rattle.lexical_value.specs.Value.{denominator, numerator}
+use Rattle.lexical_writer.specs.Digits.{at_least, grouped, no_groups, only_if, run_text, size_of, values_of}
 use Rattle.lexical_writer.specs.declared.layout.Amount.{Amount}
 use Rattle.lexical_writer.specs.declared.layout.Grouping.{Grouping}
 use Rattle.lexical_writer.specs.declared.layout.Grouping.TheVariants as groupings
+use Rattle.lexical_writer.specs.declared.layout.ExponentStyle.{ExponentStyle}
+use Rattle.lexical_writer.specs.declared.layout.ExponentStyle.TheVariants as exponents
 use Rattle.lexical_writer.specs.declared.layout.Layout.{Layout}
 use Rattle.lexical_writer.specs.declared.layout.Power.{Power}
 use Rattle.lexical_writer.specs.declared.layout.Style.{Style}
-use Rattle.lexical_writer.specs.declared.run.Groups.{Groups}
+use Rattle.lexical_writer.specs.declared.run.Pattern.{Pattern}
 use Rattle.lexical_writer.specs.declared.run.Source.{Source}
 use Rattle.lexical_writer.specs.declared.run.Source.TheVariants as sources
 use Rattle.lexical_writer.specs.declared.layout.WriteError.{WriteError}
@@ -72,25 +76,60 @@ group_size size groupings.AsSyntax = size
 group_size size groupings.None = 0
 group_size size (groupings.Of other) = if other == 0 then 0 else either size other
 
--- `groups_of r c style` are the groups of an integer. They have the sizes that the conditions `c` require, or that of `style`. There
--- are none if `style` has none, and where the format `r` does not allow a separator between digits, or has none.
-abbrev pub groups_of : Record → Conditions → Style → Groups
-groups_of r c style =
+-- `pattern_of r allowed last higher lowercase` is the pattern of digits in groups of these sizes. There are no groups if `last` is 0,
+-- and where separators between digits are not `allowed`, or the format `r` has none.
+abbrev pub pattern_of : Record → Bool → ℕ → ℕ → Bool → Pattern
+pattern_of r allowed last higher lowercase =
+    if last == 0 || not allowed || r.byte layout.digit_separator == 0 then no_groups lowercase
+    else record { last = last; higher = higher; separator = r.byte layout.digit_separator; lowercase = lowercase }
+
+-- `integer_pattern r c style` is the pattern of an integer. Its groups have the sizes that the conditions `c` require, or that of
+-- `style`.
+abbrev pub integer_pattern : Record → Conditions → Style → Pattern
+integer_pattern r c style =
     let last = group_size (number_of c conditions.IntegerGroupSize) style.group in
-    if last == 0 || not (r.flag layout.integer_internal_digit_separator) || r.byte layout.digit_separator == 0 then no_groups
-    else record { last = last; higher = either (number_of c conditions.HigherGroupSize) last }
+    pattern_of r (r.flag layout.integer_internal_digit_separator) last (either (number_of c conditions.HigherGroupSize) last) style.lowercase
+
+-- `fraction_pattern r c style count` is the pattern of a fraction of `count` digits. Its groups have the size that the conditions `c`
+-- require, or that of `style`. They are counted from the left, so the last one has what is left.
+abbrev pub fraction_pattern : Record → Conditions → Style → ℕ → Pattern
+fraction_pattern r c style count =
+    let size = group_size (number_of c conditions.FractionGroupSize) style.fraction_group in
+    pattern_of r (r.flag layout.fraction_internal_digit_separator) (if size == 0 then 0 else (count - 1) % size + 1) size style.lowercase
+
+-- `plain_style` makes no wish.
+abbrev pub plain_style : Style
+plain_style = record {
+  group = groupings.AsSyntax;
+  fraction_group = groupings.AsSyntax;
+  prefix = true;
+  suffix = true;
+  lowercase = false;
+  min_digits = 0;
+  keep_leading_zeros = false;
+  exponent = exponents.AsNumber;
+}
 
 -- `needs_exponent g` is true if each literal of `g` has an exponent.
 abbrev pub needs_exponent : Grammar → Bool
 needs_exponent g = (raw g.word).flag layout.required_exponent_notation && not (lacks_options g.options)
 
--- `has_exponent g amount` is true if `amount` has an exponent, or if each literal has one.
-abbrev pub has_exponent : Grammar → Amount → Bool
-has_exponent g amount = is_some amount.exponent || needs_exponent g
+-- `allows_exponent g` is true if literals of `g` can have an exponent.
+abbrev pub allows_exponent : Grammar → Bool
+allows_exponent g = not (lacks_options g.options || (raw g.word).flag layout.no_exponent_notation)
 
--- `has_point g amount` is true if `amount` has a fraction, or if an exponent requires one.
-abbrev pub has_point : Grammar → Amount → Bool
-has_point g amount = is_some amount.fraction || (has_exponent g amount && (raw g.word).flag layout.no_exponent_without_fraction)
+-- `wants_exponent wish` is true if a number without an exponent is to have one.
+abbrev pub wants_exponent : ExponentStyle → Bool
+wants_exponent exponents.Always = true
+wants_exponent _ = false
+
+-- `has_exponent g style amount` is true if `amount` has an exponent, if each literal has one, or if `style` wants one that is allowed.
+abbrev pub has_exponent : Grammar → Style → Amount → Bool
+has_exponent g style amount = is_some amount.exponent || (needs_exponent g || (wants_exponent style.exponent && allows_exponent g))
+
+-- `has_point g style amount` is true if `amount` has a fraction, or if an exponent requires one.
+abbrev pub has_point : Grammar → Style → Amount → Bool
+has_point g style amount = is_some amount.fraction || (has_exponent g style amount && (raw g.word).flag layout.no_exponent_without_fraction)
 
 -- `has_zero r amount` is true if a 0 stands for absent integer digits: if they are required, if `amount` has integer digits,
 -- which are zeros, or if it has no digits at all.
@@ -99,24 +138,62 @@ has_zero r amount =
     let radix = r.byte layout.mantissa_radix in
     r.flag layout.required_integer_digits || (is_present (values_of radix amount.integer) || is_absent (values_of radix (given_fraction amount)))
 
--- `laid_out g style amount` is the literal of `g` that is written for `amount`. The integer and the exponent have no leading zeros.
+-- `kept_digits radix source` is the number of digits of `source`, or 0 if it is not bytes, so that it has no zeros to be kept.
+abbrev pub kept_digits : ℕ → Source → ℕ
+kept_digits radix (sources.Bytes bytes) = places radix bytes.now
+kept_digits radix _ = 0
+
+-- `one_if condition` is 1 if `condition` is true, and 0 otherwise.
+abbrev pub one_if : Bool → ℕ
+one_if condition = if condition then 1 else 0
+
+-- `takes_zeros r prefix float` is true if the integer of a float or of another number may have leading zeros in the format `r`. Behind
+-- a base prefix, it may.
+abbrev pub takes_zeros : Record → Bool → Bool → Bool
+takes_zeros r prefix float = prefix || not (r.flag (if float then layout.no_float_leading_zeros else layout.no_integer_leading_zeros))
+
+-- `least_digits r style prefix float amount` is how many integer digits are written at least: those that `style` wants, where leading
+-- zeros are allowed, and a 0 that stands for absent digits.
+abbrev pub least_digits : Record → Style → Bool → Bool → Amount → ℕ
+least_digits r style prefix float amount =
+    let kept = if style.keep_leading_zeros then kept_digits (r.byte layout.mantissa_radix) amount.integer else 0 in
+    max (one_if (has_zero r amount)) (if takes_zeros r prefix float then max kept style.min_digits else 0)
+
+-- `integer_text r c style prefix float amount` is the integer that is written, behind a base prefix or not, of a float or not.
+abbrev pub integer_text : Record → Conditions → Style → Bool → Bool → Amount → List ℕ
+integer_text r c style prefix float amount = grouped (integer_pattern r c style)
+    (at_least (least_digits r style prefix float amount)
+    (digits_of (r.byte layout.mantissa_radix) (size_of (r.byte layout.mantissa_radix) amount.integer)))
+
+-- `exponent_text r style exponent source` is what is written of the exponent digits of `source`, where they are required or not.
+abbrev pub exponent_text : Record → Style → Bool → Source → List ℕ
+exponent_text r style exponent source = grouped (no_groups style.lowercase)
+    (at_least (one_if exponent) (digits_of (effective_exponent_radix r) (size_of (effective_exponent_radix r) source)))
+
+-- `fraction_text r c style point amount` is the fraction that is written, with a decimal point or not. It has no more digits than
+-- `amount`, except for a 0 where digits are required.
+abbrev pub fraction_text : Record → Conditions → Style → Bool → Amount → List ℕ
+fraction_text r c style point amount =
+    let digits = at_least (one_if (point && r.flag layout.required_fraction_digits))
+    (values_of (r.byte layout.mantissa_radix) (given_fraction amount)) in
+    grouped (fraction_pattern r c style (length digits)) digits
+
+-- `laid_out g style amount` is the literal of `g` that is written for `amount`.
 abbrev pub laid_out : Grammar → Style → Amount → Literal
 laid_out g style amount =
     let r = raw g.word in
-    let radix = r.byte layout.mantissa_radix in
-    let exponent_radix = effective_exponent_radix r in
-    let point = has_point g amount in
-    let exponent = has_exponent g amount in
+    let point = has_point g style amount in
+    let exponent = has_exponent g style amount in
+    let prefix = base_byte (style.prefix || has g.conditions conditions.BasePrefix) (r.byte layout.base_prefix) in
     record {
       sign = option_to_list (sign_of amount.negative (r.flag layout.required_mantissa_sign));
-      prefix = after_zero (base_byte (style.prefix || has g.conditions conditions.BasePrefix) (r.byte layout.base_prefix));
-      integer = grouped (r.byte layout.digit_separator) (groups_of r g.conditions style)
-          (or_zero (has_zero r amount) (digits_of radix (size_of radix amount.integer)));
+      prefix = after_zero prefix;
+      integer = integer_text r g.conditions style (is_some prefix) (point || exponent) amount;
       point = option_to_list (only_if point (options_of g).point);
-      fraction = grouped 0 no_groups (or_zero (point && r.flag layout.required_fraction_digits) (values_of radix (given_fraction amount)));
+      fraction = fraction_text r g.conditions style point amount;
       exponent_character = option_to_list (only_if exponent (options_of g).exponent);
       exponent_sign = option_to_list (sign_of (given_power amount).negative (exponent && r.flag layout.required_exponent_sign));
-      exponent = grouped 0 no_groups (or_zero exponent (digits_of exponent_radix (size_of exponent_radix (given_power amount).source)));
+      exponent = exponent_text r style exponent (given_power amount).source;
       suffix = option_to_list (base_byte (style.suffix || has g.conditions conditions.BaseSuffix) (r.byte layout.base_suffix));
     }
 
@@ -142,15 +219,25 @@ pub record HasNumber (g : Grammar) (amount : Amount) (l : Literal) : Type 0 wher
   pub integer : number ((raw g.word).byte layout.mantissa_radix) l.integer ≡ size_of ((raw g.word).byte layout.mantissa_radix) amount.integer
   pub zero : Bool
   pub fraction : digits_in ((raw g.word).byte layout.mantissa_radix) l.fraction
-      ≡ or_zero zero (values_of ((raw g.word).byte layout.mantissa_radix) (given_fraction amount))
+      ≡ at_least (one_if zero) (values_of ((raw g.word).byte layout.mantissa_radix) (given_fraction amount))
   pub exponent_sign : is_minus l.exponent_sign ≡ (given_power amount).negative
   pub exponent : number (effective_exponent_radix (raw g.word)) l.exponent
       ≡ size_of (effective_exponent_radix (raw g.word)) (given_power amount).source
 
+-- `number_of_size negative n` is the number `n` or, if `negative` is true, `n` with a minus sign, as an amount.
+abbrev pub number_of_size : Bool → ℕ → Amount
+number_of_size negative n = record { negative = negative; integer = sources.Number n; fraction = None; exponent = None }
+
 -- `whole z` is the integer `z` as an amount, with a minus sign only below 0.
 abbrev pub whole : ℤ → Amount
-whole (pos n) = record { negative = false; integer = sources.Number n; fraction = None; exponent = None }
-whole (negsuc n) = record { negative = true; integer = sources.Number (suc n); fraction = None; exponent = None }
+whole (pos n) = number_of_size false n
+whole (negsuc n) = number_of_size true (suc n)
+
+-- `HasValue r l z` holds if the value of `l` in the format `r` is the integer `z`, or -0 for 0.
+pub record HasValue (r : Record) (l : Literal) (z : ℤ) : Type 0 where
+  pub size : ℕ
+  pub sign : z ≡ with_sign (is_minus l.sign) size
+  pub fraction : size * denominator r l ≡ numerator r l
 
 -- `whole_refusal g z` is why the integer `z` cannot be written as a literal of `g`, or `None` if it can: `z` is below 0 and no literal
 -- is, or else each literal has an exponent.

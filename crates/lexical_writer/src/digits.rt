@@ -1,12 +1,12 @@
 //! Runs of digits are written.
 
-ghost use Rattle.std.specs.Prelude.{◌≡◌, ◌++◌, ◌∷◌, [], ◌-◌, ◌<◌, ◌≤◌, ◌/◌, ◌%◌, ℕ, List, length, map, option_to_list, replicate};
+ghost use Rattle.std.specs.Prelude.{◌≡◌, ◌++◌, ◌∷◌, [], false, ◌-◌, ◌<◌, ◌≤◌, ◌/◌, ◌%◌, ℕ, List, length, map, option_to_list, replicate};
 ghost use Rattle.std.specs.Int.Digits.{digits_of, number_from_digits};
 ghost use Rattle.lexical_number.specs.Number.{digits_in, number, places};
 ghost use Rattle.lexical_util.specs.Rules.{IsRadix};
-ghost use Rattle.lexical_writer.specs.Digits.{character, ends_group, grouped, grouped_front, only_if, or_zero, padded_values, run_text, separated};
+ghost use Rattle.lexical_writer.specs.Digits.{at_least, character, ends_group, grouped, grouped_front, only_if, padded_values, run_digits, run_text, separated};
 
-use crate::run::{Groups, Padded, Run, Source};
+use crate::run::{Padded, Pattern, Run, Source};
 use crate::sink::Sink;
 use lexical_base::digit::{char_to_digit, digit_to_char, digit_to_char_const};
 use lexical_number::parts::count;
@@ -47,7 +47,7 @@ fn split_last(number: u128, radix: u32) -> (u128, u32)
 // Writes the digits of a number to the end of a buffer, and returns them.
 fn characters(buffer: &mut [u8; 128], number: u128, radix: u32) -> &[u8]
     requires { IsRadix radix }
-    ensures { result.now ≡ map character (digits_of radix number) }
+    ensures { result.now ≡ map (character false) (digits_of radix number) }
 {
     let mut left = number;
     let mut start = 128;
@@ -63,7 +63,7 @@ fn characters(buffer: &mut [u8; 128], number: u128, radix: u32) -> &[u8]
 // Writes the decimal digits of a number to the end of a buffer, and returns them. Two at a time take less time.
 #[inline(always)]
 fn decimals(buffer: &mut [u8; 20], number: u64) -> &[u8]
-    ensures { result.now ≡ map character (digits_of 10 number) }
+    ensures { result.now ≡ map (character false) (digits_of 10 number) }
 {
     let mut left = number;
     let mut start = 20;
@@ -83,10 +83,10 @@ fn decimals(buffer: &mut [u8; 20], number: u64) -> &[u8]
 
 // Returns whether a group ends where `left` digits are left.
 #[inline(always)]
-const fn ends_group(groups: Groups, left: u128) -> bool
-    ensures { result ≡ ends_group groups left }
+const fn ends_group(pattern: Pattern, left: u128) -> bool
+    ensures { result ≡ ends_group pattern left }
 {
-    let Groups { last, higher } = groups;
+    let Pattern { last, higher, .. } = pattern;
     if left > usize::MAX as u128 {
         return higher > 0 && (left - last as u128) % higher as u128 == 0;
     }
@@ -114,15 +114,32 @@ pub(crate) fn put_if_any<S: Sink>(sink: &mut S, byte: Option<u8>)
     }
 }
 
+// Returns the character of a digit.
+#[inline(always)]
+const fn character(digit: u32, lowercase: bool) -> u8
+    requires { digit < 36 }
+    ensures { result ≡ character lowercase digit }
+{
+    let uppercase = digit_to_char(digit);
+    if lowercase {
+        uppercase.to_ascii_lowercase()
+    } else {
+        uppercase
+    }
+}
+
 // Writes a digit and, where a group ends, a separator. Behind the digit, `left` more are to be written.
 #[inline(always)]
 fn put_digit<S: Sink>(sink: &mut S, digit: u32, left: u128, run: &Run)
     requires { digit < 36 }
     ensures { (start : S) → (text : List ℕ) → S.has start sink.old text
-        → S.has start sink.new (text ++ character digit ∷ separated run.now.separator run.now.groups left) }
+        → S.has start sink.new (text ++ character run.now.pattern.lowercase digit ∷ separated run.now.pattern left) }
 {
-    sink.put(digit_to_char(digit));
-    put_if_any(sink, only_if(ends_group(run.groups, left), run.separator));
+    sink.put(character(digit, run.pattern.lowercase));
+    put_if_any(
+        sink,
+        only_if(ends_group(run.pattern, left), run.pattern.separator),
+    );
 }
 
 // Writes the digits among bytes in groups, which are the first of `count` digits, and returns how many are left.
@@ -130,7 +147,7 @@ fn put_digits<S: Sink>(sink: &mut S, bytes: &[u8], count: u128, run: &Run) -> u1
     requires { places run.now.radix bytes.now ≤ count }
     ensures left { result ≡ count - places run.now.radix bytes.now }
     ensures text { (start : S) → (text : List ℕ) → S.has start sink.old text
-        → S.has start sink.new (text ++ grouped_front run.now.separator run.now.groups count (digits_in run.now.radix bytes.now)) }
+        → S.has start sink.new (text ++ grouped_front run.now.pattern count (digits_in run.now.radix bytes.now)) }
 {
     let mut left = count;
     let mut index = 0;
@@ -145,14 +162,14 @@ fn put_digits<S: Sink>(sink: &mut S, bytes: &[u8], count: u128, run: &Run) -> u1
 }
 
 // Writes zeros in groups, which are the first of `count` digits, and returns how many are left.
-fn put_zeros<S: Sink>(sink: &mut S, zeros: usize, count: u128, run: &Run) -> u128
+fn put_zeros<S: Sink>(sink: &mut S, zeros: u128, count: u128, run: &Run) -> u128
     requires { zeros ≤ count }
     ensures left { result ≡ count - zeros }
     ensures text { (start : S) → (text : List ℕ) → S.has start sink.old text
-        → S.has start sink.new (text ++ grouped_front run.now.separator run.now.groups count (replicate zeros 0)) }
+        → S.has start sink.new (text ++ grouped_front run.now.pattern count (replicate zeros 0)) }
 {
     let mut left = count;
-    let end = count - zeros as u128;
+    let end = count - zeros;
     while left > end {
         left -= 1;
         put_digit(sink, 0, left, run);
@@ -160,56 +177,50 @@ fn put_zeros<S: Sink>(sink: &mut S, zeros: usize, count: u128, run: &Run) -> u12
     left
 }
 
-// Writes digits in groups or, if there are none, a 0 if the run has one.
+// Writes digits in groups, and zeros before them if there are fewer than the run has at least.
 fn put_padded<S: Sink>(sink: &mut S, padded: &Padded, run: &Run)
     ensures { (start : S) → (text : List ℕ) → S.has start sink.old text
-        → S.has start sink.new (text ++ grouped run.now.separator run.now.groups (or_zero run.now.zero (padded_values run.now.radix padded.now))) }
+        → S.has start sink.new (text ++ grouped run.now.pattern (at_least run.now.least (padded_values run.now.radix padded.now))) }
 {
     let count = padded.count(run.radix);
-    if count == 0 && run.zero {
-        sink.put(b'0');
-        return;
-    }
-    let left = put_zeros(sink, padded.before, count, run);
+    let missing = (run.least as u128).saturating_sub(count);
+    let zeros = missing + padded.before as u128;
+    let left = put_zeros(sink, zeros, missing + count, run);
     let left = put_digits(sink, padded.first, left, run);
     let left = put_digits(sink, padded.second, left, run);
-    put_zeros(sink, padded.after, left, run);
+    put_zeros(sink, padded.after as u128, left, run);
 }
 
-// Writes the digits among bytes in groups or, if there are none, a 0 if the run has one.
-fn put_or_zero<S: Sink>(sink: &mut S, bytes: &[u8], run: &Run)
+// Writes the digits among bytes as `put_padded` does.
+fn put_bytes<S: Sink>(sink: &mut S, bytes: &[u8], run: &Run)
     ensures { (start : S) → (text : List ℕ) → S.has start sink.old text
-        → S.has start sink.new (text ++ grouped run.now.separator run.now.groups (or_zero run.now.zero (digits_in run.now.radix bytes.now))) }
+        → S.has start sink.new (text ++ grouped run.now.pattern (at_least run.now.least (digits_in run.now.radix bytes.now))) }
 {
     put_padded(sink, &Padded::of(bytes), run);
 }
 
-// Writes the digits of a number, which are `bytes`, in groups or, if it is 0, a 0 if the run has one.
-fn put_characters<S: Sink>(sink: &mut S, bytes: &[u8], number: u128, run: &Run)
-    requires { bytes.now ≡ map character (digits_of run.now.radix number) }
+// Writes uppercase digits as `put_padded` does.
+fn put_characters<S: Sink>(sink: &mut S, bytes: &[u8], run: &Run)
+    requires { bytes.now ≡ map (character false) (digits_in run.now.radix bytes.now) }
     ensures { (start : S) → (text : List ℕ) → S.has start sink.old text
-        → S.has start sink.new (text ++ grouped run.now.separator run.now.groups (or_zero run.now.zero (digits_of run.now.radix number))) }
+        → S.has start sink.new (text ++ grouped run.now.pattern (at_least run.now.least (digits_in run.now.radix bytes.now))) }
 {
-    if run.groups.higher == 0 && number > 0 {
+    if run.pattern.higher == 0 && !run.pattern.lowercase && run.least <= bytes.len() {
         sink.put_all(bytes);
     } else {
-        put_or_zero(sink, bytes, run);
+        put_bytes(sink, bytes, run);
     }
 }
 
-// Writes the digits of a number in groups or, if it is 0, a 0 if the run has one.
+// Writes the digits of a number as `put_padded` does.
 fn put_number<S: Sink>(sink: &mut S, number: u128, run: &Run)
     ensures { (start : S) → (text : List ℕ) → S.has start sink.old text
-        → S.has start sink.new (text ++ grouped run.now.separator run.now.groups (or_zero run.now.zero (digits_of run.now.radix number))) }
+        → S.has start sink.new (text ++ grouped run.now.pattern (at_least run.now.least (digits_of run.now.radix number))) }
 {
     if run.radix == 10 && number <= u64::MAX as u128 {
-        let mut buffer = [0; 20];
-        let bytes = decimals(&mut buffer, number as u64);
-        put_characters(sink, bytes, number, run);
+        put_characters(sink, decimals(&mut [0; 20], number as u64), run);
     } else {
-        let mut buffer = [0; 128];
-        let bytes = characters(&mut buffer, number, run.radix);
-        put_characters(sink, bytes, number, run);
+        put_characters(sink, characters(&mut [0; 128], number, run.radix), run);
     }
 }
 
@@ -273,15 +284,27 @@ impl Run<'_> {
         }
     }
 
-    // Writes the digits, or a 0 for absent ones.
+    // Returns the number of digits that are written.
+    pub(crate) fn length(&self) -> u128
+        ensures { result ≡ length (run_digits self.now) }
+    {
+        let count = match &self.source {
+            Source::Bytes(bytes) => count(bytes, self.radix) as u128,
+            Source::Number(number) => characters(&mut [0; 128], *number, self.radix).len() as u128,
+            Source::Padded(padded) => padded.count(self.radix),
+        };
+        count.max(self.least as u128)
+    }
+
+    // Writes the digits.
     #[inline(always)]
     pub(crate) fn put<S: Sink>(&self, sink: &mut S)
         ensures { (start : S) → (text : List ℕ) → S.has start sink.old text
             → S.has start sink.new (text ++ run_text self.now) }
     {
         match self.source {
-            Source::Number(0) if !self.zero => (),
-            Source::Bytes(bytes) => put_or_zero(sink, bytes, self),
+            Source::Number(0) if self.least == 0 => (),
+            Source::Bytes(bytes) => put_bytes(sink, bytes, self),
             Source::Number(number) => put_number(sink, number, self),
             Source::Padded(padded) => put_padded(sink, &padded, self),
         }

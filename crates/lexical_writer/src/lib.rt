@@ -8,6 +8,7 @@ pub mod digits;
 pub mod float;
 pub mod float_digits;
 pub mod integer;
+pub mod laws;
 pub mod layout;
 pub mod literal;
 pub mod moved;

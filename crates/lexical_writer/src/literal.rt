@@ -1,17 +1,23 @@
 //! Literals are written as literals of another syntax.
 
-ghost use Rattle.std.specs.Prelude.{◌≡◌, ◌&&◌, false, IfOk, None};
+ghost use Rattle.std.specs.Prelude.{◌≡◌, ◌&&◌, false, true, IfOk, None};
 ghost use Rattle.lexical_util.specs.Record.{raw};
+ghost use Rattle.lexical_util.specs.Rules.{IsRadix, Lawful};
 ghost use Rattle.lexical_literal.specs.Literal.{Reads, text_of, is_minus};
 ghost use Rattle.lexical_literal.specs.Notation.{has, lacks_options, notation_of};
 ghost use Rattle.lexical_literal.specs.Parts.{literal_of};
 ghost use Rattle.lexical_literal.specs.Syntax.{IsSyntax};
-ghost use Rattle.lexical_writer.specs.Conversion.{IsConverted, IsKept, IsPlain, IsShort, IsWritten, SameFraction};
-ghost use Rattle.lexical_writer.specs.Conversion.{amount_of, fraction_of, has_power, is_kept, is_refused, moved_refusal, power_of, second_error, source_of};
-ghost use Rattle.lexical_writer.specs.Layout.{HasNumber, literal_of as written};
+ghost use Rattle.lexical_number.specs.Numeral.{size_of as numeral_size};
+ghost use Rattle.lexical_writer.specs.Conversion.{IsConverted, IsInRadix, IsKept, IsNumber, IsPlain, IsShort, IsWritten, SameFraction};
+ghost use Rattle.lexical_writer.specs.Conversion.{amount_of, fraction_of, has_power, is_kept, is_refused, is_same_radix, is_unwanted, is_wish, power_of};
+ghost use Rattle.lexical_writer.specs.Conversion.{radix_error, source_of};
+ghost use Rattle.lexical_writer.specs.Digits.{size_of};
+ghost use Rattle.lexical_writer.specs.Layout.{HasNumber, literal_of as written, number_of_size};
 
-use crate::layout::{Amount, Layout, Power, Style, WriteError};
-use crate::moved::{moved, moved_by};
+use crate::layout::{
+    Amount, ExponentStyle, Layout, Power, Style, WriteError, allows_exponent, needs_exponent,
+};
+use crate::moved::{exponent_of, moved, moved_by};
 use crate::run::Source;
 use lexical_literal::literal::Literal;
 use lexical_literal::read::Parts;
@@ -45,6 +51,7 @@ pub(crate) fn convert<'a>(
     syntax: &Syntax,
     style: Style,
 ) -> Result<Layout<'a>, WriteError>
+    requires { Lawful format }
     ensures literal { IfOk result (λ layout. Reads (notation_of syntax.now) (written layout) (text_of (written layout))) }
     ensures value { IfOk result (λ layout.
         SameFraction (raw format) (literal_of parts.now) (raw syntax.now.word) (written layout)) }
@@ -52,10 +59,17 @@ pub(crate) fn convert<'a>(
 {
     if is_refused(parts, syntax) {
         Err(WriteError::Negative)
-    } else if is_kept(format, parts, syntax) {
-        keep(format, parts, syntax, style)
-    } else {
+    } else if !is_same_radix(format, syntax) {
+        change_radix(format, parts, syntax, style)
+    } else if !is_kept(format, parts, syntax) {
         move_point(format, parts, syntax, style)
+    } else if is_wish(format, parts, syntax, style) {
+        match move_point(format, parts, syntax, style) {
+            Ok(layout) => Ok(layout),
+            Err(_) => keep(format, parts, syntax, style),
+        }
+    } else {
+        keep(format, parts, syntax, style)
     }
 }
 
@@ -73,17 +87,43 @@ fn is_whole(syntax: &Syntax) -> bool
     syntax.options().is_none()
 }
 
-// Returns whether the point of a literal of `format` stays where it is.
+// Returns whether a format and that of `syntax` have the same mantissa radix.
+fn is_same_radix(format: NumberFormat, syntax: &Syntax) -> bool
+    ensures { result ≡ is_same_radix (raw format) syntax.now }
+{
+    format.mantissa_radix() == syntax.format().view().mantissa_radix()
+}
+
+// Returns whether the point of a literal of `format` can stay where it is.
 fn is_kept(format: NumberFormat, parts: &Parts, syntax: &Syntax) -> bool
     ensures { result ≡ is_kept (raw format) parts.now syntax.now }
 {
-    let whole = is_whole(syntax);
-    let target = syntax.format().view();
     if has_power(parts) {
-        !(whole || target.no_exponent_notation())
-            && format.exponent_base() == target.exponent_base()
+        allows_exponent(syntax) && format.exponent_base() == syntax.format().view().exponent_base()
     } else {
-        !(whole && fraction_of(parts).is_some())
+        !(is_whole(syntax) && fraction_of(parts).is_some())
+    }
+}
+
+// Returns whether the point of a literal of `format` is to move in place of its exponent.
+fn is_wish(format: NumberFormat, parts: &Parts, syntax: &Syntax, style: Style) -> bool
+    ensures { result ≡ is_wish (raw format) parts.now syntax.now style }
+{
+    has_power(parts)
+        && !needs_exponent(syntax)
+        && is_unwanted(style.exponent, &exponent_of(format, parts))
+}
+
+// Returns whether the point is to move in place of an exponent.
+fn is_unwanted(wish: ExponentStyle, exponent: &Numeral) -> bool
+    requires { exponent.now.negative ≡ false }
+    ensures { result ≡ is_unwanted wish (numeral_size exponent.now) }
+{
+    match wish {
+        ExponentStyle::Never => true,
+        ExponentStyle::From(least) =>
+            matches!(exponent.as_u64(), Some(size) if size < least as u64),
+        ExponentStyle::AsNumber | ExponentStyle::Always => false,
     }
 }
 
@@ -94,6 +134,7 @@ fn keep<'a>(
     syntax: &Syntax,
     style: Style,
 ) -> Result<Layout<'a>, WriteError>
+    requires radix { is_same_radix (raw format) syntax.now ≡ true }
     ensures literal { IfOk result (λ layout. Reads (notation_of syntax.now) (written layout) (text_of (written layout))) }
     ensures value { IfOk result (λ layout.
         SameFraction (raw format) (literal_of parts.now) (raw syntax.now.word) (written layout)) }
@@ -110,7 +151,8 @@ fn move_point<'a>(
     syntax: &Syntax,
     style: Style,
 ) -> Result<Layout<'a>, WriteError>
-    requires { is_refused parts.now syntax.now ≡ false }
+    requires sign { is_refused parts.now syntax.now ≡ false }
+    requires radix { is_same_radix (raw format) syntax.now ≡ true }
     ensures literal { IfOk result (λ layout. Reads (notation_of syntax.now) (written layout) (text_of (written layout))) }
     ensures value { IfOk result (λ layout.
         SameFraction (raw format) (literal_of parts.now) (raw syntax.now.word) (written layout)) }
@@ -118,58 +160,85 @@ fn move_point<'a>(
 {
     let places = moved_by(format, parts, is_whole(syntax))?;
     let amount = moved(parts, format.mantissa_radix(), places);
-    shorten(format, &amount, syntax, style)
+    shorten(&amount, syntax, style)
 }
 
-// Returns the error of a fraction or a radix that is refused, the first if both are.
-const fn second_error(fraction: bool, radix: bool) -> Option<WriteError>
-    ensures { result ≡ second_error fraction radix }
-{
-    if fraction {
-        Some(WriteError::Fraction)
-    } else if radix {
-        Some(WriteError::Radix)
-    } else {
-        None
-    }
-}
-
-// Returns why no text is written for a number with digits for a format and no exponent.
-fn moved_refusal(format: NumberFormat, amount: &Amount, syntax: &Syntax) -> Option<WriteError>
-    ensures { result ≡ moved_refusal (raw format) syntax.now amount.now }
-{
-    second_error(
-        is_whole(syntax) & amount.fraction.is_some(),
-        format.mantissa_radix() != syntax.format().view().mantissa_radix(),
-    )
-}
-
-// Returns how a number with digits for a format is written whose point has moved, or why it is not.
-fn shorten<'a>(
-    format: NumberFormat,
-    amount: &Amount<'a>,
-    syntax: &Syntax,
-    style: Style,
-) -> Result<Layout<'a>, WriteError>
+// Returns how a number is written whose point has moved, or why it is not.
+fn shorten<'a>(amount: &Amount<'a>, syntax: &Syntax, style: Style) -> Result<Layout<'a>, WriteError>
     requires plain { amount.now.exponent ≡ None }
     requires sign { (amount.now.negative && has syntax.now.conditions Condition.NegativeSign) ≡ false }
     ensures literal { IfOk result (λ layout. Reads (notation_of syntax.now) (written layout) (text_of (written layout))) }
     ensures number { IfOk result (λ layout. HasNumber syntax.now amount.now (written layout)) }
-    ensures parts { IsShort (raw format) syntax.now style amount.now result }
-    ensures lawful { IfOk result (λ layout. IsSyntax syntax.now) }
+    ensures parts { IsShort syntax.now style amount.now result }
+    ensures lawful { IsSyntax syntax.now }
 {
-    if let Some(error) = moved_refusal(format, amount, syntax) {
-        return Err(error);
-    }
-    let layout = amount.lay_out(syntax, style)?;
-    if layout.is_long() {
-        Err(WriteError::Long)
-    } else {
-        Ok(layout)
+    match amount.lay_out(syntax, Style::PLAIN) {
+        Err(error) => Err(error),
+        Ok(plain) if plain.is_long() => Err(WriteError::Long),
+        Ok(_) => amount.lay_out(syntax, style),
     }
 }
 
-// Returns the number that a literal represents, or why the format `target` cannot have it.
+// Returns how the number of a literal is written in another radix, or why it cannot be.
+fn change_radix<'a>(
+    format: NumberFormat,
+    parts: &Parts<'a>,
+    syntax: &Syntax,
+    style: Style,
+) -> Result<Layout<'a>, WriteError>
+    requires sign { is_refused parts.now syntax.now ≡ false }
+    requires lawful { Lawful format }
+    ensures literal { IfOk result (λ layout. Reads (notation_of syntax.now) (written layout) (text_of (written layout))) }
+    ensures value { IfOk result (λ layout.
+        SameFraction (raw format) (literal_of parts.now) (raw syntax.now.word) (written layout)) }
+    ensures parts { IsInRadix (raw format) parts.now syntax.now style result }
+{
+    let places = match moved_by(format, parts, is_whole(syntax)) {
+        Ok(places) => places,
+        Err(error) => return Err(radix_error(error)),
+    };
+    let amount = moved(parts, format.mantissa_radix(), places);
+    write_number(&amount, format.mantissa_radix(), syntax, style)
+}
+
+// Returns how the number is written that an amount without an exponent represents in a radix, or why it is not.
+fn write_number<'a>(
+    amount: &Amount<'a>,
+    radix: u32,
+    syntax: &Syntax,
+    style: Style,
+) -> Result<Layout<'a>, WriteError>
+    requires radix { IsRadix radix }
+    requires sign { (amount.now.negative && has syntax.now.conditions Condition.NegativeSign) ≡ false }
+    ensures literal { IfOk result (λ layout. Reads (notation_of syntax.now) (written layout) (text_of (written layout))) }
+    ensures number { IfOk result (λ layout. HasNumber syntax.now (number_of_size amount.now.negative (size_of radix amount.now.integer)) (written layout)) }
+    ensures parts { IsNumber syntax.now style radix amount.now result }
+    ensures lawful { IfOk result (λ layout. IsSyntax syntax.now) }
+{
+    if amount.fraction.is_some() {
+        return Err(if is_whole(syntax) {
+            WriteError::Fraction
+        } else {
+            WriteError::Radix
+        });
+    }
+    match amount.integer.size(radix) {
+        Some(size) => Amount::of_size(amount.negative, size).lay_out(syntax, style),
+        None => Err(WriteError::Radix),
+    }
+}
+
+// Returns why a number of another radix is not written, whose point does not move because of `error`.
+const fn radix_error(error: WriteError) -> WriteError
+    ensures { result ≡ radix_error error }
+{
+    match error {
+        WriteError::Fraction => WriteError::Fraction,
+        _ => WriteError::Radix,
+    }
+}
+
+// Returns the number that a literal represents, or why the format `target` cannot have its exponent.
 fn amount_of<'a>(
     format: NumberFormat,
     parts: &Parts<'a>,
@@ -177,9 +246,6 @@ fn amount_of<'a>(
 ) -> Result<Amount<'a>, WriteError>
     ensures { result ≡ amount_of (raw format) parts.now (raw target) }
 {
-    if format.mantissa_radix() != target.mantissa_radix() {
-        return Err(WriteError::Radix);
-    }
     Ok(Amount {
         exponent: power_of(format, parts, target)?,
         negative: is_minus(parts.sign),

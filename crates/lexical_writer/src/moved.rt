@@ -1,10 +1,14 @@
 //! The point of a number moves, so that the number needs no exponent.
 
-ghost use Rattle.std.specs.Prelude.{◌≡◌, ◌∷◌, false, take, drop, true};
-ghost use Rattle.lexical_util.specs.Record.{raw};
+ghost use Rattle.std.specs.Prelude.{◌≡◌, ◌<◌, ◌≤◌, ◌*◌, ◌^◌, ◌-◌, ◌∷◌, false, take, drop, true};
+ghost use Rattle.std.specs.Int.Digits.{number_from_digits};
+ghost use Rattle.std.specs.Option.{SomeIff};
+ghost use Rattle.lexical_util.specs.Record.{effective_exponent_radix, raw};
 ghost use Rattle.lexical_literal.specs.Literal.{is_absent, is_minus};
-ghost use Rattle.lexical_number.specs.Number.{digits_in};
-ghost use Rattle.lexical_writer.specs.Digits.{padded_values};
+ghost use Rattle.lexical_number.specs.Leading.{number_after};
+ghost use Rattle.lexical_number.specs.Number.{digits_in, number};
+ghost use Rattle.lexical_number.specs.Numeral.{size_of as numeral_size};
+ghost use Rattle.lexical_writer.specs.Digits.{padded_values, size_of};
 ghost use Rattle.lexical_writer.specs.Moved.{IsMoved, factors, moved_by, moved_fraction, moved_integer, too_far, trimmed};
 
 use crate::layout::{Amount, WriteError};
@@ -46,7 +50,78 @@ fn without_last_zeros<'a>(bytes: &'a [u8], radix: u32) -> &'a [u8]
     &[]
 }
 
+// Returns the number that the digits among bytes represent behind those of `front`, or `None` if it has more than 128 bits.
+#[tactic(auto, using(lexical_number::proofs::NumberLemmas::too_large))]
+fn size_after(front: u128, bytes: &[u8], radix: u32) -> Option<u128>
+    ensures { SomeIff result (number_after radix front bytes.now ≤ 2 ^ 128 - 1) (number_after radix front bytes.now) }
+{
+    let mut size = front;
+    let mut index = 0;
+    while index < bytes.len() {
+        if let Some(digit) = char_to_digit(bytes[index], radix) {
+            let Some(shifted) = size.checked_mul(radix as u128) else {
+                return None;
+            };
+            let Some(longer) = shifted.checked_add(digit as u128) else {
+                return None;
+            };
+            size = longer;
+        }
+        index += 1;
+    }
+    Some(size)
+}
+
+// Returns a number with as many zeros behind its digits as `places`, or `None` if it has more than 128 bits.
+fn shifted(number: u128, radix: u32, places: usize) -> Option<u128>
+    requires { 0 < radix }
+    ensures { SomeIff result (number * radix ^ places ≤ 2 ^ 128 - 1) (number * radix ^ places) }
+{
+    if number == 0 {
+        return Some(0);
+    }
+    let mut size = number;
+    let mut left = places;
+    while left > 0 {
+        let Some(longer) = size.checked_mul(radix as u128) else {
+            return None;
+        };
+        size = longer;
+        left -= 1;
+    }
+    Some(size)
+}
+
+impl Source<'_> {
+    // Returns the number that the digits represent, or `None` if it has more than 128 bits.
+    pub(crate) fn size(&self, radix: u32) -> Option<u128>
+        requires { 0 < radix }
+        ensures { SomeIff result (size_of radix self.now ≤ 2 ^ 128 - 1) (size_of radix self.now) }
+    {
+        match self {
+            Source::Bytes(bytes) => size_after(0, bytes, radix),
+            Source::Number(number) => Some(*number),
+            Source::Padded(padded) => padded.size(radix),
+        }
+    }
+}
+
 impl<'a> Padded<'a> {
+    // Returns the number that the digits represent, or `None` if it has more than 128 bits.
+    fn size(&self, radix: u32) -> Option<u128>
+        requires { 0 < radix }
+        ensures { SomeIff result (number_from_digits radix (padded_values radix self.now) ≤ 2 ^ 128 - 1)
+            (number_from_digits radix (padded_values radix self.now)) }
+    {
+        let Some(front) = size_after(0, self.first, radix) else {
+            return None;
+        };
+        let Some(whole) = size_after(front, self.second, radix) else {
+            return None;
+        };
+        shifted(whole, radix, self.after)
+    }
+
     // Returns the digits without the zeros that they end with.
     fn trimmed(&self, radix: u32) -> Padded<'a>
         ensures { padded_values radix result ≡ trimmed (padded_values radix self.now) }
@@ -181,6 +256,17 @@ const fn too_far(whole: bool, parts: &Parts) -> WriteError
     }
 }
 
+// Returns the exponent of a literal, without its sign.
+pub(crate) fn exponent_of<'a>(format: NumberFormat, parts: &Parts<'a>) -> Numeral<'a>
+    ensures sign { result.negative ≡ false }
+    ensures size { numeral_size result ≡ number (effective_exponent_radix (raw format)) parts.now.exponent.now }
+{
+    Numeral {
+        negative: false,
+        magnitude: Magnitude::Digits(parts.exponent, format.exponent_radix()),
+    }
+}
+
 // Returns by how many digits the point moves. Only whole numbers can be written if `whole` is true.
 pub(crate) fn moved_by(
     format: NumberFormat,
@@ -190,11 +276,7 @@ pub(crate) fn moved_by(
     ensures { result ≡ moved_by whole (raw format) parts.now }
 {
     let radix = format.mantissa_radix();
-    let exponent = Numeral {
-        negative: false,
-        magnitude: Magnitude::Digits(parts.exponent, format.exponent_radix()),
-    };
-    let exponent = exponent.as_u128();
+    let exponent = exponent_of(format, parts).as_u128();
     if is_zero(parts.integer, radix) && is_zero(parts.fraction, radix) || exponent == Some(0) {
         return Ok(0);
     }

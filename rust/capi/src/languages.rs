@@ -43,11 +43,24 @@ impl Specials {
     }
 }
 
+impl Specials {
+    /// Returns the spellings.
+    ///
+    /// # Safety
+    ///
+    /// As for `spelling`, for each of them.
+    pub(crate) unsafe fn spellings<'a>(&self) -> literal::Specials<'a> {
+        // SAFETY: the caller guarantees the strings.
+        let [nan, inf, infinity] = [self.nan, self.inf, self.infinity].map(|it| unsafe { spelling(it) });
+        literal::Specials { nan, inf, infinity }
+    }
+}
+
 /// A special value: the number of its spelling, and its sign, or 0 without one.
 #[repr(C)]
 pub struct NumberedSpecial {
-    spelling: u8,
-    sign: u8,
+    pub(crate) spelling: u8,
+    pub(crate) sign: u8,
 }
 
 impl From<Special> for NumberedSpecial {
@@ -244,7 +257,8 @@ calls! {
     fn peltzivar_read_special(
         syntax: Option<&Syntax>, specials: &Specials, text: *const u8, len: usize, out: Out<NumberedSpecial>
     ) -> bool {
-        let read = |syntax| specials.spellings().read(&syntax, input(text, len)?);
+        let specials = specials.spellings();
+        let read = |syntax| specials.read(&syntax, input(text, len)?);
         out.write_some(Syntax::given(syntax).and_then(read))
     }
 

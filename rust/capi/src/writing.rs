@@ -1,14 +1,16 @@
 //! Calls that write numbers.
 
 use crate::arguments::{write_text, Out};
+use crate::languages::{NumberedSpecial, Specials};
 use crate::literals::{Literal, Syntax};
 use crate::names::{at, texts};
 use crate::values::I128;
-use peltzivar::literal::{self, WriteError, Written};
+use peltzivar::literal::{self, ExponentStyle, Grouping, Sign, Special, Spelling, WriteError, Written};
 
 /// Whether a number is written: the index of one of [`DESCRIPTIONS`].
 type WriteStatus = u8;
 
+const SPECIAL: WriteStatus = 6;
 const BUFFER: WriteStatus = 7;
 const ARGUMENT: WriteStatus = 8;
 
@@ -19,7 +21,7 @@ texts! {
         3 => b"literals are integers, and the number is not whole",
         4 => b"no literal has an exponent, and this one does not move the point by whole digits",
         5 => b"each literal has an exponent, and an integer has none",
-        6 => b"no literal is NaN or infinity",
+        6 => b"no literal is NaN or infinity, and no spelling is read back as it",
         7 => b"the buffer is too short",
         8 => b"peltzivar_check_syntax refuses the syntax, or no call has made the literal",
         9 => b"without an exponent, the text has more than 800 bytes",
@@ -27,11 +29,40 @@ texts! {
     };
 }
 
-/// How numbers are written where a syntax leaves a choice. With zeros, they have a base, and the groups of the syntax.
+/// How numbers are written where a syntax leaves a choice. Zeros make no wish.
 #[repr(C)]
 pub struct Style {
     group: u8,
+    fraction_group: u8,
     without_base: u8,
+    lowercase: u8,
+    keep_leading_zeros: u8,
+    min_digits: u8,
+    exponent: u8,
+    exponent_from: u32,
+}
+
+/// A group of this size is none.
+const NO_GROUPS: u8 = 255;
+
+impl Style {
+    fn given(&self) -> literal::Style {
+        let group = |size| match size {
+            0 => Grouping::AsSyntax,
+            NO_GROUPS => Grouping::None,
+            _ => Grouping::Of(size.into()),
+        };
+        let mut style = literal::Style::PLAIN.min_digits(self.min_digits);
+        (style.group, style.fraction_group) = (group(self.group), group(self.fraction_group));
+        (style.prefix, style.suffix) = (self.without_base == 0, self.without_base == 0);
+        (style.lowercase, style.keep_leading_zeros) = (self.lowercase != 0, self.keep_leading_zeros != 0);
+        style.exponent(match self.exponent {
+            1 => ExponentStyle::Never,
+            2 => ExponentStyle::Always,
+            3 => ExponentStyle::From(self.exponent_from),
+            _ => ExponentStyle::AsNumber,
+        })
+    }
 }
 
 /// Returns a syntax in whose radixes calls can write, and the style.
@@ -39,18 +70,8 @@ fn given(syntax: Option<&Syntax>, style: Option<&Style>) -> Option<(literal::Syn
     let syntax = Syntax::given(syntax)?;
     let format = syntax.format();
     let mut radixes = [format.mantissa_radix(), format.exponent_base(), format.exponent_radix()].into_iter();
-    let plain = literal::Style::PLAIN;
-    radixes.all(|it| (2..=36).contains(&it)).then_some((
-        syntax,
-        style.map_or(plain, |style| {
-            let plain = if style.without_base != 0 { plain.without_base() } else { plain };
-            if style.group == 0 {
-                plain
-            } else {
-                plain.group(style.group.into())
-            }
-        }),
-    ))
+    let style = style.map_or(literal::Style::PLAIN, Style::given);
+    radixes.all(|it| (2..=36).contains(&it)).then_some((syntax, style))
 }
 
 /// Writes what `format` returns for a syntax and a style, and the size that is enough.
@@ -77,7 +98,7 @@ unsafe fn write<'a>(
             WriteError::Exponent => 4,
             WriteError::Float => 5,
             WriteError::Long => 9,
-            _ => 6,
+            _ => SPECIAL,
         },
     }
 }
@@ -112,6 +133,24 @@ calls! {
     ) -> WriteStatus {
         let Some(literal) = literal.value() else { return ARGUMENT };
         write((syntax, style), (text, len, needed), |syntax, style| syntax.format_literal(literal, style))
+    }
+
+    fn peltzivar_format_special(
+        syntax: Option<&Syntax>, specials: &Specials, special: NumberedSpecial, text: *mut u8, len: usize, needed: Out<usize>
+    ) -> WriteStatus {
+        let spelling = match special.spelling {
+            1 => Spelling::Nan,
+            2 => Spelling::Inf,
+            3 => Spelling::Infinity,
+            _ => return SPECIAL,
+        };
+        let sign = match special.sign {
+            0 => None,
+            b'-' => Some(Sign::Minus),
+            _ => Some(Sign::Plus),
+        };
+        let specials = specials.spellings();
+        write((syntax, None), (text, len, needed), |syntax, _| specials.format(syntax, Special { sign, spelling }))
     }
 
     fn peltzivar_write_description(status: WriteStatus) -> *const u8 { at(DESCRIPTIONS, status) }

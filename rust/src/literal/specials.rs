@@ -45,6 +45,15 @@ pub struct Special {
     pub spelling: Spelling,
 }
 
+/// The text of a special value.
+#[derive(Debug, Clone, Copy, PartialEq, Eq)]
+pub struct SpecialText<'a> {
+    /// The sign, if the text has one.
+    pub sign: Option<Sign>,
+    /// The spelling behind the sign.
+    pub word: &'a [u8],
+}
+
 impl<'a> Specials<'a> {
     /// Returns the special value that `text` is, or `None` if `text` is not a special value. If several spellings
     /// match, the first in the order NaN, inf, infinity is returned.
@@ -74,6 +83,57 @@ impl<'a> Specials<'a> {
         }
     }
 
+    /// Returns the text of a special value, or `None` if no spelling is read back as this value in `syntax`.
+    ///
+    /// NaN and infinity are written as the first of their spellings that [`read`][Self::read] reads back, in the order inf,
+    /// infinity. The sign `-` is written, and `+` where a sign is required. So another spelling of infinity than that of
+    /// `special` may be written, and no sign for `+`.
+    #[must_use]
+    pub(crate) const fn spell(&self, syntax: &Syntax, special: Special) -> Option<SpecialText<'a>> {
+        let sign = written_sign(syntax.as_grammar(), special);
+        let (first, second) = match special.spelling {
+            Spelling::Nan => (self.nan, None),
+            Spelling::Inf | Spelling::Infinity => (self.inf, self.infinity),
+        };
+        if let Some(word) = first {
+            if self.is_read_back(syntax, special, word) {
+                return Some(SpecialText { sign, word });
+            }
+        }
+        if let Some(word) = second {
+            if self.is_read_back(syntax, special, word) {
+                return Some(SpecialText { sign, word });
+            }
+        }
+        None
+    }
+
+    // Returns whether a spelling, with the sign of a special value, is read as this value.
+    const fn is_read_back(&self, syntax: &Syntax, special: Special, word: &'a [u8]) -> bool {
+        let sign = written_sign(syntax.as_grammar(), special);
+        is_value(special, self.read_signed(syntax, sign, word))
+    }
+
+    // Returns the special value that a word is behind a sign.
+    const fn read_signed(&self, syntax: &Syntax, sign: Option<Sign>, word: &[u8]) -> Option<Special> {
+        let Some(given) = sign else {
+            return self.read(syntax, word);
+        };
+        self.behind(syntax.as_grammar(), given, word)
+    }
+
+    // Returns the special value that a word is behind a sign that is there.
+    const fn behind(&self, grammar: Grammar, sign: Sign, word: &[u8]) -> Option<Special> {
+        let sign = Some(sign);
+        if !allows(grammar, sign) {
+            return None;
+        }
+        match self.spelling(grammar, word) {
+            Some(spelling) => Some(Special { sign, spelling }),
+            None => None,
+        }
+    }
+
     // Returns the first spelling that `text` matches.
     const fn spelling(&self, grammar: Grammar, text: &[u8]) -> Option<Spelling> {
         if matches(grammar, self.nan, text) {
@@ -84,6 +144,38 @@ impl<'a> Specials<'a> {
             Some(Spelling::Infinity)
         } else {
             None
+        }
+    }
+}
+
+// Returns the sign with which a special value is written.
+const fn written_sign(grammar: Grammar, special: Special) -> Option<Sign> {
+    if is_negative(special.sign) {
+        Some(Sign::Minus)
+    } else if grammar.view().required_mantissa_sign() {
+        Some(Sign::Plus)
+    } else {
+        None
+    }
+}
+
+// Returns whether a sign is `-`.
+const fn is_negative(sign: Option<Sign>) -> bool {
+    matches!(sign, Some(Sign::Minus))
+}
+
+// Returns whether a spelling is that of NaN.
+const fn means_nan(spelling: Spelling) -> bool {
+    matches!(spelling, Spelling::Nan)
+}
+
+// Returns whether `back` is the value of `special`.
+const fn is_value(special: Special, back: Option<Special>) -> bool {
+    match back {
+        None => false,
+        Some(back) => {
+            means_nan(special.spelling) == means_nan(back.spelling)
+                && is_negative(special.sign) == is_negative(back.sign)
         }
     }
 }

@@ -3,7 +3,7 @@
 use core::fmt::{self, Write};
 use core::str;
 
-use crate::literal::{Literal, Syntax};
+use crate::literal::{Literal, Sign, Special, Specials, Syntax};
 use crate::number::float::Float;
 use crate::number::integer::Integer;
 
@@ -14,16 +14,16 @@ mod integer;
 mod layout;
 #[allow(clippy::module_inception, clippy::needless_lifetimes, reason = "as it is proved")]
 mod literal;
-#[allow(clippy::needless_lifetimes, reason = "as it is proved")]
+#[allow(clippy::needless_lifetimes, clippy::question_mark, reason = "as it is proved")]
 mod moved;
 mod run;
 mod sink;
 
-pub use layout::{Grouping, Style, WriteError};
+pub use layout::{ExponentStyle, Grouping, Style, WriteError};
 
 use float_digits::FloatDigits;
 use layout::Layout;
-use sink::Sink;
+use sink::{Sink, Window};
 
 /// A type that can be [written][Syntax::format_integer]: each integer type of Rust.
 pub trait WriteInteger: Integer {}
@@ -36,15 +36,20 @@ pub trait WriteFloat: Float {}
 impl<T: Float> WriteFloat for T {}
 
 impl Style {
-    /// The integer digits in groups where a condition of the syntax has a size, with the base prefix and the base suffix if
-    /// the format has them.
-    pub const PLAIN: Style = Style { group: Grouping::AsSyntax, prefix: true, suffix: true };
-
-    /// Writes the integer digits in groups of `size` digits, counted from the right, where the format allows separators
-    /// between them. For `0`, there are no groups. Where a condition of the syntax has a size, the groups have this.
+    /// Writes the integer digits in groups of `size` digits, counted from the right. For `0`, there are no groups. Where a
+    /// condition of the syntax has a size, the groups have this, and where the format does not allow separators between digits,
+    /// there are none.
     #[must_use]
     pub const fn group(mut self, size: usize) -> Style {
         self.group = Grouping::Of(size);
+        self
+    }
+
+    /// Writes the fraction digits in groups of `size` digits, counted from the left, under the same rules as
+    /// [`group`][Self::group].
+    #[must_use]
+    pub const fn fraction_group(mut self, size: usize) -> Style {
+        self.fraction_group = Grouping::Of(size);
         self
     }
 
@@ -52,6 +57,51 @@ impl Style {
     #[must_use]
     pub const fn without_base(mut self) -> Style {
         (self.prefix, self.suffix) = (false, false);
+        self
+    }
+
+    /// Writes the digits that are letters in lowercase. A prefix, a suffix and an exponent character stay as the syntax has
+    /// them.
+    #[must_use]
+    pub const fn lowercase(mut self) -> Style {
+        self.lowercase = true;
+        self
+    }
+
+    /// Writes the integer with at least `count` digits. Zeros are added before the others, where the format allows leading
+    /// zeros.
+    #[must_use]
+    pub const fn min_digits(mut self, count: u8) -> Style {
+        self.min_digits = count;
+        self
+    }
+
+    /// Keeps the leading zeros of the integer of a literal, where the format allows them and the point does not move.
+    #[must_use]
+    pub const fn keep_leading_zeros(mut self) -> Style {
+        self.keep_leading_zeros = true;
+        self
+    }
+
+    /// Chooses whether a number is written with an exponent.
+    ///
+    /// ```
+    /// use peltzivar::literal::{ExponentStyle, Style, Syntax};
+    /// use peltzivar::{format::STANDARD, Format};
+    ///
+    /// let syntax = Syntax::new_or_panic(Format::of::<STANDARD>(), b'e', b'.');
+    /// let write = |text, exponent| {
+    ///     let literal = syntax.read(text).unwrap();
+    ///     syntax.format_literal(&literal, Style::PLAIN.exponent(exponent)).unwrap().to_string()
+    /// };
+    /// assert_eq!(write("1.5e3", ExponentStyle::Never), "1500");
+    /// assert_eq!(write("1.5", ExponentStyle::Always), "1.5e0");
+    /// assert_eq!(write("1.5e3", ExponentStyle::From(4)), "1500");
+    /// assert_eq!(write("1.5e-4", ExponentStyle::From(4)), "1.5e-4");
+    /// ```
+    #[must_use]
+    pub const fn exponent(mut self, wish: ExponentStyle) -> Style {
+        self.exponent = wish;
         self
     }
 }
@@ -72,9 +122,8 @@ impl Syntax {
     /// ```
     /// use peltzivar::literal::{Language, Style, WriteError};
     ///
-    /// let forms = Language::C.forms().as_slice();
-    /// let form = forms.iter().find(|form| form.name() == "hexadecimal").unwrap();
-    /// let text = form.syntax().format_integer(0xC0FFEE, Style::PLAIN.group(4))?;
+    /// let form = Language::C.forms().iter().find(|form| form.name == "hexadecimal").unwrap();
+    /// let text = form.syntax.format_integer(0xC0FFEE, Style::PLAIN.group(4))?;
     /// assert_eq!(text.to_string(), "0xC0'FFEE");
     /// assert_eq!(Language::C.parse(text.to_string()), Ok(0xC0FFEE));
     /// # Ok::<(), WriteError>(())
@@ -86,20 +135,20 @@ impl Syntax {
     /// has an exponent.
     #[inline(always)]
     pub fn format_integer<T: WriteInteger>(&self, value: T, style: Style) -> Result<Written<'static>, WriteError> {
-        integer::format_integer(self, value, style).map(|layout| Written(Content::Layout(layout)))
+        integer::format_integer(self, value, style).map(|layout| Written { text: Text::Number(layout) })
     }
 
     /// Returns the value of a float as a literal of this syntax. [Parsing][Syntax::parse] the text returns the same value, also
     /// for `-0`.
     ///
-    /// In radix 10, the digits are the fewest that are read as this value, the nearest of these. In a radix that is a power of two, the
-    /// literal is exact. There is an exponent where `{:?}` of std has one, below `1e-4` and from `1e16`, unless the syntax
-    /// allows no exponent, or each literal has one.
+    /// In radix 10, the digits are the fewest that are read as this value, of these the nearest. In a radix that is a power of
+    /// two, the literal is exact. Unless the style has a wish, an exponent is where `{:?}` of std has one: below `1e-4`, and from
+    /// `1e16` up. As there, `.0` is written where the value is whole, and no exponent is.
     ///
     /// ```
     /// use peltzivar::literal::{Language, Style, WriteError};
     ///
-    /// let syntax = Language::CSV_DE.forms()[0].syntax();
+    /// let syntax = Language::CSV_DE.forms()[0].syntax;
     /// assert_eq!(syntax.format_float(1234.56, Style::PLAIN)?.to_string(), "1.234,56");
     /// assert_eq!(syntax.format_float(1e-7_f32, Style::PLAIN)?.to_string(), "0,0000001");
     /// assert_eq!(syntax.format_float(f64::NAN, Style::PLAIN).unwrap_err(), WriteError::Special);
@@ -113,7 +162,7 @@ impl Syntax {
     pub fn format_float<T: WriteFloat>(&self, value: T, style: Style) -> Result<Written<'static>, WriteError> {
         let (mut digits, mut text) = (FloatDigits::new(), [0; 32]);
         let length = float::format_float(self, value, style, &mut digits)?.write(&mut text);
-        Ok(Written(Content::Float(Text { digits, syntax: *self, style, text, length })))
+        Ok(Written { text: Text::Float(FloatText { digits, syntax: *self, style, text, length }) })
     }
 
     /// Returns a literal, which may be of another syntax, as a literal of this syntax with the same value.
@@ -121,7 +170,8 @@ impl Syntax {
     /// Separators and leading zeros are left out, and groups are those of `style`. Where the format requires digits or an
     /// exponent that the literal does not have, `0` and `e0` are added. Trailing zeros are kept, and so is the sign of `-0`.
     /// Where no exponent is allowed, the point moves in its place, and trailing zeros of the fraction are left out: `1.2e3`
-    /// is `1200`. So they are in a syntax of integers alone, in which `1.0` is `1`.
+    /// is `1200`. So they are in a syntax of integers alone, in which `1.0` is `1`. In another radix, a whole number of up to
+    /// 128 bits is written: `0xFF` is `255`.
     ///
     /// ```
     /// use peltzivar::literal::{Style, Syntax};
@@ -138,30 +188,90 @@ impl Syntax {
     ///
     /// If the literal cannot be written, returns why.
     pub fn format_literal<'a>(&self, literal: &Literal<'a>, style: Style) -> Result<Written<'a>, WriteError> {
-        literal::format_literal(literal, self, style).map(|layout| Written(Content::Layout(layout)))
+        literal::format_literal(literal, self, style).map(|layout| Written { text: Text::Number(layout) })
     }
 }
 
-/// A number as a literal of a syntax, which prints the text. Nothing is allocated.
-#[derive(Clone, Copy)]
-pub struct Written<'a>(Content<'a>);
-
-/// A layout, or a float.
-#[derive(Clone, Copy)]
-#[allow(clippy::large_enum_variant, reason = "nothing is allocated")]
-enum Content<'a> {
-    Layout(Layout<'a>),
-    Float(Text),
+impl<'a> Specials<'a> {
+    /// Returns the text of NaN or infinity in `syntax`. [Reading][Self::read] the text returns the same value with the same
+    /// sign.
+    ///
+    /// The text has the first spelling of this value that is read back, in the order inf, infinity. The sign `-` is written,
+    /// and `+` where a sign is required.
+    ///
+    /// ```
+    /// use peltzivar::literal::{Language, Sign, Special, Spelling, WriteError};
+    ///
+    /// let (toml, json) = (Language::TOML, Language::JSON);
+    /// let infinity = Special { sign: Some(Sign::Minus), spelling: Spelling::Infinity };
+    /// assert_eq!(toml.specials().format(&toml.forms()[0].syntax, infinity)?.to_string(), "-inf");
+    /// assert_eq!(json.specials().format(&json.forms()[0].syntax, infinity).unwrap_err(), WriteError::Special);
+    /// # Ok::<(), WriteError>(())
+    /// ```
+    ///
+    /// # Errors
+    ///
+    /// [`WriteError::Special`] if none of its spellings is read back, or if the first of these is not UTF-8.
+    pub fn format(&self, syntax: &Syntax, special: Special) -> Result<Written<'a>, WriteError> {
+        let text = self.spell(syntax, special).ok_or(WriteError::Special)?;
+        let word = str::from_utf8(text.word).map_err(|_| WriteError::Special)?;
+        let sign = text.sign.map(|sign| if sign == Sign::Minus { b'-' } else { b'+' });
+        Ok(Written { text: Text::Special(sign, word) })
+    }
 }
 
-/// The digits of a float, which can be laid out, and the beginning of the text with its length.
+/// A number as a literal of a syntax, or NaN or infinity, which prints the text. Nothing is allocated.
 #[derive(Clone, Copy)]
-struct Text {
+pub struct Written<'a> {
+    text: Text<'a>,
+}
+
+/// What is printed.
+#[derive(Clone, Copy)]
+#[allow(clippy::large_enum_variant, reason = "nothing is allocated")]
+enum Text<'a> {
+    Number(Layout<'a>),
+    Float(FloatText),
+    Special(Option<u8>, &'a str),
+}
+
+/// The digits of a float, which can be laid out, and the text, if it is short, with its length.
+#[derive(Clone, Copy)]
+struct FloatText {
     digits: FloatDigits,
     syntax: Syntax,
     style: Style,
     text: [u8; 32],
     length: usize,
+}
+
+impl Text<'_> {
+    /// Returns the layout of a number.
+    fn layout(&self) -> Option<Layout<'_>> {
+        match self {
+            Text::Number(layout) => Some(*layout),
+            Text::Float(float) => float.digits.lay_out(&float.syntax, float.style).ok(),
+            Text::Special(..) => None,
+        }
+    }
+
+    /// Writes the text to the beginning of a buffer, and returns its length.
+    fn write(&self, buffer: &mut [u8]) -> usize {
+        match self {
+            Text::Number(layout) => layout.write(buffer),
+            Text::Float(FloatText { text, length, .. }) if *length <= text.len().min(buffer.len()) => {
+                buffer[..*length].copy_from_slice(&text[..*length]);
+                *length
+            }
+            Text::Float(_) => self.layout().map_or(0, |layout| layout.write(buffer)),
+            Text::Special(sign, word) => {
+                let mut window = Window { bytes: buffer, length: 0 };
+                sign.iter().for_each(|sign| window.put(*sign));
+                window.put_all(word.as_bytes());
+                window.length
+            }
+        }
+    }
 }
 
 impl Written<'_> {
@@ -182,7 +292,7 @@ impl Written<'_> {
     /// [`WriteError::Buffer`] with the length of the text if it does not fit. The content of the buffer is then
     /// unspecified.
     pub fn write_into<'b>(&self, buffer: &'b mut [u8]) -> Result<&'b str, WriteError> {
-        let length = self.write(buffer);
+        let length = self.text.write(buffer);
         let text = buffer.get(..length).and_then(|text| str::from_utf8(text).ok());
         text.ok_or(WriteError::Buffer(length))
     }
@@ -194,48 +304,35 @@ impl Written<'_> {
 impl fmt::Display for Written<'_> {
     fn fmt(&self, f: &mut fmt::Formatter<'_>) -> fmt::Result {
         let mut text = [0; 40];
-        let length = self.write(&mut text);
+        let length = self.text.write(&mut text);
         let text = text.get(..length).and_then(|text| str::from_utf8(text).ok());
         match text {
             Some(text) if f.width().is_none() && !f.sign_plus() => f.write_str(text),
-            _ => self.with(|layout| Written::pad(f, layout, length)),
+            _ => self.pad(f, length),
         }
     }
 }
 
 impl Written<'_> {
-    /// Writes the text to the beginning of a buffer, and returns its length.
-    fn write(&self, buffer: &mut [u8]) -> usize {
-        match &self.0 {
-            Content::Float(Text { text, length, .. }) if *length <= 32.min(buffer.len()) => {
-                buffer[..*length].copy_from_slice(&text[..*length]);
-                *length
-            }
-            _ => self.with(|layout| layout.write(buffer)),
-        }
-    }
-
-    /// Calls `then` with the layout.
-    fn with<T>(&self, then: impl FnOnce(&Layout<'_>) -> T) -> T {
-        match &self.0 {
-            Content::Layout(layout) => then(layout),
-            Content::Float(float) => match float.digits.lay_out(&float.syntax, float.style) {
-                Ok(layout) => then(&layout),
-                Err(_) => unreachable!("the float has been laid out"),
-            },
-        }
-    }
-
     /// Prints the text, of which the length is known, with what the formatter adds.
     #[cold]
-    fn pad(f: &mut fmt::Formatter<'_>, layout: &Layout<'_>, length: usize) -> fmt::Result {
-        let (sign, prefix) = (layout.sign, layout.prefix);
-        let sign = sign.or(if f.sign_plus() { Some(b'+') } else { None });
-        let front = usize::from(layout.sign.is_some()) + 2 * usize::from(prefix.is_some());
-        let added = usize::from(sign != layout.sign);
+    fn pad(&self, f: &mut fmt::Formatter<'_>, length: usize) -> fmt::Result {
+        let layout = self.text.layout();
+        let (own, prefix) = match (layout, self.text) {
+            (Some(layout), _) => (layout.sign, layout.prefix),
+            (None, Text::Special(sign, _)) => (sign, None),
+            _ => (None, None),
+        };
+        let sign = own.or(if f.sign_plus() { Some(b'+') } else { None });
+        let front = usize::from(own.is_some()) + 2 * usize::from(prefix.is_some());
+        let added = usize::from(sign != own);
+        let length = match self.text {
+            Text::Special(_, word) => front + word.chars().count(),
+            _ => length,
+        };
         let missing = f.width().unwrap_or(0).saturating_sub(length.saturating_add(added));
         let (before, zeros) = match f.align() {
-            _ if f.sign_aware_zero_pad() => (0, missing),
+            _ if f.sign_aware_zero_pad() && layout.is_some() => (0, missing),
             Some(fmt::Alignment::Left) => (0, 0),
             Some(fmt::Alignment::Center) => (missing / 2, 0),
             _ => (missing, 0),
@@ -245,9 +342,14 @@ impl Written<'_> {
         let bytes = [sign, prefix.map(|_| b'0'), prefix];
         bytes.into_iter().flatten().try_for_each(|byte| f.write_char(byte.into()))?;
         (0..zeros).try_for_each(|_| f.write_char('0'))?;
-        let mut printer = Printer { f, skip: front, result: Ok(()) };
-        layout.put(&mut printer);
-        printer.result?;
+        if let Text::Special(_, word) = self.text {
+            f.write_str(word)?;
+        }
+        if let Some(layout) = layout {
+            let mut printer = Printer { f, skip: front, result: Ok(()) };
+            layout.put(&mut printer);
+            printer.result?;
+        }
         (before + zeros..missing).try_for_each(|_| f.write_char(fill))
     }
 }
@@ -303,7 +405,7 @@ impl fmt::Display for WriteError {
             WriteError::Fraction => "literals are integers, and the number is not whole",
             WriteError::Exponent => "no literal has an exponent, and this one does not move the point by whole digits",
             WriteError::Float => "each literal has an exponent, and an integer of Rust has none",
-            WriteError::Special => "no literal is NaN or infinity",
+            WriteError::Special => "no literal is NaN or infinity, and no spelling is read back as it",
             WriteError::Long => "without an exponent, the text has more than 800 bytes",
             WriteError::Buffer(length) => return write!(f, "the text has {length} bytes"),
         })

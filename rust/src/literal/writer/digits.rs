@@ -3,7 +3,7 @@
 //! Runs of digits are written.
 
 use crate::digit::{char_to_digit, digit_to_char, digit_to_char_const};
-use crate::literal::writer::run::{Groups, Padded, Run, Source};
+use crate::literal::writer::run::{Padded, Pattern, Run, Source};
 use crate::literal::writer::sink::Sink;
 use crate::number::parts::count;
 
@@ -64,8 +64,8 @@ fn decimals(buffer: &mut [u8; 20], number: u64) -> &[u8] {
 
 // Returns whether a group ends where `left` digits are left.
 #[inline(always)]
-const fn ends_group(groups: Groups, left: u128) -> bool {
-    let Groups { last, higher } = groups;
+const fn ends_group(pattern: Pattern, left: u128) -> bool {
+    let Pattern { last, higher, .. } = pattern;
     if left > usize::MAX as u128 {
         return higher > 0 && (left - last as u128) % higher as u128 == 0;
     }
@@ -92,11 +92,22 @@ pub(crate) fn put_if_any<S: Sink>(sink: &mut S, byte: Option<u8>) {
     }
 }
 
+// Returns the character of a digit.
+#[inline(always)]
+const fn character(digit: u32, lowercase: bool) -> u8 {
+    let uppercase = digit_to_char(digit);
+    if lowercase {
+        uppercase.to_ascii_lowercase()
+    } else {
+        uppercase
+    }
+}
+
 // Writes a digit and, where a group ends, a separator. Behind the digit, `left` more are to be written.
 #[inline(always)]
 fn put_digit<S: Sink>(sink: &mut S, digit: u32, left: u128, run: &Run) {
-    sink.put(digit_to_char(digit));
-    put_if_any(sink, only_if(ends_group(run.groups, left), run.separator));
+    sink.put(character(digit, run.pattern.lowercase));
+    put_if_any(sink, only_if(ends_group(run.pattern, left), run.pattern.separator));
 }
 
 // Writes the digits among bytes in groups, which are the first of `count` digits, and returns how many are left.
@@ -114,9 +125,9 @@ fn put_digits<S: Sink>(sink: &mut S, bytes: &[u8], count: u128, run: &Run) -> u1
 }
 
 // Writes zeros in groups, which are the first of `count` digits, and returns how many are left.
-fn put_zeros<S: Sink>(sink: &mut S, zeros: usize, count: u128, run: &Run) -> u128 {
+fn put_zeros<S: Sink>(sink: &mut S, zeros: u128, count: u128, run: &Run) -> u128 {
     let mut left = count;
-    let end = count - zeros as u128;
+    let end = count - zeros;
     while left > end {
         left -= 1;
         put_digit(sink, 0, left, run);
@@ -124,43 +135,37 @@ fn put_zeros<S: Sink>(sink: &mut S, zeros: usize, count: u128, run: &Run) -> u12
     left
 }
 
-// Writes digits in groups or, if there are none, a 0 if the run has one.
+// Writes digits in groups, and zeros before them if there are fewer than the run has at least.
 fn put_padded<S: Sink>(sink: &mut S, padded: &Padded, run: &Run) {
     let count = padded.count(run.radix);
-    if count == 0 && run.zero {
-        sink.put(b'0');
-        return;
-    }
-    let left = put_zeros(sink, padded.before, count, run);
+    let missing = (run.least as u128).saturating_sub(count);
+    let zeros = missing + padded.before as u128;
+    let left = put_zeros(sink, zeros, missing + count, run);
     let left = put_digits(sink, padded.first, left, run);
     let left = put_digits(sink, padded.second, left, run);
-    put_zeros(sink, padded.after, left, run);
+    put_zeros(sink, padded.after as u128, left, run);
 }
 
-// Writes the digits among bytes in groups or, if there are none, a 0 if the run has one.
-fn put_or_zero<S: Sink>(sink: &mut S, bytes: &[u8], run: &Run) {
+// Writes the digits among bytes as `put_padded` does.
+fn put_bytes<S: Sink>(sink: &mut S, bytes: &[u8], run: &Run) {
     put_padded(sink, &Padded::of(bytes), run);
 }
 
-// Writes the digits of a number, which are `bytes`, in groups or, if it is 0, a 0 if the run has one.
-fn put_characters<S: Sink>(sink: &mut S, bytes: &[u8], number: u128, run: &Run) {
-    if run.groups.higher == 0 && number > 0 {
+// Writes uppercase digits as `put_padded` does.
+fn put_characters<S: Sink>(sink: &mut S, bytes: &[u8], run: &Run) {
+    if run.pattern.higher == 0 && !run.pattern.lowercase && run.least <= bytes.len() {
         sink.put_all(bytes);
     } else {
-        put_or_zero(sink, bytes, run);
+        put_bytes(sink, bytes, run);
     }
 }
 
-// Writes the digits of a number in groups or, if it is 0, a 0 if the run has one.
+// Writes the digits of a number as `put_padded` does.
 fn put_number<S: Sink>(sink: &mut S, number: u128, run: &Run) {
     if run.radix == 10 && number <= u64::MAX as u128 {
-        let mut buffer = [0; 20];
-        let bytes = decimals(&mut buffer, number as u64);
-        put_characters(sink, bytes, number, run);
+        put_characters(sink, decimals(&mut [0; 20], number as u64), run);
     } else {
-        let mut buffer = [0; 128];
-        let bytes = characters(&mut buffer, number, run.radix);
-        put_characters(sink, bytes, number, run);
+        put_characters(sink, characters(&mut [0; 128], number, run.radix), run);
     }
 }
 
@@ -197,12 +202,22 @@ impl Run<'_> {
         }
     }
 
-    // Writes the digits, or a 0 for absent ones.
+    // Returns the number of digits that are written.
+    pub(crate) fn length(&self) -> u128 {
+        let count = match &self.source {
+            Source::Bytes(bytes) => count(bytes, self.radix) as u128,
+            Source::Number(number) => characters(&mut [0; 128], *number, self.radix).len() as u128,
+            Source::Padded(padded) => padded.count(self.radix),
+        };
+        count.max(self.least as u128)
+    }
+
+    // Writes the digits.
     #[inline(always)]
     pub(crate) fn put<S: Sink>(&self, sink: &mut S) {
         match self.source {
-            Source::Number(0) if !self.zero => (),
-            Source::Bytes(bytes) => put_or_zero(sink, bytes, self),
+            Source::Number(0) if self.least == 0 => (),
+            Source::Bytes(bytes) => put_bytes(sink, bytes, self),
             Source::Number(number) => put_number(sink, number, self),
             Source::Padded(padded) => put_padded(sink, &padded, self),
         }

@@ -4,7 +4,6 @@
 
 use crate::literal::syntax::{Condition, Syntax};
 use crate::literal::writer::layout::{needs_exponent, Amount, Layout, Style, WriteError};
-use crate::literal::writer::run::Source;
 use crate::number::integer::Integer;
 
 /// Returns how the value of an integer is written as a literal of `syntax`.
@@ -22,6 +21,5 @@ pub fn format_integer<T: Integer>(syntax: &Syntax, value: T, style: Style) -> Re
     if needs_exponent(syntax) {
         return Err(WriteError::Float);
     }
-    let amount = Amount { negative, integer: Source::Number(size), fraction: None, exponent: None };
-    amount.lay_out(syntax, style)
+    Amount::of_size(negative, size).lay_out(syntax, style)
 }

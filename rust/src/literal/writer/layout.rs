@@ -4,15 +4,12 @@
 
 use crate::literal::syntax::{Condition, Conditions, Options, Syntax};
 use crate::literal::writer::digits::{only_if, put_if_any, without_zeros};
-use crate::literal::writer::run::{Groups, Run, Source};
+use crate::literal::writer::run::{Pattern, Run, Source};
 use crate::literal::writer::sink::{Sink, Window};
 use crate::number::parts::count;
 use crate::word::{base_prefix, base_suffix, digit_separator, FormatView};
 
-// Digits without groups.
-const NO_GROUPS: Groups = Groups { last: 0, higher: 0 };
-
-/// How many digits a group of the integer has. Where the format does not allow separators between them, there are none.
+/// How many digits a group has. Where the format does not allow separators between digits, there are no groups.
 #[derive(Debug, Clone, Copy, PartialEq, Eq, Hash)]
 #[non_exhaustive]
 pub enum Grouping {
@@ -24,37 +21,79 @@ pub enum Grouping {
     Of(usize),
 }
 
-/// How numbers are written where a syntax leaves a choice.
+/// Whether a number is written with an exponent where the syntax leaves a choice.
+#[derive(Debug, Clone, Copy, PartialEq, Eq, Hash)]
+#[non_exhaustive]
+pub enum ExponentStyle {
+    /// If it has one: a literal keeps its exponent, and an integer has none.
+    AsNumber,
+    /// With none. The point moves in its place where it moves by whole digits and the text has at most 800 bytes.
+    Never,
+    /// With one. A number without an exponent has the exponent 0.
+    Always,
+    /// If it has one that is at least this number, or at most minus this number. The point moves in the place of another one,
+    /// as for `Never`.
+    From(u32),
+}
+
+/// How numbers are written where a syntax leaves a choice. Each field is a wish: what the syntax forbids is not done, and what
+/// it requires is.
 #[derive(Debug, Clone, Copy, PartialEq, Eq, Hash)]
 #[non_exhaustive]
 pub struct Style {
-    /// How many digits a group of the integer has.
+    /// How many digits a group of the integer has, counted from the right.
     pub group: Grouping,
+    /// How many digits a group of the fraction has, counted from the left.
+    pub fraction_group: Grouping,
     /// Whether the base prefix is written, if the format has one.
     pub prefix: bool,
     /// Whether the base suffix is written, if the format has one.
     pub suffix: bool,
+    /// Whether digits that are letters are in lowercase.
+    pub lowercase: bool,
+    /// How many digits the integer has at least. Zeros are added where the format allows leading zeros.
+    pub min_digits: u8,
+    /// Whether the integer of a literal keeps its leading zeros, if its point does not move and the format allows them.
+    pub keep_leading_zeros: bool,
+    /// Whether there is an exponent.
+    pub exponent: ExponentStyle,
 }
 
-/// Why a number cannot be written as a literal of a syntax.
+impl Style {
+    /// The style that makes no wish: groups where a condition of the syntax has a size, the base prefix and the base suffix if
+    /// the format has them, uppercase digits, no zeros that are not required, and the exponent that the number has.
+    pub const PLAIN: Style = Style {
+        group: Grouping::AsSyntax,
+        fraction_group: Grouping::AsSyntax,
+        prefix: true,
+        suffix: true,
+        lowercase: false,
+        min_digits: 0,
+        keep_leading_zeros: false,
+        exponent: ExponentStyle::AsNumber,
+    };
+}
+
+/// Why a number cannot be written as a literal of a syntax: no literal has its sign and its value, or the writer has a limit.
 #[derive(Debug, Clone, Copy, PartialEq, Eq, Hash)]
 #[non_exhaustive]
 pub enum WriteError {
-    /// The mantissa radixes differ, or the exponent has another radix and more than 128 bits.
-    Radix,
+    /// The number is NaN or infinity, which no literal is. No spelling is read back as this value.
+    Special,
     /// The number is below 0, or -0, and no literal has the sign `-`.
     Negative,
     /// The number is not whole, and the literals of the syntax are integers.
     Fraction,
-    /// No literal has the exponent of the number, which does not move the point by whole digits.
-    Exponent,
     /// The number is an integer of Rust, and each literal has an exponent.
     Float,
-    /// The number is NaN or infinity, which no literal is.
-    Special,
-    /// No literal has the exponent of the number, and if the point moves, the text has more than 800 bytes.
+    /// A limit: the mantissa radixes differ, and the number is not whole or has more than 128 bits, or its point does not
+    /// move by whole digits. Or the exponent radixes differ, and the exponent has more than 128 bits.
+    Radix,
+    /// A limit: no literal has the exponent of the number, which does not move the point by whole digits.
+    Exponent,
+    /// A limit: no literal has the exponent of the number, and if the point moves, the text has more than 800 bytes.
     Long,
-    /// The buffer is too short for the text, which has this number of bytes.
+    /// A limit: the buffer is too short for the text, which has this number of bytes.
     Buffer(usize),
 }
 
@@ -143,10 +182,18 @@ const fn base_byte(condition: bool, byte: u8) -> Option<u8> {
     only_if(condition && byte != 0, byte)
 }
 
-// Returns a run without groups.
+// Returns 1 if `condition` is true, and 0 otherwise.
+const fn one_if(condition: bool) -> usize {
+    condition as usize
+}
+
+// Returns the number of digits of a source, or 0 if it is not bytes, so that it has no zeros to be kept.
 #[inline]
-const fn plain_run<'a>(source: Source<'a>, radix: u32, zero: bool) -> Run<'a> {
-    Run { source, radix, zero, groups: NO_GROUPS, separator: 0 }
+fn kept_digits(source: Source, radix: u32) -> usize {
+    match source {
+        Source::Bytes(bytes) => count(bytes, radix),
+        Source::Number(_) | Source::Padded(_) => 0,
+    }
 }
 
 // Returns the digits of a source without the zeros that they begin with.
@@ -169,6 +216,13 @@ fn has_digits(source: Source, radix: u32) -> bool {
     }
 }
 
+impl Amount<'_> {
+    // Returns a number without a fraction and an exponent.
+    pub(crate) const fn of_size(negative: bool, size: u128) -> Amount<'static> {
+        Amount { negative, integer: Source::Number(size), fraction: None, exponent: None }
+    }
+}
+
 impl<'a> Amount<'a> {
     /// Returns how the number is written as a literal of `syntax`.
     ///
@@ -187,29 +241,79 @@ impl<'a> Amount<'a> {
         if let Some(refusal) = self.refusal(syntax) {
             return Err(refusal);
         }
-        let (radix, exponent_radix) = (format.mantissa_radix(), format.exponent_radix());
         let conditions = syntax.conditions();
         let options = syntax.options().unwrap_or(Options { exponent: 0, point: 0 });
-        let power = self.exponent.unwrap_or(Power { negative: false, source: Source::Number(0) });
-        let exponent = self.exponent.is_some() | needs_exponent(syntax);
-        let point = self.fraction.is_some() | (exponent & format.no_exponent_without_fraction());
+        let power = self.power();
+        let exponent = self.has_exponent(syntax, style);
+        let point = self.has_point(syntax, style);
+        let prefix = base_byte(style.prefix | conditions.has(Condition::BasePrefix), base_prefix(format.word()));
+        let float = point | exponent;
         Ok(Layout {
             sign: sign_of(self.negative, format.required_mantissa_sign()),
-            prefix: base_byte(style.prefix | conditions.has(Condition::BasePrefix), base_prefix(format.word())),
-            integer: Run {
-                source: lean(self.integer, radix),
-                radix,
-                zero: self.has_zero(format),
-                groups: groups_of(format, conditions, style),
-                separator: digit_separator(format.word()),
-            },
+            prefix,
+            integer: self.integer_run(format, conditions, style, prefix.is_some(), float),
             point: only_if(point, options.point),
-            fraction: plain_run(self.fraction(), radix, point & format.required_fraction_digits()),
+            fraction: self.fraction_run(format, conditions, style, point),
             exponent_character: only_if(exponent, options.exponent),
             exponent_sign: sign_of(power.negative, exponent & format.required_exponent_sign()),
-            exponent: plain_run(lean(power.source, exponent_radix), exponent_radix, exponent),
+            exponent: exponent_run(power.source, format, style, exponent),
             suffix: base_byte(style.suffix | conditions.has(Condition::BaseSuffix), base_suffix(format.word())),
         })
+    }
+
+    // Returns the exponent, or one without digits.
+    #[inline]
+    fn power(&self) -> Power<'a> {
+        match self.exponent {
+            Some(power) => power,
+            None => Power { negative: false, source: Source::Number(0) },
+        }
+    }
+
+    // Returns whether there is an exponent character.
+    #[inline]
+    fn has_exponent(&self, syntax: &Syntax, style: Style) -> bool {
+        self.exponent.is_some() || needs_exponent(syntax) || wants_exponent(style.exponent) && allows_exponent(syntax)
+    }
+
+    // Returns whether there is a decimal point.
+    #[inline]
+    fn has_point(&self, syntax: &Syntax, style: Style) -> bool {
+        self.fraction.is_some()
+            || self.has_exponent(syntax, style) && syntax.format().view().no_exponent_without_fraction()
+    }
+
+    // Returns the integer, behind a base prefix or not, of a float or not.
+    #[inline]
+    fn integer_run(
+        &self,
+        format: FormatView,
+        conditions: Conditions,
+        style: Style,
+        prefix: bool,
+        float: bool,
+    ) -> Run<'a> {
+        let radix = format.mantissa_radix();
+        Run {
+            source: lean(self.integer, radix),
+            radix,
+            least: self.least_digits(format, style, prefix, float),
+            pattern: integer_pattern(format, conditions, style),
+        }
+    }
+
+    // Returns the fraction, which has a point or not.
+    #[inline]
+    fn fraction_run(&self, format: FormatView, conditions: Conditions, style: Style, point: bool) -> Run<'a> {
+        let radix = format.mantissa_radix();
+        let run = Run {
+            source: self.fraction(),
+            radix,
+            least: one_if(point & format.required_fraction_digits()),
+            pattern: no_groups(style.lowercase),
+        };
+        let pattern = fraction_pattern(format, conditions, style, &run);
+        Run { source: run.source, radix, least: run.least, pattern }
     }
 
     // Returns why the number cannot be written, if it cannot.
@@ -231,6 +335,18 @@ impl<'a> Amount<'a> {
         format.required_integer_digits() || has_digits(self.integer, radix) || !has_digits(self.fraction(), radix)
     }
 
+    // Returns how many integer digits are written at least, behind a base prefix or not, of a float or not.
+    #[inline]
+    fn least_digits(&self, format: FormatView, style: Style, prefix: bool, float: bool) -> usize {
+        let zero = one_if(self.has_zero(format));
+        let forbidden = if float { format.no_float_leading_zeros() } else { format.no_integer_leading_zeros() };
+        if forbidden && !prefix {
+            return zero;
+        }
+        let kept = if style.keep_leading_zeros { kept_digits(self.integer, format.mantissa_radix()) } else { 0 };
+        zero.max(kept.max(style.min_digits as usize))
+    }
+
     // Returns the fraction digits, if there are any.
     #[inline]
     fn fraction(&self) -> Source<'a> {
@@ -241,10 +357,28 @@ impl<'a> Amount<'a> {
     }
 }
 
+// Returns the digits of the exponent, which are required or not.
+#[inline]
+fn exponent_run<'a>(source: Source<'a>, format: FormatView, style: Style, exponent: bool) -> Run<'a> {
+    let radix = format.exponent_radix();
+    Run { source: lean(source, radix), radix, least: one_if(exponent), pattern: no_groups(style.lowercase) }
+}
+
 // Returns whether each literal has an exponent.
 #[inline]
 pub(crate) fn needs_exponent(syntax: &Syntax) -> bool {
     syntax.format().view().required_exponent_notation() && syntax.options().is_some()
+}
+
+// Returns whether a literal can have an exponent.
+#[inline]
+pub(crate) fn allows_exponent(syntax: &Syntax) -> bool {
+    syntax.options().is_some() && !syntax.format().view().no_exponent_notation()
+}
+
+// Returns whether a number without an exponent is to have one.
+const fn wants_exponent(wish: ExponentStyle) -> bool {
+    matches!(wish, ExponentStyle::Always)
 }
 
 // Returns the error of a sign, a fraction or an exponent that is refused, the first if several are.
@@ -260,15 +394,37 @@ const fn first_error(sign: bool, fraction: bool, exponent: bool) -> Option<Write
     }
 }
 
-// Returns the groups of an integer.
+// Returns the pattern of an integer.
 #[inline]
-const fn groups_of(format: FormatView, conditions: Conditions, style: Style) -> Groups {
+const fn integer_pattern(format: FormatView, conditions: Conditions, style: Style) -> Pattern {
     let last = group_size(conditions.number(Condition::IntegerGroupSize), style.group);
-    if last == 0 || !format.integer_internal_digit_separator() || digit_separator(format.word()) == 0 {
-        return NO_GROUPS;
-    }
     let higher = either(conditions.number(Condition::HigherGroupSize), last);
-    Groups { last, higher }
+    let allowed = format.integer_internal_digit_separator();
+    pattern_of(format, allowed, last, higher, style.lowercase)
+}
+
+// Returns the pattern of a fraction with the digits of `run`. Its groups are counted from the left.
+#[inline]
+fn fraction_pattern(format: FormatView, conditions: Conditions, style: Style, run: &Run) -> Pattern {
+    let condition = conditions.number(Condition::FractionGroupSize);
+    let size = group_size(condition, style.fraction_group);
+    let last = if size == 0 { 0 } else { (run.length().saturating_sub(1) % size as u128) as usize + 1 };
+    let allowed = format.fraction_internal_digit_separator();
+    pattern_of(format, allowed, last, size, style.lowercase)
+}
+
+// Returns the pattern of digits in groups, unless there are none, or the format does not allow them.
+const fn pattern_of(format: FormatView, allowed: bool, last: usize, higher: usize, lowercase: bool) -> Pattern {
+    let separator = digit_separator(format.word());
+    if last == 0 || !allowed || separator == 0 {
+        return no_groups(lowercase);
+    }
+    Pattern { last, higher, separator, lowercase }
+}
+
+// Returns the pattern of digits without separators.
+const fn no_groups(lowercase: bool) -> Pattern {
+    Pattern { last: 0, higher: 0, separator: 0, lowercase }
 }
 
 // Returns how many digits a group has, where a condition requires `size` digits, or 0 for digits without groups.

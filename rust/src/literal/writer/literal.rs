@@ -5,8 +5,10 @@
 use crate::literal::literal::Literal;
 use crate::literal::read::Parts;
 use crate::literal::syntax::{Condition, Syntax};
-use crate::literal::writer::layout::{Amount, Layout, Power, Style, WriteError};
-use crate::literal::writer::moved::{moved, moved_by};
+use crate::literal::writer::layout::{
+    allows_exponent, needs_exponent, Amount, ExponentStyle, Layout, Power, Style, WriteError,
+};
+use crate::literal::writer::moved::{exponent_of, moved, moved_by};
 use crate::literal::writer::run::Source;
 use crate::number::numeral::{Magnitude, Numeral};
 use crate::word::FormatView;
@@ -29,10 +31,17 @@ pub(crate) fn convert<'a>(
 ) -> Result<Layout<'a>, WriteError> {
     if is_refused(parts, syntax) {
         Err(WriteError::Negative)
-    } else if is_kept(format, parts, syntax) {
-        keep(format, parts, syntax, style)
-    } else {
+    } else if !is_same_radix(format, syntax) {
+        change_radix(format, parts, syntax, style)
+    } else if !is_kept(format, parts, syntax) {
         move_point(format, parts, syntax, style)
+    } else if is_wish(format, parts, syntax, style) {
+        match move_point(format, parts, syntax, style) {
+            Ok(layout) => Ok(layout),
+            Err(_) => keep(format, parts, syntax, style),
+        }
+    } else {
+        keep(format, parts, syntax, style)
     }
 }
 
@@ -46,14 +55,31 @@ fn is_whole(syntax: &Syntax) -> bool {
     syntax.options().is_none()
 }
 
-// Returns whether the point of a literal of `format` stays where it is.
+// Returns whether a format and that of `syntax` have the same mantissa radix.
+fn is_same_radix(format: FormatView, syntax: &Syntax) -> bool {
+    format.mantissa_radix() == syntax.format().view().mantissa_radix()
+}
+
+// Returns whether the point of a literal of `format` can stay where it is.
 fn is_kept(format: FormatView, parts: &Parts, syntax: &Syntax) -> bool {
-    let whole = is_whole(syntax);
-    let target = syntax.format().view();
     if has_power(parts) {
-        !(whole || target.no_exponent_notation()) && format.exponent_base() == target.exponent_base()
+        allows_exponent(syntax) && format.exponent_base() == syntax.format().view().exponent_base()
     } else {
-        !(whole && fraction_of(parts).is_some())
+        !(is_whole(syntax) && fraction_of(parts).is_some())
+    }
+}
+
+// Returns whether the point of a literal of `format` is to move in place of its exponent.
+fn is_wish(format: FormatView, parts: &Parts, syntax: &Syntax, style: Style) -> bool {
+    has_power(parts) && !needs_exponent(syntax) && is_unwanted(style.exponent, &exponent_of(format, parts))
+}
+
+// Returns whether the point is to move in place of an exponent.
+fn is_unwanted(wish: ExponentStyle, exponent: &Numeral) -> bool {
+    match wish {
+        ExponentStyle::Never => true,
+        ExponentStyle::From(least) => matches!(exponent.as_u64(), Some(size) if size < least as u64),
+        ExponentStyle::AsNumber | ExponentStyle::Always => false,
     }
 }
 
@@ -72,51 +98,54 @@ fn move_point<'a>(
 ) -> Result<Layout<'a>, WriteError> {
     let places = moved_by(format, parts, is_whole(syntax))?;
     let amount = moved(parts, format.mantissa_radix(), places);
-    shorten(format, &amount, syntax, style)
+    shorten(&amount, syntax, style)
 }
 
-// Returns the error of a fraction or a radix that is refused, the first if both are.
-const fn second_error(fraction: bool, radix: bool) -> Option<WriteError> {
-    if fraction {
-        Some(WriteError::Fraction)
-    } else if radix {
-        Some(WriteError::Radix)
-    } else {
-        None
+// Returns how a number is written whose point has moved, or why it is not.
+fn shorten<'a>(amount: &Amount<'a>, syntax: &Syntax, style: Style) -> Result<Layout<'a>, WriteError> {
+    match amount.lay_out(syntax, Style::PLAIN) {
+        Err(error) => Err(error),
+        Ok(plain) if plain.is_long() => Err(WriteError::Long),
+        Ok(_) => amount.lay_out(syntax, style),
     }
 }
 
-// Returns why no text is written for a number with digits for a format and no exponent.
-fn moved_refusal(format: FormatView, amount: &Amount, syntax: &Syntax) -> Option<WriteError> {
-    second_error(
-        is_whole(syntax) & amount.fraction.is_some(),
-        format.mantissa_radix() != syntax.format().view().mantissa_radix(),
-    )
-}
-
-// Returns how a number with digits for a format is written whose point has moved, or why it is not.
-fn shorten<'a>(
+// Returns how the number of a literal is written in another radix, or why it cannot be.
+fn change_radix<'a>(
     format: FormatView,
-    amount: &Amount<'a>,
+    parts: &Parts<'a>,
     syntax: &Syntax,
     style: Style,
 ) -> Result<Layout<'a>, WriteError> {
-    if let Some(error) = moved_refusal(format, amount, syntax) {
-        return Err(error);
+    let places = match moved_by(format, parts, is_whole(syntax)) {
+        Ok(places) => places,
+        Err(error) => return Err(radix_error(error)),
+    };
+    let amount = moved(parts, format.mantissa_radix(), places);
+    write_number(&amount, format.mantissa_radix(), syntax, style)
+}
+
+// Returns how the number is written that an amount without an exponent represents in a radix, or why it is not.
+fn write_number<'a>(amount: &Amount<'a>, radix: u32, syntax: &Syntax, style: Style) -> Result<Layout<'a>, WriteError> {
+    if amount.fraction.is_some() {
+        return Err(if is_whole(syntax) { WriteError::Fraction } else { WriteError::Radix });
     }
-    let layout = amount.lay_out(syntax, style)?;
-    if layout.is_long() {
-        Err(WriteError::Long)
-    } else {
-        Ok(layout)
+    match amount.integer.size(radix) {
+        Some(size) => Amount::of_size(amount.negative, size).lay_out(syntax, style),
+        None => Err(WriteError::Radix),
     }
 }
 
-// Returns the number that a literal represents, or why the format `target` cannot have it.
-fn amount_of<'a>(format: FormatView, parts: &Parts<'a>, target: FormatView) -> Result<Amount<'a>, WriteError> {
-    if format.mantissa_radix() != target.mantissa_radix() {
-        return Err(WriteError::Radix);
+// Returns why a number of another radix is not written, whose point does not move because of `error`.
+const fn radix_error(error: WriteError) -> WriteError {
+    match error {
+        WriteError::Fraction => WriteError::Fraction,
+        _ => WriteError::Radix,
     }
+}
+
+// Returns the number that a literal represents, or why the format `target` cannot have its exponent.
+fn amount_of<'a>(format: FormatView, parts: &Parts<'a>, target: FormatView) -> Result<Amount<'a>, WriteError> {
     Ok(Amount {
         exponent: power_of(format, parts, target)?,
         negative: is_minus(parts.sign),

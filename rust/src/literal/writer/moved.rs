@@ -36,7 +36,65 @@ fn without_last_zeros<'a>(bytes: &'a [u8], radix: u32) -> &'a [u8] {
     &[]
 }
 
+// Returns the number that the digits among bytes represent behind those of `front`, or `None` if it has more than 128 bits.
+fn size_after(front: u128, bytes: &[u8], radix: u32) -> Option<u128> {
+    let mut size = front;
+    let mut index = 0;
+    while index < bytes.len() {
+        if let Some(digit) = char_to_digit(bytes[index], radix) {
+            let Some(shifted) = size.checked_mul(radix as u128) else {
+                return None;
+            };
+            let Some(longer) = shifted.checked_add(digit as u128) else {
+                return None;
+            };
+            size = longer;
+        }
+        index += 1;
+    }
+    Some(size)
+}
+
+// Returns a number with as many zeros behind its digits as `places`, or `None` if it has more than 128 bits.
+fn shifted(number: u128, radix: u32, places: usize) -> Option<u128> {
+    if number == 0 {
+        return Some(0);
+    }
+    let mut size = number;
+    let mut left = places;
+    while left > 0 {
+        let Some(longer) = size.checked_mul(radix as u128) else {
+            return None;
+        };
+        size = longer;
+        left -= 1;
+    }
+    Some(size)
+}
+
+impl Source<'_> {
+    // Returns the number that the digits represent, or `None` if it has more than 128 bits.
+    pub(crate) fn size(&self, radix: u32) -> Option<u128> {
+        match self {
+            Source::Bytes(bytes) => size_after(0, bytes, radix),
+            Source::Number(number) => Some(*number),
+            Source::Padded(padded) => padded.size(radix),
+        }
+    }
+}
+
 impl<'a> Padded<'a> {
+    // Returns the number that the digits represent, or `None` if it has more than 128 bits.
+    fn size(&self, radix: u32) -> Option<u128> {
+        let Some(front) = size_after(0, self.first, radix) else {
+            return None;
+        };
+        let Some(whole) = size_after(front, self.second, radix) else {
+            return None;
+        };
+        shifted(whole, radix, self.after)
+    }
+
     // Returns the digits without the zeros that they end with.
     fn trimmed(&self, radix: u32) -> Padded<'a> {
         let second = without_last_zeros(self.second, radix);
@@ -113,11 +171,15 @@ const fn too_far(whole: bool, parts: &Parts) -> WriteError {
     }
 }
 
+// Returns the exponent of a literal, without its sign.
+pub(crate) fn exponent_of<'a>(format: FormatView, parts: &Parts<'a>) -> Numeral<'a> {
+    Numeral { negative: false, magnitude: Magnitude::Digits(parts.exponent, format.exponent_radix()) }
+}
+
 // Returns by how many digits the point moves. Only whole numbers can be written if `whole` is true.
 pub(crate) fn moved_by(format: FormatView, parts: &Parts, whole: bool) -> Result<usize, WriteError> {
     let radix = format.mantissa_radix();
-    let exponent = Numeral { negative: false, magnitude: Magnitude::Digits(parts.exponent, format.exponent_radix()) };
-    let exponent = exponent.as_u128();
+    let exponent = exponent_of(format, parts).as_u128();
     if is_zero(parts.integer, radix) && is_zero(parts.fraction, radix) || exponent == Some(0) {
         return Ok(0);
     }

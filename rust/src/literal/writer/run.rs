@@ -26,12 +26,16 @@ pub struct Padded<'a> {
     pub after: usize,
 }
 
-/// How many digits are in groups: in the last one, and in each before it. The first may have fewer. If `higher` is 0,
-/// there are no groups.
+/// How digits are written: how many are in the last group, and in each before it, of which the first may have fewer. If
+/// `higher` is 0, there are no groups.
 #[derive(Debug, Clone, Copy)]
-pub struct Groups {
+pub struct Pattern {
     pub(crate) last: usize,
     pub(crate) higher: usize,
+    /// What is written between groups.
+    pub(crate) separator: u8,
+    /// Whether letters are in lowercase.
+    pub(crate) lowercase: bool,
 }
 
 /// Digits that are to be written in groups.
@@ -40,10 +44,8 @@ pub struct Run<'a> {
     pub(crate) source: Source<'a>,
     /// The radix of the digits.
     pub(crate) radix: u32,
-    /// Whether a 0 stands for digits that are absent.
-    pub(crate) zero: bool,
-    /// The groups.
-    pub(crate) groups: Groups,
-    /// What is written between groups.
-    pub(crate) separator: u8,
+    /// How many digits are written at least. Zeros come before those of the source.
+    pub(crate) least: usize,
+    /// How the digits are written.
+    pub(crate) pattern: Pattern,
 }

@@ -1,5 +1,5 @@
 -- One more digit is written before those that have been written.
-use Rattle.std.proofs.Common.{◌∙◌, map, ap, ◌++◌, append-nil, arith}
+use Rattle.std.proofs.Common.{false, ◌∙◌, map, ap, ◌++◌, append-nil, arith}
 use Rattle.std.proofs.lemmas.Int.Digits.{length-digits_of-le, length-digits_of_step}
 use Rattle.std.proofs.lemmas.List.{drop_all}
 use Rattle.std.proofs.Math.Nat.{pow-le-pow_left}
@@ -10,7 +10,7 @@ use Rattle.lexical_writer.proofs.digits.characters.Goals as goal
 
 pub loop-left-init : goal.loop-left-init
 loop-left-init c =
-    let text = map character (digits_of c.args.radix c.args.number) in
+    let text = map (character false) (digits_of c.args.radix c.args.number) in
     record {
       within = omega arith;
       room = length-digits_of-le c.args.radix 128 c.args.number c.requires.0 (let power = pow-le-pow_left c.requires.0 128 in omega arith);

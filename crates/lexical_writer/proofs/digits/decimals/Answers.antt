@@ -1,5 +1,5 @@
 -- Two more digits are written before those that have been written.
-use Rattle.std.proofs.Common.{◌≤◌, ◌∙◌, ◌-◌, ◌/◌, ℕ, length, map, ap, ◌++◌, append-nil, arith}
+use Rattle.std.proofs.Common.{false, ◌≤◌, ◌∙◌, ◌-◌, ◌/◌, ℕ, length, map, ap, ◌++◌, append-nil, arith}
 use Rattle.std.proofs.Math.Nat.{div-div-eq-div-mul}
 use Rattle.std.proofs.lemmas.Int.Digits.{length-digits_of-le, length-digits_of_step}
 use Rattle.std.proofs.lemmas.List.{drop_all}
@@ -10,7 +10,7 @@ use Rattle.lexical_writer.proofs.digits.decimals.Goals as goal
 
 pub loop-left-init : goal.loop-left-init
 loop-left-init c =
-    let text = map character (digits_of 10 c.args.number) in
+    let text = map (character false) (digits_of 10 c.args.number) in
     record {
       within = omega arith;
       room = length-digits_of-le 10 20 c.args.number (omega arith) (omega arith);

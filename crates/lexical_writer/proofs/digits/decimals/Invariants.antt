@@ -1,4 +1,4 @@
-use Rattle.std.proofs.Common.{length, drop, map, ◌++◌, ◌≡◌, ◌≤◌}
+use Rattle.std.proofs.Common.{false, length, drop, map, ◌++◌, ◌≡◌, ◌≤◌}
 use Rattle.std.specs.Int.Digits.{digits_of}
 use Rattle.lexical_writer.specs.Digits.{character}
 use Rattle.lexical_writer.proofs.digits.decimals.Given as goal
@@ -8,7 +8,7 @@ abbrev pub invariant-loop-left : goal.invariant-loop-left
 invariant-loop-left l = record {
   within : l.start ≤ 20;
   room : length (digits_of 10 l.left) ≤ l.start;
-  text : map character (digits_of 10 l.left) ++ drop l.start l.buffer ≡ map character (digits_of 10 l.number);
+  text : map (character false) (digits_of 10 l.left) ++ drop l.start l.buffer ≡ map (character false) (digits_of 10 l.number);
 }
 
 abbrev pub decreases-loop-left : goal.decreases-loop-left

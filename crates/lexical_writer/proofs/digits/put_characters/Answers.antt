@@ -1,14 +1,14 @@
--- Without groups, the bytes are written as they are.
-use Rattle.lexical_writer.proofs.DigitLemmas.{plain_text, read_back}
+-- Enough uppercase digits without groups are written as they are.
+use Rattle.std.proofs.Common.{◌≡◌, false, subst, sym, ◌++◌, arith}
+use Rattle.std.proofs.lemmas.Bool.Decides.{nat_tests}
+use Rattle.lexical_number.specs.Number.{digits_in}
+use Rattle.lexical_writer.proofs.DigitLemmas.{plain_text}
 use Rattle.lexical_writer.proofs.digits.put_characters.Goals as goal
 
-pub returns-then-number-gt0 : goal.returns-then-number-gt0
-returns-then-number-gt0 g c start text has =
+pub returns-then-run-bytes : goal.returns-then-run-bytes
+returns-then-run-bytes g c start text has =
     let run = c.args.run.now in
-    rw (plain_text run.separator run.groups run.radix c.args.number run.zero run.valid.0 c.if-run-eq0.true c.if-number-gt0.true, ← c.requires)
+    let upper : run.pattern.lowercase ≡ false = let is = c.if-not-run.true in grind (arith, nat_tests) in
+    subst (λ it. g.S.Sink.has start c.put_all.new.self (text ++ it))
+    (sym (plain_text run.pattern run.least c.args.bytes.now (digits_in run.radix c.args.bytes.now) c.requires c.if-run-eq0.true upper c.if-run-bytes.true))
     (c.put_all.ensures start text has)
-
-pub returns-else-run-eq0 : goal.returns-else-run-eq0
-returns-else-run-eq0 g c start text has =
-    let run = c.args.run.now in
-    rw (c.requires, read_back run.radix c.args.number run.valid.0 run.valid.1) at (c.put_or_zero.ensures start text has)

@@ -19,7 +19,7 @@ loop-index-preserved g c =
       | in-Some w ↦
           let d = w.in-Some.digit in
           let digits : digits_in run.radix (drop l.index c.args.bytes.now) ≡ d ∷ rest = left ∙ ap (λ digit. cons_option digit rest) w.in-Some.is in
-          let here = character d ∷ separated run.separator run.groups (l.left - 1) in
+          let here = character run.pattern.lowercase d ∷ separated run.pattern (l.left - 1) in
           record {
             within = omega (arith, c.loop-index-test.true);
             left = w.left-is ∙ (let all = l.invariant.left ∙ ap (λ digits. behind + length digits) digits in omega (arith, all));
@@ -27,9 +27,9 @@ loop-index-preserved g c =
                 let before = l.invariant.written start text has in (
                   before.0 ++ here,
                   subst (λ sink. g.S.Sink.has start sink (before.0 ++ here)) (sym w.sink-is) (w.put_digit.ensures start before.0 before.1),
-                  ap (λ k. (before.0 ++ here) ++ grouped_front run.separator run.groups k rest) w.left-is
-                      ∙ append_assoc before.0 here (grouped_front run.separator run.groups (l.left - 1) rest)
-                      ∙ ap (λ digits. before.0 ++ grouped_front run.separator run.groups l.left digits) (sym digits) ∙ before.2,
+                  ap (λ k. (before.0 ++ here) ++ grouped_front run.pattern k rest) w.left-is
+                      ∙ append_assoc before.0 here (grouped_front run.pattern (l.left - 1) rest)
+                      ∙ ap (λ digits. before.0 ++ grouped_front run.pattern l.left digits) (sym digits) ∙ before.2,
                 );
           }
       | in_default w ↦
@@ -41,8 +41,8 @@ loop-index-preserved g c =
                 let before = l.invariant.written start text has in (
                   before.0,
                   subst (λ sink. g.S.Sink.has start sink before.0) (sym w.sink-is) before.1,
-                  ap (λ k. before.0 ++ grouped_front run.separator run.groups k rest) w.left-is
-                      ∙ ap (λ digits. before.0 ++ grouped_front run.separator run.groups l.left digits) (sym digits) ∙ before.2,
+                  ap (λ k. before.0 ++ grouped_front run.pattern k rest) w.left-is
+                      ∙ ap (λ digits. before.0 ++ grouped_front run.pattern l.left digits) (sym digits) ∙ before.2,
                 );
           }
     ]

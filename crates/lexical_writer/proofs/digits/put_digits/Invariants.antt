@@ -11,8 +11,8 @@ invariant-loop-index g l = record {
   left : l.left ≡ (l.count - places l.run.radix l.bytes) + places l.run.radix (drop l.index l.bytes);
   written : (start : S-type g.row.S) → (text : List ℕ) → g.S.Sink.has start l.initial.sink text
       → (middle : List ℕ) × g.S.Sink.has start l.sink middle
-      × (middle ++ grouped_front l.run.separator l.run.groups l.left (digits_in l.run.radix (drop l.index l.bytes))
-      ≡ text ++ grouped_front l.run.separator l.run.groups l.count (digits_in l.run.radix l.bytes));
+      × (middle ++ grouped_front l.run.pattern l.left (digits_in l.run.radix (drop l.index l.bytes))
+      ≡ text ++ grouped_front l.run.pattern l.count (digits_in l.run.radix l.bytes));
 }
 
 abbrev pub decreases-loop-index : goal.decreases-loop-index

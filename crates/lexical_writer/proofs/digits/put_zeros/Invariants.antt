@@ -9,8 +9,8 @@ invariant-loop-left g l = record {
   within : (l.end ≤ l.left) × (l.left ≤ l.count);
   written : (start : S-type g.row.S) → (text : List ℕ) → g.S.Sink.has start l.initial.sink text
       → (middle : List ℕ) × g.S.Sink.has start l.sink middle
-      × (middle ++ grouped_front l.run.separator l.run.groups l.left (replicate (l.left - l.end) 0)
-      ≡ text ++ grouped_front l.run.separator l.run.groups l.count (replicate l.zeros 0));
+      × (middle ++ grouped_front l.run.pattern l.left (replicate (l.left - l.end) 0)
+      ≡ text ++ grouped_front l.run.pattern l.count (replicate l.zeros 0));
 }
 
 abbrev pub decreases-loop-left : goal.decreases-loop-left

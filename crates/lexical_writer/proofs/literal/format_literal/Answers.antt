@@ -1,10 +1,17 @@
 -- The parts and the format are those of the literal.
-use Rattle.std.proofs.Common.{IfOk, subst}
+use Rattle.std.proofs.Common.{IfOk, subst, sym, ◌∙◌}
 use Rattle.lexical_util.specs.Record.{raw}
+use Rattle.lexical_util.specs.Rules.{Lawful}
 use Rattle.lexical_literal.specs.Literal.{Literal}
 use Rattle.lexical_writer.specs.Conversion.{IsConverted, SameFraction}
 use Rattle.lexical_writer.specs.Layout.{literal_of}
 use Rattle.lexical_writer.proofs.literal.format_literal.Goals as goal
+
+-- A literal that was read has a lawful format.
+pub convert-requires : goal.convert-requires
+convert-requires c =
+    let read = c.cut.ensures.literal in
+    subst Lawful (read.2 ∙ sym c.format.ensures) read.1.lawful
 
 pub returns-clause-value : goal.returns-clause-value
 returns-clause-value c =

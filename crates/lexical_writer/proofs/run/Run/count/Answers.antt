@@ -8,6 +8,6 @@ use Rattle.lexical_writer.proofs.run.Run.count.Goals as goal
 pub returns-in-Padded : goal.returns-in-Padded
 returns-in-Padded c =
     let run = c.args.self.now in
-    let longer = run_longer run.separator run.groups run.zero (values_of run.radix run.source) in
+    let longer = run_longer run.pattern run.least (values_of run.radix run.source) in
     let count = c.count.ensures ∙ sym (ap (λ (source : Source). length (values_of run.radix source)) c.in-Padded.is) in
     omega (arith, count, longer)

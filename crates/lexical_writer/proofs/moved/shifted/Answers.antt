@@ -1,0 +1,44 @@
+-- One more zero is behind the digits.
+use Rattle.std.proofs.Common.{ℕ, zero, suc, ◌≡◌, ◌<◌, ◌≤◌, ◌-◌, ◌*◌, ◌^◌, ap, subst, sym, ◌∙◌, arith}
+use Rattle.std.proofs.Math.Nat.{one-le-pow, pow-suc, pow-zero}
+use Rattle.lexical_writer.proofs.moved.shifted.Goals as goal
+
+step : (size radix left : ℕ) → 0 < left → size * radix ^ left ≡ (size * radix) * radix ^ (left - 1)
+step size radix zero some = absurd (omega (arith, some))
+step size radix (suc left) some =
+    ap (λ p. size * p) (pow-suc radix left) ∙ turned size radix (radix ^ left)
+    ∙ ap (λ k. (size * radix) * radix ^ k) {x = left} {y = suc left - 1} (omega arith)
+  where
+    turned : (a b c : ℕ) → a * (c * b) ≡ (a * b) * c
+    turned a b c = omega arith
+
+at_least_once : (n k : ℕ) → 0 < k → n ≤ n * k
+at_least_once n zero some = absurd (omega (arith, some))
+at_least_once n (suc k) some = omega arith
+
+pub returns-in_default : goal.returns-in_default
+returns-in_default c fits =
+    let l = c.loop-left in
+    let whole = sym (step l.size c.args.radix l.left c.loop-left-test.true) ∙ l.invariant.value in
+    let more = at_least_once (l.size * c.args.radix) (c.args.radix ^ (l.left - 1)) (one-le-pow (l.left - 1) c.args.radix c.requires) in
+    let large = c.in_default.ensures in
+    absurd (large (omega (arith, fits, whole, more)))
+
+pub loop-left-preserved : goal.loop-left-preserved
+loop-left-preserved c =
+    let l = c.loop-left in
+    let fits = c.in-Some.ensures in
+    record {
+      small = omega (arith, fits.0, fits.1);
+      value = ap (λ n. n * c.args.radix ^ (l.left - 1)) fits.1 ∙ sym (step l.size c.args.radix l.left c.loop-left-test.true) ∙ l.invariant.value;
+    }
+
+alone : (n k : ℕ) → k ≡ 1 → n ≡ n * k
+alone n k one = sym (ap (λ k. n * k) one ∙ omega arith)
+
+pub returns : goal.returns
+returns c =
+    let l = c.loop-left in
+    let value : l.size ≡ c.args.number * c.args.radix ^ c.args.places =
+    alone l.size (c.args.radix ^ l.left) (ap (λ k. c.args.radix ^ k) {x = l.left} {y = 0} (omega (arith, c.loop-left-test.false)) ∙ pow-zero c.args.radix) ∙ l.invariant.value in
+    (subst (λ n. n ≤ 2 ^ 128 - 1) value l.invariant.small, value)

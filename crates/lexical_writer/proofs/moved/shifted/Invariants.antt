@@ -1,0 +1,12 @@
+use Rattle.std.proofs.Common.{◌≡◌, ◌≤◌, ◌-◌, ◌*◌, ◌^◌}
+use Rattle.lexical_writer.proofs.moved.shifted.Given as goal
+
+-- The number with as many zeros as are left is the number with all of them.
+abbrev pub invariant-loop-left : goal.invariant-loop-left
+invariant-loop-left l = record {
+  small : l.size ≤ 2 ^ 128 - 1;
+  value : l.size * l.radix ^ l.left ≡ l.number * l.radix ^ l.places;
+}
+
+abbrev pub decreases-loop-left : goal.decreases-loop-left
+decreases-loop-left l = l.left
