@@ -475,8 +475,8 @@ enum {
 };
 
 /* The sizes of buffers for any integer of the next three calls, and for any float of peltzivar_format_f64. */
-#define PELTZIVAR_INTEGER_SIZE 520
-#define PELTZIVAR_FLOAT_SIZE 1200
+#define PELTZIVAR_INTEGER_SIZE 519
+#define PELTZIVAR_FLOAT_SIZE 1162
 
 /* Write an integer, with its digits in the mantissa radix. */
 PELTZIVAR_MUST_USE peltzivar_write_status peltzivar_format_i64(const peltzivar_syntax *syntax, int64_t value,

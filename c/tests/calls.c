@@ -57,7 +57,7 @@ static void test_constants(void) {
     CHECK(sizeof(peltzivar_word) == 16 && sizeof(peltzivar_fields) == 16 && sizeof(peltzivar_edit) == 2);
     CHECK(sizeof(peltzivar_read_error) == 128 && sizeof(peltzivar_literal) == 320 && sizeof(peltzivar_span) == 16);
     CHECK(sizeof(peltzivar_syntax) == 32 && sizeof(peltzivar_explanation) == 48 && sizeof(peltzivar_i128) == 16);
-    CHECK(sizeof(peltzivar_specials) == 24 && sizeof(peltzivar_special) == 2 && sizeof(peltzivar_style) == 2);
+    CHECK(sizeof(peltzivar_specials) == 24 && sizeof(peltzivar_special) == 2 && sizeof(peltzivar_style) == 12);
     CHECK(sizeof(peltzivar_separators) == 4);
 }
 
@@ -287,7 +287,8 @@ static void test_columns(void) {
 
 /* Numbers are written as literals, and a buffer that is too short has the beginning. */
 static void test_writing(void) {
-    static const peltzivar_style styles[] = {{3, false}, {3, true}}, bare = {0, true}, ones = {1, false};
+    static const peltzivar_style styles[] = {{3, 0, false, false, false, 0, 0, 0}, {3, 0, true, false, false, 0, 0, 0}}, bare = {0, 0, true, false, false, 0, 0, 0};
+    static const peltzivar_style ones = {1, 1, false, false, false, 255, PELTZIVAR_STYLE_ALWAYS, 0};
     static const peltzivar_i128 least = {0, INT64_MIN}, wide = {1234567, 0};
     const peltzivar_syntax json = first_form("JSON"), english = first_form("CSV_EN"), c = first_form("C");
     char integer[PELTZIVAR_INTEGER_SIZE], real[PELTZIVAR_FLOAT_SIZE];
@@ -305,9 +306,10 @@ static void test_writing(void) {
         CHECK(IN_GROUPS("0x1.234.567,5", 1234567.5, f64) && IN_GROUPS("0x1.234.567", &literal, literal));
     }
     memset(&literal, 0, sizeof literal);
-    CHECK(make_syntax("radix=2" LONGEST, &other) && !peltzivar_format_i128(&other, least, &ones, integer, sizeof integer, &needed));
+    CHECK(make_syntax("radix=2\nrequired_fraction_digits=true\nrequired_exponent_sign=true\nno_exponent_without_fraction=true" LONGEST, &other)
+        && !peltzivar_format_i128(&other, least, &ones, integer, sizeof integer, &needed));
     CHECK(needed == sizeof integer && make_syntax("no_exponent_notation=true" LONGEST, &other));
-    CHECK(!peltzivar_format_f64(&other, -DBL_MAX, &ones, real, sizeof real, &needed) && needed == sizeof real);
+    CHECK(!peltzivar_format_f64(&other, -5e-324, &ones, real, sizeof real, &needed) && needed == sizeof real);
     CHECK(!peltzivar_format_u64(&hexadecimal, UINT64_MAX, NULL, text, sizeof text, NULL) && !strcmp(text, "0xFFFFFFFFFFFFFFFF"));
     CHECK(!peltzivar_format_u64(&hexadecimal, 31, &bare, text, 3, &needed) && !strcmp(text, "1F") && needed == 3);
     CHECK(peltzivar_format_f64(&english, 5e-324, NULL, NULL, 0, &needed) == PELTZIVAR_WRITE_BUFFER && needed == 327);
@@ -328,6 +330,41 @@ static void test_writing(void) {
     memset(text, '#', sizeof text);
     CHECK(peltzivar_format_literal(&json, &literal, NULL, text, 8, &needed) == PELTZIVAR_WRITE_BUFFER && needed == 9);
     CHECK(!strcmp(text, "-1234.5") && text[8] == '#');
+}
+
+/* A style is a wish, and a special value is the first of its spellings that is read back. */
+static void test_styles(void) {
+    static const struct {
+        const char *text, *settings, *wanted;
+        peltzivar_style style;
+    } rows[] = {
+        {"12345.6789", "digit_separator='_'\ninternal_digit_separator=true", "12_345.678_9", {3, 3, false, false, false, 0, 0, 0}},
+        {"12345.6789", "", "12345.6789", {3, 3, false, false, false, 0, 0, 0}},
+        {"1234567", "digit_separator='_'\ninternal_digit_separator=true\ninteger_group_size=3", "1_234_567", {0, 0, false, false, false, 0, 0, 0}},
+        {"1234567", "digit_separator='_'\ninternal_digit_separator=true\ninteger_group_size=3", "1234567", {PELTZIVAR_NO_GROUPS, 0, false, false, false, 0, 0, 0}},
+        {"171", "radix=16\nbase_prefix='x'\nexponent='p'", "0x0ab", {0, 0, false, true, false, 3, 0, 0}},
+        {"7", "no_integer_leading_zeros=true", "7", {0, 0, false, false, false, 3, 0, 0}},
+        {"007.5", "", "007.5", {0, 0, false, false, true, 0, 0, 0}},
+        {"1.2e3", "", "1200", {0, 0, false, false, false, 0, PELTZIVAR_STYLE_NEVER, 0}},
+        {"1e800", "", "1e800", {0, 0, false, false, false, 0, PELTZIVAR_STYLE_NEVER, 0}},
+        {"1200", "", "1200e0", {0, 0, false, false, false, 0, PELTZIVAR_STYLE_ALWAYS, 0}},
+        {"1.2e2", "", "120", {0, 0, false, false, false, 0, PELTZIVAR_STYLE_FROM, 3}},
+        {"1.2e3", "", "1.2e3", {0, 0, false, false, false, 0, PELTZIVAR_STYLE_FROM, 3}},
+    };
+    static const peltzivar_specials specials = {"nan", "nan", "inf"};
+    static const peltzivar_special minus = {PELTZIVAR_SPELLING_INF, '-'}, none = {0, 0};
+    peltzivar_syntax source, target;
+    peltzivar_literal literal;
+    size_t needed = 7;
+    CHECK(make_syntax("", &source));
+    for (size_t i = 0; i < sizeof rows / sizeof *rows; i++) {
+        CHECK(make_syntax(rows[i].settings, &target) && peltzivar_read(&source, rows[i].text, strlen(rows[i].text), &literal, NULL));
+        CHECK(!peltzivar_format_literal(&target, &literal, &rows[i].style, text, sizeof text, NULL) && !strcmp(text, rows[i].wanted));
+    }
+    CHECK(!peltzivar_format_special(&source, &specials, minus, text, sizeof text, &needed) && !strcmp(text, "-inf") && needed == 5);
+    CHECK(peltzivar_format_special(&source, &specials, none, text, sizeof text, &needed) == PELTZIVAR_WRITE_SPECIAL && needed == 5);
+    CHECK(make_syntax("no_special=true", &target));
+    CHECK(peltzivar_format_special(&target, &specials, minus, text, sizeof text, NULL) == PELTZIVAR_WRITE_SPECIAL);
 }
 
 /* Each language has a name by which it is found, and forms, whose first takes precedence. A null pointer has no forms. */
@@ -445,7 +482,7 @@ static void test_misuse(void) {
 static void *test_all(void *unused) {
     for (int i = 0; i < 5; i++) {
         test_constants(), test_setters(), test_words(), test_syntaxes(), test_errors(), test_groups(), test_values(), test_columns();
-        test_writing(), test_languages(), test_null(), test_misuse();
+        test_writing(), test_styles(), test_languages(), test_null(), test_misuse();
     }
     return unused;
 }

@@ -22,7 +22,7 @@ TYPES = {"size_t": "usize", "bool": "bool", "char": "u8", "uint8_t": "u8", "uint
 TYPES |= {"uint64_t": "u64", "double": "f64", "float": "f32"}
 TYPES |= {"peltzivar_edit": "NumberedEdit", "peltzivar_special": "NumberedSpecial", "peltzivar_error": "ErrorNumber"}
 TYPES |= {"peltzivar_part": "u8", "peltzivar_role": "u8"}
-ERRORS = r"((?!SET_|RULE_|PART_|ROLE_|KIND_|SPELLING_|VALUE_|CONDITION_|WRITE_)\w+)"
+ERRORS = r"((?!SET_|RULE_|PART_|ROLE_|KIND_|SPELLING_|VALUE_|CONDITION_|WRITE_|STYLE_)\w+)"
 LIBRARY = ctypes.CDLL(str(SHARED))
 LIBRARY.peltzivar_language_name.restype = ctypes.c_char_p
 

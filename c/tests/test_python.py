@@ -290,6 +290,23 @@ class Literals(unittest.TestCase):
                 self.assertEqual(german.read(text).decimal(), Decimal(repr(value)) if isinstance(value, float) else value)
         for text, value in [("1.2E3", "1,200"), ("12.50E1", "125"), ("0E5", "0"), ("1.50", "1.50"), ("1E-7", "0.0000001")]:
             self.assertEqual(Language.CSV_EN.forms["decimal"].format_number(Language.JSON.read(text)), value)
+        grouped = Syntax.of(digit_separator="_", internal_digit_separator=True, integer_group_size=3)
+        for number, style, text in (
+            (Decimal("1234567.6789"), {"fraction_group": 3}, "1_234_567.678_9"),
+            (1234567, {"group": 0}, "1234567"),
+            (7, {"min_digits": 3}, "007"),
+            (grouped.read("007"), {"keep_leading_zeros": True}, "007"),
+            (grouped.read("1.2e3"), {"exponent": "never"}, "1_200"),
+            (grouped.read("1.2e3"), {"exponent": 3}, "1.2e3"),
+            (grouped.read("1.2e3"), {"exponent": 4}, "1_200"),
+            (1200, {"exponent": "always"}, "1_200e0"),
+        ):
+            self.assertEqual(grouped.format_number(number, **style), text)
+        self.assertEqual(hexadecimal.format_number(171, lowercase=True), "0xab")
+        self.assertEqual(hexadecimal.format_number(grouped.read("255")), "0xFF")
+        specials = Specials(nan="nan", inf="nan", infinity="inf")
+        self.assertEqual(specials.format(grouped, Special("-", Spelling.INF)), "-inf")
+        self.assertRaises(ValueError, specials.format, Syntax.of(no_special=True), Special("", Spelling.NAN))
         self.assertEqual(Syntax.integers(Format()).format_number(Decimal("1.0")), "1")
         self.assertEqual([hexadecimal.format_number(2**128 // 3), hexadecimal.format_number(31, without_base=True)], ["0x" + "5" * 32, "1F"])
         wrong = [(german, math.inf, "NaN or infinity"), (german, Decimal("NaN"), "NaN or infinity"), (hexadecimal, 1.5, "radix")]

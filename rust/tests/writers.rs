@@ -2,11 +2,12 @@
 
 use peltzivar::format::FLAG_MASK;
 use peltzivar::literal::{
-    Condition, Conditions, ExponentStyle, Form, FromLiteral, Language, Literal, Sign, Special, Specials, Spelling, Style,
-    Syntax, WriteError, WriteInteger,
+    Condition, Conditions, ExponentStyle, Form, FromLiteral, Language, Literal, Sign, Special, Specials, Spelling,
+    Style, Syntax, WriteError, WriteInteger,
 };
 use peltzivar::{Format, NumberFormatBuilder, Part};
-use std::{collections::BTreeMap, fmt::Debug, num::NonZeroU8};
+use std::collections::{BTreeMap, HashSet};
+use std::{fmt::Debug, num::NonZeroU8};
 
 const LITERALS: &str = include_str!("literals.txt");
 
@@ -83,13 +84,13 @@ fn value(literal: &Literal, syntax: &Syntax) -> Value {
         number.pop();
     }
     let mut powers = BTreeMap::new();
-    for prime in PRIMES.into_iter().filter(|_| !number.is_empty()) {
-        let times = |number: u32| (1..).find(|power| number % prime.pow(*power) != 0).unwrap() - 1;
+    for prime in if number.is_empty() { &[] } else { &PRIMES[..] } {
+        let times = |number: u32| (1..).find(|power| number % prime.pow(*power) != 0).unwrap_or(1) - 1;
         let mut count = place * i128::from(times(radix)) + exponent * i128::from(times(base));
-        while divide(&mut number, prime) {
+        while divide(&mut number, *prime) {
             count += 1;
         }
-        powers.extend((count != 0).then_some((prime, count)));
+        powers.extend((count != 0).then_some((*prime, count)));
     }
     while number.last() == Some(&0) {
         number.pop();
@@ -350,7 +351,9 @@ fn special_values_are_read_back() {
         .into_iter()
         .flat_map(|sign| [Spelling::Nan, Spelling::Inf, Spelling::Infinity].map(|spelling| (sign, spelling)))
     {
-        for (format, plus) in [(builder, ""), (builder.required_mantissa_sign(true), "+"), (builder.no_special(true), "")] {
+        for (format, plus) in
+            [(builder, ""), (builder.required_mantissa_sign(true), "+"), (builder.no_special(true), "")]
+        {
             let syntax = Syntax::integers(format.build_format_or_panic());
             let written = specials.format(&syntax, Special { sign, spelling });
             if syntax.format().no_special() {
@@ -363,7 +366,7 @@ fn special_values_are_read_back() {
             assert_eq!((written.to_string(), format!("{written:>5}")), (text.clone(), format!("{text:>5}")));
             assert_eq!(format!("{written:05}"), format!("{text:>5}"));
             assert_eq!(written.write_into(&mut [0; 8]), Ok(&*text));
-            let back = specials.read(&syntax, &text).unwrap();
+            let back = specials.read(&syntax, text.as_bytes()).unwrap();
             let (nan, minus) = (back.spelling == Spelling::Nan, back.sign == Some(Sign::Minus));
             assert_eq!((nan, minus), (spelling == Spelling::Nan, sign == Some(Sign::Minus)));
         }
@@ -458,13 +461,36 @@ fn is_integer(text: &str, integer: i64, target: &Syntax) -> bool {
     target.read(text).is_ok_and(|read| value(&read, target) == exact)
 }
 
+/// Returns the values of all literals of at most `most` bytes among five that a syntax names, and whether one is an integer.
+fn literals_of(target: &Syntax, most: u32) -> (HashSet<Value>, bool) {
+    let format = target.format();
+    let others = [format.base_prefix(), format.base_suffix(), format.digit_separator()]
+        .map(|it| it.map_or(b'-', NonZeroU8::get));
+    let options = [target.point(), target.exponent()].map(|it| it.unwrap_or(b'-'));
+    let mut bytes = Vec::from_iter(*b"01-");
+    bytes.extend(options.into_iter().chain(others).filter(|byte| *byte != b'-').take(2));
+    let (mut values, mut integers) = (HashSet::new(), false);
+    for length in 1..=most {
+        for index in 0..bytes.len().pow(length) {
+            let digit = |place| bytes[index / bytes.len().pow(place) % bytes.len()];
+            if let Ok(literal) = target.read_bytes(&Vec::from_iter((0..length).map(digit))) {
+                values.insert(value(&literal, target));
+                integers |= !literal.is_float();
+            }
+        }
+    }
+    (values, integers)
+}
+
 /// Each number is written in one of eight styles and, if `ALL_STYLES` is in the environment, in all.
 #[test]
 fn numbers_are_read_back_or_refused_in_any_syntax() {
     let state = &mut 20_261_127;
     let all = std::env::var_os("ALL_STYLES").is_some();
-    for _ in 0..500 {
+    for turn in 0..500 {
         let target = random_syntax(state);
+        // What no literal has is searched in vain.
+        let (values, integers) = literals_of(&target, if all { 8 } else { u32::from(turn % 10 == 0) * 5 });
         let size = 1 + below(state, 4) as usize;
         let least = Style::PLAIN.min_digits(below(state, 12) as u8);
         let styles = [
@@ -484,9 +510,10 @@ fn numbers_are_read_back_or_refused_in_any_syntax() {
                 match target.format_integer(value, *style).map(|text| text.to_string()) {
                     Ok(text) if style.exponent == ExponentStyle::Always => assert!(is_integer(&text, value, &target)),
                     Ok(text) => assert_eq!(target.parse::<i64>(&text), Ok(value), "{text} in {target}"),
-                    Err(WriteError::Negative) => assert!(value < 0 && target.conditions().has(Condition::NegativeSign)),
+                    Err(WriteError::Negative) => assert!(value < 0 && values.iter().all(|it| !it.2)),
                     Err(error) => {
-                        assert_eq!((error, target.format().required_exponent_notation()), (WriteError::Float, true))
+                        let float = target.format().required_exponent_notation() && !integers;
+                        assert_eq!((error, float), (WriteError::Float, true));
                     }
                 }
             }
@@ -505,6 +532,9 @@ fn numbers_are_read_back_or_refused_in_any_syntax() {
                 let exact = value(&literal, &source);
                 for style in chosen(index) {
                     let right = is_right(&literal, &exact, &source, &target, *style);
+                    let error = target.format_literal(&literal, *style).err();
+                    let none = matches!(error, Some(WriteError::Negative | WriteError::Fraction));
+                    assert!(!none || !values.contains(&exact), "{text} of {source} in {target}");
                     assert!(right, "{text} of {source} in {target}, {style:?}");
                 }
             }

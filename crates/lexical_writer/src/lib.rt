@@ -6,6 +6,7 @@
 
 pub mod digits;
 pub mod integer;
+pub mod laws;
 pub mod layout;
 pub mod literal;
 pub mod moved;

@@ -11,7 +11,7 @@ mod integer;
 mod layout;
 #[allow(clippy::module_inception, clippy::needless_lifetimes, reason = "as it is proved")]
 mod literal;
-#[allow(clippy::needless_lifetimes, reason = "as it is proved")]
+#[allow(clippy::needless_lifetimes, clippy::question_mark, reason = "as it is proved")]
 mod moved;
 mod run;
 mod sink;
@@ -192,6 +192,7 @@ pub struct Written<'a> {
 
 /// What is printed.
 #[derive(Clone, Copy)]
+#[allow(clippy::large_enum_variant, reason = "nothing is allocated")]
 enum Text<'a> {
     Number(Layout<'a>),
     Special(Option<u8>, &'a str),
