@@ -96,6 +96,7 @@ mod number {
     pub(crate) mod numeral;
     pub(crate) mod parts;
     pub(crate) mod powers;
+    pub(crate) mod shortest;
     pub(crate) mod word;
 }
 mod numeral;

@@ -111,4 +111,4 @@ pub use readers::{Number, Readers};
 pub use specials::{Sign, Special, Specials, Spelling};
 pub use syntax::{Condition, Conditions, ConditionsError, ConditionsErrorKind, Syntax};
 pub use value::{FromLiteral, ParseError, ValueError, ValueErrorKind};
-pub use writer::{ExponentStyle, Grouping, Style, WriteError, WriteInteger, Written};
+pub use writer::{ExponentStyle, Grouping, Style, WriteError, WriteFloat, WriteInteger, Written};

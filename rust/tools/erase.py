@@ -304,6 +304,7 @@ def renamed(text, root, own, std):
     text = re.sub(r"\bcrate::", f"{own}::", text)
     text = re.sub(r"\blexical_(base|flags|builder|util)\b(?=::)", root, text)
     text = re.sub(r"\blexical_(literal|number)\b(?=::)", rf"{root}::\1", text)
+    text = re.sub(r"\blexical_value\b(?=::)", f"{root}::literal::value", text)
     text = re.sub(r"\bstd::", f"{std}::", text)
     text = re.sub(rf"\b{root}::({'|'.join(MODULES)})\b", lambda m: f"{root}::{MODULES[m[1]]}", text)
     return re.sub(rf"\b{VIEW[0]}\b", VIEW[1], text)

@@ -30,8 +30,10 @@ const fn hidden(double: bool) -> u64
     if double { 1 << 52 } else { 1 << 23 }
 }
 
+/// Returns the bits of infinity.
+#[must_use]
 #[inline(always)]
-pub(crate) const fn infinity(double: bool) -> u64
+pub const fn infinity(double: bool) -> u64
     ensures value { result ≡ ones (format_of double) * hid (format_of double) }
 {
     if double { 0x7ff << 52 } else { 0xff << 23 }

@@ -1,6 +1,6 @@
 //! Float types.
 
-ghost use Rattle.std.specs.Prelude.{◌≡◌, ℕ, ◌*◌, ◌^◌, ◌<◌, ◌≤◌, Bool, true, false, IfSome, from_bits, if◌then◌else◌};
+ghost use Rattle.std.specs.Prelude.{◌≡◌, ℕ, ◌*◌, ◌^◌, ◌<◌, ◌≤◌, ◌↔◌, Bool, true, false, IfSome, IsNone, IsTrue, from_bits, is_nan, if◌then◌else◌};
 ghost use Rattle.std.specs.Float as float;
 ghost use Rattle.std.specs.Float.Ieee.{hid, neg, ones, round};
 ghost use Rattle.lexical_number.specs.Binary.{format_of};
@@ -23,6 +23,11 @@ pub trait Float: Copy {
     /// Returns the float with the other sign.
     fn negated(self) -> Self
         ensures { value result ≡ neg (value self) };
+
+    /// Returns the bits, or `None` for NaN.
+    fn bits(self) -> Option<u64>
+        ensures none { IsNone result ↔ IsTrue (is_nan (value self)) }
+        ensures value { IfSome result (λ bits. from_bits (format_of DOUBLE) bits ≡ value self) };
 
     /// Returns `digits * 10 ^ scale`, or `digits / 10 ^ scale` if `over` is true, rounded once, if both numbers are floats.
     fn by_ten_to(digits: u64, scale: u64, over: bool) -> Option<Self>
@@ -58,6 +63,11 @@ impl Float for f64 {
     }
 
     #[inline(always)]
+    fn bits(self) -> Option<u64> {
+        if self.is_nan() { None } else { Some(self.to_bits()) }
+    }
+
+    #[inline(always)]
     fn by_ten_to(digits: u64, scale: u64, over: bool) -> Option<f64> {
         if digits > 1 << 53 || scale > 22 {
             return None;
@@ -83,6 +93,11 @@ impl Float for f32 {
     #[inline(always)]
     fn negated(self) -> f32 {
         -self
+    }
+
+    #[inline(always)]
+    fn bits(self) -> Option<u64> {
+        if self.is_nan() { None } else { Some(self.to_bits() as u64) }
     }
 
     #[inline(always)]

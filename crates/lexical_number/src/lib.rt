@@ -14,4 +14,5 @@ pub mod nearest;
 pub mod numeral;
 pub mod parts;
 mod powers;
+pub mod shortest;
 pub mod word;

@@ -4,3 +4,4 @@ mod LiteralLemmas
 mod MovedLemmas
 mod ConversionLemmas
 mod PlainLemmas
+mod FloatLemmas

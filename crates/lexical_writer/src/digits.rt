@@ -136,7 +136,10 @@ fn put_digit<S: Sink>(sink: &mut S, digit: u32, left: u128, run: &Run)
         → S.has start sink.new (text ++ character run.now.pattern.lowercase digit ∷ separated run.now.pattern left) }
 {
     sink.put(character(digit, run.pattern.lowercase));
-    put_if_any(sink, only_if(ends_group(run.pattern, left), run.pattern.separator));
+    put_if_any(
+        sink,
+        only_if(ends_group(run.pattern, left), run.pattern.separator),
+    );
 }
 
 // Writes the digits among bytes in groups, which are the first of `count` digits, and returns how many are left.

@@ -23,5 +23,4 @@ pub fn refusal_facts()
     // Where each literal has an exponent, none is an integer.
     ensures float { (g : Grammar) → (l : Literal) → (text : List ℕ) → (z : ℤ) → needs_exponent g ≡ true
         → Reads (notation_of g) l text → IsInteger (raw g.word) l z → ⊥ }
-{
-}
+{}

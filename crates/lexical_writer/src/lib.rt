@@ -5,6 +5,8 @@
 #![tactic(auto)]
 
 pub mod digits;
+pub mod float;
+pub mod float_digits;
 pub mod integer;
 pub mod laws;
 pub mod layout;

@@ -14,7 +14,9 @@ ghost use Rattle.lexical_writer.specs.Conversion.{radix_error, source_of};
 ghost use Rattle.lexical_writer.specs.Digits.{size_of};
 ghost use Rattle.lexical_writer.specs.Layout.{HasNumber, literal_of as written, number_of_size};
 
-use crate::layout::{Amount, ExponentStyle, Layout, Power, Style, WriteError, allows_exponent, needs_exponent};
+use crate::layout::{
+    Amount, ExponentStyle, Layout, Power, Style, WriteError, allows_exponent, needs_exponent,
+};
 use crate::moved::{exponent_of, moved, moved_by};
 use crate::run::Source;
 use lexical_literal::literal::Literal;
@@ -43,7 +45,7 @@ pub fn format_literal<'a>(
 }
 
 // Returns how a literal of `format` with these parts is written as a literal of `syntax`, or why it cannot be.
-fn convert<'a>(
+pub(crate) fn convert<'a>(
     format: NumberFormat,
     parts: &Parts<'a>,
     syntax: &Syntax,
@@ -97,8 +99,7 @@ fn is_kept(format: NumberFormat, parts: &Parts, syntax: &Syntax) -> bool
     ensures { result ≡ is_kept (raw format) parts.now syntax.now }
 {
     if has_power(parts) {
-        allows_exponent(syntax)
-            && format.exponent_base() == syntax.format().view().exponent_base()
+        allows_exponent(syntax) && format.exponent_base() == syntax.format().view().exponent_base()
     } else {
         !(is_whole(syntax) && fraction_of(parts).is_some())
     }
@@ -120,7 +121,8 @@ fn is_unwanted(wish: ExponentStyle, exponent: &Numeral) -> bool
 {
     match wish {
         ExponentStyle::Never => true,
-        ExponentStyle::From(least) => matches!(exponent.as_u64(), Some(size) if size < least as u64),
+        ExponentStyle::From(least) =>
+            matches!(exponent.as_u64(), Some(size) if size < least as u64),
         ExponentStyle::AsNumber | ExponentStyle::Always => false,
     }
 }
@@ -162,11 +164,7 @@ fn move_point<'a>(
 }
 
 // Returns how a number is written whose point has moved, or why it is not.
-fn shorten<'a>(
-    amount: &Amount<'a>,
-    syntax: &Syntax,
-    style: Style,
-) -> Result<Layout<'a>, WriteError>
+fn shorten<'a>(amount: &Amount<'a>, syntax: &Syntax, style: Style) -> Result<Layout<'a>, WriteError>
     requires plain { amount.now.exponent ≡ None }
     requires sign { (amount.now.negative && has syntax.now.conditions Condition.NegativeSign) ≡ false }
     ensures literal { IfOk result (λ layout. Reads (notation_of syntax.now) (written layout) (text_of (written layout))) }

@@ -6,7 +6,8 @@ use crate::format_flags::Part;
 use crate::literal::plain::At;
 use crate::literal::{Literal, Number, ReadError, Sign, Special, Spelling, Syntax};
 
-mod float;
+#[allow(clippy::question_mark, reason = "as it is proved")]
+pub(crate) mod float;
 mod integer;
 
 pub use integer::ValueErrorKind;

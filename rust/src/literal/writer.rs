@@ -4,9 +4,12 @@ use core::fmt::{self, Write};
 use core::str;
 
 use crate::literal::{Literal, Sign, Special, Specials, Syntax};
+use crate::number::float::Float;
 use crate::number::integer::Integer;
 
 mod digits;
+mod float;
+mod float_digits;
 mod integer;
 mod layout;
 #[allow(clippy::module_inception, clippy::needless_lifetimes, reason = "as it is proved")]
@@ -18,6 +21,7 @@ mod sink;
 
 pub use layout::{ExponentStyle, Grouping, Style, WriteError};
 
+use float_digits::FloatDigits;
 use layout::Layout;
 use sink::{Sink, Window};
 
@@ -25,6 +29,11 @@ use sink::{Sink, Window};
 pub trait WriteInteger: Integer {}
 
 impl<T: Integer> WriteInteger for T {}
+
+/// A type that can be [written][Syntax::format_float]: `f32` and `f64`.
+pub trait WriteFloat: Float {}
+
+impl<T: Float> WriteFloat for T {}
 
 impl Style {
     /// Writes the integer digits in groups of `size` digits, counted from the right. For `0`, there are no groups. Where a
@@ -129,6 +138,33 @@ impl Syntax {
         integer::format_integer(self, value, style).map(|layout| Written { text: Text::Number(layout) })
     }
 
+    /// Returns the value of a float as a literal of this syntax. [Parsing][Syntax::parse] the text returns the same value, also
+    /// for `-0`.
+    ///
+    /// In radix 10, the digits are the fewest that are read as this value, of these the nearest. In a radix that is a power of
+    /// two, the literal is exact. Unless the style has a wish, an exponent is where `{:?}` of std has one: below `1e-4`, and from
+    /// `1e16` up. As there, `.0` is written where the value is whole, and no exponent is.
+    ///
+    /// ```
+    /// use peltzivar::literal::{Language, Style, WriteError};
+    ///
+    /// let syntax = Language::CSV_DE.forms()[0].syntax;
+    /// assert_eq!(syntax.format_float(1234.56, Style::PLAIN)?.to_string(), "1.234,56");
+    /// assert_eq!(syntax.format_float(1e-7_f32, Style::PLAIN)?.to_string(), "0,0000001");
+    /// assert_eq!(syntax.format_float(f64::NAN, Style::PLAIN).unwrap_err(), WriteError::Special);
+    /// # Ok::<(), WriteError>(())
+    /// ```
+    ///
+    /// # Errors
+    ///
+    /// [`WriteError::Special`] for NaN and infinity, [`WriteError::Radix`] if the mantissa radix and the exponent base are
+    /// neither both 10 nor both powers of two, and otherwise why no literal has the value.
+    pub fn format_float<T: WriteFloat>(&self, value: T, style: Style) -> Result<Written<'static>, WriteError> {
+        let (mut digits, mut text) = (FloatDigits::new(), [0; 32]);
+        let length = float::format_float(self, value, style, &mut digits)?.write(&mut text);
+        Ok(Written { text: Text::Float(FloatText { digits, syntax: *self, style, text, length }) })
+    }
+
     /// Returns a literal, which may be of another syntax, as a literal of this syntax with the same value.
     ///
     /// Separators and leading zeros are left out, and groups are those of `style`. Where the format requires digits or an
@@ -195,15 +231,27 @@ pub struct Written<'a> {
 #[allow(clippy::large_enum_variant, reason = "nothing is allocated")]
 enum Text<'a> {
     Number(Layout<'a>),
+    Float(FloatText),
     Special(Option<u8>, &'a str),
 }
 
+/// The digits of a float, which can be laid out, and the text, if it is short, with its length.
+#[derive(Clone, Copy)]
+struct FloatText {
+    digits: FloatDigits,
+    syntax: Syntax,
+    style: Style,
+    text: [u8; 32],
+    length: usize,
+}
+
 impl Text<'_> {
-    /// Returns the sign and the base prefix.
-    fn front(&self) -> (Option<u8>, Option<u8>) {
+    /// Returns the layout of a number.
+    fn layout(&self) -> Option<Layout<'_>> {
         match self {
-            Text::Number(layout) => (layout.sign, layout.prefix),
-            Text::Special(sign, _) => (*sign, None),
+            Text::Number(layout) => Some(*layout),
+            Text::Float(float) => float.digits.lay_out(&float.syntax, float.style).ok(),
+            Text::Special(..) => None,
         }
     }
 
@@ -211,6 +259,11 @@ impl Text<'_> {
     fn write(&self, buffer: &mut [u8]) -> usize {
         match self {
             Text::Number(layout) => layout.write(buffer),
+            Text::Float(FloatText { text, length, .. }) if *length <= text.len().min(buffer.len()) => {
+                buffer[..*length].copy_from_slice(&text[..*length]);
+                *length
+            }
+            Text::Float(_) => self.layout().map_or(0, |layout| layout.write(buffer)),
             Text::Special(sign, word) => {
                 let mut window = Window { bytes: buffer, length: 0 };
                 sign.iter().for_each(|sign| window.put(*sign));
@@ -264,17 +317,22 @@ impl Written<'_> {
     /// Prints the text, of which the length is known, with what the formatter adds.
     #[cold]
     fn pad(&self, f: &mut fmt::Formatter<'_>, length: usize) -> fmt::Result {
-        let (own, prefix) = self.text.front();
+        let layout = self.text.layout();
+        let (own, prefix) = match (layout, self.text) {
+            (Some(layout), _) => (layout.sign, layout.prefix),
+            (None, Text::Special(sign, _)) => (sign, None),
+            _ => (None, None),
+        };
         let sign = own.or(if f.sign_plus() { Some(b'+') } else { None });
         let front = usize::from(own.is_some()) + 2 * usize::from(prefix.is_some());
         let added = usize::from(sign != own);
         let length = match self.text {
-            Text::Number(_) => length,
             Text::Special(_, word) => front + word.chars().count(),
+            _ => length,
         };
         let missing = f.width().unwrap_or(0).saturating_sub(length.saturating_add(added));
         let (before, zeros) = match f.align() {
-            _ if f.sign_aware_zero_pad() && matches!(self.text, Text::Number(_)) => (0, missing),
+            _ if f.sign_aware_zero_pad() && layout.is_some() => (0, missing),
             Some(fmt::Alignment::Left) => (0, 0),
             Some(fmt::Alignment::Center) => (missing / 2, 0),
             _ => (missing, 0),
@@ -284,13 +342,13 @@ impl Written<'_> {
         let bytes = [sign, prefix.map(|_| b'0'), prefix];
         bytes.into_iter().flatten().try_for_each(|byte| f.write_char(byte.into()))?;
         (0..zeros).try_for_each(|_| f.write_char('0'))?;
-        match self.text {
-            Text::Number(layout) => {
-                let mut printer = Printer { f, skip: front, result: Ok(()) };
-                layout.put(&mut printer);
-                printer.result?;
-            }
-            Text::Special(_, word) => f.write_str(word)?,
+        if let Text::Special(_, word) = self.text {
+            f.write_str(word)?;
+        }
+        if let Some(layout) = layout {
+            let mut printer = Printer { f, skip: front, result: Ok(()) };
+            layout.put(&mut printer);
+            printer.result?;
         }
         (before + zeros..missing).try_for_each(|_| f.write_char(fill))
     }

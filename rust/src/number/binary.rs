@@ -29,8 +29,10 @@ const fn hidden(double: bool) -> u64 {
     }
 }
 
+/// Returns the bits of infinity.
+#[must_use]
 #[inline(always)]
-pub(crate) const fn infinity(double: bool) -> u64 {
+pub const fn infinity(double: bool) -> u64 {
     if double {
         0x7ff << 52
     } else {

@@ -13,6 +13,9 @@ pub trait Float: Copy {
     /// Returns the float with the other sign.
     fn negated(self) -> Self;
 
+    /// Returns the bits, or `None` for NaN.
+    fn bits(self) -> Option<u64>;
+
     /// Returns `digits * 10 ^ scale`, or `digits / 10 ^ scale` if `over` is true, rounded once, if both numbers are floats.
     fn by_ten_to(digits: u64, scale: u64, over: bool) -> Option<Self>;
 }
@@ -39,6 +42,15 @@ impl Float for f64 {
     }
 
     #[inline(always)]
+    fn bits(self) -> Option<u64> {
+        if self.is_nan() {
+            None
+        } else {
+            Some(self.to_bits())
+        }
+    }
+
+    #[inline(always)]
     fn by_ten_to(digits: u64, scale: u64, over: bool) -> Option<f64> {
         if digits > 1 << 53 || scale > 22 {
             return None;
@@ -59,6 +71,15 @@ impl Float for f32 {
     #[inline(always)]
     fn negated(self) -> f32 {
         -self
+    }
+
+    #[inline(always)]
+    fn bits(self) -> Option<u64> {
+        if self.is_nan() {
+            None
+        } else {
+            Some(self.to_bits() as u64)
+        }
     }
 
     #[inline(always)]

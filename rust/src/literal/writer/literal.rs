@@ -23,7 +23,12 @@ pub fn format_literal<'a>(literal: &Literal<'a>, syntax: &Syntax, style: Style) 
 }
 
 // Returns how a literal of `format` with these parts is written as a literal of `syntax`, or why it cannot be.
-fn convert<'a>(format: FormatView, parts: &Parts<'a>, syntax: &Syntax, style: Style) -> Result<Layout<'a>, WriteError> {
+pub(crate) fn convert<'a>(
+    format: FormatView,
+    parts: &Parts<'a>,
+    syntax: &Syntax,
+    style: Style,
+) -> Result<Layout<'a>, WriteError> {
     if is_refused(parts, syntax) {
         Err(WriteError::Negative)
     } else if !is_same_radix(format, syntax) {

@@ -1,0 +1,213 @@
+//! Floats that are written: they are read back as the same bits, by as few digits as std's.
+
+use peltzivar::format::FLAG_MASK;
+use peltzivar::literal::{Condition, Conditions, ExponentStyle, FromLiteral, Language, Style, Syntax, WriteError, WriteFloat};
+use peltzivar::Format;
+use std::fmt::{Debug, LowerExp};
+
+/// How many floats are written: `FLOATS=1000000 cargo test --release --test floats` writes more.
+fn count() -> usize {
+    std::env::var("FLOATS").map_or(2_000, |count| count.parse().unwrap())
+}
+
+/// Returns the next pseudo-random number.
+fn next(state: &mut u64) -> u64 {
+    *state ^= *state << 13;
+    *state ^= *state >> 7;
+    *state ^= *state << 17;
+    state.wrapping_mul(0x2545_F491_4F6C_DD1D)
+}
+
+/// A float type, and its bits.
+trait Bits: WriteFloat + FromLiteral + LowerExp + Debug {
+    const FRACTION: u32;
+    fn of(bits: u64) -> Self;
+    fn word(self) -> u64;
+    fn near(value: f64) -> Self;
+}
+
+impl Bits for f64 {
+    const FRACTION: u32 = 52;
+    fn of(bits: u64) -> f64 {
+        f64::from_bits(bits)
+    }
+    fn word(self) -> u64 {
+        self.to_bits()
+    }
+    fn near(value: f64) -> f64 {
+        value
+    }
+}
+
+impl Bits for f32 {
+    const FRACTION: u32 = 23;
+    fn of(bits: u64) -> f32 {
+        f32::from_bits(bits as u32)
+    }
+    fn word(self) -> u64 {
+        self.to_bits().into()
+    }
+    fn near(value: f64) -> f32 {
+        value as f32
+    }
+}
+
+/// Returns a float: of any bits, small or large, a power of two or beside one, subnormal, a decimal, or an integer.
+fn float<F: Bits>(state: &mut u64) -> F {
+    let bits = next(state);
+    let [small, large] = [bits % 1_000_000, bits >> 20];
+    let sign = if bits >> 63 == 0 { 1.0 } else { -1.0 };
+    match next(state) % 10 {
+        0 => F::of(bits >> F::FRACTION << F::FRACTION),
+        1 => F::of((bits >> F::FRACTION << F::FRACTION).wrapping_add(1)),
+        2 => F::of((bits >> F::FRACTION << F::FRACTION).wrapping_sub(1)),
+        3 => F::of(bits % (1 << F::FRACTION)),
+        4 => F::near(sign * small as f64 / [1.0, 10.0, 100.0, 1e5, 1e20][(bits >> 40) as usize % 5]),
+        5 => F::near(sign * large as f64 / 10_f64.powi((bits >> 10) as i32 % 40)),
+        6 => F::near(sign * (large >> (bits % 44)) as f64 / 2.0),
+        7 => F::near(sign * large as f64 * 10_f64.powi((bits >> 10) as i32 % 40)),
+        _ => F::of(bits),
+    }
+}
+
+/// Returns the digits of a decimal text without those of an exponent, without zeros at both ends.
+fn digits(text: &str, exponent: Option<u8>) -> String {
+    let mantissa = text.split(|it| Some(it) == exponent.map(char::from)).next().unwrap();
+    let digits = String::from_iter(mantissa.chars().filter(char::is_ascii_digit));
+    digits.trim_matches('0').to_string()
+}
+
+/// Returns whether an error is why a float cannot be written in a syntax.
+fn is_reason<F: Bits>(error: WriteError, value: F, syntax: &Syntax) -> bool {
+    let format = syntax.format();
+    let moves = syntax.point().is_none() || format.no_exponent_notation();
+    match error {
+        WriteError::Special => !format!("{value:?}").contains(char::is_numeric),
+        WriteError::Radix => format.mantissa_radix() == 10 && format.exponent_base() != 10,
+        WriteError::Negative => {
+            syntax.conditions().has(Condition::NegativeSign) && format!("{value:e}").starts_with('-')
+        }
+        WriteError::Fraction => syntax.point().is_none(),
+        WriteError::Exponent => moves && format.exponent_base() != format.mantissa_radix(),
+        WriteError::Long => moves,
+        _ => false,
+    }
+}
+
+/// Writes a float, reads it back, and compares its digits with those of std.
+fn is_read_back<F: Bits>(value: F, syntax: &Syntax, style: Style) {
+    match syntax.format_float(value, style) {
+        Ok(text) => {
+            let text = text.to_string();
+            let read =
+                syntax.parse::<F>(&text).unwrap_or_else(|error| panic!("{value:e} in {syntax}: {text}: {error}"));
+            assert_eq!(read.word(), value.word(), "{value:e} in {syntax}: {text}");
+            if syntax.format().mantissa_radix() == 10 {
+                let wanted = digits(&format!("{value:e}"), Some(b'e'));
+                assert_eq!(digits(&text, syntax.exponent()), wanted, "{value:e} in {syntax}: {text}");
+            }
+        }
+        Err(error) => assert!(is_reason(error, value, syntax), "{value:e} in {syntax}: {error}"),
+    }
+}
+
+#[test]
+fn floats_are_read_back_in_the_decimal_form_of_each_language() {
+    let state = &mut 20_261_128;
+    for _ in 0..count() {
+        for language in Language::ALL {
+            let syntax = language.forms()[0].syntax;
+            is_read_back::<f64>(float(state), &syntax, Style::PLAIN);
+            is_read_back::<f32>(float(state), &syntax, Style::PLAIN);
+        }
+    }
+}
+
+/// Returns the text of a float in a syntax.
+fn text<F: Bits>(value: F, syntax: &Syntax) -> Result<String, WriteError> {
+    syntax.format_float(value, Style::PLAIN).map(|text| text.to_string())
+}
+
+#[test]
+fn floats_have_an_exponent_where_one_is_allowed() {
+    let form = |language: Language, name| {
+        language.forms().iter().find(|form| form.name == name).unwrap().syntax
+    };
+    let german = Language::CSV_DE.forms()[0].syntax;
+    let (json, ada) = (Language::JSON.forms()[0].syntax, Language::ADA.forms()[0].syntax);
+    let (c, swift) = (form(Language::C, "hexadecimal float"), form(Language::SWIFT, "hexadecimal float"));
+    let digits = |value: f64| Ok(format!("{value}").replace('.', ","));
+    for (value, syntax, wanted) in [
+        (-0.3, german, Ok("-0,3".into())),
+        (1e16, german, Ok("10.000.000.000.000.000".into())),
+        (1e-7, german, Ok("0,0000001".into())),
+        (5e-324, german, digits(5e-324)),
+        (1234.56, german, Ok("1.234,56".into())),
+        (f64::NAN, german, Err(WriteError::Special)),
+        (f64::NEG_INFINITY, german, Err(WriteError::Special)),
+        (1e16, json, Ok("1e16".into())),
+        (1e-7, json, Ok("1e-7".into())),
+        (-0.0, json, Ok("-0.0".into())),
+        (0.5, ada, Ok("0.5".into())),
+        (12.0, c, Ok("0x1.8p3".into())),
+        (0.1, swift, Ok("0x1.999999999999Ap-4".into())),
+        (5e-324, swift, Ok("0x1p-1074".into())),
+    ] {
+        assert_eq!(text(value, &syntax), wanted, "{value:e} in {syntax}");
+    }
+    assert_eq!(text(1e300, &german).unwrap().replace('.', ""), format!("{}", 1e300));
+}
+
+#[test]
+fn a_style_decides_on_the_exponent() {
+    let json = Language::JSON.forms()[0].syntax;
+    let swift = Language::SWIFT.forms().iter().find(|form| form.name == "hexadecimal float").unwrap().syntax;
+    let [always, never, from] = [ExponentStyle::Always, ExponentStyle::Never, ExponentStyle::From(21)];
+    for (value, syntax, wish, wanted) in [
+        (1234.5, json, always, "1.2345e3"),
+        (1.5, json, always, "1.5e0"),
+        (0.0, json, always, "0.0e0"),
+        (1e22, json, never, "10000000000000000000000"),
+        (1e-7, json, never, "0.0000001"),
+        (1.5, json, never, "1.5"),
+        (1e20, json, from, "100000000000000000000"),
+        (1.5e21, json, from, "1.5e21"),
+        (12.0, swift, always, "0x1.8p3"),
+    ] {
+        let text = syntax.format_float(value, Style::PLAIN.exponent(wish)).unwrap();
+        assert_eq!(text.to_string(), wanted);
+    }
+}
+
+/// Returns a pseudo-random syntax whose radix and exponent base are 10 or powers of two.
+fn random_syntax(state: &mut u64) -> Syntax {
+    let mut pick = |bytes: &[u8]| u128::from(bytes[(next(state) % bytes.len() as u64) as usize]);
+    loop {
+        let radix = pick(&[10, 10, 10, 10, 2, 4, 8, 16, 16, 32]);
+        let base = if radix == 10 { 10 } else { pick(&[2, 2, 4, 8, 16, 32, radix as u8]) };
+        let flags = (0..45).filter(|_| pick(&[0, 0, 0, 1]) == 1).fold(0, |flags, bit| flags | 1 << bit) & FLAG_MASK;
+        let bytes = [(pick(b"\0_,"), 64), (pick(b"\0x"), 88), (pick(b"\0h"), 96), (radix, 104), (base, 112)];
+        let exponent_radix = (pick(&[10, 10, 2, 16, 36]), 120);
+        let word = bytes.iter().chain([&exponent_radix]).fold(flags, |word, (byte, bit)| word | byte << bit);
+        let Ok(format) = Format::new(word) else { continue };
+        let syntax = Syntax::new(format, b'^', b'.').ok().filter(|_| pick(&[0, 1, 1, 1]) == 1);
+        let syntax = syntax.unwrap_or(Syntax::integers(format));
+        let mut draw = || pick(&[0, 0, 1]) == 1;
+        let conditions = Conditions::NONE.required_base_prefix(draw()).no_negative_mantissa_sign(draw());
+        let size = draw().then_some(3);
+        return syntax.with_conditions(conditions.integer_group_size(size)).unwrap_or(syntax);
+    }
+}
+
+#[test]
+fn floats_are_read_back_or_refused_in_any_syntax() {
+    let state = &mut 20_261_129;
+    for _ in 0..1000 {
+        let syntax = random_syntax(state);
+        for index in 0..count() / 100 {
+            let style = [Style::PLAIN, Style::PLAIN.without_base(), Style::PLAIN.group(3)][index % 3];
+            is_read_back::<f64>(float(state), &syntax, style);
+            is_read_back::<f32>(float(state), &syntax, style);
+        }
+    }
+}
