@@ -10,7 +10,7 @@ fn convert(number: Number<'_>, target: Language) -> Result<String, WriteError> {
     let literal = match number {
         Number::Literal { literal, .. } => literal,
         Number::Special(special) => {
-            let text = target.specials().format(&target.forms()[0].syntax, special)?;
+            let text = target.forms().specials().format(&target.forms()[0].syntax(), special)?;
             return Ok(text.to_string());
         }
     };

@@ -1,7 +1,7 @@
 //! Floats that are written: they are read back as the same bits, by as few digits as std's.
 
 use peltzivar::format::FLAG_MASK;
-use peltzivar::literal::{Condition, Conditions, FromLiteral, Language, Style, Syntax, WriteError, WriteFloat};
+use peltzivar::literal::{Condition, Conditions, ExponentStyle, FromLiteral, Language, Style, Syntax, WriteError, WriteFloat};
 use peltzivar::Format;
 use std::fmt::{Debug, LowerExp};
 
@@ -156,6 +156,27 @@ fn floats_have_an_exponent_where_one_is_allowed() {
         assert_eq!(text(value, &syntax), wanted, "{value:e} in {syntax}");
     }
     assert_eq!(text(1e300, &german).unwrap().replace('.', ""), format!("{}", 1e300));
+}
+
+#[test]
+fn a_style_decides_on_the_exponent() {
+    let json = Language::JSON.forms()[0].syntax();
+    let swift = Language::SWIFT.forms().as_slice().iter().find(|form| form.name() == "hexadecimal float").unwrap().syntax();
+    let [always, never, from] = [ExponentStyle::Always, ExponentStyle::Never, ExponentStyle::From(21)];
+    for (value, syntax, wish, wanted) in [
+        (1234.5, json, always, "1.2345e3"),
+        (1.5, json, always, "1.5e0"),
+        (0.0, json, always, "0.0e0"),
+        (1e22, json, never, "10000000000000000000000"),
+        (1e-7, json, never, "0.0000001"),
+        (1.5, json, never, "1.5"),
+        (1e20, json, from, "100000000000000000000"),
+        (1.5e21, json, from, "1.5e21"),
+        (12.0, swift, always, "0x1.8p3"),
+    ] {
+        let text = syntax.format_float(value, Style::PLAIN.exponent(wish)).unwrap();
+        assert_eq!(text.to_string(), wanted);
+    }
 }
 
 /// Returns a pseudo-random syntax whose radix and exponent base are 10 or powers of two.

@@ -3,7 +3,7 @@ use Rattle.std.proofs.Common.{ℕ, ◌≡◌, ◌+◌, ◌*◌, ◌<◌, ◌≤�
 use Rattle.std.proofs.Common.{Option, ◌-◌, ◌/◌, ◌%◌, map, set, slice_get, option_to_list, Some, None, refl, sym, ap, ◌∙◌, arith, suc, zero, drop-cons, add-one, replicate, append-nil, subst, inl, inr}
 use Rattle.std.proofs.lemmas.Bool.{cases_lt}
 use Rattle.std.proofs.lemmas.Int.Digits.{all_below_base_digits_of, digits_of_step, length-digits_of_step, number_after_append}
-use Rattle.std.proofs.lemmas.List.{append_assoc, drop-set, length-append, length-map, length-set, map_push}
+use Rattle.std.proofs.lemmas.List.{append_assoc, drop_all, drop-set, length-append, length-map, length-set, map_push}
 use Rattle.std.proofs.lemmas.Bool.Decides.{nat_tests}
 use Rattle.std.proofs.Math.Nat.{div-div-eq-div-mul}
 use Rattle.std.proofs.lemmas.Nat.{div-mul-add, mod-mul-add}
@@ -274,3 +274,17 @@ run_longer pattern least digits =
     let longer = grouped_longer pattern (at_least least digits) in
     let all = length-append {A = ℕ} (replicate (least - length digits) 0) digits in
     omega (arith, longer, all)
+
+-- Bytes from an index on that are uppercase digits.
+pub no_characters : (radix i : ℕ) (bytes : List ℕ) → length bytes ≤ i → drop i bytes ≡ map (character false) (digits_in radix (drop i bytes))
+no_characters radix i bytes behind =
+    let none = drop_all i bytes behind in none ∙ sym (ap (λ bytes. map (character false) (digits_in radix bytes)) none)
+
+pub more_characters : (radix i d : ℕ) (bytes : List ℕ) (digit : Option ℕ) → i < length bytes → digit ≡ digit_of (get_or bytes i 0) radix
+    → digit ≡ Some d → character false d ≡ get_or bytes i 0 → drop (i + 1) bytes ≡ map (character false) (digits_in radix (drop (i + 1) bytes))
+    → drop i bytes ≡ map (character false) (digits_in radix (drop i bytes))
+more_characters radix i d bytes digit inside is some same rest =
+    let cons : drop i bytes ≡ get_or bytes i 0 ∷ drop (i + 1) bytes = rw add-one (drop-cons bytes i 0 inside) in
+    let digits : digits_in radix (drop i bytes) ≡ d ∷ digits_in radix (drop (i + 1) bytes) = left_of radix i bytes digit inside is
+    ∙ ap (λ digit. cons_option digit (digits_in radix (drop (i + 1) bytes))) some in
+    cons ∙ ap (λ b. b ∷ drop (i + 1) bytes) (sym same) ∙ ap (λ rest. character false d ∷ rest) rest ∙ sym (ap (map (character false)) digits)

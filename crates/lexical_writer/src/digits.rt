@@ -1,6 +1,6 @@
 //! Runs of digits are written.
 
-ghost use Rattle.std.specs.Prelude.{◌≡◌, ◌++◌, ◌∷◌, [], false, ◌-◌, ◌<◌, ◌≤◌, ◌/◌, ◌%◌, ℕ, List, length, map, option_to_list, replicate};
+ghost use Rattle.std.specs.Prelude.{◌≡◌, ◌++◌, ◌∷◌, [], true, false, ◌-◌, ◌<◌, ◌≤◌, ◌/◌, ◌%◌, ℕ, List, length, map, option_to_list, replicate};
 ghost use Rattle.std.specs.Int.Digits.{digits_of, number_from_digits};
 ghost use Rattle.lexical_number.specs.Number.{digits_in, number, places};
 ghost use Rattle.lexical_util.specs.Rules.{IsRadix};
@@ -191,6 +191,24 @@ fn put_padded<S: Sink>(sink: &mut S, padded: &Padded, run: &Run)
     put_zeros(sink, padded.after as u128, left, run);
 }
 
+// Returns whether all bytes are uppercase digits.
+fn are_characters(bytes: &[u8], radix: u32) -> bool
+    requires { IsRadix radix }
+    ensures { result ≡ true → bytes.now ≡ map (character false) (digits_in radix bytes.now) }
+{
+    let mut index = 0;
+    while index < bytes.len() {
+        let Some(digit) = char_to_digit(bytes[index], radix) else {
+            return false;
+        };
+        if digit_to_char(digit) != bytes[index] {
+            return false;
+        }
+        index += 1;
+    }
+    true
+}
+
 // Writes the digits among bytes as `put_padded` does.
 fn put_bytes<S: Sink>(sink: &mut S, bytes: &[u8], run: &Run)
     ensures { (start : S) → (text : List ℕ) → S.has start sink.old text
@@ -304,7 +322,13 @@ impl Run<'_> {
     {
         match self.source {
             Source::Number(0) if self.least == 0 => (),
-            Source::Bytes(bytes) => put_bytes(sink, bytes, self),
+            Source::Bytes(bytes) => {
+                if are_characters(bytes, self.radix) {
+                    put_characters(sink, bytes, self);
+                } else {
+                    put_bytes(sink, bytes, self);
+                }
+            }
             Source::Number(number) => put_number(sink, number, self),
             Source::Padded(padded) => put_padded(sink, &padded, self),
         }

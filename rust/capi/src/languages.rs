@@ -43,19 +43,6 @@ impl Specials {
     }
 }
 
-impl Specials {
-    /// Returns the spellings.
-    ///
-    /// # Safety
-    ///
-    /// As for `spelling`, for each of them.
-    pub(crate) unsafe fn spellings<'a>(&self) -> literal::Specials<'a> {
-        // SAFETY: the caller guarantees the strings.
-        let [nan, inf, infinity] = [self.nan, self.inf, self.infinity].map(|it| unsafe { spelling(it) });
-        literal::Specials { nan, inf, infinity }
-    }
-}
-
 /// A special value: the number of its spelling, and its sign, or 0 without one.
 #[repr(C)]
 pub struct NumberedSpecial {

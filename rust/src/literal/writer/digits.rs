@@ -146,6 +146,21 @@ fn put_padded<S: Sink>(sink: &mut S, padded: &Padded, run: &Run) {
     put_zeros(sink, padded.after as u128, left, run);
 }
 
+// Returns whether all bytes are uppercase digits.
+fn are_characters(bytes: &[u8], radix: u32) -> bool {
+    let mut index = 0;
+    while index < bytes.len() {
+        let Some(digit) = char_to_digit(bytes[index], radix) else {
+            return false;
+        };
+        if digit_to_char(digit) != bytes[index] {
+            return false;
+        }
+        index += 1;
+    }
+    true
+}
+
 // Writes the digits among bytes as `put_padded` does.
 fn put_bytes<S: Sink>(sink: &mut S, bytes: &[u8], run: &Run) {
     put_padded(sink, &Padded::of(bytes), run);
@@ -217,7 +232,13 @@ impl Run<'_> {
     pub(crate) fn put<S: Sink>(&self, sink: &mut S) {
         match self.source {
             Source::Number(0) if self.least == 0 => (),
-            Source::Bytes(bytes) => put_bytes(sink, bytes, self),
+            Source::Bytes(bytes) => {
+                if are_characters(bytes, self.radix) {
+                    put_characters(sink, bytes, self);
+                } else {
+                    put_bytes(sink, bytes, self);
+                }
+            }
             Source::Number(number) => put_number(sink, number, self),
             Source::Padded(padded) => put_padded(sink, &padded, self),
         }
