@@ -7,8 +7,8 @@ use Rattle.lexical_literal.proofs.list.plays_no_role.Goals.{then-byte-ne48+in-No
 
 pub returns-then-matches : goal.returns-then-matches
 returns-then-matches c = λ is. elim c.if-byte-ne48.branch [
-      | then-byte-ne48+in-None w ↦ plays_none c.args.grammar c.args.byte (sym w.role_at.ensures ∙ w.in-None.is)
-          (let digit = c.is_digit.ensures in grind arith) w.if-byte-ne48.true
-      | then-byte-ne48+in_default w ↦ absurd (false≢true (sym w.value-is ∙ c.if-matches.true))
-      | else-byte-ne48 w ↦ (let value = w.value-is in let zero = w.if-byte-ne48.false in let true = c.if-matches.true in grind (arith, nat_tests))
-    ]
+  | then-byte-ne48+in-None w ↦ plays_none c.args.grammar c.args.byte (sym w.role_at.ensures ∙ w.in-None.is)
+      (let digit = c.is_digit.ensures in grind arith) w.if-byte-ne48.true
+  | then-byte-ne48+in_default w ↦ absurd (false≢true (sym w.value-is ∙ c.if-matches.true))
+  | else-byte-ne48 w ↦ (let value = w.value-is in let zero = w.if-byte-ne48.false in let true = c.if-matches.true in grind (arith, nat_tests))
+]
