@@ -311,7 +311,8 @@ class Literals(unittest.TestCase):
         self.assertRaises(ValueError, specials.format, Syntax.of(no_special=True), Special("", Spelling.NAN))
         self.assertEqual(Syntax.integers(Format()).format_number(Decimal("1.0")), "1")
         self.assertEqual([hexadecimal.format_number(2**128 // 3), hexadecimal.format_number(31, without_base=True)], ["0x" + "5" * 32, "1F"])
-        wrong = [(german, math.inf, "NaN or infinity"), (german, Decimal("NaN"), "NaN or infinity"), (hexadecimal, 1.5, "radix")]
+        self.assertEqual([hexadecimal.format_number(it) for it in (1.5, -(2.0**-70))], ["0x1.8", "-0x4p-12"])
+        wrong = [(german, math.inf, "NaN or infinity"), (german, Decimal("NaN"), "NaN or infinity"), (hexadecimal, Decimal("1.5"), "radix")]
         for syntax, value, sentence in [*wrong, (Syntax.integers(Format()), 1.5, "not whole"), (Language.C.forms["octal"], -1, "'-'")]:
             self.assertRaisesRegex(ValueError, sentence, syntax.format_number, value)
 
