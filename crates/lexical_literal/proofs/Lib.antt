@@ -29,6 +29,7 @@ mod BlameLemmas
 mod PartOfLemmas
 mod OneCauseLemmas
 mod FormLemmas
+mod TokenLemmas
 mod GroupLemmas
 mod SizeLemmas
 mod FitLemmas

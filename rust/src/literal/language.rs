@@ -1,7 +1,7 @@
 //! Languages as constants, which are written by hand.
 
 use crate::edits::likeness;
-use crate::literal::{FormError, Forms, FromLiteral, Number, ParseError};
+use crate::literal::{FormError, Forms, FromLiteral, Number, ParseError, Token, TokenError};
 use core::{fmt, hash, str::FromStr};
 
 /// How a language, or a file, writes numbers: the syntax of each form, such as decimal and hexadecimal, and the spellings
@@ -89,6 +89,16 @@ impl Language {
     /// Returns what [`read_prefix`][Self::read_prefix] returns, also in a constant.
     pub const fn read_prefix_bytes<'t>(&self, text: &'t [u8]) -> Result<(Number<'t>, &'t [u8]), FormError> {
         self.forms().read_prefix_bytes(text)
+    }
+
+    /// Returns the number that `text` begins with, with its suffix, and the rest, as [`Forms::token`] does. ADA, FORTRAN, NASM,
+    /// SQL and languages of data, such as JSON, have no tokens.
+    ///
+    /// # Errors
+    ///
+    /// If `text` does not begin with a token, or if the language has none, returns why.
+    pub fn token<'t>(&self, text: &'t (impl AsRef<[u8]> + ?Sized)) -> Result<Token<'t>, TokenError> {
+        self.forms().token(text)
     }
 
     /// Returns the value of the number `text`, as [`Forms::parse`] does.
@@ -181,10 +191,11 @@ impl fmt::Debug for Language {
     }
 }
 
-/// Defines the constants: the documentation and the name of each, the name and the syntax of each form, and the special
-/// values, if there are any.
+/// Defines the constants: the documentation and the name of each, the name, the syntax and the suffixes of each form, the
+/// special values, if there are any, and rules for tokens, if the language has them.
 macro_rules! languages {
-    ($($(#[$about:meta])+ $name:ident = { $($form:literal: $syntax:expr),+ $(,)? } $(, $specials:expr)?;)+) => {
+    ($($(#[$about:meta])+ $name:ident = { $($form:literal: $syntax:expr $(=> $suffixes:expr)?),+ $(,)? } $(, $specials:expr)?
+        $(=> $tokens:expr)?;)+) => {
         impl Language {
             /// All languages, in alphabetical order.
             pub const ALL: &'static [Language] = &[$(Language::$name),+];
@@ -194,7 +205,9 @@ macro_rules! languages {
                 $(assert!($syntax.supports_floats());)+
                 Language(&Definition {
                     name: stringify!($name),
-                    forms: Forms::new_or_panic(const { &[$(Form::new($form, $syntax)),+] })$(.with_specials($specials))?,
+                    forms: Forms::new_or_panic(const { &[$(Form::new($form, $syntax)$(.with_suffixes(const { &$suffixes }))?),+] })
+                        $(.with_specials($specials))?
+                        $(.with_tokens(const { &$tokens }))?,
                 })
             };)+
         }

@@ -8,20 +8,34 @@ use crate::literal::literal::Literal;
 use crate::literal::plain::{At, BEGIN};
 use crate::literal::read::Found;
 use crate::literal::specials::{Special, Specials};
+use crate::literal::suffix::Suffixes;
 use crate::literal::syntax::Syntax;
 
-/// A form of numbers: its name, such as `hexadecimal`, and its syntax.
+/// A form of numbers: its name, such as `hexadecimal`, its syntax, and the suffixes of its tokens.
 #[derive(Debug, Clone, Copy, PartialEq, Eq, Hash)]
 pub struct Form {
-    name: &'static str,
-    syntax: Syntax,
+    pub(crate) name: &'static str,
+    pub(crate) syntax: Syntax,
+    pub(crate) suffixes: Option<&'static Suffixes>,
 }
 
 impl Form {
-    /// Returns the form with a name, which may be empty, and a syntax.
+    /// Returns the form with a name, which may be empty, and a syntax, without suffixes.
     #[must_use]
     pub const fn new(name: &'static str, syntax: Syntax) -> Form {
-        Form { name, syntax }
+        Form { name, syntax, suffixes: None }
+    }
+
+    /// Returns the same form with the suffixes that its tokens may have.
+    #[must_use]
+    pub const fn with_suffixes(self, suffixes: &'static Suffixes) -> Form {
+        Form { suffixes: Some(suffixes), ..self }
+    }
+
+    /// Returns the suffixes, if there are any.
+    #[must_use]
+    pub const fn suffixes(&self) -> Option<&'static Suffixes> {
+        self.suffixes
     }
 
     /// Returns the name.
@@ -37,12 +51,38 @@ impl Form {
     }
 }
 
-/// The forms of numbers, at least one, and the spellings of NaN and infinity. The first form of which a text is a literal decides
-/// what number it is.
+/// How numbers stand in the middle of a text: forms that need a suffix, which no call but [`Forms::token`] takes, words that may
+/// follow a number directly, and whether a point at the end of a number may belong to what follows.
+#[derive(Debug, Clone, Copy, PartialEq, Eq, Hash)]
+pub struct Tokens {
+    pub(crate) forms: &'static [Form],
+    pub(crate) following: &'static [&'static [u8]],
+    pub(crate) gives_points_back: bool,
+}
+
+impl Tokens {
+    /// Returns the rules with `forms` that need a suffix, such as `08f` in Java, and with words that may follow a number
+    /// directly, such as `else` in `1else` in Python.
+    #[must_use]
+    pub const fn new(forms: &'static [Form], following: &'static [&'static [u8]]) -> Tokens {
+        Tokens { forms, following, gives_points_back: false }
+    }
+
+    /// Sets whether a point at the end of a number is none of its bytes if another point or a word follows, as in `1..2` and
+    /// `1.max(2)`.
+    #[must_use]
+    pub const fn gives_points_back(self, gives: bool) -> Tokens {
+        Tokens { gives_points_back: gives, ..self }
+    }
+}
+
+/// The forms of numbers, at least one, the spellings of NaN and infinity, and how tokens are read. The first form of which a text
+/// is a literal decides what number it is.
 #[derive(Debug, Clone, Copy, PartialEq, Eq)]
 pub struct Forms<'a> {
-    forms: &'a [Form],
+    pub(crate) forms: &'a [Form],
     specials: Specials<'a>,
+    pub(crate) tokens: Option<&'a Tokens>,
 }
 
 /// A number that has one of several forms.
@@ -80,13 +120,19 @@ impl<'a> Forms<'a> {
             return None;
         }
         let specials = Specials { nan: None, inf: None, infinity: None };
-        Some(Forms { forms, specials })
+        Some(Forms { forms, specials, tokens: None })
     }
 
     /// Returns the same forms with these special values. The format of the first form decides what flags say of them.
     #[must_use]
     pub const fn with_specials(self, specials: Specials<'a>) -> Forms<'a> {
-        Forms { forms: self.forms, specials }
+        Forms { forms: self.forms, specials, tokens: self.tokens }
+    }
+
+    /// Returns the same forms with rules for tokens, without which there are none.
+    #[must_use]
+    pub const fn with_tokens(self, tokens: &'a Tokens) -> Forms<'a> {
+        Forms { forms: self.forms, specials: self.specials, tokens: Some(tokens) }
     }
 
     /// Returns the forms.
@@ -141,7 +187,7 @@ impl<'a> Forms<'a> {
     }
 
     // Returns the index of the first form of which `text` is a literal, and the literal, or why it is one of no form.
-    const fn find<'t>(&self, text: &'t [u8]) -> Result<(usize, Literal<'t>), FormError> {
+    pub(crate) const fn find<'t>(&self, text: &'t [u8]) -> Result<(usize, Literal<'t>), FormError> {
         let mut furthest = None;
         let mut form = 0;
         while form < self.forms.len() {
@@ -223,7 +269,7 @@ const fn longer(longest: Option<(usize, Found)>, form: usize, found: Option<Foun
 
 // Returns which of two forms goes further, the first of equals.
 #[inline(always)]
-const fn further(furthest: Option<(usize, At)>, form: usize, stop: At) -> Option<(usize, At)> {
+pub(crate) const fn further(furthest: Option<(usize, At)>, form: usize, stop: At) -> Option<(usize, At)> {
     match furthest {
         Some((_, best)) if best.size >= stop.size => furthest,
         _ => Some((form, stop)),
