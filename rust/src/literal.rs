@@ -81,7 +81,7 @@ mod suffix;
 #[allow(clippy::redundant_pattern_matching, reason = "as it is proved")]
 mod syntax;
 mod text;
-#[allow(clippy::implicit_saturating_sub, reason = "as it is proved")]
+#[allow(clippy::implicit_saturating_sub, clippy::manual_is_ascii_check, reason = "as it is proved")]
 mod token;
 mod tokens;
 mod value;

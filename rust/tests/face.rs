@@ -3,7 +3,7 @@
 
 use peltzivar::edits::edits_of;
 use peltzivar::format::{NumberFormatBuilder, BASE_PREFIX_SHIFT, BASE_SUFFIX_SHIFT, STANDARD};
-use peltzivar::literal::{Conditions, FormError, Language, Literal, ReadError, Syntax, WriteError};
+use peltzivar::literal::{Conditions, Form, FormError, Language, Literal, ReadError, Syntax, WriteError};
 use peltzivar::{Edit, Error, FlagSetter, Format, FormatView, Settings};
 use std::{iter, num::NonZeroU8, panic};
 
@@ -114,8 +114,8 @@ fn an_error_states_its_cause() {
 #[test]
 #[cfg(target_pointer_width = "64")]
 fn values_are_small() {
-    let sizes = [size_of::<Syntax>(), size_of::<Literal>(), size_of::<ReadError>(), size_of::<FormError>()];
-    assert!(sizes.into_iter().zip([32, 160, 80, 112]).all(|(size, most)| size <= most), "{sizes:?}");
+    let sizes = [size_of::<Syntax>(), size_of::<Literal>(), size_of::<ReadError>(), size_of::<FormError>(), size_of::<Form>()];
+    assert!(sizes.into_iter().zip([32, 160, 80, 112, 64]).all(|(size, most)| size <= most), "{sizes:?}");
 }
 
 /// Returns the name of a type, and an error that has it.

@@ -46,7 +46,7 @@ fn examples_end_as_their_comments_state() {
         ("languages -- -12", 0, "\nC_PLUS_PLUS: none: unexpected minus sign, decimal\n"),
         ("tokenizer -- x=0xFF*1_0.5", 0, "0..1: name x\n1..2: operator =\n2..6: integer 0xFF\n6..7: operator *\n7..12: number 1_0.5\n"),
         ("tokenizer -- x+12ab", 1, "0..1: name x\n1..2: operator +\n4..6: unknown suffix\n"),
-        ("tokenizer -- 2*1e+", 1, "\n4..4: expected a digit after the exponent character\n"),
+        ("tokenizer -- 2*1e+", 1, "\n4..5: expected a digit after the exponent character\n"),
         ("tokenizer -- 0x1__F", 1, "4..5: unexpected digit separator in the integer after another\n"),
         ("literal -- 0x00000A0000000000000000000000000C none none 12", 0, "integer 12\n"),
         ("literal -- 0x00000A0000000000000000000000000C 101 46 1e", 1, "2: expected a digit after the exponent character, which required_exponent_digits requires\n"),

@@ -1,8 +1,8 @@
 -- Tokens: the best of the candidates of several forms.
-use Rattle.std.proofs.Common.{ℕ, ◌≡◌, ◌==◌, ◌&&◌, ◌||◌, Bool, true, false, if◌then◌else◌, ◌<◌, ◌≤◌, ◌+◌, ◌-◌, ◌⊎◌, inl, inr, List, Ok, Option, Some, None, All, IsSomeAnd, IsTrue}
+use Rattle.std.proofs.Common.{ℕ, ◌≡◌, ◌==◌, ◌&&◌, ◌||◌, Bool, true, false, if◌then◌else◌, ◌<◌, ◌≤◌, ◌+◌, ◌-◌, ◌⊎◌, inl, inr, List, Ok, Option, Some, None, All, IsNone, IsSomeAnd, IsTrue}
 use Rattle.std.proofs.Common.{length, take, drop, get_or, slice_get, refl, sym, subst, ap, ◌∙◌, arith}
 use Rattle.std.proofs.lemmas.Bool.Decides.{nat_tests}
-use Rattle.std.proofs.lemmas.List.{take_all}
+use Rattle.std.proofs.lemmas.List.{length-take-le, take_all}
 use Rattle.std.proofs.lemmas.List.Elements.{All-more}
 use Rattle.std.proofs.lemmas.Option.{slice_get-get_or, slice_get_within}
 use Rattle.std.proofs.lemmas.Grind.{common_steps}
@@ -15,12 +15,14 @@ use Rattle.lexical_literal.specs.Front.{IsValidUpTo, NoFront, NoLiteral, ReadsFr
 use Rattle.lexical_literal.specs.Literal.{Literal, Reads, is_float}
 use Rattle.lexical_literal.specs.Notation.{Notation, notation_of}
 use Rattle.lexical_literal.specs.Read.{Read}
-use Rattle.lexical_literal.specs.Suffix.{suffix_size}
-use Rattle.lexical_literal.specs.Token.{AllShorter, HasNone, IsAhead, IsBest, IsCandidate, NoCandidate, NoLonger, gives_back, is_shorter}
+use Rattle.lexical_literal.specs.Cause.{is_in}
+use Rattle.lexical_literal.specs.Suffix.{is_digit, is_stopped, stop_end, suffix_size}
+use Rattle.lexical_literal.specs.Token.{AllShorter, HasNone, IsAhead, IsChosen, IsFollowed, IsOver, IsRefused, IsToken, IsUnknown, IsBest, IsCandidate, NoCandidate, NoLonger, gives_back, is_shorter}
 use Rattle.lexical_literal.specs.declared.list.Form.{Form}
 use Rattle.lexical_literal.specs.declared.list.Tokens.{Tokens}
 use Rattle.lexical_literal.specs.declared.read.Found.{Found}
 use Rattle.lexical_literal.specs.declared.token.Candidate.{Candidate}
+use Rattle.lexical_literal.specs.declared.token.Token.{Token}
 use Rattle.lexical_literal.proofs.FormLemmas.{all_at, one_front, one_size}
 use Rattle.lexical_literal.proofs.MadeLemmas.{present}
 
@@ -65,6 +67,39 @@ module _ (back needs : Bool) (text : List ℕ) (form : Form) (c : Candidate) (ma
       ∙ ap (λ n. n + suffix_size form.suffixes (is_float other.literal) (drop n text)) same_size
       ∙ ap (λ b. c.size + suffix_size form.suffixes b (drop c.size text)) same_float ∙ sym made.candidate.end_is
 
+-- Options, and what two tests tell together.
+abbrev from_some : {X : Type 0} → X → Option X → X
+from_some d None = d
+from_some d (Some x) = x
+
+pub some_is : {X : Type 0} (v x : X) → Some v ≡ Some x → v ≡ x
+some_is v x same = ap (from_some v) same
+
+pub for_some : {X : Type 0} (P : X → Type 0) (v : X) → P v → (x : X) → Some v ≡ Some x → P x
+for_some P v is x same = subst P (some_is v x same) is
+
+no_some : {X : Type 0} (x : X) → None ≡ Some x → ⊥
+no_some x same = grind arith
+
+pub none_is : {X : Type 0} (o : Option X) → IsNone o → o ≡ None
+none_is None none = refl
+none_is (Some x) none = grind arith
+
+pub is_none : {X : Type 0} (o : Option X) → o ≡ None → IsNone o
+is_none None none = refl
+is_none (Some x) none = absurd (no_some x (sym none))
+
+pub not_both : (b : Bool) → b ≡ false → IsTrue b → ⊥
+not_both b off on = grind arith
+
+both_hold : (b : Bool) (n : ℕ) → (b && (n == 0)) ≡ true → IsTrue b × (n ≡ 0)
+both_hold true n on = (refl, grind (arith, nat_tests))
+both_hold false n on = grind arith
+
+more_than_none : (b : Bool) (n s : ℕ) → (b && (n == 0)) ≡ false → IsTrue b → s < s + n
+more_than_none true n s off on = grind (arith, nat_tests)
+more_than_none false n s off on = grind arith
+
 -- The front of `text` that is left if its point is given back.
 module _ (back : Bool) (m : Notation) (text : List ℕ) (found : Found) (is : IsCountedFront m text found) where
   pub kept : gives_back back m text found.size ≡ false → IsOwn back m text found.size found
@@ -76,7 +111,7 @@ module _ (back : Bool) (m : Notation) (text : List ℕ) (found : Found) (is : Is
 
   module _ (on : gives_back back m text found.size ≡ true) (shorter : List ℕ) (at : shorter ≡ take (found.size - 1) text) where
     size_of : length shorter ≡ found.size - 1
-    size_of = let within = is.reads.within in ap length at ∙ grind arith
+    size_of = let within = is.reads.within in ap length at ∙ length-take-le (found.size - 1) text (omega (arith, within))
 
     size_is : length shorter ≡ (if gives_back back m text found.size then found.size - 1 else found.size)
     size_is = size_of ∙ ap (λ b. if b then found.size - 1 else found.size) (sym on)
@@ -134,8 +169,11 @@ module _ (back needs : Bool) (text : List ℕ) (form : Form) (found : Found) (is
       none other.literal (subst (λ n. Reads (notation_of form.syntax) other.literal (take n text)) size other.reads)
 
   module _ (own : Found) (owned : IsOwn back (notation_of form.syntax) text found.size own) where
-    more : ℕ
+    abbrev more : ℕ
     more = suffix_size form.suffixes (has_float own.counts) (drop own.size text)
+
+    abbrev own_with : Candidate
+    own_with = record { size = own.size; counts = own.counts; end = own.size + more }
 
     candidate_of : (IsTrue needs → own.size < own.size + more) → IsCandidate back needs text form own.size (own.size + more)
     candidate_of enough = record {
@@ -160,22 +198,26 @@ module _ (back needs : Bool) (text : List ℕ) (form : Form) (found : Found) (is
 
     pub with_suffix : (candidate : Option Candidate) → candidate ≡ suffixed form.suffixes needs text own
         → ((c : Candidate) → candidate ≡ Some c → c.end ≤ length text) → (c : Candidate) → candidate ≡ Some c → IsMade back needs text form c
-    with_suffix candidate same within c some = go (needs && (more == 0)) refl where
-      go : (b : Bool) → (needs && (more == 0)) ≡ b → IsMade back needs text form c
-      go true off = let e : suffixed form.suffixes needs text own ≡ None = grind arith in grind arith
-      go false on =
-          let e : c ≡ record { size = own.size; counts = own.counts; end = own.size + more } = grind arith in
-          subst (IsMade back needs text form) (sym e) (record {
-            candidate = candidate_of (λ needed. grind (arith, nat_tests));
+    with_suffix candidate same within c some = go (needs && (more == 0)) refl (sym same ∙ some) where
+      go : (b : Bool) → (needs && (more == 0)) ≡ b → (if b then None else Some (record { size = own.size; counts = own.counts; end = own.size + more })) ≡ Some c
+          → IsMade back needs text form c
+      go true on none = absurd (no_some c none)
+      go false off is_c =
+          let e = some_is (record { size = own.size; counts = own.counts; end = own.size + more }) c is_c in
+          subst (IsMade back needs text form) e (record {
+            candidate = candidate_of (λ needed. more_than_none needs more own.size off needed);
             measured = owned.measured;
-            within = subst (λ (c : Candidate). c.end ≤ length text) e (within c some);
+            within = subst (λ (c : Candidate). c.end ≤ length text) (sym e) (within c some);
           })
 
     pub without_suffix : suffixed form.suffixes needs text own ≡ None → NoCandidate back needs text form
-    without_suffix none s e other = go (needs && (more == 0)) refl where
-      go : (b : Bool) → (needs && (more == 0)) ≡ b → ⊥
-      go true on = let at = end_of s e other in let longer = other.suffixed in grind (arith, nat_tests)
-      go false off = grind arith
+    without_suffix none s e other = go (needs && (more == 0)) refl none where
+      go : (b : Bool) → (needs && (more == 0)) ≡ b → (if b then None else Some own_with) ≡ None → ⊥
+      go true on none =
+          let at = end_of s e other in
+          let needed = both_hold needs more on in
+          let longer = other.suffixed needed.0 in omega (arith, longer, at.0, at.1, needed.1)
+      go false off none = no_some _ (sym none)
 
 module _ (back needs : Bool) (forms : List Form) (text : List ℕ) where
   -- `IsBestYet i best` holds if `best` is the best candidate of the first `i` forms.
@@ -317,3 +359,57 @@ module _ (list : FormList) (t : Tokens) (text : List ℕ) where
         → is_shorter c.size c.end o.size o.end ≡ true → IsPicked list t text (length list.forms + j) form o
     suffixed_first i c other up = suffixed_is
         (λ k d below s e shorter. below_up c.size c.end s e o.size o.end (other.best.others k d below s e shorter) up)
+
+  -- The token that was picked, or why there is none.
+  module _ (index : ℕ) (form : Form) (c : Candidate) (is : IsPicked list t text index form c) where
+    pub token_is : (token : Token) → token.form ≡ index → ReadsForm (take c.size text) token.literal form
+        → token.suffix.now ≡ take (c.end - c.size) (drop c.size text) → token.rest.now ≡ drop c.end text
+        → IsFollowed list t text c.end ⊎ (IsOver list t text c.end × (is_stopped form.suffixes text c.end ≡ false)) → IsToken list t text token
+    token_is token same literal suffix rest ended = record {
+      form = form;
+      size = c.size;
+      end = c.end;
+      chosen = subst (λ n. IsChosen list t text n form c.size c.end) (sym same) is.chosen;
+      literal = literal;
+      suffix = suffix;
+      rest = rest;
+      ended = ended;
+    }
+
+    module _ (apart : IsFollowed list t text c.end → ⊥) where
+      pub gone_on : (i : ℕ) × IsSomeAnd (slice_get list.forms i) (IsAhead t.gives_points_back text c.end) → IsRefused list t text
+      gone_on ahead = inr (inl (record {
+        index = index;
+        form = form;
+        size = c.size;
+        end = c.end;
+        chosen = is.chosen;
+        not_followed = apart;
+        ahead = ahead;
+      }))
+
+      module _ (over : IsOver list t text c.end) (stopped : is_stopped form.suffixes text c.end ≡ true) where
+        pub before_digit : is_in is_digit (slice_get text c.size) ≡ true → IsRefused list t text
+        before_digit digit = inr (inr (record {
+          index = index;
+          form = form;
+          size = c.size;
+          end = c.end;
+          chosen = is.chosen;
+          not_followed = apart;
+          over = over;
+          stopped = stopped;
+          digit = digit;
+        }))
+
+        pub unknown : is_in is_digit (slice_get text c.size) ≡ false → IsUnknown list t text index c.size (stop_end text c.end)
+        unknown other = record {
+          form = form;
+          behind = c.end;
+          chosen = is.chosen;
+          not_followed = apart;
+          over = over;
+          stopped = stopped;
+          no_digit = other;
+          end_is = refl;
+        }

@@ -87,29 +87,29 @@ impl<'a> Forms<'a> {
         let back = tokens.gives_points_back;
         let plain = scan(self.forms, back, false, text);
         let suffixed = scan(tokens.forms, back, true, text);
-        match self.choose(tokens, text, plain.best, suffixed.best) {
-            None => Err(self.fail(tokens, text, plain.furthest)),
-            Some((form, it, candidate)) => {
-                let Candidate { size, end, .. } = candidate;
-                let (_, rest) = text.split_at(end);
-                if !is_followed(tokens.following, rest) {
-                    let stopped = is_stopped(it.suffixes, text, end);
-                    if is_one_ahead(self.forms, back, text, end)
-                        || (stopped && has_digit(text, size))
-                    {
-                        return Err(self.fail(tokens, text, plain.furthest));
-                    }
-                    if stopped {
-                        return Err(TokenError::UnknownSuffix {
-                            form,
-                            start: size,
-                            end: stop_end(text, end),
-                        });
-                    }
-                }
-                Ok(made(it, text, form, candidate))
-            }
+        let Some((form, it, candidate)) = self.choose(tokens, text, plain.best, suffixed.best) else {
+            return Err(self.fail(tokens, text, plain.furthest));
+        };
+        let Candidate { size, end, .. } = candidate;
+        let (_, rest) = text.split_at(end);
+        if is_followed(tokens.following, rest) {
+            return Ok(made(it, text, form, candidate));
         }
+        if is_one_ahead(self.forms, back, text, end) {
+            return Err(self.fail(tokens, text, plain.furthest));
+        }
+        if !is_stopped(it.suffixes, text, end) {
+            return Ok(made(it, text, form, candidate));
+        }
+        if has_digit(text, size) {
+            return Err(self.fail(tokens, text, plain.furthest));
+        }
+        let end = stop_end(text, end);
+        Err(TokenError::UnknownSuffix {
+            form,
+            start: size,
+            end,
+        })
     }
 
     // Returns the longest of the candidates of the list and of the forms that need a suffix, with its form.
@@ -131,12 +131,13 @@ impl<'a> Forms<'a> {
                 Some((form, best)) => Some((form, &self.forms[form], best)),
             },
             Some((behind, other)) => match plain {
-                Some((form, best)) if !is_shorter(best, other) => {
-                    Some((form, &self.forms[form], best))
-                }
-                _ => {
-                    let form = self.forms.len() + behind;
-                    Some((form, &tokens.forms[behind], other))
+                None => Some((self.forms.len() + behind, &tokens.forms[behind], other)),
+                Some((form, best)) => {
+                    if is_shorter(best, other) {
+                        Some((self.forms.len() + behind, &tokens.forms[behind], other))
+                    } else {
+                        Some((form, &self.forms[form], best))
+                    }
                 }
             },
         }

@@ -7,8 +7,8 @@ use core::{fmt, hash, str::FromStr};
 /// How a language, or a file, writes numbers: the syntax of each form, such as decimal and hexadecimal, and the spellings
 /// of NaN and infinity.
 ///
-/// A text is a number if it is one token of the language. So `-1` is one only where the grammar says so, and a suffix that
-/// names a type, as in `10u`, belongs to no number: [`read_prefix`][Self::read_prefix] returns `10` and `u`. Decimal is the
+/// A text is a number if it is one token of the language. So `-1` is one only where the grammar says so. A suffix that names
+/// a type, as in `10u`, belongs to no number, but to a [`token`][Self::token] in the middle of source text. Decimal is the
 /// first form. The documentation of each language names the section of the grammar that it follows, and what a format
 /// cannot express. `compare/languages` holds the languages against their tools. To copy a format, print its setter calls
 /// with [`source`][crate::source].
@@ -77,7 +77,8 @@ impl Language {
         self.forms().read_bytes(text)
     }
 
-    /// Returns the longest literal that `text` begins with, and the rest of `text`, as [`Forms::read_prefix`] does.
+    /// Returns the longest literal that `text` begins with, and the rest of `text`, as [`Forms::read_prefix`] does. In source
+    /// text, [`token`][Self::token] ends numbers as the language does: of `1..2` in RUST, this is `1.`, and the token `1`.
     ///
     /// # Errors
     ///
@@ -111,7 +112,7 @@ impl Language {
     }
 
     /// Returns the value of the longest literal that `text` begins with, and the rest of `text`, as
-    /// [`Forms::parse_prefix`] does.
+    /// [`Forms::parse_prefix`] does. In source text, [`token`][Self::token] ends numbers as the language does.
     ///
     /// # Errors
     ///

@@ -28,8 +28,8 @@ impl Form {
 
     /// Returns the same form with the suffixes that its tokens may have.
     #[must_use]
-    pub const fn with_suffixes(self, suffixes: &'static Suffixes) -> Form {
-        Form { suffixes: Some(suffixes), ..self }
+    pub const fn with_suffixes(&self, suffixes: &'static Suffixes) -> Form {
+        Form { name: self.name, syntax: self.syntax, suffixes: Some(suffixes) }
     }
 
     /// Returns the suffixes, if there are any.
