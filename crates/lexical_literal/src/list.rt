@@ -1,6 +1,6 @@
 //! Numbers that have several forms, such as `10`, `0x1F` and `0b1`.
 
-ghost use Rattle.std.specs.Prelude.{◌≡◌, ◌<◌, All, IsSomeAnd, None, Some, SomeIff, length, slice_get};
+ghost use Rattle.std.specs.Prelude.{◌≡◌, ◌<◌, All, IsSomeAnd, None, Some, SomeIff, false, length, slice_get};
 ghost use Rattle.lexical_literal.specs.Additions.Forms.{IsFoundForm, IsFoundFrontForm, IsFurthestForm, further, longer};
 ghost use Rattle.lexical_literal.specs.Additions.Longest.{IsStopped};
 ghost use Rattle.lexical_literal.specs.Forms.{IsErrorOfForm, IsFormError, IsFrontByForms, IsReadByForms, special_by};
