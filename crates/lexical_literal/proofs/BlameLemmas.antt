@@ -300,7 +300,14 @@ module _ (g : Grammar) (text : List ℕ) (s : Summary) (separated : Bool) (tail 
 
   abbrev spot : Option ℕ → Spot
   spot next = record {
-    word = g.word; options = g.options; conditions = g.conditions; read = s; byte = next; tail = tail; marks = k; separated = separated
+    word = g.word;
+    options = g.options;
+    conditions = g.conditions;
+    read = s;
+    byte = next;
+    tail = tail;
+    marks = k;
+    separated = separated;
   }
 
   abbrev last : Group

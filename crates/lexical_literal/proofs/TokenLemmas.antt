@@ -1,23 +1,22 @@
 -- Tokens: the best of the candidates of several forms.
-use Rattle.std.proofs.Common.{ℕ, ◌≡◌, ◌==◌, ◌&&◌, ◌||◌, Bool, true, false, if◌then◌else◌, ◌<◌, ◌≤◌, ◌+◌, ◌-◌, ◌⊎◌, inl, inr, List, Ok, Option, Some, None, All, IsNone, IsSomeAnd, IsTrue}
+use Rattle.std.proofs.Common.{ℕ, ◌≡◌, ◌==◌, ◌&&◌, ◌||◌, Bool, true, false, if◌then◌else◌, ◌<◌, ◌≤◌, ◌+◌, ◌-◌, ◌⊎◌, inl, inr, List, Option, Some, None, All, IsNone, IsSomeAnd, IsTrue}
 use Rattle.std.proofs.Common.{length, take, drop, get_or, slice_get, refl, sym, subst, ap, ◌∙◌, arith}
 use Rattle.std.proofs.lemmas.Bool.Decides.{nat_tests}
 use Rattle.std.proofs.lemmas.List.{length-take-le, take_all}
 use Rattle.std.proofs.lemmas.List.Elements.{All-more}
-use Rattle.std.proofs.lemmas.Option.{slice_get-get_or, slice_get_within}
-use Rattle.std.proofs.lemmas.Grind.{common_steps}
-use Rattle.lexical_literal.specs.Additions.Longest.{IsCountedFront, IsMeasured}
+use Rattle.std.proofs.lemmas.Option.{slice_get-get_or}
+use Rattle.lexical_literal.specs.Additions.Longest.{IsCountedFront}
 use Rattle.lexical_literal.specs.Additions.Summary.{HasLengths, cuts_of}
 use Rattle.lexical_literal.specs.Additions.Token.{IsBestMade, IsBestOf, IsMade, IsOwn, IsPicked, NoOwn, better, goes_on, has_float, suffixed, whole}
 use Rattle.lexical_literal.specs.FormList.{FormList}
-use Rattle.lexical_literal.specs.Forms.{HasFront, IsFirst, NoForm, ReadsForm}
-use Rattle.lexical_literal.specs.Front.{IsValidUpTo, NoFront, NoLiteral, ReadsFront}
+use Rattle.lexical_literal.specs.Forms.{IsFirst, NoForm, ReadsForm}
+use Rattle.lexical_literal.specs.Front.{IsValidUpTo, NoFront}
 use Rattle.lexical_literal.specs.Literal.{Literal, Reads, is_float}
 use Rattle.lexical_literal.specs.Notation.{Notation, notation_of}
 use Rattle.lexical_literal.specs.Read.{Read}
 use Rattle.lexical_literal.specs.Cause.{is_in}
 use Rattle.lexical_literal.specs.Suffix.{is_digit, is_stopped, stop_end, suffix_size}
-use Rattle.lexical_literal.specs.Token.{AllShorter, HasNone, IsAhead, IsChosen, IsFollowed, IsOver, IsRefused, IsToken, IsUnknown, IsBest, IsCandidate, NoCandidate, NoLonger, gives_back, is_shorter}
+use Rattle.lexical_literal.specs.Token.{AllShorter, HasNone, IsAhead, IsChosen, IsFollowed, IsOver, IsRefused, IsToken, IsUnknown, IsCandidate, NoCandidate, NoLonger, gives_back, is_shorter}
 use Rattle.lexical_literal.specs.declared.list.Form.{Form}
 use Rattle.lexical_literal.specs.declared.list.Tokens.{Tokens}
 use Rattle.lexical_literal.specs.declared.read.Found.{Found}
@@ -129,7 +128,7 @@ module _ (back : Bool) (m : Notation) (text : List ℕ) (found : Found) (is : Is
           let size : g.size ≡ length shorter = grind (arith, nat_tests) in
           let front = some g refl in
           let part : take g.size text ≡ take g.size shorter =
-              ap (λ n. take n text) size ∙ all_of ∙ sym (take_all g.size shorter (omega (arith, size))) in
+          ap (λ n. take n text) size ∙ all_of ∙ sym (take_all g.size shorter (omega (arith, size))) in
           subst (IsOwn back m text found.size) is_g (record {
             within = let within = is.reads.within in omega (arith, size, size_of, within);
             size = size ∙ size_is;
@@ -165,7 +164,7 @@ module _ (back needs : Bool) (text : List ℕ) (form : Form) (found : Found) (is
   pub without_own : NoOwn back (notation_of form.syntax) text found.size → NoCandidate back needs text form
   without_own none s e other =
       let size : s ≡ (if gives_back back (notation_of form.syntax) text found.size then found.size - 1 else found.size) =
-          other.size_is ∙ ap (λ n. if gives_back back (notation_of form.syntax) text n then n - 1 else n) (longest_is s e other) in
+      other.size_is ∙ ap (λ n. if gives_back back (notation_of form.syntax) text n then n - 1 else n) (longest_is s e other) in
       none other.literal (subst (λ n. Reads (notation_of form.syntax) other.literal (take n text)) size other.reads)
 
   module _ (own : Found) (owned : IsOwn back (notation_of form.syntax) text found.size own) where
@@ -190,11 +189,13 @@ module _ (back needs : Bool) (text : List ℕ) (form : Form) (found : Found) (is
     end_of : (s e : ℕ) → IsCandidate back needs text form s e → (s ≡ own.size) × (e ≡ own.size + more)
     end_of s e other =
         let size : s ≡ own.size = other.size_is
-            ∙ ap (λ n. if gives_back back (notation_of form.syntax) text n then n - 1 else n) (longest_is s e other) ∙ sym owned.size in
+        ∙ ap (λ n. if gives_back back (notation_of form.syntax) text n then n - 1 else n) (longest_is s e other) ∙ sym owned.size in
         let read = subst (λ n. Reads (notation_of form.syntax) other.literal (take n text)) size other.reads in
-        let float = sym (float_is other.literal own.counts (owned.measured.counted other.literal read)) in
-        (size, other.end_is ∙ ap (λ n. n + suffix_size form.suffixes (is_float other.literal) (drop n text)) size
-            ∙ ap (λ b. own.size + suffix_size form.suffixes b (drop own.size text)) float)
+        let float = sym (float_is other.literal own.counts (owned.measured.counted other.literal read)) in (
+          size,
+          other.end_is ∙ ap (λ n. n + suffix_size form.suffixes (is_float other.literal) (drop n text)) size
+              ∙ ap (λ b. own.size + suffix_size form.suffixes b (drop own.size text)) float,
+        )
 
     pub with_suffix : (candidate : Option Candidate) → candidate ≡ suffixed form.suffixes needs text own
         → ((c : Candidate) → candidate ≡ Some c → c.end ≤ length text) → (c : Candidate) → candidate ≡ Some c → IsMade back needs text form c

@@ -241,7 +241,10 @@ impl Spot {
         ensures { result ≡ refusal_of (notation_of (grammar_at self)) self }
     {
         let Spot {
-            byte, tail, marks, ..
+            byte,
+            tail,
+            marks,
+            ..
         } = self;
         let grammar = self.grammar();
         let stop = self.stop();

@@ -14,7 +14,7 @@ mod plain;
 pub mod read;
 mod span;
 pub mod specials;
-pub mod suffix;
 mod steps;
+pub mod suffix;
 pub mod syntax;
 pub mod token;

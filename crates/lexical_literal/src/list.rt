@@ -92,10 +92,7 @@ impl Tokens {
     /// Returns the rules with `forms` that need a suffix, such as `08f` in Java, and with words that may follow a number
     /// directly, such as `else` in `1else` in Python.
     #[must_use]
-    pub const fn new(
-        forms: &'static [Form],
-        following: &'static [&'static [u8]],
-    ) -> Tokens
+    pub const fn new(forms: &'static [Form], following: &'static [&'static [u8]]) -> Tokens
         ensures { result ≡ record { forms = forms.entry; following = following.entry; gives_points_back = false } }
     {
         Tokens {
@@ -388,7 +385,11 @@ const fn longer(
 
 // Returns which of two forms goes further, the first of equals.
 #[inline(always)]
-pub(crate) const fn further(furthest: Option<(usize, At)>, form: usize, stop: At) -> Option<(usize, At)>
+pub(crate) const fn further(
+    furthest: Option<(usize, At)>,
+    form: usize,
+    stop: At,
+) -> Option<(usize, At)>
     ensures { result ≡ further furthest form stop }
 {
     match furthest {

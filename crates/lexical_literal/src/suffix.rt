@@ -21,11 +21,7 @@ impl Stop {
     /// Returns a stop: a number that ends in one of the bytes `last`, and is followed by one of the bytes `next`, and then by
     /// one of the bytes `second`, is no token.
     #[must_use]
-    pub const fn new(
-        last: &'static [u8],
-        next: &'static [u8],
-        second: &'static [u8],
-    ) -> Stop
+    pub const fn new(last: &'static [u8], next: &'static [u8], second: &'static [u8]) -> Stop
         ensures last { result.last ≡ last.entry }
         ensures next { result.next ≡ next.entry }
         ensures second { result.second ≡ second.entry }
@@ -111,7 +107,11 @@ impl Suffixes {
 
 // Returns the length of the longest suffix with which `text` begins, or 0 if there is none.
 #[inline(always)]
-pub(crate) const fn suffix_size(suffixes: Option<&'static Suffixes>, float: bool, text: &[u8]) -> usize
+pub(crate) const fn suffix_size(
+    suffixes: Option<&'static Suffixes>,
+    float: bool,
+    text: &[u8],
+) -> usize
     ensures size { result ≡ suffix_size suffixes.entry float text.now }
     ensures within { result ≤ length text.now }
 {
@@ -130,11 +130,10 @@ pub(crate) const fn is_stopped(suffixes: Option<&'static Suffixes>, text: &[u8],
         None => false,
         Some(byte) => is_word_byte(byte),
     };
-    word
-        || match suffixes {
-            None => false,
-            Some(suffixes) => is_one_met(suffixes.stops, text, end),
-        }
+    word || match suffixes {
+        None => false,
+        Some(suffixes) => is_one_met(suffixes.stops, text, end),
+    }
 }
 
 // Returns whether one of the stops is behind the number that ends at `end`.

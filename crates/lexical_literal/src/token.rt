@@ -87,7 +87,8 @@ impl<'a> Forms<'a> {
         let back = tokens.gives_points_back;
         let plain = scan(self.forms, back, false, text);
         let suffixed = scan(tokens.forms, back, true, text);
-        let Some((form, it, candidate)) = self.choose(tokens, text, plain.best, suffixed.best) else {
+        let Some((form, it, candidate)) = self.choose(tokens, text, plain.best, suffixed.best)
+        else {
             return Err(self.fail(tokens, text, plain.furthest));
         };
         let Candidate { size, end, .. } = candidate;

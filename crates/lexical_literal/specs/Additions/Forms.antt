@@ -2,7 +2,7 @@
 use Rattle.std.specs.Prelude.{ℕ, if◌then◌else◌, nat_lt, IfErr, IfOk, IsErr, IsSomeAnd, List, Option, Some, None, Result, All, slice_get}
 use Rattle.lexical_literal.specs.Additions.Longest.{IsCountedFront, IsStopped}
 use Rattle.lexical_literal.specs.Forms.{HasFront, IsFirst, IsFormError, IsGreatest, NoForm}
-use Rattle.lexical_literal.specs.Front.{IsValidUpTo, NoFront, NoLiteral}
+use Rattle.lexical_literal.specs.Front.{IsValidUpTo, NoFront}
 use Rattle.lexical_literal.specs.Read.{Read}
 use Rattle.lexical_literal.specs.Notation.{notation_of}
 use Rattle.lexical_literal.specs.declared.list.FormError.{FormError}

@@ -1,5 +1,5 @@
 -- What one pass over several forms finds of a token.
-use Rattle.std.specs.Prelude.{ℕ, ◌≡◌, ◌+◌, ◌-◌, ◌==◌, ◌&&◌, ◌||◌, not, Bool, if◌then◌else◌, true, false, nat_lt, List, Option, Some, None, All, IsSomeAnd}
+use Rattle.std.specs.Prelude.{ℕ, ◌≡◌, ◌+◌, ◌-◌, ◌==◌, ◌&&◌, ◌||◌, not, Bool, if◌then◌else◌, nat_lt, List, Option, Some, None, All, IsSomeAnd}
 use Rattle.std.specs.Prelude.{◌≤◌, drop, get_or, length, slice_get, take}
 use Rattle.std.specs.Borrow.{Bor}
 use Rattle.lexical_literal.specs.Additions.Longest.{IsMeasured}

@@ -10,9 +10,11 @@ use Rattle.lexical_literal.proofs.token.is_one_ahead.Goals as goal
 pub returns-then-goes_on-clause-ahead : goal.returns-then-goes_on-clause-ahead
 returns-then-goes_on-clause-ahead c _ =
     let it = c.index-forms-form.result in
-    let P = IsAhead c.args.back c.args.text.now c.args.end in
-    (c.loop-form.form, at_index P c.args.forms.now c.args.forms.now it c.loop-form.form refl c.loop-form-test.true (subst P c.index-forms-form.is
-    (ahead c.args.back c.args.text.now c.args.end it c.front.result.0.size c.front.ensures.reached.valid (sym c.if-goes_on.ensures))))
+    let P = IsAhead c.args.back c.args.text.now c.args.end in (
+      c.loop-form.form,
+      at_index P c.args.forms.now c.args.forms.now it c.loop-form.form refl c.loop-form-test.true (subst P c.index-forms-form.is
+          (ahead c.args.back c.args.text.now c.args.end it c.front.result.0.size c.front.ensures.reached.valid (sym c.if-goes_on.ensures))),
+    )
 
 pub loop-form-preserved : goal.loop-form-preserved
 loop-form-preserved c =

@@ -1,5 +1,5 @@
 -- The front has the parts that were counted.
-use Rattle.std.proofs.Common.{sym, subst, take}
+use Rattle.std.proofs.Common.{sym, subst}
 use Rattle.lexical_literal.specs.Additions.Longest.{IsMeasured}
 use Rattle.lexical_literal.specs.Forms.{ReadsForm}
 use Rattle.lexical_literal.specs.Notation.{notation_of}

@@ -1,5 +1,5 @@
 -- The best candidate, and the form that goes furthest.
-use Rattle.std.proofs.Common.{ℕ, Some, ◌≡◌, ◌+◌, sym, subst}
+use Rattle.std.proofs.Common.{Some, ◌≡◌, ◌+◌, sym, subst}
 use Rattle.lexical_literal.specs.Additions.Longest.{IsStopped}
 use Rattle.lexical_literal.specs.Additions.Token.{IsMade}
 use Rattle.lexical_literal.specs.Notation.{notation_of}
@@ -27,6 +27,7 @@ loop-form-preserved c =
           (λ none. subst (NoCandidate c.args.back c.args.needs c.args.text.now) c.index-forms-form.is (c.candidate-candidate.ensures.none (is_none _ none)))
           c.loop-form.best c.loop-form.invariant.best);
     }
+
 pub returns-clause-furthest : goal.returns-clause-furthest
 returns-clause-furthest c some = furthest_is c.args.forms.now c.args.text.now c.loop-form.form c.loop-form-test.false some c.loop-form.furthest
     c.loop-form.invariant.furthest

@@ -15,7 +15,7 @@ returns-in-Some-plain-clause-some c x same =
     let i = c.in-Some-plain.form in let best = c.in-Some-plain.best in
     let is = subst (IsBestOf t.gives_points_back false list.forms text) c.in-Some-plain.is c.requires.plain in
     let at = form_at (λ form. IsMade t.gives_points_back false text form best) list.forms c.self.inside.forms.now c.index-self-form.result i
-        (ap (λ (l : FormList). l.forms) c.self.view_is) is.made in
+    (ap (λ (l : FormList). l.forms) c.self.view_is) is.made in
     for_some (λ (x : ℕ × Bor Form × Candidate). IsPicked list t text x.0 x.1.now x.2) _
     (plain_alone list t text i (get_or c.self.inside.forms.now i c.index-self-form.result) best at.0 is
     (subst (IsBestOf t.gives_points_back true t.forms.now text) c.in-None.is c.requires.suffixed)) x same
@@ -38,7 +38,7 @@ returns-then-is_shorter-clause-some c x same =
     let j = c.in-Some.behind in let other = c.in-Some.other in
     let is = subst (IsBestOf t.gives_points_back true t.forms.now text) c.in-Some.is c.requires.suffixed in
     let at = form_at (λ form. IsMade t.gives_points_back true text form other) t.forms.now t.forms.now
-        c.index-tokens-behind-then-is_shorter.result j refl is.made in
+    c.index-tokens-behind-then-is_shorter.result j refl is.made in
     let form = get_or t.forms.now j c.index-tokens-behind-then-is_shorter.result in
     for_some (λ (x : ℕ × Bor Form × Candidate). IsPicked list t text x.0 x.1.now x.2) _
     (subst (λ fs. IsPicked list t text (length fs + j) form other) (sym (ap (λ (l : FormList). l.forms) c.self.view_is))
@@ -51,7 +51,7 @@ returns-else-is_shorter-clause-some c x same =
     let i = c.in-Some-plain-2.form in let best = c.in-Some-plain-2.best in
     let is = subst (IsBestOf t.gives_points_back false list.forms text) c.in-Some-plain-2.is c.requires.plain in
     let at = form_at (λ form. IsMade t.gives_points_back false text form best) list.forms c.self.inside.forms.now
-        c.index-self-form-else-is_shorter.result i (ap (λ (l : FormList). l.forms) c.self.view_is) is.made in
+    c.index-self-form-else-is_shorter.result i (ap (λ (l : FormList). l.forms) c.self.view_is) is.made in
     for_some (λ (x : ℕ × Bor Form × Candidate). IsPicked list t text x.0 x.1.now x.2) _
     (plain_first list t text i (get_or c.self.inside.forms.now i c.index-self-form-else-is_shorter.result) best at.0 is c.in-Some.behind c.in-Some.other
     (subst (IsBestOf t.gives_points_back true t.forms.now text) c.in-Some.is c.requires.suffixed) (sym c.if-is_shorter.ensures)) x same

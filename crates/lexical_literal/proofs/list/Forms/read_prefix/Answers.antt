@@ -25,8 +25,15 @@ returns-in-Ok c =
     let is = front_read (get_or c.as_slice.result.now c.in-Ok.form c.index-as_slice-form.result).syntax text c.split_at.result.0.now
     found.size found.counts c.split_at.ensures.front form.1 read c.summed-literal.ensures in
     record {
-      found = (found.size, (c.in-Ok.ensures.longest, subst (λ o. IsSomeAnd o (λ g. (read.format ≡ g.syntax.word)
-          × ReadsFront (notation_of g.syntax) read.literal text found.size)) (sym form.0) (is.0, is.1)), c.split_at.ensures.back);
+      found = (
+        found.size,
+        (
+          c.in-Ok.ensures.longest,
+          subst (λ o. IsSomeAnd o (λ g. (read.format ≡ g.syntax.word)
+              × ReadsFront (notation_of g.syntax) read.literal text found.size)) (sym form.0) (is.0, is.1),
+        ),
+        c.split_at.ensures.back,
+      );
       none = λ err. absurd (false≢true err);
       error = tt;
     }

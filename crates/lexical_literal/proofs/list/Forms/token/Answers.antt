@@ -1,5 +1,5 @@
 -- The token that was chosen, or why there is none.
-use Rattle.std.proofs.Common.{ℕ, ◌≡◌, ◌∙◌, All, IsSomeAnd, Ok, Err, true, false, drop, inl, inr, slice_get, ap, refl, sym, subst}
+use Rattle.std.proofs.Common.{ℕ, ◌≡◌, ◌∙◌, All, IsSomeAnd, Ok, Err, true, false, inl, inr, slice_get, ap, refl, sym, subst}
 use Rattle.lexical_literal.specs.Additions.Token.{IsBestOf}
 use Rattle.lexical_literal.specs.FormList.{FormList}
 use Rattle.lexical_literal.specs.Suffix.{is_followed}
@@ -54,7 +54,7 @@ returns-then-not-is_stopped c =
     let picked = c.in-Some-choose.ensures.some _ refl in
     let rules = sym c.in-Some.is ∙ ap (λ (l : FormList). l.tokens) c.self.view_is in
     let over = subst (λ (l : FormList). All (λ form. IsAhead t.gives_points_back text best.end form → ⊥) l.forms) c.self.view_is
-        (c.if-is_one_ahead.ensures.over refl) in
+    (c.if-is_one_ahead.ensures.over refl) in
     let made = c.made-then-not-is_stopped in
     subst (λ o. IsReadByTokens list o text (Ok made.result)) rules
     (token_is list t text c.in-Some-choose.form form best picked made.result made.ensures.form made.ensures.literal made.ensures.suffix
@@ -67,7 +67,7 @@ fail-requires-then-has_digit-clause-refused c =
     let picked = c.in-Some-choose.ensures.some _ refl in
     let apart = not_both _ (subst (λ r. is_followed t.following.now r ≡ false) c.split_at.ensures.back (sym c.if-is_followed.ensures)) in
     let over = subst (λ (l : FormList). All (λ form. IsAhead t.gives_points_back text best.end form → ⊥) l.forms) c.self.view_is
-        (c.if-is_one_ahead.ensures.over refl) in
+    (c.if-is_one_ahead.ensures.over refl) in
     before_digit list t text c.in-Some-choose.form form best picked apart over (sym c.if-not-is_stopped.ensures) (sym c.if-has_digit.ensures)
 
 pub returns : goal.returns
@@ -78,7 +78,7 @@ returns c =
     let rules = sym c.in-Some.is ∙ ap (λ (l : FormList). l.tokens) c.self.view_is in
     let apart = not_both _ (subst (λ r. is_followed t.following.now r ≡ false) c.split_at.ensures.back (sym c.if-is_followed.ensures)) in
     let over = subst (λ (l : FormList). All (λ form. IsAhead t.gives_points_back text best.end form → ⊥) l.forms) c.self.view_is
-        (c.if-is_one_ahead.ensures.over refl) in
+    (c.if-is_one_ahead.ensures.over refl) in
     subst (λ o. IsReadByTokens list o text (Err (errors.UnknownSuffix c.in-Some-choose.form best.size c.stop_end-end.result))) rules
     (subst (IsUnknown list t text c.in-Some-choose.form best.size) (sym c.stop_end-end.ensures)
     (unknown list t text c.in-Some-choose.form form best picked apart over (sym c.if-not-is_stopped.ensures) (sym c.if-has_digit.ensures)))
