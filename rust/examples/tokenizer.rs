@@ -4,7 +4,7 @@
 //!     cargo run --example tokenizer -- 'x1 = 0xFF + 1_000'
 
 use core::num::NonZeroU8;
-use peltzivar::literal::{Conditions, Form, FormError, Forms, Syntax};
+use peltzivar::literal::{Conditions, Form, Forms, Syntax, TokenError, Tokens};
 use peltzivar::NumberFormatBuilder;
 
 const PLAIN: NumberFormatBuilder = NumberFormatBuilder::new()
@@ -18,26 +18,19 @@ const PREFIXED: NumberFormatBuilder = PLAIN.mantissa_radix(16).base_prefix(NonZe
 const HEXADECIMAL: Syntax = Syntax::integers(PREFIXED.build_format_or_panic())
     .with_conditions_or_panic(Conditions::NONE.required_base_prefix(true));
 
-static NUMBERS: Forms = Forms::new_or_panic(&[Form::new("number", DECIMAL), Form::new("integer", HEXADECIMAL)]);
-
-/// Returns the kind and the length of the number that `text` begins with. Letters, digits, `_` and `.` behind a number
-/// belong to it.
-fn number(text: &[u8]) -> Result<(&str, usize), FormError> {
-    let (_, rest) = NUMBERS.read_prefix(text)?;
-    let is_end = |it: &u8| it.is_ascii() && !it.is_ascii_alphanumeric() && !b"_.".contains(it);
-    let more = rest.iter().position(is_end).unwrap_or(rest.len());
-    let all = &text[..text.len() - rest.len() + more];
-    let form = NUMBERS.read(all)?.form();
-    Ok((if form == Some(1) { "integer" } else { "number" }, all.len()))
-}
+static NUMBERS: Forms = Forms::new_or_panic(&[Form::new("number", DECIMAL), Form::new("integer", HEXADECIMAL)])
+    .with_tokens(const { &Tokens::new(&[], &[]) });
 
 /// Returns the kind and the length of the token that `text` begins with.
-fn token(text: &str) -> Result<(&str, usize), FormError> {
+fn token(text: &str) -> Result<(&str, usize), TokenError> {
     let name = text.find(|it: char| !it.is_alphanumeric() && it != '_');
-    match text.as_bytes() {
-        text @ [b'0'..=b'9', ..] => number(text),
-        _ if name == Some(0) => Ok(("operator", text.chars().map(char::len_utf8).next().unwrap())),
-        _ => Ok(("name", name.unwrap_or(text.len()))),
+    if text.starts_with(|it: char| it.is_ascii_digit()) {
+        let number = NUMBERS.token(text)?;
+        Ok((NUMBERS[number.form].name(), text.len() - number.rest.len()))
+    } else if name == Some(0) {
+        Ok(("operator", text.chars().map(char::len_utf8).next().unwrap()))
+    } else {
+        Ok(("name", name.unwrap_or(text.len())))
     }
 }
 

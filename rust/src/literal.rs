@@ -79,9 +79,14 @@ mod span;
 mod specials;
 #[allow(clippy::redundant_pattern_matching, reason = "as it is proved")]
 mod steps;
+#[allow(clippy::len_zero, reason = "as it is proved")]
+mod suffix;
 #[allow(clippy::redundant_pattern_matching, reason = "as it is proved")]
 mod syntax;
 mod text;
+#[allow(clippy::implicit_saturating_sub, clippy::manual_is_ascii_check, reason = "as it is proved")]
+mod token;
+mod tokens;
 mod value;
 mod writer;
 
@@ -107,7 +112,7 @@ pub use language::{Language, LanguageError};
 /// assert_eq!((error.form, error.name, error.to_string()), (1, "octal", "unexpected character '8'".into()));
 /// ```
 pub use list::Forms;
-pub use list::{Form, FormError, Number};
+pub use list::{Form, FormError, Number, Tokens};
 /// A part that is absent has no bytes. All bytes are ASCII. Two literals are equal if they have the same format, up to
 /// its [normal form][crate::Format::normal_form], and the same parts.
 ///
@@ -131,6 +136,8 @@ pub use list::{Form, FormError, Number};
 pub use literal::Literal;
 pub use number::Digits;
 pub use specials::{Sign, Special, Specials, Spelling};
+pub use suffix::{Stop, Suffixes};
 pub use syntax::{Condition, Conditions, ConditionsError, ConditionsErrorKind, Syntax};
+pub use token::{Token, TokenError};
 pub use value::{FromLiteral, ParseError, Plain, Target, ValueError, ValueErrorKind};
 pub use writer::{ExponentStyle, Grouping, Style, WriteError, WriteFloat, WriteInteger, Written};

@@ -98,7 +98,7 @@ REPLACED = [
 ]
 
 # Files in which each function is const in plain Rust. Rattle's `split_at` is not, nor is what calls it.
-CONST = ("lexical_literal/src/read.rt", "list.rt", "span.rt", "lexical_literal/src/literal.rt")
+CONST = ("lexical_literal/src/read.rt", "list.rt", "span.rt", "token.rt", "lexical_literal/src/literal.rt")
 
 # Texts that plain Rust replaces in every file, wherever they occur.
 EVERYWHERE = [
@@ -110,7 +110,7 @@ EVERYWHERE = [
 # Types that may grow. In plain Rust, a match outside the crate has to have an arm for what they lack today.
 GROWS = {
     "enum": "ArgumentKind Byte Cause Class Condition ConditionsErrorKind Edit EditErrorKind Error ExponentStyle FlagSetter Grouping Note Part Place Radixes ReadErrorKind Role Rule "
-    "Setter ValueErrorKind WriteError",
+    "Setter TokenError ValueErrorKind WriteError",
     "struct": "ConditionsError FormError NamedByte Separators Style",
 }
 for kind, types in GROWS.items():
@@ -138,7 +138,12 @@ REPLACED += [
     ("short_text.rt", "#[derive(Drop)]\n#[doc(hidden)]", "#[derive(Clone,\nCopy)]"),
     ("big.rt", "#[derive(Drop)]\n", ""),
     ("long.rt", "#[derive(Drop)]\n", ""),
-    ("list.rt", "#[derive(Clone, Copy)]\npub struct", "#[derive(Debug, Clone, Copy, PartialEq, Eq, Hash)]\npub struct"),
+    ("list.rt", "#[derive(Clone, Copy)]\npub struct Form ", "#[derive(Debug, Clone, Copy, PartialEq, Eq, Hash)]\npub struct Form "),
+    ("list.rt", "#[derive(Clone, Copy)]\npub struct Tokens ", "#[derive(Debug, Clone, Copy, PartialEq, Eq, Hash)]\npub struct Tokens "),
+    ("suffix.rt", "#[derive(Clone, Copy)]\npub struct Stop ", "#[derive(Debug, Clone, Copy, PartialEq, Eq, Hash)]\npub struct Stop "),
+    ("suffix.rt", "#[derive(Clone, Copy)]\npub struct Suffixes ", "#[derive(Debug, Clone, Copy, PartialEq, Eq, Hash)]\npub struct Suffixes "),
+    ("token.rt", "#[derive(Drop)]", "#[derive(Debug, Clone, Copy, PartialEq, Eq, Hash)] #[non_exhaustive]"),
+    ("token.rt", "fn token<'t>(&self", "fn token_bytes<'t>(&self"),
     ("list.rt", "#[derive(Drop)]\npub struct", "#[derive(Debug, Clone, Copy, PartialEq, Eq)]\npub struct"),
     ("list.rt", "#[derive(Drop)]\npub enum", "#[derive(Debug, Clone, Copy, PartialEq, Eq, Hash)]\npub enum"),
     # Calls with these names are written by hand: they take a text or bytes.

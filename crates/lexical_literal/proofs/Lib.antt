@@ -30,6 +30,7 @@ mod PartOfLemmas
 mod OneCauseLemmas
 mod ExcludeLemmas
 mod FormLemmas
+mod TokenLemmas
 mod GroupLemmas
 mod SizeLemmas
 mod FitLemmas

@@ -3,6 +3,7 @@ pub mod Plain
 pub mod Read
 pub mod Longest
 pub mod Forms
+pub mod Token
 pub mod Causes
 pub mod Sizes
 pub mod Explained

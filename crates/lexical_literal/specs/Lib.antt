@@ -8,7 +8,9 @@ pub mod Parts
 pub mod Readings
 pub mod Syntax
 pub mod Specials
+pub mod Suffix
 pub mod Cause
 pub mod FormList
 pub mod Forms
+pub mod Token
 pub mod Additions

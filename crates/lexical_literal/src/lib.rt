@@ -15,4 +15,6 @@ pub mod read;
 mod span;
 pub mod specials;
 mod steps;
+pub mod suffix;
 pub mod syntax;
+pub mod token;

@@ -1,6 +1,6 @@
 //! Numbers that have several forms, such as `10`, `0x1F` and `0b1`.
 
-ghost use Rattle.std.specs.Prelude.{◌≡◌, ◌<◌, IsSomeAnd, IsTrue, None, SomeIff, length, slice_get};
+ghost use Rattle.std.specs.Prelude.{◌≡◌, ◌<◌, IsSomeAnd, IsTrue, None, Some, SomeIff, false, length, slice_get};
 ghost use Rattle.lexical_literal.specs.Additions.Forms.{IsFoundForm, IsFoundFrontForm, IsFurthestForm, PlaysNoRole, further, longer, sign_size};
 ghost use Rattle.lexical_literal.specs.Additions.Longest.{IsStopped};
 ghost use Rattle.lexical_literal.specs.Forms.{IsErrorOfForm, IsFormError, IsFrontByForms, IsReadByForms, NoForm, special_by};
@@ -13,25 +13,54 @@ use crate::plain::At;
 use crate::read::Found;
 use crate::specials::{Special, Specials};
 use crate::steps::{is_digit, role_at};
+use crate::suffix::Suffixes;
 use crate::syntax::{Condition, Grammar, Syntax};
 use lexical_util::format::Part;
 use std::marker::Model;
 
-/// A form of numbers: its name, such as `hexadecimal`, and its syntax.
+/// A form of numbers: its name, such as `hexadecimal`, its syntax, and the suffixes of its tokens.
 #[derive(Clone, Copy)]
 pub struct Form {
-    name: &'static str,
-    syntax: Syntax,
+    pub(crate) name: &'static str,
+    pub(crate) syntax: Syntax,
+    pub(crate) suffixes: Option<&'static Suffixes>,
 }
 
 impl Form {
-    /// Returns the form with a name, which may be empty, and a syntax.
+    /// Returns the form with a name, which may be empty, and a syntax, without suffixes.
     #[must_use]
     pub const fn new(name: &'static str, syntax: Syntax) -> Form
         ensures name { result.name.now ≡ name.now }
         ensures syntax { result.syntax ≡ syntax }
+        ensures suffixes { result.suffixes ≡ None }
     {
-        Form { name, syntax }
+        Form {
+            name,
+            syntax,
+            suffixes: None,
+        }
+    }
+
+    /// Returns the same form with the suffixes that its tokens may have.
+    #[must_use]
+    pub const fn with_suffixes(&self, suffixes: &'static Suffixes) -> Form
+        ensures name { result.name.now ≡ self.now.name.now }
+        ensures syntax { result.syntax ≡ self.now.syntax }
+        ensures suffixes { result.suffixes ≡ Some suffixes.entry }
+    {
+        Form {
+            name: self.name,
+            syntax: self.syntax,
+            suffixes: Some(suffixes),
+        }
+    }
+
+    /// Returns the suffixes, if there are any.
+    #[must_use]
+    pub const fn suffixes(&self) -> Option<&'static Suffixes>
+        ensures { result ≡ self.now.suffixes }
+    {
+        self.suffixes
     }
 
     /// Returns the name.
@@ -51,12 +80,49 @@ impl Form {
     }
 }
 
-/// The forms of numbers, at least one, and the spellings of NaN and infinity. The first form of which a text is a literal decides
-/// what number it is.
+/// How numbers stand in the middle of a text: forms that need a suffix, which no call but [`Forms::token`] takes, words that may
+/// follow a number directly, and whether a point at the end of a number may belong to what follows.
+#[derive(Clone, Copy)]
+pub struct Tokens {
+    pub(crate) forms: &'static [Form],
+    pub(crate) following: &'static [&'static [u8]],
+    pub(crate) gives_points_back: bool,
+}
+
+impl Tokens {
+    /// Returns the rules with `forms` that need a suffix, such as `08f` in Java, and with words that may follow a number
+    /// directly, such as `else` in `1else` in Python.
+    #[must_use]
+    pub const fn new(forms: &'static [Form], following: &'static [&'static [u8]]) -> Tokens
+        ensures { result ≡ record { forms = forms.entry; following = following.entry; gives_points_back = false } }
+    {
+        Tokens {
+            forms,
+            following,
+            gives_points_back: false,
+        }
+    }
+
+    /// Sets whether a point at the end of a number is none of its bytes if another point or a word follows, as in `1..2` and
+    /// `1.max(2)`.
+    #[must_use]
+    pub const fn gives_points_back(self, gives: bool) -> Tokens
+        ensures { result ≡ record self { gives_points_back = gives } }
+    {
+        Tokens {
+            gives_points_back: gives,
+            ..self
+        }
+    }
+}
+
+/// The forms of numbers, at least one, the spellings of NaN and infinity, and how tokens are read. The first form of which a text
+/// is a literal decides what number it is.
 #[derive(Drop)]
 pub struct Forms<'a> {
-    forms: &'a [Form],
+    pub(crate) forms: &'a [Form],
     specials: Specials<'a>,
+    pub(crate) tokens: Option<&'a Tokens>,
 }
 
 impl<'a> Model for Forms<'a> {
@@ -65,7 +131,7 @@ impl<'a> Model for Forms<'a> {
 
     ghost Value = { FormList };
 
-    ghost view = { λ it. record { forms = it.forms.now; specials = it.specials } };
+    ghost view = { λ it. record { forms = it.forms.now; specials = it.specials; tokens = it.tokens } };
 
     ghost invariant = { λ it. 0 < length it.forms.now };
 }
@@ -103,6 +169,7 @@ impl<'a> Forms<'a> {
         ensures { SomeIff result (0 < length forms.now) (record {
           forms = forms.now;
           specials = record { nan = None; inf = None; infinity = None };
+          tokens = None;
         }) }
     {
         if forms.len() == 0 {
@@ -113,7 +180,11 @@ impl<'a> Forms<'a> {
             inf: None,
             infinity: None,
         };
-        Some(Forms { forms, specials })
+        Some(Forms {
+            forms,
+            specials,
+            tokens: None,
+        })
     }
 
     /// Returns the same forms with these special values. The format of the first form decides what flags say of them.
@@ -124,6 +195,21 @@ impl<'a> Forms<'a> {
         Forms {
             forms: self.forms,
             specials,
+            tokens: self.tokens,
+        }
+    }
+
+    /// Returns the same forms with rules for tokens, without which there are none.
+    #[must_use]
+    pub const fn with_tokens(self, tokens: &'a Tokens) -> Forms<'a>
+        ensures forms { result.forms ≡ self.entry.forms }
+        ensures specials { result.specials ≡ self.entry.specials }
+        ensures tokens { result.tokens ≡ Some tokens.entry }
+    {
+        Forms {
+            forms: self.forms,
+            specials: self.specials,
+            tokens: Some(tokens),
         }
     }
 
@@ -191,7 +277,7 @@ impl<'a> Forms<'a> {
 
     // Returns the index of the first form of which `text` is a literal, and the literal. A form that the first bytes exclude is not
     // asked.
-    fn find<'t>(&self, text: &'t [u8]) -> Option<(usize, Literal<'t>)>
+    pub(crate) fn find<'t>(&self, text: &'t [u8]) -> Option<(usize, Literal<'t>)>
         ensures { IsFoundForm self.now.forms text.now result }
     {
         let mut form = 0;
@@ -213,7 +299,7 @@ impl<'a> Forms<'a> {
     }
 
     // Returns the form that goes furthest in `text`, the first of equals, and where it stops.
-    fn furthest(&self, text: &[u8]) -> Option<(usize, At)>
+    pub(crate) fn furthest(&self, text: &[u8]) -> Option<(usize, At)>
         ensures { IsFurthestForm self.now.forms text.now result }
     {
         let mut furthest = None;
@@ -249,7 +335,7 @@ impl<'a> Forms<'a> {
     // Returns why `text` is not a literal of the form that goes furthest, or, if the cause is a wrong byte, of the first that
     // goes as far and has another cause.
     #[cold]
-    fn refuse(&self, text: &[u8], furthest: Option<(usize, At)>) -> FormError
+    pub(crate) fn refuse(&self, text: &[u8], furthest: Option<(usize, At)>) -> FormError
         requires furthest { IsFurthestForm self.now.forms text.now furthest }
         requires none { NoForm self.now.forms text.now }
         ensures { IsFormError self.now.forms text.now result }
@@ -315,7 +401,11 @@ const fn longer(
 
 // Returns which of two forms goes further, the first of equals.
 #[inline(always)]
-const fn further(furthest: Option<(usize, At)>, form: usize, stop: At) -> Option<(usize, At)>
+pub(crate) const fn further(
+    furthest: Option<(usize, At)>,
+    form: usize,
+    stop: At,
+) -> Option<(usize, At)>
     ensures { result ≡ further furthest form stop }
 {
     match furthest {

@@ -325,7 +325,7 @@ const fn count_byte(counts: [usize; 9], part: Part, role: Role) -> [usize; 9]
 }
 
 // Returns the byte behind the first `size`, if there is one.
-const fn byte_at(text: &[u8], size: usize) -> Option<u8>
+pub(crate) const fn byte_at(text: &[u8], size: usize) -> Option<u8>
     ensures { result ≡ slice_get text.now size }
 {
     if size < text.len() {

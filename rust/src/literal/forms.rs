@@ -28,7 +28,8 @@ impl<'a> Forms<'a> {
         self.read_bytes(text.as_ref())
     }
 
-    /// Returns what [`read_prefix_bytes`][Self::read_prefix_bytes] returns, for a text or bytes.
+    /// Returns what [`read_prefix_bytes`][Self::read_prefix_bytes] returns, for a text or bytes. [`token`][Self::token] finds
+    /// where a number ends in source text.
     ///
     /// # Errors
     ///
@@ -48,7 +49,7 @@ impl<'a> Forms<'a> {
     }
 
     /// Returns the value of the longest literal of any form that `text` begins with, and the rest of `text`, as
-    /// [`read_prefix`][Self::read_prefix] finds them.
+    /// [`read_prefix`][Self::read_prefix] finds them. [`token`][Self::token] finds where a number ends in source text.
     ///
     /// # Errors
     ///

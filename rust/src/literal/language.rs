@@ -1,14 +1,14 @@
 //! Languages as constants, which are written by hand.
 
 use crate::edits::likeness;
-use crate::literal::{FormError, Forms, FromLiteral, Number, ParseError};
+use crate::literal::{FormError, Forms, FromLiteral, Number, ParseError, Token, TokenError};
 use core::{fmt, hash, str::FromStr};
 
 /// How a language, or a file, writes numbers: the syntax of each form, such as decimal and hexadecimal, and the spellings
 /// of NaN and infinity.
 ///
-/// A text is a number if it is one token of the language. So `-1` is one only where the grammar says so, and a suffix that
-/// names a type, as in `10u`, belongs to no number: [`read_prefix`][Self::read_prefix] returns `10` and `u`. Decimal is the
+/// A text is a number if it is one token of the language. So `-1` is one only where the grammar says so. A suffix that names
+/// a type, as in `10u`, belongs to no number, but to a [`token`][Self::token] in the middle of source text. Decimal is the
 /// first form. The documentation of each language names the section of the grammar that it follows, and what a format
 /// cannot express. `compare/languages` holds the languages against their tools. To copy a format, print its setter calls
 /// with [`source`][crate::source].
@@ -77,7 +77,8 @@ impl Language {
         self.forms().read_bytes(text)
     }
 
-    /// Returns the longest literal that `text` begins with, and the rest of `text`, as [`Forms::read_prefix`] does.
+    /// Returns the longest literal that `text` begins with, and the rest of `text`, as [`Forms::read_prefix`] does. In source
+    /// text, [`token`][Self::token] ends numbers as the language does: of `1..2` in RUST, this is `1.`, and the token `1`.
     ///
     /// # Errors
     ///
@@ -91,6 +92,16 @@ impl Language {
         self.forms().read_prefix_bytes(text)
     }
 
+    /// Returns the number that `text` begins with, with its suffix, and the rest, as [`Forms::token`] does. ADA, FORTRAN, NASM,
+    /// SQL and languages of data, such as JSON, have no tokens.
+    ///
+    /// # Errors
+    ///
+    /// If `text` does not begin with a token, or if the language has none, returns why.
+    pub fn token<'t>(&self, text: &'t (impl AsRef<[u8]> + ?Sized)) -> Result<Token<'t>, TokenError> {
+        self.forms().token(text)
+    }
+
     /// Returns the value of the number `text`, as [`Forms::parse`] does.
     ///
     /// # Errors
@@ -101,7 +112,7 @@ impl Language {
     }
 
     /// Returns the value of the longest literal that `text` begins with, and the rest of `text`, as
-    /// [`Forms::parse_prefix`] does.
+    /// [`Forms::parse_prefix`] does. In source text, [`token`][Self::token] ends numbers as the language does.
     ///
     /// # Errors
     ///
@@ -181,10 +192,11 @@ impl fmt::Debug for Language {
     }
 }
 
-/// Defines the constants: the documentation and the name of each, the name and the syntax of each form, and the special
-/// values, if there are any.
+/// Defines the constants: the documentation and the name of each, the name, the syntax and the suffixes of each form, the
+/// special values, if there are any, and rules for tokens, if the language has them.
 macro_rules! languages {
-    ($($(#[$about:meta])+ $name:ident = { $($form:literal: $syntax:expr),+ $(,)? } $(, $specials:expr)?;)+) => {
+    ($($(#[$about:meta])+ $name:ident = { $($form:literal: $syntax:expr $(=> $suffixes:expr)?),+ $(,)? } $(, $specials:expr)?
+        $(=> $tokens:expr)?;)+) => {
         impl Language {
             /// All languages, in alphabetical order.
             pub const ALL: &'static [Language] = &[$(Language::$name),+];
@@ -194,7 +206,9 @@ macro_rules! languages {
                 $(assert!($syntax.supports_floats());)+
                 Language(&Definition {
                     name: stringify!($name),
-                    forms: Forms::new_or_panic(const { &[$(Form::new($form, $syntax)),+] })$(.with_specials($specials))?,
+                    forms: Forms::new_or_panic(const { &[$(Form::new($form, $syntax)$(.with_suffixes(const { &$suffixes }))?),+] })
+                        $(.with_specials($specials))?
+                        $(.with_tokens(const { &$tokens }))?,
                 })
             };)+
         }

@@ -8,21 +8,35 @@ use crate::literal::plain::At;
 use crate::literal::read::Found;
 use crate::literal::specials::{Special, Specials};
 use crate::literal::steps::{is_digit, role_at};
+use crate::literal::suffix::Suffixes;
 use crate::literal::syntax::{Condition, Grammar, Syntax};
 use crate::word::Part;
 
-/// A form of numbers: its name, such as `hexadecimal`, and its syntax.
+/// A form of numbers: its name, such as `hexadecimal`, its syntax, and the suffixes of its tokens.
 #[derive(Debug, Clone, Copy, PartialEq, Eq, Hash)]
 pub struct Form {
-    name: &'static str,
-    syntax: Syntax,
+    pub(crate) name: &'static str,
+    pub(crate) syntax: Syntax,
+    pub(crate) suffixes: Option<&'static Suffixes>,
 }
 
 impl Form {
-    /// Returns the form with a name, which may be empty, and a syntax.
+    /// Returns the form with a name, which may be empty, and a syntax, without suffixes.
     #[must_use]
     pub const fn new(name: &'static str, syntax: Syntax) -> Form {
-        Form { name, syntax }
+        Form { name, syntax, suffixes: None }
+    }
+
+    /// Returns the same form with the suffixes that its tokens may have.
+    #[must_use]
+    pub const fn with_suffixes(&self, suffixes: &'static Suffixes) -> Form {
+        Form { name: self.name, syntax: self.syntax, suffixes: Some(suffixes) }
+    }
+
+    /// Returns the suffixes, if there are any.
+    #[must_use]
+    pub const fn suffixes(&self) -> Option<&'static Suffixes> {
+        self.suffixes
     }
 
     /// Returns the name.
@@ -38,12 +52,38 @@ impl Form {
     }
 }
 
-/// The forms of numbers, at least one, and the spellings of NaN and infinity. The first form of which a text is a literal decides
-/// what number it is.
+/// How numbers stand in the middle of a text: forms that need a suffix, which no call but [`Forms::token`] takes, words that may
+/// follow a number directly, and whether a point at the end of a number may belong to what follows.
+#[derive(Debug, Clone, Copy, PartialEq, Eq, Hash)]
+pub struct Tokens {
+    pub(crate) forms: &'static [Form],
+    pub(crate) following: &'static [&'static [u8]],
+    pub(crate) gives_points_back: bool,
+}
+
+impl Tokens {
+    /// Returns the rules with `forms` that need a suffix, such as `08f` in Java, and with words that may follow a number
+    /// directly, such as `else` in `1else` in Python.
+    #[must_use]
+    pub const fn new(forms: &'static [Form], following: &'static [&'static [u8]]) -> Tokens {
+        Tokens { forms, following, gives_points_back: false }
+    }
+
+    /// Sets whether a point at the end of a number is none of its bytes if another point or a word follows, as in `1..2` and
+    /// `1.max(2)`.
+    #[must_use]
+    pub const fn gives_points_back(self, gives: bool) -> Tokens {
+        Tokens { gives_points_back: gives, ..self }
+    }
+}
+
+/// The forms of numbers, at least one, the spellings of NaN and infinity, and how tokens are read. The first form of which a text
+/// is a literal decides what number it is.
 #[derive(Debug, Clone, Copy, PartialEq, Eq)]
 pub struct Forms<'a> {
-    forms: &'a [Form],
+    pub(crate) forms: &'a [Form],
     specials: Specials<'a>,
+    pub(crate) tokens: Option<&'a Tokens>,
 }
 
 /// A number that has one of several forms.
@@ -81,13 +121,19 @@ impl<'a> Forms<'a> {
             return None;
         }
         let specials = Specials { nan: None, inf: None, infinity: None };
-        Some(Forms { forms, specials })
+        Some(Forms { forms, specials, tokens: None })
     }
 
     /// Returns the same forms with these special values. The format of the first form decides what flags say of them.
     #[must_use]
     pub const fn with_specials(self, specials: Specials<'a>) -> Forms<'a> {
-        Forms { forms: self.forms, specials }
+        Forms { forms: self.forms, specials, tokens: self.tokens }
+    }
+
+    /// Returns the same forms with rules for tokens, without which there are none.
+    #[must_use]
+    pub const fn with_tokens(self, tokens: &'a Tokens) -> Forms<'a> {
+        Forms { forms: self.forms, specials: self.specials, tokens: Some(tokens) }
     }
 
     /// Returns the forms.
@@ -143,7 +189,7 @@ impl<'a> Forms<'a> {
 
     // Returns the index of the first form of which `text` is a literal, and the literal. A form that the first bytes exclude is not
     // asked.
-    const fn find<'t>(&self, text: &'t [u8]) -> Option<(usize, Literal<'t>)> {
+    pub(crate) const fn find<'t>(&self, text: &'t [u8]) -> Option<(usize, Literal<'t>)> {
         let mut form = 0;
         while form < self.forms.len() {
             let syntax = &self.forms[form].syntax;
@@ -163,7 +209,7 @@ impl<'a> Forms<'a> {
     }
 
     // Returns the form that goes furthest in `text`, the first of equals, and where it stops.
-    const fn furthest(&self, text: &[u8]) -> Option<(usize, At)> {
+    pub(crate) const fn furthest(&self, text: &[u8]) -> Option<(usize, At)> {
         let mut furthest = None;
         let mut form = 0;
         while form < self.forms.len() {
@@ -195,7 +241,7 @@ impl<'a> Forms<'a> {
     // Returns why `text` is not a literal of the form that goes furthest, or, if the cause is a wrong byte, of the first that
     // goes as far and has another cause.
     #[cold]
-    const fn refuse(&self, text: &[u8], furthest: Option<(usize, At)>) -> FormError {
+    pub(crate) const fn refuse(&self, text: &[u8], furthest: Option<(usize, At)>) -> FormError {
         let Some((first, stop)) = furthest else { unreachable!() };
         let error = self.error_at(text, first, stop);
         if !error.error.is_byte() {
@@ -237,7 +283,7 @@ const fn longer(longest: Option<(usize, Found)>, form: usize, found: Option<Foun
 
 // Returns which of two forms goes further, the first of equals.
 #[inline(always)]
-const fn further(furthest: Option<(usize, At)>, form: usize, stop: At) -> Option<(usize, At)> {
+pub(crate) const fn further(furthest: Option<(usize, At)>, form: usize, stop: At) -> Option<(usize, At)> {
     match furthest {
         Some((_, best)) if best.size >= stop.size => furthest,
         _ => Some((form, stop)),

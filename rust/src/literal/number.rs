@@ -116,7 +116,7 @@ impl Syntax {
     ///
     /// If `text` does not begin with a literal, returns the error of [`read`][Self::read]. For a wrong byte, the text
     /// before it may have an error that states what is missing, as above. A text such as `1e;` begins with the literal
-    /// `1`. To refuse it, the example `tokenizer` first finds the end of the token, and reads all of it.
+    /// `1`. [`Forms::token`][crate::literal::Forms::token] refuses it.
     pub fn read_prefix<'t>(&self, text: &'t (impl AsRef<[u8]> + ?Sized)) -> Result<(Literal<'t>, &'t [u8]), ReadError> {
         self.read_prefix_bytes(text.as_ref())
     }

@@ -239,7 +239,7 @@ const fn count_byte(counts: [usize; 9], part: Part, role: Role) -> [usize; 9] {
 }
 
 // Returns the byte behind the first `size`, if there is one.
-const fn byte_at(text: &[u8], size: usize) -> Option<u8> {
+pub(crate) const fn byte_at(text: &[u8], size: usize) -> Option<u8> {
     if size < text.len() {
         Some(text[size])
     } else {

@@ -4,7 +4,7 @@ use Rattle.lexical_util.specs.Roles.{signs}
 use Rattle.lexical_util.specs.declared.feature_format.roles.Role.{Role}
 use Rattle.lexical_literal.specs.Additions.Longest.{IsCountedFront, IsStopped}
 use Rattle.lexical_literal.specs.Forms.{HasFront, IsFirst, IsFormError, IsGreatest, NoForm}
-use Rattle.lexical_literal.specs.Front.{IsValidUpTo, NoFront, NoLiteral}
+use Rattle.lexical_literal.specs.Front.{IsValidUpTo, NoFront}
 use Rattle.lexical_literal.specs.Read.{Read}
 use Rattle.lexical_literal.specs.Notation.{Notation, notation_of, set_of_role}
 use Rattle.lexical_literal.specs.declared.list.FormError.{FormError}

@@ -1,7 +1,7 @@
 //! The forms of each language. The comment of a setter has a text that is accepted or rejected because of the setter.
 
 use super::{Definition, Language};
-use crate::literal::{Form, Forms, Specials, Syntax};
+use crate::literal::{Form, Forms, Specials, Stop, Suffixes, Syntax, Tokens};
 use crate::NumberFormatBuilder;
 use core::num::NonZeroU8;
 
@@ -119,6 +119,82 @@ const NASM: NumberFormatBuilder = separated(b'_')
 /// Digits of NASM behind a prefix.
 const NASM_PREFIXED: NumberFormatBuilder = NASM.integer_leading_digit_separator(true); // accepts `0x_1`
 
+/// Words behind integers and floats, in this case.
+const fn words(integers: &'static [&'static [u8]], floats: &'static [&'static [u8]]) -> Suffixes {
+    Suffixes::new(integers, floats, &[])
+}
+
+/// A digit behind a decimal point.
+const POINT_AND_DIGIT: &[Stop] = &[Stop::new(b"", b".", b"0123456789")];
+
+/// Suffixes of integers of C: `1u`, `1LL`, `1ul`.
+const C_INTEGERS: &[&[u8]] = &[
+    b"u", b"U", b"l", b"L", b"ll", b"LL", b"ul", b"uL", b"ull", b"uLL", b"Ul", b"UL", b"Ull", b"ULL", b"lu", b"lU",
+    b"llu", b"llU", b"Lu", b"LU", b"LLu", b"LLU",
+];
+const C_FLOATS: &[&[u8]] = &[b"f", b"F", b"l", b"L"];
+
+/// What goes on a preprocessing number of C: `1.2.3`, `0xe+1` and `1'`.
+const C_STOPS: &[Stop] = &[Stop::new(b"", b".'", b""), Stop::new(b"eEpP", b"+-", b"")];
+const C_WORDS: Suffixes = Suffixes::new(C_INTEGERS, C_FLOATS, C_STOPS);
+
+/// Suffixes of C++, and of its users: `1_km`.
+const C_PLUS_PLUS_WORDS: Suffixes = C_WORDS.any_word(b"_");
+
+/// Suffixes of C#, in either case.
+const C_SHARP_INTEGERS: &[&[u8]] = &[b"u", b"l", b"ul", b"lu"];
+const C_SHARP_DECIMALS: &[&[u8]] = &[b"u", b"l", b"ul", b"lu", b"f", b"d", b"m"];
+
+/// Suffixes of imaginary numbers of Go, and a point that no binary and octal number has: `0b1.`.
+const GO_WORDS: Suffixes = words(&[b"i"], &[b"i"]);
+const GO_POINTLESS: Suffixes = Suffixes::new(&[b"i"], &[], &[Stop::new(b"", b".", b"")]);
+
+/// Suffixes of Java, in either case.
+const JAVA_INTEGERS: Suffixes = words(&[b"l"], &[]).either_case(true);
+const JAVA_FLOATS: Suffixes = words(&[b"f", b"d"], &[b"f", b"d"]).either_case(true);
+
+/// The suffix of big integers of JavaScript. A name, which `$` and `\\` may begin, does not follow a number.
+const BIG: Suffixes = Suffixes::new(&[b"n"], &[], &[Stop::new(b"", b"$\\", b"")]);
+
+/// A second point of Julia: `1..2` is no number, and no range.
+const JULIA_WORDS: Suffixes = Suffixes::new(&[], &[], &[Stop::new(b"", b".", b"")]);
+
+/// Suffixes of Kotlin.
+const KOTLIN_INTEGERS: &[&[u8]] = &[b"u", b"U", b"L", b"uL", b"UL"];
+const KOTLIN_DECIMALS: &[&[u8]] = &[b"u", b"U", b"L", b"uL", b"UL", b"f", b"F"];
+
+/// Suffixes of OCaml, whose names may have `'`.
+const OCAML_WORDS: Suffixes = Suffixes::new(&[b"l", b"L", b"n"], &[], &[Stop::new(b"", b"'", b"")]);
+
+/// The suffix of imaginary numbers of Python, in either case.
+const PYTHON_WORDS: Suffixes = words(&[b"j"], &[b"j"]).either_case(true);
+
+/// Words of Python that may follow a number: `1if x else 0`.
+const PYTHON_KEYWORDS: &[&[u8]] = &[b"and", b"else", b"for", b"if", b"in", b"is", b"not", b"or"];
+
+/// Suffixes of Ruby.
+const RUBY_INTEGERS: &[&[u8]] = &[b"r", b"i", b"ri"];
+const RUBY_WORDS: Suffixes = Suffixes::new(RUBY_INTEGERS, &[b"i"], POINT_AND_DIGIT);
+
+/// Words of Ruby that may follow a number: `1if x`.
+const RUBY_KEYWORDS: &[&[u8]] = &[
+    b"alias", b"and", b"begin", b"break", b"case", b"class", b"def", b"do", b"else", b"elsif", b"end", b"ensure",
+    b"false", b"for", b"if", b"in", b"module", b"next", b"nil", b"not", b"or", b"redo", b"rescue", b"retry", b"return",
+    b"self", b"super", b"then", b"true", b"undef", b"unless", b"until", b"when", b"while", b"yield",
+];
+
+/// Suffixes of Rust.
+const RUST_INTEGERS: &[&[u8]] =
+    &[b"u8", b"u16", b"u32", b"u64", b"u128", b"usize", b"i8", b"i16", b"i32", b"i64", b"i128", b"isize"];
+const RUST_DECIMALS: &[&[u8]] = &[
+    b"u8", b"u16", b"u32", b"u64", b"u128", b"usize", b"i8", b"i16", b"i32", b"i64", b"i128", b"isize", b"f32", b"f64",
+];
+const RUST_WORDS: Suffixes = words(RUST_DECIMALS, &[b"f32", b"f64"]);
+const RUST_PREFIXED_WORDS: Suffixes = Suffixes::new(RUST_INTEGERS, &[], POINT_AND_DIGIT);
+
+/// Tokens whose last point belongs to what follows: `1..2` and `1.max(2)`.
+const POINTS_BACK: Tokens = Tokens::new(&[], &[]).gives_points_back(true);
+
 languages! {
     /// Ada's decimal literals (Reference Manual 2012, 2.4.1). A format cannot accept based literals, such as `16#FF#`, or
     /// accept `1.0E-3` but reject `1E-3`.
@@ -128,12 +204,12 @@ languages! {
 
     /// C's integer and floating constants (C23, 6.4.4.1 and 6.4.4.2). A format cannot accept `1u`, `1L` and `1.0f`.
     C = {
-        "decimal": decimal(C.no_integer_leading_zeros(true)), // rejects `08`, not `08.5`
-        "octal": integers(8, C),
-        "hexadecimal": prefixed(b'x', 16, C),
-        "binary": prefixed(b'b', 2, C),
-        "hexadecimal float": binary_floats(b'x', 16, C.required_exponent_notation(true)), // rejects `0x1.8`
-    };
+        "decimal": decimal(C.no_integer_leading_zeros(true)) => C_WORDS, // rejects `08`, not `08.5`
+        "octal": integers(8, C) => C_WORDS,
+        "hexadecimal": prefixed(b'x', 16, C) => C_WORDS,
+        "binary": prefixed(b'b', 2, C) => C_WORDS,
+        "hexadecimal float": binary_floats(b'x', 16, C.required_exponent_notation(true)) => C_WORDS, // rejects `0x1.8`
+    } => Tokens::new(&[], &[]);
 
     /// CSS's numbers, with signs (CSS Syntax Module Level 3, 4.3.12). A format cannot accept a unit, as in `10px` and `5%`.
     CSS = { "decimal": numbers(b'e', b'.', NumberFormatBuilder::new()
@@ -152,19 +228,19 @@ languages! {
     /// C++'s integer and floating literals (C++17, 5.13.2 and 5.13.4). A format cannot accept `1u`, `1L`, `1.0f` and suffixes
     /// of users.
     C_PLUS_PLUS = {
-        "decimal": decimal(C.no_integer_leading_zeros(true)), // rejects `08`, not `08.5`
-        "octal": integers(8, C),
-        "hexadecimal": prefixed(b'x', 16, C),
-        "binary": prefixed(b'b', 2, C),
-        "hexadecimal float": binary_floats(b'x', 16, C.required_exponent_notation(true)), // rejects `0x1.8`
-    };
+        "decimal": decimal(C.no_integer_leading_zeros(true)) => C_PLUS_PLUS_WORDS, // rejects `08`, not `08.5`
+        "octal": integers(8, C) => C_PLUS_PLUS_WORDS,
+        "hexadecimal": prefixed(b'x', 16, C) => C_PLUS_PLUS_WORDS,
+        "binary": prefixed(b'b', 2, C) => C_PLUS_PLUS_WORDS,
+        "hexadecimal float": binary_floats(b'x', 16, C.required_exponent_notation(true)) => C_PLUS_PLUS_WORDS, // rejects `0x1.8`
+    } => Tokens::new(&[], &[]);
 
     /// C#'s integer and real literals (C# standard, 6.4.5.3 and 6.4.5.4). A format cannot accept `1L`, `1f` and `1m`.
     C_SHARP = {
-        "decimal": decimal(JAVA.required_fraction_digits(true)), // rejects `1.`, not `.5`
-        "hexadecimal": prefixed(b'x', 16, JAVA.integer_leading_digit_separator(true)), // accepts `0x_1F`
-        "binary": prefixed(b'b', 2, JAVA.integer_leading_digit_separator(true)), // accepts `0b_1`
-    };
+        "decimal": decimal(JAVA.required_fraction_digits(true)) => words(C_SHARP_DECIMALS, &[b"f", b"d", b"m"]).either_case(true), // rejects `1.`, not `.5`
+        "hexadecimal": prefixed(b'x', 16, JAVA.integer_leading_digit_separator(true)) => words(C_SHARP_INTEGERS, &[]).either_case(true), // accepts `0x_1F`
+        "binary": prefixed(b'b', 2, JAVA.integer_leading_digit_separator(true)) => words(C_SHARP_INTEGERS, &[]).either_case(true), // accepts `0b_1`
+    } => Tokens::new(&[], &[]);
 
     /// Elixir's integers and floats (Syntax reference 1.14, Numbers). Numbers from 1.8e308 on are refused there.
     ELIXIR = {
@@ -186,20 +262,23 @@ languages! {
 
     /// Go's integer and floating-point literals (Language Specification). A format cannot accept `1i`.
     GO = {
-        "decimal": decimal(separated(b'_').no_integer_leading_zeros(true)), // rejects `08`, not `08.5`
-        "octal": integers(8, separated(b'_')),
-        "hexadecimal": prefixed(b'x', 16, GO_PREFIXED),
-        "octal, 0o": prefixed(b'o', 8, GO_PREFIXED),
-        "binary": prefixed(b'b', 2, GO_PREFIXED),
-        "hexadecimal float": binary_floats(b'x', 16, GO_PREFIXED.required_exponent_notation(true)), // rejects `0x1.8`
-    };
+        "decimal": decimal(separated(b'_').no_integer_leading_zeros(true)) => GO_WORDS, // rejects `08`, not `08.5`
+        "octal": integers(8, separated(b'_')) => GO_POINTLESS,
+        "hexadecimal": prefixed(b'x', 16, GO_PREFIXED) => GO_WORDS,
+        "octal, 0o": prefixed(b'o', 8, GO_PREFIXED) => GO_POINTLESS,
+        "binary": prefixed(b'b', 2, GO_PREFIXED) => GO_POINTLESS,
+        "hexadecimal float": binary_floats(b'x', 16, GO_PREFIXED.required_exponent_notation(true)) => GO_WORDS, // rejects `0x1.8`
+    } => Tokens::new(
+        const { &[Form::new("imaginary, leading zeros", integers(10, separated(b'_'))).with_suffixes(const { &GO_WORDS })] },
+        &[],
+    );
 
     /// Haskell's integers and floats (Haskell 2010 Report, 2.5). GHC reads more since 9.2: those of `HASKELL_GHC2021`.
     HASKELL = {
         "decimal": decimal(TOKENS.required_digits(true)), // rejects `.5`, `1.`, `1e` and `.`
         "hexadecimal": prefixed(b'x', 16, TOKENS),
         "octal": prefixed(b'o', 8, TOKENS),
-    };
+    } => POINTS_BACK;
 
     /// Haskell's integers and floats with the extensions of GHC that `GHC2021` has (GHC User's Guide 9.2, NumericUnderscores,
     /// BinaryLiterals and HexFloatLiterals). A format cannot accept `1_e5` but reject `1_.5`. GHC also accepts `_0.1`, which the
@@ -217,21 +296,24 @@ languages! {
     /// Java's integer and floating-point literals (Language Specification 21, 3.10.1 and 3.10.2). A format cannot accept
     /// `1L`, `1f` and `1d`. In Java, a hexadecimal, octal or binary integer from 2^31 on is negative: `0xffffffff` is -1.
     JAVA = {
-        "decimal": decimal(JAVA.no_integer_leading_zeros(true)), // rejects `08`, not `08.5`
-        "octal": integers(8, JAVA),
-        "hexadecimal": prefixed(b'x', 16, JAVA),
-        "binary": prefixed(b'b', 2, JAVA),
-        "hexadecimal float": binary_floats(b'x', 16, JAVA.required_exponent_notation(true)), // rejects `0x1.8`
-    };
+        "decimal": decimal(JAVA.no_integer_leading_zeros(true)) => words(&[b"l", b"f", b"d"], &[b"f", b"d"]).either_case(true), // rejects `08`, not `08.5`
+        "octal": integers(8, JAVA) => JAVA_INTEGERS,
+        "hexadecimal": prefixed(b'x', 16, JAVA) => JAVA_INTEGERS,
+        "binary": prefixed(b'b', 2, JAVA) => JAVA_INTEGERS,
+        "hexadecimal float": binary_floats(b'x', 16, JAVA.required_exponent_notation(true)) => JAVA_FLOATS, // rejects `0x1.8`
+    } => Tokens::new(
+        const { &[Form::new("float, leading zeros", integers(10, JAVA)).with_suffixes(const { &JAVA_FLOATS })] },
+        &[],
+    );
 
     /// JavaScript's numeric literals in strict code (ECMA-262, Numeric Literals). A format cannot accept `1n`. JavaScript
     /// rounds integers to doubles: `9007199254740993` is 9007199254740992 there.
     JAVASCRIPT = {
-        "decimal": decimal(without_zeros(separated(b'_'))),
-        "hexadecimal": prefixed(b'x', 16, separated(b'_')),
-        "octal": prefixed(b'o', 8, separated(b'_')),
-        "binary": prefixed(b'b', 2, separated(b'_')),
-    };
+        "decimal": decimal(without_zeros(separated(b'_'))) => BIG,
+        "hexadecimal": prefixed(b'x', 16, separated(b'_')) => BIG,
+        "octal": prefixed(b'o', 8, separated(b'_')) => BIG,
+        "binary": prefixed(b'b', 2, separated(b'_')) => BIG,
+    } => Tokens::new(&[], &[]);
 
     /// JSON's numbers (RFC 8259, 6. Numbers).
     JSON = { "decimal": signed(decimal(without_zeros(TOKENS).required_digits(true))) }; // rejects `.5`, `1.`, `1e` and `.`
@@ -239,7 +321,7 @@ languages! {
     /// Julia's integers and floats (Manual 1.11, Integers and Floating-Point Numbers). Julia rounds `0.1f0`, but not `0.1`, to
     /// single precision.
     JULIA = {
-        "decimal": decimal(JULIA),
+        "decimal": decimal(JULIA) => JULIA_WORDS,
         "32 bits": unsigned(numbers(b'f', b'.', JULIA.case_sensitive_exponent(true))), // accepts `1f3`, not `1F3`
         "hexadecimal": prefixed(b'x', 16, JULIA.case_sensitive_base_prefix(true)), // rejects `0X1F`
         "octal": prefixed(b'o', 8, JULIA.case_sensitive_base_prefix(true)), // rejects `0O17`
@@ -248,7 +330,7 @@ languages! {
             .case_sensitive_base_prefix(true) // rejects `0X1p3`
             .required_exponent_notation(true) // rejects `0x1.8`
         ),
-    };
+    } => Tokens::new(&[], &[]);
 
     /// Kotlin's integer and real literals (Kotlin language specification 1.9, Literals). A format cannot accept `1L`, `1f`
     /// and `1u`.
@@ -256,10 +338,10 @@ languages! {
         "decimal": decimal(JAVA
             .required_fraction_digits(true) // rejects `1.`, not `.5`
             .no_integer_leading_zeros(true) // rejects `01`, not `01.0`
-        ),
-        "hexadecimal": prefixed(b'x', 16, JAVA),
-        "binary": prefixed(b'b', 2, JAVA),
-    };
+        ) => words(KOTLIN_DECIMALS, &[b"f", b"F"]),
+        "hexadecimal": prefixed(b'x', 16, JAVA) => words(KOTLIN_INTEGERS, &[]),
+        "binary": prefixed(b'b', 2, JAVA) => words(KOTLIN_INTEGERS, &[]),
+    } => POINTS_BACK;
 
     /// Lua's integers and floats (Reference Manual 5.4, 3.1). In Lua, a decimal integer from 2^63 on is a float, and a
     /// hexadecimal one keeps its last 64 bits: `0xffffffffffffffff` is -1.
@@ -306,14 +388,14 @@ languages! {
         "decimal": decimal(RUST
             .required_integer_digits(true) // rejects `.5`, not `1.`
             .fraction_leading_digit_separator(true) // accepts `1._5`, not `_1` or `1e_5`
-        ),
+        ) => OCAML_WORDS,
         "hexadecimal": binary_floats(b'x', 16, RUST
             .required_integer_digits(true) // rejects `0x.8`, not `0x1.`
             .fraction_leading_digit_separator(true) // accepts `0x1._8`, not `0x_1`
-        ),
-        "octal": prefixed(b'o', 8, RUST),
-        "binary": prefixed(b'b', 2, RUST),
-    };
+        ) => OCAML_WORDS,
+        "octal": prefixed(b'o', 8, RUST) => OCAML_WORDS,
+        "binary": prefixed(b'b', 2, RUST) => OCAML_WORDS,
+    } => Tokens::new(&[], &[]);
 
     /// PHP's integers and floats (Manual, 8.1 and later, Integers and Floating point numbers). In PHP, an integer from 2^63 on is
     /// a float.
@@ -328,11 +410,14 @@ languages! {
     /// Python's integers and floats (Language Reference 3.12, 2.4.5 and 2.4.6). A format cannot accept `00` and reject `01`,
     /// or accept `1j`.
     PYTHON = {
-        "decimal": decimal(separated(b'_').no_integer_leading_zeros(true)), // rejects `01`, not `01.0`
+        "decimal": decimal(separated(b'_').no_integer_leading_zeros(true)) => PYTHON_WORDS, // rejects `01`, not `01.0`
         "hexadecimal": prefixed(b'x', 16, GO_PREFIXED),
         "octal": prefixed(b'o', 8, GO_PREFIXED),
         "binary": prefixed(b'b', 2, GO_PREFIXED),
-    };
+    } => Tokens::new(
+        const { &[Form::new("imaginary, leading zeros", integers(10, separated(b'_'))).with_suffixes(const { &PYTHON_WORDS })] },
+        PYTHON_KEYWORDS,
+    );
 
     /// R's numeric constants (R Language Definition 4.2, 10.3.1). A format cannot accept `1L` and `1i`. In R, all are doubles:
     /// `9007199254740993` is 9007199254740992 there.
@@ -344,13 +429,20 @@ languages! {
 
     /// Ruby's integers and floats (ISO/IEC 30170:2012, 8.7.6.2), with signs. A format cannot accept `1r` and `1i`.
     RUBY = {
-        "decimal": signed(decimal(without_zeros(RUBY).required_digits(true))), // rejects `.5`, `1.`, `1e` and `.`
-        "octal": signed(integers(8, RUBY)),
-        "hexadecimal": signed(prefixed(b'x', 16, RUBY)),
-        "octal, 0o": signed(prefixed(b'o', 8, RUBY)),
-        "binary": signed(prefixed(b'b', 2, RUBY)),
-        "decimal, 0d": signed(prefixed(b'd', 10, RUBY)),
-    };
+        "decimal": signed(decimal(without_zeros(RUBY).required_digits(true))) => RUBY_WORDS, // rejects `.5`, `1.`, `1e` and `.`
+        "octal": signed(integers(8, RUBY)) => RUBY_WORDS,
+        "hexadecimal": signed(prefixed(b'x', 16, RUBY)) => RUBY_WORDS,
+        "octal, 0o": signed(prefixed(b'o', 8, RUBY)) => RUBY_WORDS,
+        "binary": signed(prefixed(b'b', 2, RUBY)) => RUBY_WORDS,
+        "decimal, 0d": signed(prefixed(b'd', 10, RUBY)) => RUBY_WORDS,
+    } => Tokens::new(
+        const {
+            &[Form::new("rational", signed(decimal(without_zeros(RUBY).required_digits(true).no_exponent_notation(true))))
+                .with_suffixes(const { &words(&[b"r", b"ri"], &[b"r", b"ri"]) })]
+        },
+        RUBY_KEYWORDS,
+    )
+    .gives_points_back(true);
 
     /// Rust's integers and floats (Reference, Integer literals and Floating-point literals). A format cannot accept the
     /// suffixes in `0x1F_u8` and `1f32`.
@@ -359,16 +451,16 @@ languages! {
             .required_integer_digits(true) // rejects `.5`
             .required_fraction_digits(true) // rejects `1.` and `1.e5`
             .exponent_leading_digit_separator(true) // accepts `1e_5`
-        ),
+        ) => RUST_WORDS,
         "with a point at the end": decimal(RUST
             .exponent_digit_separator_flags(false)
             .required_integer_digits(true) // rejects `.5`, not `1.`
             .no_exponent_notation(true) // rejects `1.e5`
-        ),
-        "hexadecimal": prefixed(b'x', 16, RUST_PREFIXED),
-        "octal": prefixed(b'o', 8, RUST_PREFIXED),
-        "binary": prefixed(b'b', 2, RUST_PREFIXED),
-    };
+        ) => RUST_WORDS,
+        "hexadecimal": prefixed(b'x', 16, RUST_PREFIXED) => RUST_PREFIXED_WORDS,
+        "octal": prefixed(b'o', 8, RUST_PREFIXED) => RUST_PREFIXED_WORDS,
+        "binary": prefixed(b'b', 2, RUST_PREFIXED) => RUST_PREFIXED_WORDS,
+    } => POINTS_BACK;
 
     /// SQL's signed numeric literals (ISO/IEC 9075-2:2016, 5.3 `<literal>`).
     SQL = { "decimal": numbers(b'e', b'.', NumberFormatBuilder::new().no_special(true)) }; // rejects `NaN` and `inf`
@@ -384,7 +476,7 @@ languages! {
             .required_digits(true) // rejects `0x.8p3`, `0x1.p3` and `0x1p`
             .required_exponent_notation(true) // rejects `0x1.8`
         )),
-    };
+    } => POINTS_BACK;
 
     /// TOML's integers and floats (TOML 1.0.0, Integer and Float).
     TOML = {

@@ -1,0 +1,212 @@
+// Made by rust/tools/erase.py from crates/lexical_literal/src/suffix.rt: change that file.
+
+//! Words that stand directly behind a number, such as `u8`, and bytes that may not follow it.
+
+use crate::literal::read::byte_at;
+
+/// Bytes behind a number with which it is no token: one of some bytes, if the number ends in one of others, and if one of
+/// others comes second. A list that is empty asks for nothing.
+#[derive(Debug, Clone, Copy, PartialEq, Eq, Hash)]
+pub struct Stop {
+    last: &'static [u8],
+    next: &'static [u8],
+    second: &'static [u8],
+}
+
+impl Stop {
+    /// Returns a stop: a number that ends in one of the bytes `last`, and is followed by one of the bytes `next`, and then by
+    /// one of the bytes `second`, is no token.
+    #[must_use]
+    pub const fn new(last: &'static [u8], next: &'static [u8], second: &'static [u8]) -> Stop {
+        Stop { last, next, second }
+    }
+}
+
+/// The suffixes of a form: words that belong to a number directly behind it, such as `u8`, and stops.
+#[derive(Debug, Clone, Copy, PartialEq, Eq, Hash)]
+pub struct Suffixes {
+    integers: &'static [&'static [u8]],
+    floats: &'static [&'static [u8]],
+    either_case: bool,
+    any: &'static [u8],
+    stops: &'static [Stop],
+}
+
+impl Suffixes {
+    /// Returns suffixes: the words `integers` behind integers, and `floats` behind floats, in this case, with the bytes that
+    /// may not follow. Letters, digits, `_` and bytes from 128 up never may.
+    #[must_use]
+    pub const fn new(
+        integers: &'static [&'static [u8]],
+        floats: &'static [&'static [u8]],
+        stops: &'static [Stop],
+    ) -> Suffixes {
+        Suffixes { integers, floats, either_case: false, any: &[], stops }
+    }
+
+    /// Sets whether the words may be in either case.
+    #[must_use]
+    pub const fn either_case(self, either: bool) -> Suffixes {
+        Suffixes { either_case: either, ..self }
+    }
+
+    /// Sets the bytes of which any word that begins with one is a suffix, such as `_` for `1_km`.
+    #[must_use]
+    pub const fn any_word(self, begins: &'static [u8]) -> Suffixes {
+        Suffixes { any: begins, ..self }
+    }
+
+    // Returns the length of the longest suffix with which `text` begins, or 0 if there is none.
+    const fn size(&self, float: bool, text: &[u8]) -> usize {
+        let size = any_word_size(self.any, text);
+        if size == 0 {
+            let words = if float { self.floats } else { self.integers };
+            longest_word(self.either_case, words, text)
+        } else {
+            size
+        }
+    }
+}
+
+// Returns the length of the longest suffix with which `text` begins, or 0 if there is none.
+#[inline(always)]
+pub(crate) const fn suffix_size(suffixes: Option<&'static Suffixes>, float: bool, text: &[u8]) -> usize {
+    match suffixes {
+        None => 0,
+        Some(suffixes) => suffixes.size(float, text),
+    }
+}
+
+// Returns whether what is behind the number that ends at `end` may not follow it.
+#[inline(always)]
+pub(crate) const fn is_stopped(suffixes: Option<&'static Suffixes>, text: &[u8], end: usize) -> bool {
+    let word = match byte_at(text, end) {
+        None => false,
+        Some(byte) => is_word_byte(byte),
+    };
+    word || match suffixes {
+        None => false,
+        Some(suffixes) => is_one_met(suffixes.stops, text, end),
+    }
+}
+
+// Returns whether one of the stops is behind the number that ends at `end`.
+const fn is_one_met(stops: &[Stop], text: &[u8], end: usize) -> bool {
+    match stops {
+        [] => false,
+        [stop, rest @ ..] => meets(text, end, stop) || is_one_met(rest, text, end),
+    }
+}
+
+// Returns whether a stop is behind the number that ends at `end`.
+const fn meets(text: &[u8], end: usize, stop: &Stop) -> bool {
+    admits(stop.last, byte_before(text, end))
+        && admits(stop.next, byte_at(text, end))
+        && admits(stop.second, byte_after(text, end))
+}
+
+// Returns the byte behind the one at `index`, if there is one.
+const fn byte_after(text: &[u8], index: usize) -> Option<u8> {
+    if index < text.len() {
+        byte_at(text, index + 1)
+    } else {
+        None
+    }
+}
+
+// Returns the byte before the one at `index`, if there is one.
+pub(crate) const fn byte_before(text: &[u8], index: usize) -> Option<u8> {
+    if index == 0 {
+        None
+    } else {
+        byte_at(text, index - 1)
+    }
+}
+
+// Returns whether `byte` is one of `bytes`, or `bytes` is empty.
+const fn admits(bytes: &[u8], byte: Option<u8>) -> bool {
+    match bytes {
+        [] => true,
+        _ => match byte {
+            None => false,
+            Some(byte) => has_byte(bytes, byte),
+        },
+    }
+}
+
+// Returns whether `byte` is one of `bytes`.
+const fn has_byte(bytes: &[u8], byte: u8) -> bool {
+    match bytes {
+        [] => false,
+        [first, rest @ ..] => *first == byte || has_byte(rest, byte),
+    }
+}
+
+// Returns whether `byte` is a digit, a letter, `_` or at least 128.
+#[inline(always)]
+pub(crate) const fn is_word_byte(byte: u8) -> bool {
+    matches!(byte, b'0'..=b'9' | b'A'..=b'Z' | b'_' | b'a'..=b'z' | 128..)
+}
+
+// Returns the number of bytes of a word with which `text` begins.
+pub(crate) const fn word_size(text: &[u8]) -> usize {
+    let mut rest = text;
+    while let [byte, more @ ..] = rest {
+        if !is_word_byte(*byte) {
+            return text.len() - rest.len();
+        }
+        rest = more;
+    }
+    text.len()
+}
+
+// Returns the same if `text` begins with one of the bytes `begins`, or 0 otherwise.
+const fn any_word_size(begins: &[u8], text: &[u8]) -> usize {
+    match text {
+        [byte, ..] if has_byte(begins, *byte) => word_size(text),
+        _ => 0,
+    }
+}
+
+// Returns whether `text` begins with `word`, letter case aside if `either` is true.
+const fn begins(either: bool, word: &[u8], text: &[u8]) -> bool {
+    match word {
+        [] => true,
+        [letter, word @ ..] => match text {
+            [] => false,
+            [byte, text @ ..] => is_same(either, *letter, *byte) && begins(either, word, text),
+        },
+    }
+}
+
+// Returns whether two bytes are the same, letter case aside if `either` is true.
+const fn is_same(either: bool, letter: u8, byte: u8) -> bool {
+    if either {
+        letter.eq_ignore_ascii_case(&byte)
+    } else {
+        letter == byte
+    }
+}
+
+// Returns the length of the longest of `words` with which `text` begins, or 0 if it begins with none.
+const fn longest_word(either: bool, words: &[&[u8]], text: &[u8]) -> usize {
+    match words {
+        [] => 0,
+        [word, rest @ ..] => {
+            let size = longest_word(either, rest, text);
+            if begins(either, word, text) && size < word.len() {
+                word.len()
+            } else {
+                size
+            }
+        }
+    }
+}
+
+// Returns whether the word with which `text` begins is one of `words`.
+pub(crate) const fn is_followed(words: &[&[u8]], text: &[u8]) -> bool {
+    match words {
+        [] => false,
+        [word, rest @ ..] => (begins(false, word, text) && word.len() == word_size(text)) || is_followed(rest, text),
+    }
+}

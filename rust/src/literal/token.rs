@@ -1,0 +1,307 @@
+// Made by rust/tools/erase.py from crates/lexical_literal/src/token.rt: change that file.
+
+//! Tokens: numbers in the middle of a text, each with its suffix.
+
+use crate::literal::list::{further, Form, FormError, Forms, Tokens};
+use crate::literal::literal::Literal;
+use crate::literal::plain::At;
+use crate::literal::read::{byte_at, Found};
+use crate::literal::steps::is_point;
+use crate::literal::suffix::{byte_before, is_followed, is_stopped, is_word_byte, suffix_size, word_size};
+use crate::literal::syntax::Syntax;
+
+/// A number that a text begins with, and what follows it.
+#[derive(Debug, Clone, Copy, PartialEq, Eq, Hash)]
+#[non_exhaustive]
+pub struct Token<'a> {
+    /// The literal.
+    pub literal: Literal<'a>,
+    /// The index of its form. Those of forms that need a suffix are behind the others.
+    pub form: usize,
+    /// The suffix, which is empty if there is none.
+    pub suffix: &'a [u8],
+    /// What follows.
+    pub rest: &'a [u8],
+}
+
+/// Why a text does not begin with a token.
+#[derive(Debug, Clone, Copy, PartialEq, Eq, Hash)]
+#[non_exhaustive]
+pub enum TokenError {
+    /// The list has no rules for tokens.
+    NoTokens,
+    /// The text, up to the end of the word where reading stops, is no literal.
+    Literal(FormError),
+    /// The text up to `end` is a literal, but its point belongs to what follows, and it is none without the point.
+    NotAToken {
+        /// The index behind the number.
+        end: usize,
+    },
+    /// The word behind a number is not a suffix of its form, or a byte follows that may not.
+    UnknownSuffix {
+        /// The index of the form.
+        form: usize,
+        /// The index where the word begins, which is the end of the literal.
+        start: usize,
+        /// The index behind the word.
+        end: usize,
+    },
+}
+
+// The candidate of a form: the length of its literal, the lengths of its parts, and the index behind its suffix.
+#[derive(Clone, Copy)]
+pub(crate) struct Candidate {
+    pub(crate) size: usize,
+    pub(crate) counts: [usize; 9],
+    pub(crate) end: usize,
+}
+
+// What one pass over forms finds: the form that goes furthest and where it stops, and the best candidate with the index of its form.
+#[derive(Clone, Copy)]
+pub(crate) struct Scanned {
+    pub(crate) furthest: Option<(usize, At)>,
+    pub(crate) best: Option<(usize, Candidate)>,
+}
+
+impl<'a> Forms<'a> {
+    /// Returns the number that `text` begins with as a token: the longest literal of a form with the longest of its suffixes, if
+    /// nothing follows that belongs to it or may not follow it. It does not find special values.
+    ///
+    /// # Errors
+    ///
+    /// If the list has no rules for tokens, if a form goes on behind the number without an end, or if there is no number,
+    /// or if the word behind the number is not a suffix of its form, returns why.
+    pub const fn token_bytes<'t>(&self, text: &'t [u8]) -> Result<Token<'t>, TokenError> {
+        let Some(tokens) = self.tokens else {
+            return Err(TokenError::NoTokens);
+        };
+        let back = tokens.gives_points_back;
+        let plain = scan(self.forms, back, false, text);
+        let suffixed = scan(tokens.forms, back, true, text);
+        let Some((form, it, candidate)) = self.choose(tokens, text, plain.best, suffixed.best) else {
+            return Err(self.fail(tokens, text, plain.furthest));
+        };
+        let Candidate { size, end, .. } = candidate;
+        let (_, rest) = text.split_at(end);
+        if is_followed(tokens.following, rest) {
+            return Ok(made(it, text, form, candidate));
+        }
+        if is_one_ahead(self.forms, back, text, end) {
+            return Err(self.fail(tokens, text, plain.furthest));
+        }
+        if !is_stopped(it.suffixes, text, end) {
+            return Ok(made(it, text, form, candidate));
+        }
+        if has_digit(text, size) {
+            return Err(self.fail(tokens, text, plain.furthest));
+        }
+        let end = stop_end(text, end);
+        Err(TokenError::UnknownSuffix { form, start: size, end })
+    }
+
+    // Returns the longest of the candidates of the list and of the forms that need a suffix, with its form.
+    const fn choose<'f>(
+        &'f self,
+        tokens: &'f Tokens,
+        _text: &[u8],
+        plain: Option<(usize, Candidate)>,
+        suffixed: Option<(usize, Candidate)>,
+    ) -> Option<(usize, &'f Form, Candidate)> {
+        match suffixed {
+            None => match plain {
+                None => None,
+                Some((form, best)) => Some((form, &self.forms[form], best)),
+            },
+            Some((behind, other)) => match plain {
+                None => Some((self.forms.len() + behind, &tokens.forms[behind], other)),
+                Some((form, best)) => {
+                    if is_shorter(best, other) {
+                        Some((self.forms.len() + behind, &tokens.forms[behind], other))
+                    } else {
+                        Some((form, &self.forms[form], best))
+                    }
+                }
+            },
+        }
+    }
+
+    // Returns why `text`, in which forms go as far as `furthest`, does not begin with a token.
+    #[cold]
+    const fn fail(&self, _tokens: &Tokens, text: &[u8], furthest: Option<(usize, At)>) -> TokenError {
+        let Some((_, stop)) = furthest else { unreachable!() };
+        let (_, rest) = text.split_at(stop.size);
+        let end = stop.size + word_size(rest);
+        let (word, _) = text.split_at(end);
+        match self.find(word) {
+            None => TokenError::Literal(self.refuse(word, self.furthest(word))),
+            Some(_) => TokenError::NotAToken { end },
+        }
+    }
+}
+
+// Returns the token with this candidate.
+#[inline(always)]
+const fn made<'t>(it: &Form, text: &'t [u8], form: usize, candidate: Candidate) -> Token<'t> {
+    let Candidate { size, counts, end } = candidate;
+    let (front, behind) = text.split_at(size);
+    let (suffix, _) = behind.split_at(end - size);
+    let (_, rest) = text.split_at(end);
+    let literal = it.syntax.summed(front, counts);
+    Token { literal, form, suffix, rest }
+}
+
+impl Form {
+    // Returns where reading `text` stops, and the candidate, if there is one.
+    #[inline(always)]
+    const fn candidate(&self, back: bool, needs: bool, text: &[u8]) -> (At, Option<Candidate>) {
+        let (stop, found) = self.syntax.front(text);
+        let candidate = match found {
+            None => None,
+            Some(found) => self.behind(back, needs, text, found),
+        };
+        (stop, candidate)
+    }
+
+    // Returns the candidate of which `found` is the longest front, if there is one.
+    #[inline(always)]
+    const fn behind(&self, back: bool, needs: bool, text: &[u8], found: Found) -> Option<Candidate> {
+        match self.own(back, text, found) {
+            None => None,
+            Some(own) => self.suffixed(needs, text, own),
+        }
+    }
+
+    // Returns the candidate with the literal `own`, if there is a suffix or none is needed.
+    #[inline(always)]
+    const fn suffixed(&self, needs: bool, text: &[u8], own: Found) -> Option<Candidate> {
+        let Found { size, counts } = own;
+        let (_, rest) = text.split_at(size);
+        let more = suffix_size(self.suffixes, is_float(counts), rest);
+        if needs && more == 0 {
+            None
+        } else {
+            let end = size + more;
+            Some(Candidate { size, counts, end })
+        }
+    }
+
+    // Returns the front `found`, or without its point if that is given back, if it is a literal.
+    #[inline(always)]
+    const fn own(&self, back: bool, text: &[u8], found: Found) -> Option<Found> {
+        if gives_back(self.syntax, back, text, found.size) {
+            let (shorter, _) = text.split_at(found.size - 1);
+            let (_, own) = self.syntax.front(shorter);
+            whole(own, shorter.len())
+        } else {
+            Some(found)
+        }
+    }
+}
+
+// Returns the front `found` if it has `size` bytes.
+#[inline(always)]
+const fn whole(found: Option<Found>, size: usize) -> Option<Found> {
+    match found {
+        Some(found) if found.size == size => Some(found),
+        _ => None,
+    }
+}
+
+// Returns whether the first `size` bytes of `text` end in a point that is given back.
+#[inline(always)]
+const fn gives_back(syntax: Syntax, back: bool, text: &[u8], size: usize) -> bool {
+    back && is_one(syntax, byte_before(text, size))
+        && match byte_at(text, size) {
+            None => false,
+            Some(byte) => byte == b'.' || is_word_byte(byte),
+        }
+}
+
+// Returns whether `byte` is the decimal point.
+#[inline(always)]
+const fn is_one(syntax: Syntax, byte: Option<u8>) -> bool {
+    match byte {
+        None => false,
+        Some(byte) => is_point(syntax.as_grammar(), byte),
+    }
+}
+
+// Returns whether the byte at `index` is a digit.
+const fn has_digit(text: &[u8], index: usize) -> bool {
+    match byte_at(text, index) {
+        None => false,
+        Some(byte) => matches!(byte, b'0'..=b'9'),
+    }
+}
+
+// Returns the index behind the byte at `index` and the word that follows it, or `index` at the end of `text`.
+const fn stop_end(text: &[u8], index: usize) -> usize {
+    if index < text.len() {
+        let (_, rest) = text.split_at(index + 1);
+        index + 1 + word_size(rest)
+    } else {
+        index
+    }
+}
+
+// Returns whether a literal with these parts is a float.
+#[inline(always)]
+const fn is_float(counts: [usize; 9]) -> bool {
+    counts[3] != 0 || counts[5] != 0
+}
+
+// Returns whether a candidate is shorter than another.
+#[inline(always)]
+const fn is_shorter(one: Candidate, other: Candidate) -> bool {
+    one.end < other.end || (one.end == other.end && one.size < other.size)
+}
+
+// Returns what the forms find in `text`.
+const fn scan(forms: &[Form], back: bool, needs: bool, text: &[u8]) -> Scanned {
+    let mut furthest = None;
+    let mut best = None;
+    let mut form = 0;
+    while form < forms.len() {
+        let (stop, candidate) = forms[form].candidate(back, needs, text);
+        furthest = further(furthest, form, stop);
+        best = better(best, form, candidate);
+        form += 1;
+    }
+    Scanned { furthest, best }
+}
+
+// Returns the longer of two candidates, the first of equals.
+#[inline(always)]
+const fn better(
+    best: Option<(usize, Candidate)>,
+    form: usize,
+    candidate: Option<Candidate>,
+) -> Option<(usize, Candidate)> {
+    match candidate {
+        None => best,
+        Some(candidate) => match best {
+            Some((_, other)) if !is_shorter(other, candidate) => best,
+            _ => Some((form, candidate)),
+        },
+    }
+}
+
+// Returns whether a literal of one of the forms goes on behind `end`.
+#[cold]
+const fn is_one_ahead(forms: &[Form], back: bool, text: &[u8], end: usize) -> bool {
+    let mut form = 0;
+    while form < forms.len() {
+        let it = &forms[form];
+        let (stop, _) = it.syntax.front(text);
+        if goes_on(it.syntax, back, text, end, stop.size) {
+            return true;
+        }
+        form += 1;
+    }
+    false
+}
+
+// Returns whether a literal that goes up to `stop` goes on behind `end`.
+const fn goes_on(syntax: Syntax, back: bool, text: &[u8], end: usize, stop: usize) -> bool {
+    end < stop && !(back && stop == end + 1 && is_one(syntax, byte_at(text, end)))
+}
