@@ -1,7 +1,9 @@
 //! Floats that are written: they are read back as the same bits, by as few digits as std's.
 
 use peltzivar::format::FLAG_MASK;
-use peltzivar::literal::{Condition, Conditions, ExponentStyle, FromLiteral, Language, Style, Syntax, WriteError, WriteFloat};
+use peltzivar::literal::{
+    Condition, Conditions, ExponentStyle, FromLiteral, Language, Style, Syntax, WriteError, WriteFloat,
+};
 use peltzivar::Format;
 use std::fmt::{Debug, LowerExp};
 
@@ -161,7 +163,8 @@ fn floats_have_an_exponent_where_one_is_allowed() {
 #[test]
 fn a_style_decides_on_the_exponent() {
     let json = Language::JSON.forms()[0].syntax();
-    let swift = Language::SWIFT.forms().as_slice().iter().find(|form| form.name() == "hexadecimal float").unwrap().syntax();
+    let swift =
+        Language::SWIFT.forms().as_slice().iter().find(|form| form.name() == "hexadecimal float").unwrap().syntax();
     let [always, never, from] = [ExponentStyle::Always, ExponentStyle::Never, ExponentStyle::From(21)];
     for (value, syntax, wish, wanted) in [
         (1234.5, json, always, "1.2345e3"),

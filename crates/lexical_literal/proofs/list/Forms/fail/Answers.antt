@@ -6,8 +6,8 @@ use Rattle.lexical_literal.specs.Suffix.{word_size}
 use Rattle.lexical_literal.proofs.TokenLemmas.{some_form}
 use Rattle.lexical_literal.proofs.list.Forms.fail.Goals as goal
 
-pub returns-in-Ok : goal.returns-in-Ok
-returns-in-Ok c =
+pub returns-in-Some-find : goal.returns-in-Some-find
+returns-in-Some-find c =
     let furthest = subst (IsFurthestForm c.args.self.now.forms c.args.text.now) c.in-Some.is c.requires.furthest in
     let stop = c.in-Some.stop.size in (
       c.requires.refused,
@@ -17,6 +17,6 @@ returns-in-Ok c =
         furthest = furthest.0;
         end = ap (λ n. stop + n) (c.word_size.ensures.size ∙ ap word_size c.split_at.ensures.back);
       },
-      λ none. some_form c.args.self.now.forms c.split_at-2.result.0.now c.in-Ok.field-0.0 c.in-Ok.field-0.1 c.in-Ok.ensures.found
+      λ none. some_form c.args.self.now.forms c.split_at-2.result.0.now c.in-Some-find.field-0.0 c.in-Some-find.field-0.1 c.in-Some-find.ensures.found
           (subst (NoForm c.args.self.now.forms) (sym c.split_at-2.ensures.front) none),
     )
