@@ -122,8 +122,8 @@ impl Syntax {
     /// ```
     /// use peltzivar::literal::{Language, Style, WriteError};
     ///
-    /// let form = Language::C.forms().iter().find(|form| form.name == "hexadecimal").unwrap();
-    /// let text = form.syntax.format_integer(0xC0FFEE, Style::PLAIN.group(4))?;
+    /// let form = Language::C.forms().as_slice().iter().find(|form| form.name() == "hexadecimal").unwrap();
+    /// let text = form.syntax().format_integer(0xC0FFEE, Style::PLAIN.group(4))?;
     /// assert_eq!(text.to_string(), "0xC0'FFEE");
     /// assert_eq!(Language::C.parse(text.to_string()), Ok(0xC0FFEE));
     /// # Ok::<(), WriteError>(())
@@ -148,7 +148,7 @@ impl Syntax {
     /// ```
     /// use peltzivar::literal::{Language, Style, WriteError};
     ///
-    /// let syntax = Language::CSV_DE.forms()[0].syntax;
+    /// let syntax = Language::CSV_DE.forms()[0].syntax();
     /// assert_eq!(syntax.format_float(1234.56, Style::PLAIN)?.to_string(), "1.234,56");
     /// assert_eq!(syntax.format_float(1e-7_f32, Style::PLAIN)?.to_string(), "0,0000001");
     /// assert_eq!(syntax.format_float(f64::NAN, Style::PLAIN).unwrap_err(), WriteError::Special);
@@ -204,8 +204,8 @@ impl<'a> Specials<'a> {
     ///
     /// let (toml, json) = (Language::TOML, Language::JSON);
     /// let infinity = Special { sign: Some(Sign::Minus), spelling: Spelling::Infinity };
-    /// assert_eq!(toml.specials().format(&toml.forms()[0].syntax, infinity)?.to_string(), "-inf");
-    /// assert_eq!(json.specials().format(&json.forms()[0].syntax, infinity).unwrap_err(), WriteError::Special);
+    /// assert_eq!(toml.forms().specials().format(&toml.forms()[0].syntax(), infinity)?.to_string(), "-inf");
+    /// assert_eq!(json.forms().specials().format(&json.forms()[0].syntax(), infinity).unwrap_err(), WriteError::Special);
     /// # Ok::<(), WriteError>(())
     /// ```
     ///
