@@ -1,10 +1,9 @@
 -- Each digit is read behind the others.
-use Rattle.std.proofs.Common.{ℕ, ◌≡◌, ◌-◌, ◌+◌, sym, ap, subst, ◌∙◌, arith}
+use Rattle.std.proofs.Common.{ℕ, ◌≡◌, ◌-◌, ◌+◌, sym, ap, subst, arith}
 use Rattle.lexical_util.specs.Record.{raw}
 use Rattle.lexical_literal.specs.Notation.{radix_of}
 use Rattle.lexical_literal.specs.Additions.Sizes.{steps_of}
 use Rattle.lexical_literal.specs.Additions.Plain.{IsRunOn, reached}
-use Rattle.lexical_literal.specs.Additions.Summary.{is_run, part_of}
 use Rattle.lexical_literal.specs.declared.plain.Run.{Run}
 use Rattle.lexical_literal.proofs.SumLemmas.{both_runs, more_digit, pushed}
 use Rattle.lexical_literal.proofs.plain.more_digits.Goals as goal

@@ -1,5 +1,5 @@
 -- The first form that reads the text.
-use Rattle.std.proofs.Common.{◌≡◌, IsNone, None, Option, Some, refl, sym, subst}
+use Rattle.std.proofs.Common.{◌≡◌, IsNone, None, Option, Some, refl, subst}
 use Rattle.std.proofs.lemmas.List.Elements.{All-more}
 use Rattle.lexical_literal.specs.Front.{NoLiteral}
 use Rattle.lexical_literal.specs.Notation.{notation_of}
