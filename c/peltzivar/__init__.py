@@ -2065,7 +2065,7 @@ class Specials:
         """Returns a special value as a text: its sign, if that is `-` or one is required, and the first of its spellings
         that is read back, in the order inf, infinity. Raises ValueError if there is none.
 
-            >>> Specials(nan="NaN", infinity="Infinity").format(Syntax(), Special("-", Spelling.INF))
+            >>> Specials(nan="NaN", infinity="Infinity").format(Syntax(Format.of()), Special("-", Spelling.INF))
             '-Infinity'
         """
         sign, spelling = _typed("special", special, Special).sign, special.spelling.value

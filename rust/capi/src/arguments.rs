@@ -105,11 +105,19 @@ pub unsafe fn write_list<T>(start: *mut T, len: usize, values: impl Iterator<Ite
 /// `start` must point to `len` bytes that a C caller passes, initialised or not, or to as many as are written. Nothing
 /// else may read or write them during the call that passes them.
 pub unsafe fn write_text(start: *mut u8, len: usize, value: Option<impl Display>) -> usize {
+    // SAFETY: the caller guarantees the bytes.
+    unsafe { write_by(start, len, |text| value.map_or(Ok(()), |value| write!(text, "{value}"))) }
+}
+
+/// Writes what `print` writes to a text, as `write_text` does.
+///
+/// # Safety
+///
+/// As for `write_text`.
+pub unsafe fn write_by(start: *mut u8, len: usize, print: impl FnOnce(&mut Text) -> fmt::Result) -> usize {
     let mut text = Text { start, room: len.saturating_sub(1), len: 0 };
-    if let Some(value) = value {
-        // `Text` never fails, and no `Display` here fails of its own.
-        let _ = write!(text, "{value}");
-    }
+    // `Text` never fails, and nothing that is printed here fails of its own.
+    let _ = print(&mut text);
     if len != 0 {
         // SAFETY: the caller guarantees this byte.
         unsafe { start.add(text.len.min(text.room)).write(0) };
@@ -118,7 +126,7 @@ pub unsafe fn write_text(start: *mut u8, len: usize, value: Option<impl Display>
 }
 
 /// Text that is written to `room` bytes as far as it fits. `len` is the length of the whole text.
-struct Text {
+pub struct Text {
     start: *mut u8,
     room: usize,
     len: usize,

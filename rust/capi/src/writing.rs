@@ -1,6 +1,6 @@
 //! Calls that write numbers.
 
-use crate::arguments::{write_text, Out};
+use crate::arguments::{write_by, Out};
 use crate::languages::{NumberedSpecial, Specials};
 use crate::literals::{Literal, Syntax};
 use crate::names::{at, texts};
@@ -83,7 +83,7 @@ unsafe fn write<'a>(
     let Some((syntax, style)) = given(syntax, style) else { return ARGUMENT };
     match format(&syntax, style) {
         Ok(written) => {
-            let length = write_text(text, len, Some(written));
+            let length = write_by(text, len, |to| written.write_to(to));
             needed.write(length + 1);
             if length < len {
                 0
@@ -103,23 +103,33 @@ unsafe fn write<'a>(
     }
 }
 
+/// Writes an integer. All calls share it, since a copy for each type takes 2 kB.
+#[inline(never)]
+unsafe fn write_integer(
+    by: (Option<&Syntax>, Option<&Style>),
+    to: (*mut u8, usize, Out<usize>),
+    value: i128,
+) -> WriteStatus {
+    write(by, to, |syntax, style| syntax.format_integer(value, style))
+}
+
 calls! {
     fn peltzivar_format_i64(
         syntax: Option<&Syntax>, value: i64, style: Option<&Style>, text: *mut u8, len: usize, needed: Out<usize>
     ) -> WriteStatus {
-        write((syntax, style), (text, len, needed), |syntax, style| syntax.format_integer(value, style))
+        write_integer((syntax, style), (text, len, needed), value.into())
     }
 
     fn peltzivar_format_u64(
         syntax: Option<&Syntax>, value: u64, style: Option<&Style>, text: *mut u8, len: usize, needed: Out<usize>
     ) -> WriteStatus {
-        write((syntax, style), (text, len, needed), |syntax, style| syntax.format_integer(value, style))
+        write_integer((syntax, style), (text, len, needed), value.into())
     }
 
     fn peltzivar_format_i128(
         syntax: Option<&Syntax>, value: I128, style: Option<&Style>, text: *mut u8, len: usize, needed: Out<usize>
     ) -> WriteStatus {
-        write((syntax, style), (text, len, needed), |syntax, style| syntax.format_integer(i128::from(value), style))
+        write_integer((syntax, style), (text, len, needed), value.into())
     }
 
     fn peltzivar_format_f64(

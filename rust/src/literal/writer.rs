@@ -314,6 +314,24 @@ impl fmt::Display for Written<'_> {
 }
 
 impl Written<'_> {
+    /// Prints the text to a writer that is no formatter, which takes 3 kB less of a program.
+    ///
+    /// # Errors
+    ///
+    /// If the writer returns an error, returns it.
+    #[doc(hidden)]
+    pub fn write_to(&self, to: &mut impl Write) -> fmt::Result {
+        if let Text::Special(sign, word) = self.text {
+            sign.iter().try_for_each(|sign| to.write_char(char::from(*sign)))?;
+            return to.write_str(word);
+        }
+        let mut printer = Printer { f: to, skip: 0, result: Ok(()) };
+        if let Some(layout) = self.text.layout() {
+            layout.put(&mut printer);
+        }
+        printer.result
+    }
+
     /// Prints the text, of which the length is known, with what the formatter adds.
     #[cold]
     fn pad(&self, f: &mut fmt::Formatter<'_>, length: usize) -> fmt::Result {
@@ -375,14 +393,14 @@ impl Write for Escaper<'_, '_> {
     }
 }
 
-/// A formatter that takes a text byte by byte, without the first ones.
-struct Printer<'a, 'b> {
-    f: &'a mut fmt::Formatter<'b>,
+/// A writer that takes a text byte by byte, without the first ones.
+struct Printer<'a, W> {
+    f: &'a mut W,
     skip: usize,
     result: fmt::Result,
 }
 
-impl Sink for Printer<'_, '_> {
+impl<W: Write> Sink for Printer<'_, W> {
     fn put(&mut self, byte: u8) {
         if self.skip > 0 {
             self.skip -= 1;
