@@ -10,10 +10,13 @@ use peltzivar::literal::Syntax;
 use peltzivar::literal::{Language, Style};
 use std::hint::black_box;
 
+#[cfg(old)]
+fn of(group: &Group) -> &'static Syntax {
+    &group.language.readers().as_slice()[group.form]
+}
+
+#[cfg(not(old))]
 fn of(group: &Group) -> Syntax {
-    #[cfg(old)]
-    return group.language.readers().as_slice()[group.form];
-    #[cfg(not(old))]
     group.language.forms()[group.form].syntax()
 }
 

@@ -309,8 +309,14 @@ fn floats_are_written_by_their_shortest_digits(rt: HostRuntime) {
     assert_eq!(rt; is_float_text(1e16, Ok(b"1e16")), Some(true));
     assert_eq!(rt; is_float_text(1e-7, Ok(b"1e-7")), Some(true));
     assert_eq!(rt; is_float_text(5e-324, Ok(b"5e-324")), Some(true));
-    assert_eq!(rt; is_float_text(1.7976931348623157e308, Ok(b"1.7976931348623157e308")), Some(true));
-    assert_eq!(rt; is_float_text(f64::INFINITY, Err(WriteError::Special)), Some(true));
+    assert_eq!(rt;
+        is_float_text(1.7976931348623157e308, Ok(b"1.7976931348623157e308")),
+        Some(true)
+    );
+    assert_eq!(rt;
+        is_float_text(f64::INFINITY, Err(WriteError::Special)),
+        Some(true)
+    );
 }
 
 // Returns what is written of a text of a format without requirements, which may be a float, in another format.
