@@ -1,6 +1,7 @@
 -- Digits and their characters.
 use Rattle.std.proofs.Common.{ℕ, ◌≡◌, ◌+◌, ◌*◌, ◌<◌, ◌≤◌, ◌||◌, Bool, true, false, cond, nat_lt, List, [], ◌∷◌, ◌++◌, length, drop, get_or}
-use Rattle.std.proofs.Common.{Option, ◌-◌, ◌/◌, ◌%◌, map, set, slice_get, option_to_list, Some, None, refl, sym, ap, ◌∙◌, arith, suc, zero, drop-cons, add-one, replicate, append-nil, subst, inl, inr}
+use Rattle.std.proofs.Common.{Option, ◌-◌, ◌/◌, ◌%◌, map, set, slice_get, option_to_list, Some, None, refl, sym}
+use Rattle.std.proofs.Common.{ap, ◌∙◌, arith, suc, zero, drop-cons, add-one, replicate, append-nil, subst, inl, inr}
 use Rattle.std.proofs.lemmas.Bool.{cases_lt}
 use Rattle.std.proofs.lemmas.Int.Digits.{all_below_base_digits_of, digits_of_step, length-digits_of_step, number_after_append}
 use Rattle.std.proofs.lemmas.List.{append_assoc, drop_all, drop-set, length-append, length-map, length-set, map_push}
@@ -172,18 +173,21 @@ plain_text pattern least bytes digits are plain upper most =
 -- The last digit of what is left of a number is written before the digits that have been written.
 pub one_more : (radix n start c : ℕ) (buffer : List ℕ) → 2 ≤ radix → 0 < n → 1 ≤ start → start ≤ length buffer
     → slice_get digit_characters (n % radix) ≡ Some c
-    → map (character false) (digits_of radix (n / radix)) ++ drop (start - 1) (set buffer (start - 1) c) ≡ map (character false) (digits_of radix n) ++ drop start buffer
+    → map (character false) (digits_of radix (n / radix)) ++ drop (start - 1) (set buffer (start - 1) c)
+    ≡ map (character false) (digits_of radix n) ++ drop start buffer
 one_more radix n start c buffer two some room inside is =
     let same : start ≡ start - 1 + 1 = omega arith in
     let text : map (character false) (digits_of radix n) ≡ map (character false) (digits_of radix (n / radix)) ++ c ∷ [] =
     ap (map (character false)) (digits_of_step radix n two some) ∙ map_push (character false) (digits_of radix (n / radix)) (n % radix)
     ∙ ap (λ b. map (character false) (digits_of radix (n / radix)) ++ b ∷ []) (get_or_from_slice_get digit_characters (n % radix) c 0 is) in
-    rw (drop-set buffer (start - 1) c (omega arith), text, append_assoc) (ap (λ k. map (character false) (digits_of radix (n / radix)) ++ c ∷ drop k buffer) (sym same))
+    rw (drop-set buffer (start - 1) c (omega arith), text, append_assoc)
+    (ap (λ k. map (character false) (digits_of radix (n / radix)) ++ c ∷ drop k buffer) (sym same))
 
 -- The last two digits, of which the last is written first.
 pub two_more : (n start a b : ℕ) (buffer : List ℕ) → 10 ≤ n → 2 ≤ start → start ≤ length buffer
     → slice_get digit_characters (n % 100 / 10) ≡ Some a → slice_get digit_characters (n % 100 % 10) ≡ Some b
-    → map (character false) (digits_of 10 (n / 100)) ++ drop (start - 2) (set (set buffer (start - 1) b) (start - 2) a) ≡ map (character false) (digits_of 10 n) ++ drop start buffer
+    → map (character false) (digits_of 10 (n / 100)) ++ drop (start - 2) (set (set buffer (start - 1) b) (start - 2) a)
+    ≡ map (character false) (digits_of 10 n) ++ drop start buffer
 two_more n start a b buffer two room inside first second =
     let front : n / 10 / 10 ≡ n / 100 = div-div-eq-div-mul n 10 10 in
     let place : start - 1 - 1 ≡ start - 2 = omega arith in
@@ -256,7 +260,8 @@ padded_text pattern text a b c d n behind between last all second third fourth =
     append_assoc ((text ++ front n a) ++ front behind b) (front between c) (front last d)
     ∙ append_assoc (text ++ front n a) (front behind b) (front between c ++ front last d)
     ∙ append_assoc text (front n a) (front behind b ++ (front between c ++ front last d))
-    ∙ ap (λ it. text ++ (front n a ++ (front behind b ++ (front between c ++ it)))) (grouped_last pattern last d (omega (arith, whole, rest, end, second, third, fourth)))
+    ∙ ap (λ it. text ++ (front n a ++ (front behind b ++ (front between c ++ it))))
+    (grouped_last pattern last d (omega (arith, whole, rest, end, second, third, fourth)))
     ∙ ap (λ it. text ++ (front n a ++ (front behind b ++ it))) (sym (grouped_parts pattern between c d (omega (arith, whole, rest, end, second, third))))
     ∙ ap (λ it. text ++ (front n a ++ it)) (sym (grouped_parts pattern behind b (c ++ d) (omega (arith, whole, rest, second))))
     ∙ ap (λ it. text ++ it) (sym (grouped_parts pattern n a (b ++ (c ++ d)) all))

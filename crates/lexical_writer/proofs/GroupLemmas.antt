@@ -121,7 +121,8 @@ module _ (m : Notation) (radix : ℕ) (pattern : Pattern) (digit : (d : ℕ) →
               elim (cases_lt count pattern.higher) [
                 | inl part ↦
                     let place : (n - pattern.last) % pattern.higher ≡ count =
-                    ap (λ n. n % pattern.higher) {y = is.inner * pattern.higher + count} (omega (arith, is.total)) ∙ mod-mul-add is.inner pattern.higher count part in
+                    ap (λ n. n % pattern.higher) {y = is.inner * pattern.higher + count} (omega (arith, is.total))
+                    ∙ mod-mul-add is.inner pattern.higher count part in
                     let inside : ends_group pattern n ≡ false = let positive = is.within.0 in grind (arith, nat_tests) in
                     subst (State (n + 1)) (sym (next_inside d (e ∷ digits) all.0 inside ∙ ap one_more are))
                     (record { inner = is.inner; within = (omega arith, omega (arith, part)); total = omega (arith, is.total); rest = is.rest })

@@ -1,6 +1,8 @@
 -- What is laid out is a literal with the digits of the amount.
-use Rattle.std.proofs.Common.{ℕ, ◌≡◌, ◌<◌, ◌≤◌, ◌+◌, ◌-◌, ◌*◌, ◌%◌, ◌==◌, ◌&&◌, ◌||◌, not, max, nat_le, nat_lt, if◌then◌else◌, Bool, true, false, IsTrue, List, [], ◌∷◌}
-use Rattle.std.proofs.Common.{drop, inl, inr, cond, length, Option, Some, None, Result, Ok, Err, IfOk, is_some, option_to_list, unwrap_or, refl, sym, subst, ap, ◌∙◌, arith}
+use Rattle.std.proofs.Common.{ℕ, ◌≡◌, ◌<◌, ◌≤◌, ◌+◌, ◌-◌, ◌*◌, ◌%◌, ◌==◌, ◌&&◌, ◌||◌, not}
+use Rattle.std.proofs.Common.{max, nat_le, nat_lt, if◌then◌else◌, Bool, true, false, IsTrue, List, [], ◌∷◌}
+use Rattle.std.proofs.Common.{drop, inl, inr, cond, length, Option, Some, None, Result, Ok, Err}
+use Rattle.std.proofs.Common.{IfOk, is_some, option_to_list, unwrap_or, refl, sym, subst, ap, ◌∙◌, arith}
 use Rattle.std.proofs.Math.Nat.{mod-lt}
 use Rattle.std.proofs.lemmas.Bool.{and_from, cases_lt, false_from_ne_true, false≢true, lt-ltb, ltb-true, or_left, or_right}
 use Rattle.std.proofs.lemmas.Bool.Decides.{nat_tests}
@@ -179,9 +181,11 @@ groups_allowed r allowed lowercase last size some =
     go (last == 0 || not allowed || r.byte layout.digit_separator == 0) refl some
   where
     go : (test : Bool) → (last == 0 || not allowed || r.byte layout.digit_separator == 0) ≡ test
-        → 0 < (if test then no_groups lowercase else record { last = last; higher = size; separator = r.byte layout.digit_separator; lowercase = lowercase }).higher
+        → 0 < (if test then no_groups lowercase
+        else record { last = last; higher = size; separator = r.byte layout.digit_separator; lowercase = lowercase }).higher
         → (allowed ≡ true) × ((r.byte layout.digit_separator == 0) ≡ false)
-        × ((if test then no_groups lowercase else record { last = last; higher = size; separator = r.byte layout.digit_separator; lowercase = lowercase }).separator
+        × ((if test then no_groups lowercase
+        else record { last = last; higher = size; separator = r.byte layout.digit_separator; lowercase = lowercase }).separator
         ≡ r.byte layout.digit_separator)
     go true is some = absurd (omega (arith, some))
     go false is some = (grind arith, grind arith, refl)
@@ -369,7 +373,8 @@ module _ (g : Grammar) (style : Style) (amount : Amount) (is : IsSyntax g)
             let last : fraction_groups.last ≡ (length fraction_digits - 1) % size + 1 = are.1 ∙ sym (ap (λ k. (length fraction_digits - 1) % k + 1) are.0) in
             let least = mod-lt (length fraction_digits - 1) some in
             right_groups m radix fraction_groups (no_separator fraction_groups.lowercase) parts.Fraction (between parts.Fraction _ _ _ _ refl refl some).0
-            (within_test _ size _ (omega (arith, last)) (omega (arith, last, least)) are.0) (equal_test _ _ are.0) (omega (arith, last)) some fraction_digits all
+            (within_test _ size _ (omega (arith, last)) (omega (arith, last, least)) are.0) (equal_test _ _ are.0)
+            (omega (arith, last)) some fraction_digits all
             (λ inner count first most total. equal_test _ _ (left_first (length fraction_digits) size inner count (omega (arith, total, first)) first most
             (total ∙ ap (λ k. inner * size + count + k) last) ∙ are.0))
         | inr none ↦ single_fits m radix fraction_groups (no_separator fraction_groups.lowercase) parts.Fraction fraction_digits all (omega (arith, none))
@@ -489,5 +494,6 @@ pub written : (g : Grammar) (style : Style) (amount : Amount) → IsSyntax g
     → (result : Result Layout WriteError) → IsLaidOut g style amount result
     → IfOk result (λ layout. Reads (notation_of g) (literal_of layout) (text_of (literal_of layout)) × HasNumber g amount (literal_of layout))
 written g style amount is apart (Ok layout) laid =
-    subst (λ l. Reads (notation_of g) l (text_of l) × HasNumber g amount l) (sym laid.1) (reads g style amount is apart laid.0, has_number g style amount is apart laid.0)
+    subst (λ l. Reads (notation_of g) l (text_of l) × HasNumber g amount l) (sym laid.1)
+    (reads g style amount is apart laid.0, has_number g style amount is apart laid.0)
 written g style amount is apart (Err error) laid = tt

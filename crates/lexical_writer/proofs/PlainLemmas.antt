@@ -1,6 +1,8 @@
 -- A number whose point has moved has the value of the literal.
-use Rattle.std.proofs.Common.{ℕ, zero, suc, ◌≡◌, ◌<◌, ◌≤◌, ◌+◌, ◌-◌, ◌*◌, ◌/◌, ◌%◌, ◌^◌, ◌==◌, ◌&&◌, ◌||◌, ◌⊎◌, inl, inr, not, nat_lt, Bool, true, false, if◌then◌else◌}
-use Rattle.std.proofs.Common.{Option, Some, None, is_some, unwrap_or, List, [], ◌++◌, length, take, drop, replicate, Result, Ok, Err, refl, sym, ap, ◌∙◌, subst, arith, append-nil}
+use Rattle.std.proofs.Common.{ℕ, zero, suc, ◌≡◌, ◌<◌, ◌≤◌, ◌+◌, ◌-◌, ◌*◌, ◌/◌, ◌%◌, ◌^◌}
+use Rattle.std.proofs.Common.{◌==◌, ◌&&◌, ◌||◌, ◌⊎◌, inl, inr, not, nat_lt, Bool, true, false, if◌then◌else◌}
+use Rattle.std.proofs.Common.{Option, Some, None, is_some, unwrap_or, List, [], ◌++◌, length, take, drop}
+use Rattle.std.proofs.Common.{replicate, Result, Ok, Err, refl, sym, ap, ◌∙◌, subst, arith, append-nil}
 use Rattle.std.proofs.Math.Nat.{dvd_of_mod-eq-zero, div-mul_cancel, mul-div_cancel, one-le-pow, pow-suc, pow-zero}
 use Rattle.std.proofs.lemmas.Bool.{cases_lt, false≢true}
 use Rattle.std.proofs.lemmas.Bool.Decides.{nat_tests}
@@ -89,7 +91,8 @@ moves far false base radix e k n whole is = inr (go (e == 0) refl)
         ∙ ap (λ b. b ^ n) (whole factor)
 
 -- The digits and the places of a point that has moved to the left.
-left_worth : (radix n : ℕ) (i f : List ℕ) → (number_from_digits radix (moved_integer true n i f ++ moved_fraction true n i f) ≡ number_from_digits radix (i ++ f))
+left_worth : (radix n : ℕ) (i f : List ℕ)
+    → (number_from_digits radix (moved_integer true n i f ++ moved_fraction true n i f) ≡ number_from_digits radix (i ++ f))
     × (length (moved_fraction true n i f) ≡ n + length f)
 left_worth radix n i f =
     let k = length i - n in
@@ -128,14 +131,16 @@ right_worth radix n i f =
           let digits : (i ++ (take n f ++ zeros)) ++ drop n f ≡ (i ++ f) ++ zeros =
           ap (λ ds. (i ++ (take n f ++ zeros)) ++ ds) rest ∙ append-nil (i ++ (take n f ++ zeros)) ∙ ap (λ ds. i ++ (ds ++ zeros)) passed
           ∙ sym (append_assoc i f zeros) in
-          let power : radix ^ n ≡ radix ^ length f * radix ^ k = ap (λ e. radix ^ e) {x = n} {y = length f + k} (omega (arith, past)) ∙ pow-add radix (length f) k in
+          let power : radix ^ n ≡ radix ^ length f * radix ^ k = ap (λ e. radix ^ e) {x = n} {y = length f + k} (omega (arith, past))
+          ∙ pow-add radix (length f) k in
           ap (λ ds. number_from_digits radix ds * radix ^ length f) digits
           ∙ ap (λ m. m * radix ^ length f) (number_after_append radix 0 (i ++ f) zeros ∙ zeros_after radix whole k)
           ∙ shuffled whole (radix ^ k) (radix ^ length f) (radix ^ n) power
           ∙ sym (ap (λ ds. (whole * radix ^ n) * radix ^ length ds) rest ∙ ap (λ p. (whole * radix ^ n) * p) (pow-zero radix))
       | inr within ↦
           let digits : (i ++ (take n f ++ zeros)) ++ drop n f ≡ i ++ f =
-          ap (λ k. (i ++ (take n f ++ replicate k 0)) ++ drop n f) {x = k} {y = 0} (omega (arith, within)) ∙ ap (λ ds. (i ++ ds) ++ drop n f) (append-nil (take n f))
+          ap (λ k. (i ++ (take n f ++ replicate k 0)) ++ drop n f) {x = k} {y = 0} (omega (arith, within))
+          ∙ ap (λ ds. (i ++ ds) ++ drop n f) (append-nil (take n f))
           ∙ append_assoc i (take n f) (drop n f) ∙ ap (λ ds. i ++ ds) (take-append-drop n f) in
           let length_is = length-drop n f in
           let power : radix ^ length f ≡ radix ^ n * radix ^ length (drop n f) =
@@ -158,7 +163,8 @@ moved_worth true radix n i f =
     turned : (a b c : ℕ) → a * (b * c) ≡ (a * 1) * (c * b)
     turned a b c = omega arith
 moved_worth false radix n i f =
-    ap (λ p. number_from_digits radix (moved_integer false n i f ++ moved_fraction false n i f) * p) {x = radix ^ length f * 1} {y = radix ^ length f} (omega arith)
+    ap (λ p. number_from_digits radix (moved_integer false n i f ++ moved_fraction false n i f) * p)
+    {x = radix ^ length f * 1} {y = radix ^ length f} (omega arith)
     ∙ right_worth radix n i f
 
 -- Zeros that are left out do not change the value.
@@ -180,7 +186,8 @@ plain_worth left radix n i f some =
     ∙ number_after_append radix 0 (front ++ trimmed rest) zeros ∙ zeros_after radix (number_from_digits radix (front ++ trimmed rest)) is.0 in
     let size = length-replicate {A = ℕ} is.0 0 in
     let count : radix ^ length rest ≡ radix ^ length (trimmed rest) * radix ^ is.0 =
-    ap (λ e. radix ^ e) (ap length is.1 ∙ length-append (trimmed rest) zeros ∙ ap (λ k. length (trimmed rest) + k) size) ∙ pow-add radix (length (trimmed rest)) is.0 in
+    ap (λ e. radix ^ e) (ap length is.1 ∙ length-append (trimmed rest) zeros ∙ ap (λ k. length (trimmed rest) + k) size)
+    ∙ pow-add radix (length (trimmed rest)) is.0 in
     cancelled _ _ (radix ^ is.0) (one-le-pow is.0 radix some)
     (turned (number_from_digits radix (front ++ trimmed rest)) (radix ^ is.0) down ∙ sym (ap (λ m. m * down) number) ∙ moved_worth left radix n i f
     ∙ ap (λ p. up * p) count ∙ regrouped up (radix ^ length (trimmed rest)) (radix ^ is.0))
@@ -282,7 +289,8 @@ moved_is_worth only r parts amount n by m two =
 
     none_worth : (n a u v d w f t : ℕ) → n ≡ 0 → a * (f * d) ≡ (n * u) * t → d ≡ 1 → a * (f * w) ≡ (n * v) * t
     none_worth n a u v d w f t none is one =
-        let zero_is : a * f ≡ 0 = ap (λ d. a * d) {x = f} {y = f * 1} (omega arith) ∙ ap (λ d. a * (f * d)) (sym one) ∙ is ∙ ap (λ n. (n * u) * t) none ∙ omega arith in
+        let zero_is : a * f ≡ 0 = ap (λ d. a * d) {x = f} {y = f * 1} (omega arith) ∙ ap (λ d. a * (f * d)) (sym one)
+        ∙ is ∙ ap (λ n. (n * u) * t) none ∙ omega arith in
         regrouped a f w ∙ ap (λ m. m * w) zero_is ∙ empty v w t ∙ sym (ap (λ n. (n * v) * t) none)
 
 -- What has the digits of an amount without an exponent has its worth.
@@ -304,7 +312,8 @@ same_worth g amount up down worth none two l has =
     let no_power : given_power amount ≡ record { negative = false; source = sources.Number 0 } =
     ap (λ (power : Option Power). unwrap_or power (record { negative = false; source = sources.Number 0 })) none in
     let no_sign : is_minus l.exponent_sign ≡ false = has.exponent_sign ∙ ap (λ (power : Power). power.negative) no_power in
-    let one : power s l ≡ 1 = ap (λ n. effective_exponent_base s ^ n) (has.exponent ∙ ap (λ (power : Power). size_of (effective_exponent_radix s) power.source) no_power)
+    let one : power s l ≡ 1 =
+    ap (λ n. effective_exponent_base s ^ n) (has.exponent ∙ ap (λ (power : Power). size_of (effective_exponent_radix s) power.source) no_power)
     ∙ pow-zero (effective_exponent_base s) in
     (λ j. up * (scale_is j * (if no_sign j then one j else 1))) ∙ crossed whole up down (radix ^ length rest) factor.0 worth
     ∙ sym (λ j. (mantissa_is j * (if no_sign j then 1 else one j)) * down)

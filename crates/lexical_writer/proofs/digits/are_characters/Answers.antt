@@ -13,5 +13,6 @@ loop-index-preserved c =
     record {
       within = omega (arith, c.loop-index-test.true);
       rest = λ rest. l.invariant.rest (more_characters c.args.radix l.index c.in-Some.digit bytes c.char_to_digit.result c.loop-index-test.true
-          c.char_to_digit.ensures.digit c.in-Some.is (get_or_from_slice_get digit_characters c.in-Some.digit c.digit_to_char.result 0 c.digit_to_char.ensures.character ∙ same) rest);
+          c.char_to_digit.ensures.digit c.in-Some.is
+          (get_or_from_slice_get digit_characters c.in-Some.digit c.digit_to_char.result 0 c.digit_to_char.ensures.character ∙ same) rest);
     }

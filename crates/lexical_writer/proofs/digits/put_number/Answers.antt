@@ -15,7 +15,8 @@ put_characters-requires g c =
 pub put_characters-requires-else-run-eq10 : goal.put_characters-requires-else-run-eq10
 put_characters-requires-else-run-eq10 g c =
     let run = c.args.run.now in
-    c.characters.ensures ∙ sym (ap (map (character false)) (read_back run.radix c.args.number c.characters.result.now run.valid.0 run.valid.1 c.characters.ensures))
+    c.characters.ensures
+    ∙ sym (ap (map (character false)) (read_back run.radix c.args.number c.characters.result.now run.valid.0 run.valid.1 c.characters.ensures))
 
 pub returns-then-number : goal.returns-then-number
 returns-then-number g c start text has =

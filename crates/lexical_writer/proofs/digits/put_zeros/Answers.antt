@@ -11,7 +11,8 @@ loop-left-preserved g c =
     let end = c.args.count - c.args.zeros in
     let rest : List ℕ = replicate (l.left - 1 - end) 0 in
     let here = character run.pattern.lowercase 0 ∷ separated run.pattern (l.left - 1) in
-    let zeros : replicate {A = ℕ} (l.left - end) 0 ≡ 0 ∷ rest = ap (λ k. replicate {A = ℕ} k 0) {x = l.left - end} {y = suc (l.left - 1 - end)} (omega (arith, c.loop-left-test.true)) in
+    let zeros : replicate {A = ℕ} (l.left - end) 0 ≡ 0 ∷ rest =
+    ap (λ k. replicate {A = ℕ} k 0) {x = l.left - end} {y = suc (l.left - 1 - end)} (omega (arith, c.loop-left-test.true)) in
     record {
       within = (omega (arith, c.loop-left-test.true), let most = l.invariant.within.1 in omega (arith, most));
       written = λ start text has.

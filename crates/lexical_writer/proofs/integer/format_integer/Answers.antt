@@ -1,5 +1,6 @@
 -- Each integer is laid out, and its value is that of the integer.
-use Rattle.std.proofs.Common.{ℕ, ℤ, ◌≡◌, ◌<◌, ◌*◌, ◌&&◌, ◌||◌, append-nil, refl, Bool, true, false, Some, suc, zero, Result, Ok, Err, IfOk, IfErr, subst, sym, ap, ◌∙◌, arith}
+use Rattle.std.proofs.Common.{ℕ, ℤ, ◌≡◌, ◌<◌, ◌*◌, ◌&&◌, ◌||◌, append-nil, refl, Bool, true, false, Some}
+use Rattle.std.proofs.Common.{suc, zero, Result, Ok, Err, IfOk, IfErr, subst, sym, ap, ◌∙◌, arith}
 use Rattle.std.proofs.Math.Nat.{pow-zero}
 use Rattle.std.proofs.lemmas.Int.Digits.{number_digits_of}
 use Rattle.std.specs.Int.Digits.{digits_of, number_from_digits}
@@ -58,7 +59,8 @@ value g negative n z is lawful (Ok layout) has =
       size = n;
       sign = sym is ∙ ap (λ sign. with_sign sign n) (sym has.sign);
       fraction = same_worth g (number_of_size negative n) n 1
-          (ap (λ k. k * 1) (ap (number_from_digits radix) (append-nil (digits_of radix n)) ∙ number_digits_of radix n two) ∙ sym (ap (λ p. n * p) (pow-zero radix)))
+          (ap (λ k. k * 1) (ap (number_from_digits radix) (append-nil (digits_of radix n)) ∙ number_digits_of radix n two)
+          ∙ sym (ap (λ p. n * p) (pow-zero radix)))
           refl two (literal_of layout) has ∙ omega arith;
     }
 value g negative n z is lawful (Err error) has = tt

@@ -26,7 +26,8 @@ whole : (fraction : Bool) (error : WriteError) (other : Option WriteError) → (
 whole fraction error other none = grind arith
 
 same : (r : Record) (parts : Parts) (g : Grammar) (style : Style) (amount : Amount) (n : ℕ) → moved_by (lacks_options g.options) r parts ≡ Ok n
-    → IsMoved (r.byte layouts.mantissa_radix) (is_minus parts.exponent_sign.now) n parts amount → 2 ≤ r.byte layouts.mantissa_radix → (result : Result Layout WriteError)
+    → IsMoved (r.byte layouts.mantissa_radix) (is_minus parts.exponent_sign.now) n parts amount
+    → 2 ≤ r.byte layouts.mantissa_radix → (result : Result Layout WriteError)
     → IsNumber g style (r.byte layouts.mantissa_radix) amount result
     → IfOk result (λ layout. HasNumber g (number_of_size amount.negative (size_of (r.byte layouts.mantissa_radix) amount.integer)) (written layout))
     → IfOk result (λ layout. IsSyntax g) → IfOk result (λ layout. SameFraction r (literal_of parts) (raw g.word) (written layout))

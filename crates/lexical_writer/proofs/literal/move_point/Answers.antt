@@ -32,6 +32,7 @@ same r parts g style amount n by moved radix (Err error) has lawful = tt
 pub returns-clause-value : goal.returns-clause-value
 returns-clause-value c =
     let places = ap (λ whole. moved_by whole (raw c.args.format) c.args.parts.now) (sym c.is_whole.ensures) in
-    same (raw c.args.format) c.args.parts.now c.args.syntax.now c.args.style c.moved-amount.result c.in_ok-places.places (places ∙ sym c.moved_by.ensures ∙ c.in_ok-places.was)
+    same (raw c.args.format) c.args.parts.now c.args.syntax.now c.args.style c.moved-amount.result c.in_ok-places.places
+    (places ∙ sym c.moved_by.ensures ∙ c.in_ok-places.was)
     (subst (λ radix. IsMoved radix (is_minus c.args.parts.now.exponent_sign.now) c.in_ok-places.places c.args.parts.now c.moved-amount.result)
     c.mantissa_radix.ensures.value c.moved-amount.ensures) c.requires.radix c.shorten.result c.shorten.ensures.number c.shorten.ensures.lawful

@@ -16,7 +16,8 @@ use Rattle.lexical_writer.proofs.literal.write_number.Goals as goal
 no_error : (sign whole exponent : Bool) (error : WriteError) → sign ≡ false → first_error sign (whole && false) (exponent && false) ≡ Some error → ⊥
 no_error sign whole exponent error none is = grind arith
 
-can : (g : Grammar) (radix : ℕ) (amount : Amount) → is_some amount.fraction ≡ false → size_of radix amount.integer ≤ 2 ^ 128 - 1 → number_error g radix amount ≡ None
+can : (g : Grammar) (radix : ℕ) (amount : Amount) → is_some amount.fraction ≡ false → size_of radix amount.integer ≤ 2 ^ 128 - 1
+    → number_error g radix amount ≡ None
 can g radix amount whole small = grind (arith, nat_tests)
 
 is_number : (g : Grammar) (style : Style) (radix n : ℕ) (amount : Amount) → n ≡ size_of radix amount.integer → n ≤ 2 ^ 128 - 1

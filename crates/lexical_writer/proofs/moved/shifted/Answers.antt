@@ -40,5 +40,6 @@ pub returns : goal.returns
 returns c =
     let l = c.loop-left in
     let value : l.size ≡ c.args.number * c.args.radix ^ c.args.places =
-    alone l.size (c.args.radix ^ l.left) (ap (λ k. c.args.radix ^ k) {x = l.left} {y = 0} (omega (arith, c.loop-left-test.false)) ∙ pow-zero c.args.radix) ∙ l.invariant.value in
+    alone l.size (c.args.radix ^ l.left) (ap (λ k. c.args.radix ^ k) {x = l.left} {y = 0} (omega (arith, c.loop-left-test.false)) ∙ pow-zero c.args.radix)
+    ∙ l.invariant.value in
     (subst (λ n. n ≤ 2 ^ 128 - 1) value l.invariant.small, value)

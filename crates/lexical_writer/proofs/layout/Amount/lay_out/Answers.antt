@@ -9,7 +9,8 @@ use Rattle.lexical_writer.proofs.LiteralLemmas.{written}
 use Rattle.lexical_writer.proofs.layout.Amount.lay_out.Goals as goal
 
 abbrev IsGood : goal.After-plan → Layout → Type 0
-IsGood c layout = Reads (notation_of c.args.syntax.now) (literal_of layout) (text_of (literal_of layout)) × HasNumber c.args.syntax.now c.args.self.now (literal_of layout)
+IsGood c layout = Reads (notation_of c.args.syntax.now) (literal_of layout) (text_of (literal_of layout))
+    × HasNumber c.args.syntax.now c.args.self.now (literal_of layout)
 
 both : (c : goal.After-plan) → IfOk c.plan.result (IsGood c)
 both c =

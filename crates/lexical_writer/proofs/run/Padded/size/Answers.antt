@@ -21,6 +21,7 @@ pub returns : goal.returns
 returns c =
     let padded = c.args.self.now in
     let radix = c.args.radix in
-    let value = ap (λ whole. whole * radix ^ padded.after) (c.in-Some-size_after.ensures.1 ∙ ap (λ front. number_after radix front padded.second.now) c.in-Some.ensures.1)
+    let value = ap (λ whole. whole * radix ^ padded.after)
+    (c.in-Some-size_after.ensures.1 ∙ ap (λ front. number_after radix front padded.second.now) c.in-Some.ensures.1)
     ∙ sym (padded_number radix padded) in
     subst (λ n. SomeIff c.shifted.result (n ≤ 2 ^ 128 - 1) n) value c.shifted.ensures

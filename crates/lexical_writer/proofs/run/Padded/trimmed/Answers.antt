@@ -12,7 +12,8 @@ returns-then-count-gt0 c =
     let padded = c.args.self.now in
     let second = digits_in c.args.radix padded.second.now in
     let is = c.without_last_zeros-second.ensures in
-    let some = some_from (digits_in c.args.radix c.without_last_zeros-second.result.now) (let digits = c.count.ensures.value in omega (arith, digits, c.if-count-gt0.true)) in
+    let some = some_from (digits_in c.args.radix c.without_last_zeros-second.result.now)
+    (let digits = c.count.ensures.value in omega (arith, digits, c.if-count-gt0.true)) in
     ap (λ xs. replicate padded.before 0 ++ (digits_in c.args.radix padded.first.now ++ xs)) (append-nil _ ∙ is)
     ∙ sym (second_left (replicate padded.before 0) (digits_in c.args.radix padded.first.now) second (replicate padded.after 0)
     (trimmed_zeros padded.after) (sym (ap is_absent is) ∙ some))
