@@ -205,12 +205,13 @@ macro_rules! languages {
             $($(#[$about])+
             pub const $name: Language = {
                 $(assert!($syntax.supports_floats());)+
-                Language(&Definition {
+                const DEFINITION: &Definition = &Definition {
                     name: stringify!($name),
                     forms: Forms::new_or_panic(const { &[$(Form::new($form, $syntax)$(.with_suffixes(const { &$suffixes }))?),+] })
                         $(.with_specials($specials))?
                         $(.with_tokens(const { &$tokens }))?,
-                })
+                };
+                Language(DEFINITION)
             };)+
         }
     };
