@@ -32,8 +32,9 @@
 //! | store words as text | `Display` and `FromStr` of [`Format`], [`FormatView`] and [`Syntax`][literal::Syntax] |
 //! | convert words that `lexical-util` stored | [`edits::migrate`] |
 //!
-//! In the package, `FORMAT.txt` defines each flag and rule, and which texts are numbers, `EXPLANATIONS.txt` why a text is
-//! not one, and `SETTINGS.txt` how settings are written.
+//! [`docs::rust`] has more of each task. [`docs::format`] defines each flag and rule, and which texts are numbers,
+//! [`docs::explanations`] why a text is not one, and [`docs::settings`] how settings are written. [`docs::changelog`] lists
+//! what does not change until 2.0.
 //!
 //! # From `lexical-util`
 //!
@@ -71,6 +72,21 @@ pub mod ascii;
 mod debug;
 #[allow(clippy::redundant_pattern_matching, reason = "as it is proved")]
 pub mod digit;
+/// Pages, which are in the documentation alone.
+#[cfg(all(doc, not(doctest)))]
+#[allow(rustdoc::invalid_rust_codeblocks, reason = "pages show programs and what they print")]
+pub mod docs {
+    #[doc = include_str!("../CHANGELOG.txt")]
+    pub mod changelog {}
+    #[doc = include_str!("../EXPLANATIONS.txt")]
+    pub mod explanations {}
+    #[doc = include_str!("../FORMAT.txt")]
+    pub mod format {}
+    #[doc = include_str!("../RUST.txt")]
+    pub mod rust {}
+    #[doc = include_str!("../SETTINGS.txt")]
+    pub mod settings {}
+}
 #[allow(clippy::redundant_pattern_matching, clippy::manual_find, reason = "as it is proved")]
 pub mod edits;
 pub mod error;

@@ -23,7 +23,7 @@ CRATES = RUST.parent / "crates"
 
 # The beginning of each generated file.
 MADE = "// Made by rust/tools/erase.py"
-PAGES = ("FORMAT", "EXPLANATIONS", "SETTINGS")
+PAGES = ("RUST", "FORMAT", "EXPLANATIONS", "SETTINGS", "CHANGELOG")
 
 # For each crate, the folder of its files in plain Rust, the path of the libraries below it, its own, and the standard
 # library that it uses.
@@ -348,11 +348,12 @@ def made_files():
                 text = text.replace(old, new)
             text = re.sub(r"format!\(in rt\.alloc\(\); ([^)]*)\)\?", r"format!(\1)", text)
             files[RUST.joinpath(folder, path.stem).with_suffix(".rs")] = laid_out(renamed(text, "peltzivar", "crate", "std"))
-    # The pages that the package has. Cargo packs only files below rust/, and rt takes no links.
-    # Links to other files lead nowhere outside the repository.
+    # The pages that the package has, as modules of its documentation. Cargo packs only files below rust/, and rt takes no
+    # links. Links to files that are not in the package lead nowhere outside the repository.
     for name in PAGES:
-        page = (RUST.parent / f"docs/{name}.md").read_text()
-        files[RUST / f"{name}.txt"] = re.sub(r"\[([^][]*)\]\([^)#][^)]*\)", r"\1", page)
+        page = (RUST.parent / ("" if name == "CHANGELOG" else "docs") / f"{name}.md").read_text()
+        page = re.sub(rf"\]\((?:(?:\.\./)?docs/|\.\./)?({'|'.join(PAGES)})\.md(?=[#)])", lambda it: f"](crate::docs::{it[1].lower()}", page)
+        files[RUST / f"{name}.txt"] = re.sub(r"\[([^][]*)\]\((?!#|crate::)[^)]*\)", r"\1", page)
     unused = [old for file, old, _ in REPLACED if not any(path.match(file) for path in read)]
     unused += [old for old, _ in EVERYWHERE if old not in sources]
     return files if not unused else sys.exit(f"no source has {', '.join(unused)}")
