@@ -19,6 +19,13 @@ pub use settings::{byte_from_decimal, EditError, EditErrorKind};
 pub(crate) use settings::{byte_from_number, likeness, nearest, Fault};
 
 /// Calls the setter of `edit` on `builder`, and returns the new builder.
+///
+/// ```
+/// use peltzivar::{edits::apply, Edit, NumberFormatBuilder};
+///
+/// let builder = apply(NumberFormatBuilder::new(), Edit::MantissaRadix(16));
+/// assert_eq!(builder.get_mantissa_radix(), 16);
+/// ```
 #[inline(always)]
 pub const fn apply(builder: NumberFormatBuilder, edit: Edit) -> NumberFormatBuilder {
     match edit {
@@ -44,6 +51,14 @@ const fn apply_flag(builder: NumberFormatBuilder, setter: FlagSetter, flag: bool
 /// To build a new format, apply the edits to a new builder, and call
 /// [`build_strict`][NumberFormatBuilder::build_strict]. The mantissa radix is used in place of an exponent base or
 /// exponent radix that no edit sets.
+///
+/// ```
+/// use peltzivar::{edits::apply_all, Edit, FlagSetter, NumberFormatBuilder};
+///
+/// let edits = [Edit::MantissaRadix(16), Edit::Flag(FlagSetter::NoExponentNotation, true)];
+/// let builder = apply_all(NumberFormatBuilder::new(), &edits);
+/// assert_eq!(builder, NumberFormatBuilder::new().mantissa_radix(16).no_exponent_notation(true));
+/// ```
 #[inline(always)]
 pub const fn apply_all(mut builder: NumberFormatBuilder, edits: &[Edit]) -> NumberFormatBuilder {
     let mut index = 0;
@@ -138,6 +153,13 @@ pub const fn migrate(format: u128) -> Result<u128, Error> {
 }
 
 /// Returns whether two words are equivalent, that is, whether they have the same [normal form][normal_form].
+///
+/// ```
+/// use peltzivar::{edits::same_format, NumberFormatBuilder};
+///
+/// let unused = NumberFormatBuilder::new().digit_separator(core::num::NonZero::new(b'_'));
+/// assert!(same_format(unused.build_unchecked(), NumberFormatBuilder::new().build_unchecked()));
+/// ```
 #[must_use]
 pub const fn same_format(a: u128, b: u128) -> bool {
     normal_form(a) == normal_form(b)

@@ -89,6 +89,12 @@ impl NumberFormatBuilder {
     /// The mantissa radix is 10. The digit separator, the base prefix, the base suffix, the exponent base and the
     /// exponent radix are absent. The flags `required_exponent_digits` and `required_mantissa_digits` are true, and all
     /// other flags are false.
+    ///
+    /// ```
+    /// use peltzivar::{format::STANDARD, NumberFormatBuilder};
+    ///
+    /// assert_eq!(NumberFormatBuilder::new().build_strict(), Ok(STANDARD));
+    /// ```
     pub const fn new() -> Self {
         NumberFormatBuilder { flags: NEW_FLAGS as u32, bytes: [0, 0, 0, 10, 0, 0] }
     }
@@ -121,6 +127,13 @@ impl NumberFormatBuilder {
     /// `radix`.
     ///
     /// The radix is not checked. The word is [lawful][flags::Rule] if and only if `radix` is between 2 and 36.
+    ///
+    /// ```
+    /// use peltzivar::{FormatView, NumberFormatBuilder};
+    ///
+    /// const TERNARY: u128 = NumberFormatBuilder::from_radix(3);
+    /// assert_eq!(FormatView::new(TERNARY).exponent_radix(), 3);
+    /// ```
     #[must_use]
     pub const fn from_radix(radix: u8) -> u128 {
         NEW_FLAGS + (radix as u128) * ONE_IN_EACH_RADIX
@@ -134,6 +147,13 @@ impl NumberFormatBuilder {
     ///
     /// If no flag allows digit separators in numbers or special values, the digit separator is dropped: its byte in the
     /// word is 0. All other fields are packed as they are.
+    ///
+    /// ```
+    /// use peltzivar::{Error, FormatView, NumberFormatBuilder};
+    ///
+    /// let word = NumberFormatBuilder::new().mantissa_radix(99).build_unchecked();
+    /// assert_eq!(FormatView::new(word).error(), Error::InvalidMantissaRadix);
+    /// ```
     #[must_use]
     pub const fn build_unchecked(&self) -> u128 {
         let [separator, prefix, suffix, radix, exponent_base, exponent_radix] = self.bytes;
@@ -187,6 +207,13 @@ impl NumberFormatBuilder {
     /// let octal = NumberFormatBuilder::from_word(hexadecimal).mantissa_radix(8).build_unchecked();
     /// assert_eq!(octal, 0x00000800_00000000_00000000_0000000C);
     /// ```
+    ///
+    /// ```
+    /// use peltzivar::{format::STANDARD, NumberFormatBuilder};
+    ///
+    /// let word = NumberFormatBuilder::from_word(STANDARD).no_exponent_notation(true).build_strict()?;
+    /// # Ok::<(), peltzivar::Error>(())
+    /// ```
     pub const fn from_word(word: u128) -> Self {
         let upper = (word >> 64) as u64;
         NumberFormatBuilder {
@@ -208,6 +235,13 @@ impl NumberFormatBuilder {
     /// The exponent base and the exponent radix are therefore not affected by later changes to the mantissa radix. If
     /// the mantissa radix is 0 too, an exponent base or exponent radix of 0 stays 0. The digit separator is kept even
     /// if no flag allows one. The reserved bits, which hold no field, are dropped.
+    ///
+    /// ```
+    /// use peltzivar::{FormatView, NumberFormatBuilder};
+    ///
+    /// let word = 0x10 << 104; // the mantissa radix 16 alone
+    /// assert_eq!(NumberFormatBuilder::rebuild(word).get_exponent_base().map(u8::from), Some(16));
+    /// ```
     pub const fn rebuild(format: u128) -> Self {
         let high = (format >> 64) as u64;
         let radix = (high >> MANTISSA_SHIFT) % 256;

@@ -12,6 +12,12 @@ pub use slices::{is_valid_ascii_slice, is_valid_letter_slice};
 /// The allowed bytes are the control characters 9 to 13 (tab, line feed, vertical tab, form feed, carriage return), the
 /// space, and the visible characters `!` to `~`. The result is `false` for every other byte, including 127 (delete) and
 /// all bytes above it.
+///
+/// ```
+/// use peltzivar::ascii::is_valid_ascii;
+///
+/// assert!(is_valid_ascii(b'\t') && is_valid_ascii(b'~') && !is_valid_ascii(b'\0') && !is_valid_ascii(0x80));
+/// ```
 #[must_use]
 pub const fn is_valid_ascii(c: u8) -> bool
     ensures { IsTrue result ↔ IsTrue (allowed_ascii c) }
@@ -20,6 +26,12 @@ pub const fn is_valid_ascii(c: u8) -> bool
 }
 
 /// Returns whether the byte `c` is an ASCII letter, uppercase or lowercase.
+///
+/// ```
+/// use peltzivar::ascii::is_valid_letter;
+///
+/// assert!(is_valid_letter(b'z') && is_valid_letter(b'A') && !is_valid_letter(b'_'));
+/// ```
 #[must_use]
 pub const fn is_valid_letter(c: u8) -> bool
     ensures { IsTrue result ↔ IsTrue (letters c) }

@@ -30,6 +30,13 @@ pub(crate) use settings::{Fault, likeness, nearest};
 pub use settings::{EditError, EditErrorKind, byte_from_decimal};
 
 /// Calls the setter of `edit` on `builder`, and returns the new builder.
+///
+/// ```
+/// use peltzivar::{edits::apply, Edit, NumberFormatBuilder};
+///
+/// let builder = apply(NumberFormatBuilder::new(), Edit::MantissaRadix(16));
+/// assert_eq!(builder.get_mantissa_radix(), 16);
+/// ```
 #[inline(always)]
 pub const fn apply(builder: NumberFormatBuilder, edit: Edit) -> NumberFormatBuilder
     ensures fields { result ≡ after builder (writes_of edit) }
@@ -64,6 +71,14 @@ const fn apply_flag(
 /// To build a new format, apply the edits to a new builder, and call
 /// [`build_strict`][NumberFormatBuilder::build_strict]. The mantissa radix is used in place of an exponent base or
 /// exponent radix that no edit sets.
+///
+/// ```
+/// use peltzivar::{edits::apply_all, Edit, FlagSetter, NumberFormatBuilder};
+///
+/// let edits = [Edit::MantissaRadix(16), Edit::Flag(FlagSetter::NoExponentNotation, true)];
+/// let builder = apply_all(NumberFormatBuilder::new(), &edits);
+/// assert_eq!(builder, NumberFormatBuilder::new().mantissa_radix(16).no_exponent_notation(true));
+/// ```
 #[inline(always)]
 #[tactic(auto, using(crate::proofs::EditLemmas::applied_all))]
 pub const fn apply_all(mut builder: NumberFormatBuilder, edits: &[Edit]) -> NumberFormatBuilder
@@ -215,6 +230,13 @@ pub const fn migrate(format: u128) -> Result<u128, Error>
 }
 
 /// Returns whether two words are equivalent, that is, whether they have the same [normal form][normal_form].
+///
+/// ```
+/// use peltzivar::{edits::same_format, NumberFormatBuilder};
+///
+/// let unused = NumberFormatBuilder::new().digit_separator(std::num::NonZero::new(b'_'));
+/// assert!(same_format(unused.build_unchecked(), NumberFormatBuilder::new().build_unchecked()));
+/// ```
 #[must_use]
 pub const fn same_format(a: u128, b: u128) -> bool
     ensures normal_forms { IsTrue result ↔ (normal_form_of a ≡ normal_form_of b) }
