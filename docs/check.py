@@ -91,7 +91,7 @@ def wrong_versions(text):
 
 
 def wrong_ratios(text, bench):
-    """Yields the ratios of README's paragraph on speed if they are not, in its order, those of the page of bench."""
+    """Yields the ratios of README's table if they are not, in its order, those of the page of bench."""
     rows = re.findall(r"\| ([^|\n]+) \| ([\d.]+) \| ([\d.]+)(?= \|)", bench)
     own = [float(ratio) for name, *two in rows if ", over " not in name for ratio in two]
     wanted = [f"{statistics.median(own):.2f}", f"{len(own) // 2}", f"{max(own):.2f}"]
@@ -99,7 +99,7 @@ def wrong_ratios(text, bench):
                  "parse::<f64>, (17 digits|fractions)"):
         ratios = [float(it) for name, *two in rows if re.fullmatch(f"Syntax::{call}, over parse", name) for it in two]
         wanted.append(f"{max(ratios):.1f}")
-    found = re.findall(r"\d\.\d+|\d+(?= rows)", text.partition("\nChecks and edits")[2].partition("\n\n")[0])
+    found = re.findall(r"\d\.\d+|\d+(?= rows)", text.partition("\n| Checks and edits")[2].partition("\n\n")[0])
     if found != wanted:
         yield f"ratios {found} in place of {wanted}"
 
