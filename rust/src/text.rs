@@ -1,7 +1,7 @@
 //! Conversions of words, edits and setters from and to text, and implementations of the trait `core::error::Error`.
 
-use core::fmt;
 use core::str::FromStr;
+use core::{fmt, hash};
 
 use crate::edits::{nearest, Edit, EditError, Fault, FlagSetter, Setter};
 use crate::error::Error;
@@ -42,6 +42,28 @@ impl FromStr for Format {
 impl fmt::Display for ShortText {
     fn fmt(&self, f: &mut fmt::Formatter<'_>) -> fmt::Result {
         f.pad(self.as_str())
+    }
+}
+
+/// Compares the text.
+impl<T: AsRef<str> + ?Sized> PartialEq<T> for ShortText {
+    fn eq(&self, other: &T) -> bool {
+        self.as_str() == other.as_ref()
+    }
+}
+
+impl Eq for ShortText {}
+
+/// Returns [`as_str`][ShortText::as_str].
+impl AsRef<str> for ShortText {
+    fn as_ref(&self) -> &str {
+        self.as_str()
+    }
+}
+
+impl hash::Hash for ShortText {
+    fn hash<H: hash::Hasher>(&self, state: &mut H) {
+        self.as_str().hash(state);
     }
 }
 

@@ -144,7 +144,7 @@ REPLACED += [
     ("suffix.rt", "#[derive(Clone, Copy)]\npub struct Suffixes ", "#[derive(Debug, Clone, Copy, PartialEq, Eq, Hash)]\npub struct Suffixes "),
     ("token.rt", "#[derive(Drop)]", "#[derive(Debug, Clone, Copy, PartialEq, Eq, Hash)] #[non_exhaustive]"),
     ("token.rt", "fn token<'t>(&self", "fn token_bytes<'t>(&self"),
-    ("list.rt", "#[derive(Drop)]\npub struct", "#[derive(Debug, Clone, Copy, PartialEq, Eq)]\npub struct"),
+    ("list.rt", "#[derive(Drop)]\npub struct", "#[derive(Debug, Clone, Copy, PartialEq, Eq, Hash)]\npub struct"),
     ("list.rt", "#[derive(Drop)]\npub enum", "#[derive(Debug, Clone, Copy, PartialEq, Eq, Hash)]\npub enum"),
     # Calls with these names are written by hand: they take a text or bytes.
     ("list.rt", "fn read<", "fn read_bytes<"),

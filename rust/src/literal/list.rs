@@ -79,7 +79,7 @@ impl Tokens {
 
 /// The forms of numbers, at least one, the spellings of NaN and infinity, and how tokens are read. The first form of which a text
 /// is a literal decides what number it is.
-#[derive(Debug, Clone, Copy, PartialEq, Eq)]
+#[derive(Debug, Clone, Copy, PartialEq, Eq, Hash)]
 pub struct Forms<'a> {
     pub(crate) forms: &'a [Form],
     specials: Specials<'a>,
