@@ -2,8 +2,8 @@
 //!
 //!     cargo run --example languages -- 0x1F
 //!
-//! Without a text, prints the forms of all languages: the language, the form, its syntax and the settings of its format,
-//! with tabs between them.
+//! Without a text, prints the forms of all languages: the language, the form, a sentence on its numbers, its syntax and the
+//! settings of its format, with tabs between them.
 
 use peltzivar::literal::{Language, Number};
 
@@ -28,8 +28,9 @@ fn main() {
     }
     for language in Language::ALL {
         for form in language.forms() {
-            let settings = Vec::from_iter(form.syntax().format().edits().map(|edit| edit.to_string()));
-            println!("{language}\t{}\t{}\t{}", form.name(), form.syntax(), settings.join(" "));
+            let syntax = form.syntax();
+            let settings = Vec::from_iter(syntax.format().edits().map(|edit| edit.to_string()));
+            println!("{language}\t{}\t{}\t{syntax}\t{}", form.name(), syntax.sentence(), settings.join(" "));
         }
     }
 }

@@ -1,0 +1,68 @@
+#!/usr/bin/env python3
+"""Writes docs/LANGUAGES.md: for each language, what its constant in rust/src/literal/language/tables.rs documents, its
+forms, and the tools with which it was compared.
+
+    docs/languages.py [--check]
+
+With `--check`, compares the page, and ends with status 1 if it differs.
+"""
+import pathlib
+import re
+import subprocess
+import sys
+
+TOP = pathlib.Path(__file__).resolve().parent.parent
+PAGE = TOP / "docs/LANGUAGES.md"
+TABLES = TOP / "rust/src/literal/language/tables.rs"
+HEAD = """# Languages
+
+`Language` has a constant for each of these languages and files: a name and a list of [forms](FORMAT.md#several-forms).
+`Language::RUST.read("0x1F")` finds the first form of which a text is a number, `parse` its value, and `token` a number
+in [source text](FORMAT.md#tokens). C, Python and the page have the same lists. The example `languages` prints the
+syntax of each form, and its settings. What no format can express is in
+[FORMAT](FORMAT.md#what-a-format-cannot-express).
+
+[languages.py](languages.py) writes this page from the [constants](../rust/src/literal/language/tables.rs). Each language
+is [compared with its own tool](../compare/README.md#languages-and-their-tools).
+"""
+
+
+def documented():
+    """Returns the documentation of each constant, without links."""
+    blocks = re.findall(r"((?:^    /// .*\n)+)    (\w+) = ", TABLES.read_text(), re.M)
+    return {name: re.sub(r"\[(.*?)\]\[.*?\]", r"\1", re.sub(r"^    /// ", "", text, flags=re.M)) for text, name in blocks}
+
+
+def forms():
+    """Returns the rows of each language: a form, and a sentence on the numbers that it reads."""
+    printed = subprocess.run(["cargo", "run", "-q", "--example", "languages"], cwd=TOP, stdout=subprocess.PIPE, text=True, check=True)
+    rows = {}
+    for line in printed.stdout.splitlines():
+        language, form, sentence, *_ = line.split("\t")
+        rows.setdefault(language, []).append(f"| {form} | {sentence.replace('|', chr(92) + '|')} |\n")
+    return rows
+
+
+def tools():
+    """Returns the tools of each language, as compare/README.md names them."""
+    found = {}
+    for name, tool in re.findall(r"^\| (\w+) \| .*? \| (.*?) \| [\d,]+ \|", (TOP / "compare/README.md").read_text(), re.M):
+        found.setdefault(name, []).append(tool)
+    return found
+
+
+def made():
+    about, compared = documented(), tools()
+    for name, rows in forms().items():
+        by = "by " + " and ".join(compared[name]) if name in compared else "by a table of its grammar"
+        yield f"\n## {name}\n\n{about[name]}\nCompared {by}.\n\n| Form | Reads |\n|---|---|\n{''.join(rows)}"
+
+
+def main():
+    page = HEAD + "".join(made())
+    if "--check" in sys.argv[1:]:
+        sys.exit("run docs/languages.py" if page != PAGE.read_text() else 0)
+    PAGE.write_text(page)
+
+
+main()
