@@ -36,11 +36,12 @@
  * peltzivar_read_settings returns 0. No function depends on the locale.
  *
  * Each function that ends in _text, and peltzivar_source, peltzivar_sentence, peltzivar_grammar and peltzivar_regex,
- * write a null-terminated ASCII string to a buffer of len bytes, as snprintf does. If the string and its null
- * terminator do not fit, they write only the beginning of the string and a null terminator. If len is 0, they write
- * nothing. They always return the length of the whole string, not counting the null terminator. A function that returns
- * a const char * returns a null-terminated ASCII string that lasts as long as the program. A string is empty if nothing
- * has the number or index that is passed.
+ * write a null-terminated string to a buffer of len bytes, as snprintf does: ASCII, but for characters of UTF-8 that
+ * peltzivar_read_error_text and peltzivar_read_error_full_text quote. If the string and its null terminator do not fit,
+ * they write only the beginning of the string and a null terminator. If len is 0, they write nothing. They always
+ * return the length of the whole string, not counting the null terminator. A function that returns a const char *
+ * returns a null-terminated ASCII string that lasts as long as the program. A string is empty if nothing has the number
+ * or index that is passed.
  *
  * An argument that is a word, an edit, a syntax, a number or a byte may have any value. A pointer that is passed with a
  * length must point to an array of at least that many elements, but it may be null if the length is 0. An input array
@@ -87,10 +88,11 @@ typedef uint8_t peltzivar_setter;
 typedef uint32_t peltzivar_error;
 #define PELTZIVAR_NO_SETTER 255
 
-/* The number of fields, and the sizes of buffers for any string of peltzivar_source, peltzivar_sentence,
- * peltzivar_grammar and peltzivar_regex, and of any function whose name ends in `_text`. */
+/* The number of fields. */
 #define PELTZIVAR_FIELD_COUNT 37
+/* The size of a buffer for any string of peltzivar_source, peltzivar_sentence, peltzivar_grammar and peltzivar_regex. */
 #define PELTZIVAR_SOURCE_SIZE 2048
+/* The size of a buffer for any string of a function whose name ends in `_text`. */
 #define PELTZIVAR_TEXT_SIZE 256
 
 /* Returns the version of the library in the form of PELTZIVAR_VERSION_NUMBER. */
@@ -134,9 +136,9 @@ typedef struct {
 PELTZIVAR_MUST_USE size_t peltzivar_read_settings(const char *text, size_t len, peltzivar_syntax *out);
 
 /* Writes a problem as a sentence, such as "unknown setting `base_suffx`; did you mean `base_suffix`?". The problems
- * have the indices from 0 on. Behind them are the notes. The first are on settings that do nothing, since later ones
- * set the same fields: at most 32, in the order of the last of these later ones. Then come notes on fields that have
- * no effect. Each call reads the whole text. The buffer `to` has to_len bytes. */
+ * have the indices from 0 on. Behind them are the notes: first at most 32 on settings that do nothing, since later ones
+ * set the same fields, in the order of the last of these, and then those on fields that have no effect. Each call
+ * reads the whole text. The buffer `to` has to_len bytes. */
 size_t peltzivar_settings_text(const char *text, size_t len, size_t index, char *to, size_t to_len);
 
 /* Returns the number of lines that cause the problem or note with an index. Writes their indices, in ascending
@@ -159,8 +161,8 @@ size_t peltzivar_syntax_error_text(const peltzivar_syntax *syntax, char *text, s
 /* Write a syntax in other words, or an empty string if peltzivar_check_syntax refuses it. The sentence states what
  * differs from decimal digits with an optional sign, point and exponent, such as "decimal; no `+`; NaN". The grammar is
  * in the notation of W3C, with a rule a line, and begins with "Literal". The regular expression matches a whole text if
- * and only if it is a literal. It is the same for Python, JavaScript and Rust, and has at most 500 characters. Both leave
- * out special values. */
+ * and only if it is a literal. It is the same for Python, JavaScript and Rust, and has at most 500 characters. The
+ * grammar and the regular expression leave out special values. */
 size_t peltzivar_sentence(const peltzivar_syntax *syntax, char *text, size_t len);
 size_t peltzivar_grammar(const peltzivar_syntax *syntax, char *text, size_t len);
 size_t peltzivar_regex(const peltzivar_syntax *syntax, char *text, size_t len);
@@ -200,8 +202,8 @@ typedef struct {
 
 /* Where reading stopped. The first `valid_up_to` bytes are the longest beginning of the text that some literal begins
  * with. If these are all of its bytes, bytes are missing, and a longer text may be a literal. `form` is, of several
- * forms, the index of that for which this beginning is the longest, and otherwise 0. If it is so for several, it is the
- * first whose kind is not PELTZIVAR_KIND_BYTE, or the first if the kind of each is this one. */
+ * forms, the index of that for which this beginning is the longest, and otherwise 0. Of equals, it is the first whose
+ * kind is not PELTZIVAR_KIND_BYTE, or else the first. */
 typedef struct {
     PELTZIVAR_ALIGNED uint64_t magic;
     size_t valid_up_to;
@@ -215,8 +217,8 @@ typedef struct {
 PELTZIVAR_MUST_USE bool peltzivar_read(const peltzivar_syntax *syntax, const char *text, size_t len,
     peltzivar_literal *literal, peltzivar_read_error *error);
 
-/* Does the same for the longest beginning of the text that is a literal. What follows it may be anything. If there is
- * none, *error is that of peltzivar_read. Reads no byte behind the first that cannot follow or, if it begins a
+/* Does the same for the longest beginning of the text that is a literal. What follows it may be anything: with the
+ * prefix `0x`, the literal of `0xG` is `0`. If there is none, *error is that of peltzivar_read. Reads no byte behind the first that cannot follow or, if it begins a
  * character of UTF-8, behind this character. */
 PELTZIVAR_MUST_USE bool peltzivar_read_prefix(const peltzivar_syntax *syntax, const char *text, size_t len,
     peltzivar_literal *literal, peltzivar_read_error *error);

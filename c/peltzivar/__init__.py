@@ -1409,7 +1409,7 @@ class WrongCell:
         return str(self.error)
 
 
-@dataclass(frozen=True)
+@dataclass(frozen=True, eq=False)
 class Column:
     """The values of cells. `values` is the `array.array` or the buffer that has them. `wrong` is a sequence of the cells
     that have no value, each of which is made when it is asked for. `missing` has the indexes of missing cells."""
@@ -1922,7 +1922,7 @@ class Syntax(_Reader):
             '1.234.567,50'
 
         Takes an int, a float, a Decimal, a `Literal`, or an object with `__index__` or `__float__`, as those of numpy,
-        but no bool. Of a float, the digits are those of `repr`. A `Literal` keeps its exponent, and a Decimal has one
+        but no bool. Of a float, the digits are those of `repr`; a Fraction is written exactly. A `Literal` keeps its exponent, and a Decimal has one
         from 1E+401 on and below 1E-400. Where no exponent is allowed, the point moves, and the text has at most 800
         bytes.
 
@@ -1935,10 +1935,11 @@ class Syntax(_Reader):
         "never", for a point that moves in place of an exponent, "always", or a number from which on, and below minus
         which, an exponent is kept, and otherwise moves the point.
 
-        Raises ValueError for NaN and infinity, for a sign `-` if no literal has one, for a number that is not whole if
-        literals are integers, for an int if each literal has an exponent, for an int of more than 4300 digits in radix
-        10, as `str` does, for another mantissa radix than that of the syntax, which is 10 for a float and a Decimal, if
-        the number is not whole or has more than 128 bits, and, of a float, for another exponent base.
+        Raises ValueError for NaN and infinity, for a Fraction that no decimal number is equal to, for a sign `-` if no
+        literal has one, for a number that is not whole if literals are integers, for an int if each literal has an
+        exponent, for an int of more than 4300 digits in radix 10, as `str` does, for another mantissa radix than that of
+        the syntax, which is 10 for a float and a Decimal, if the number is not whole or has more than 128 bits, and, of a
+        float, for another exponent base.
         """
         sizes = ((group, "group"), (fraction_group, "fraction_group"))
         groups = (0 if size is None else _number(name, size, 255, "a number from 0 to 254") or 255 for size, name in sizes)
@@ -1973,6 +1974,8 @@ def _writing(value: Any, radix: int) -> Tuple[Any, Any, Optional[Literal[Any]]]:
     kind = type(value)
     if kind is bool or not (hasattr(kind, "__float__") or hasattr(kind, "__index__")):
         raise TypeError(f"value is a number or a Literal, not {kind.__name__}")
+    if isinstance(value, Fraction) and (radix == 10 or value != float(value)):
+        value = _decimal_of(value)
     if isinstance(value, Literal):
         literal = value
     elif isinstance(value, Decimal) and value.is_finite():
@@ -1987,6 +1990,17 @@ def _writing(value: Any, radix: int) -> Tuple[Any, Any, Optional[Literal[Any]]]:
             rest, digits = rest // radix, "0123456789ABCDEFGHIJKLMNOPQRSTUVWXYZ"[rest % radix] + digits
         literal = Syntax.integers(Format.of(radix=radix)).read(digits if number > 0 else f"-{digits}")
     return _library.format_literal, literal._found, literal
+
+
+def _decimal_of(value: Fraction) -> Decimal:
+    twos = (value.denominator & -value.denominator).bit_length() - 1
+    rest, fives = value.denominator >> twos, 0
+    while rest % 5 == 0:
+        rest, fives = rest // 5, fives + 1
+    if rest != 1:
+        raise ValueError(f"no decimal number is equal to {value}")
+    places = max(twos, fives)
+    return _EXACT.scaleb(Decimal(value.numerator * 10**places // value.denominator), -places)
 
 
 _DECIMALS = Syntax(Format())

@@ -286,7 +286,7 @@ class Literals(unittest.TestCase):
     def test_numbers_are_written(self):
         german, hexadecimal = Syntax.of(digit_separator=".", internal_digit_separator=True, point=","), Syntax.of(radix=16, base_prefix="x", exponent="p")
         rows = [(0, "0"), (-1234567, "-1.234.567"), (10**40, "10" + ".000" * 13), (1234.5, "1.234,5"), (-1e300, "-1e300"), (Decimal("1234.50"), "1.234,50")]
-        for value, text in [*rows, (Decimal("1E+3"), "1.000"), (Decimal("1E-500"), "1e-500"), (Language.CSV_EN.read("1,234.50"), "1.234,50"), (Fraction(1, 4), "0,25"), (FormatView(7), "7")]:
+        for value, text in [*rows, (Decimal("1E+3"), "1.000"), (Decimal("1E-500"), "1e-500"), (Language.CSV_EN.read("1,234.50"), "1.234,50"), (Fraction(1, 4), "0,25"), (Fraction(2**53 + 1, 2), "4.503.599.627.370.496,5"), (FormatView(7), "7")]:
             self.assertEqual(german.format_number(value, group=3), text)
             if not isinstance(value, (peltzivar.Literal, FormatView)):
                 self.assertEqual(german.read(text).decimal(), Decimal(repr(value)) if isinstance(value, float) else value)

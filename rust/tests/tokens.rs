@@ -84,6 +84,7 @@ fn stated(forms: &Forms, text: &str) -> String {
     match forms.token(text) {
         Ok(token) => {
             assert_eq!([token.literal.as_bytes(), token.suffix, token.rest].concat(), text.as_bytes(), "{text}");
+            assert!(forms[token.form].syntax().read(token.literal.as_bytes()).is_ok(), "{text}");
             format!("{}|{}", token.literal, String::from_utf8_lossy(token.suffix))
         }
         Err(error) => format!("{}..{} {error}", error.span().start, error.span().end),

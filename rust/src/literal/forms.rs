@@ -63,12 +63,13 @@ impl<'a> Forms<'a> {
     }
 }
 
-/// Returns the form with an index.
+/// Returns the form with an index. Those of [`Tokens`][crate::literal::Tokens] that need a suffix follow the others.
 impl ops::Index<usize> for Forms<'_> {
     type Output = Form;
 
     fn index(&self, index: usize) -> &Form {
-        &self.as_slice()[index]
+        let behind = self.tokens.map_or(&[][..], |tokens| tokens.forms);
+        self.as_slice().get(index).unwrap_or_else(|| &behind[index - self.as_slice().len()])
     }
 }
 
