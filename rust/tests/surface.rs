@@ -442,7 +442,7 @@ const _: () = { const fn call(it: &'static Reason) -> u128 { <Reason>::mask(it) 
 const _: () = { const fn call(it: &'static Reason, rule: Rule) -> bool { <Reason>::breaks(it, rule) } };
 const _: () = { const fn call(it: &'static Settings) -> Result<Format, FormatError> { <Settings>::build_format(it) } };
 const _: () = { const fn call(it: &'static ShortText) -> &'static str { <ShortText>::as_str(it) } };
-const _: () = { const fn call(it: &'static Specials<'static>, syntax: &'static Syntax, text: &'static [u8]) -> Option<Special> { <Specials<'static>>::read(it, syntax, text) } };
+const _: () = { const fn call(it: &'static Specials<'static>, syntax: &'static Syntax, text: &'static [u8]) -> Option<Special> { <Specials<'static>>::read_bytes(it, syntax, text) } };
 const _: () = { const fn call(it: &'static Syntax) -> Conditions { <Syntax>::conditions(it) } };
 const _: () = { const fn call(it: &'static Syntax) -> Format { <Syntax>::format(it) } };
 const _: () = { const fn call(it: &'static Syntax) -> Option<u8> { <Syntax>::exponent(it) } };
@@ -595,6 +595,7 @@ const _: () = { fn call(it: &'static Settings) -> Result<Syntax, FormatError> { 
 const _: () = { fn call(it: &'static Settings) -> impl Iterator<Item = Finding> + Clone + 'static { <Settings>::notes(it) } };
 const _: () = { fn call(it: &'static Settings) -> impl Iterator<Item = Finding> + Clone + 'static { <Settings>::reasons(it) } };
 const _: () = { fn call(it: &'static Specials<'static>, syntax: &'static Syntax, special: Special) -> Result<Written<'static>, WriteError> { <Specials<'static>>::format(it, syntax, special) } };
+const _: () = { fn call(it: &'static Specials<'static>, syntax: &'static Syntax, text: &'static (impl AsRef<[u8]> + ?Sized)) -> Option<Special> { <Specials<'static>>::read(it, syntax, text) } };
 const _: () = { fn call(it: &'static Syntax) -> impl Display { <Syntax>::grammar(it) } };
 const _: () = { fn call(it: &'static Syntax) -> impl Display { <Syntax>::regex(it) } };
 const _: () = { fn call(it: &'static Syntax) -> impl Display { <Syntax>::sentence(it) } };

@@ -147,6 +147,9 @@ REPLACED += [
     ("list.rt", "#[derive(Drop)]\npub struct", "#[derive(Debug, Clone, Copy, PartialEq, Eq, Hash)]\npub struct"),
     ("list.rt", "#[derive(Drop)]\npub enum", "#[derive(Debug, Clone, Copy, PartialEq, Eq, Hash)]\npub enum"),
     # Calls with these names are written by hand: they take a text or bytes.
+    ("specials.rt", "const fn read(", "const fn read_bytes("),
+    ("specials.rt", "self.read(syntax, word)", "self.read_bytes(syntax, word)"),
+    ("list.rt", "self.specials.read(", "self.specials.read_bytes("),
     ("list.rt", "fn read<", "fn read_bytes<"),
     ("list.rt", "fn read_prefix<", "fn read_prefix_bytes<"),
     # Its other calls are written by hand. Their results depend on what is compared.

@@ -2,7 +2,9 @@
 
 use core::{fmt, ops, ops::Range, slice};
 
-use crate::literal::{Form, FormError, Forms, FromLiteral, Literal, Number, ParseError, ReadError, Special};
+use crate::literal::{
+    Form, FormError, Forms, FromLiteral, Literal, Number, ParseError, ReadError, Special, Specials, Syntax,
+};
 
 impl<'a> Forms<'a> {
     /// Returns the list of `forms`, for a constant.
@@ -60,6 +62,14 @@ impl<'a> Forms<'a> {
     ) -> Result<(T, &'t [u8]), ParseError> {
         let (number, rest) = self.read_prefix(text)?;
         Ok((number.value()?, rest))
+    }
+}
+
+impl Specials<'_> {
+    /// Returns what [`read_bytes`][Self::read_bytes] returns, for a text or bytes.
+    #[must_use]
+    pub fn read(&self, syntax: &Syntax, text: &(impl AsRef<[u8]> + ?Sized)) -> Option<Special> {
+        self.read_bytes(syntax, text.as_ref())
     }
 }
 

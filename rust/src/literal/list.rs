@@ -184,7 +184,7 @@ impl<'a> Forms<'a> {
 
     // Returns the special value that `text` is, if it is one.
     const fn special(&self, text: &[u8]) -> Option<Special> {
-        self.specials.read(&self.forms[0].syntax, text)
+        self.specials.read_bytes(&self.forms[0].syntax, text)
     }
 
     // Returns the index of the first form of which `text` is a literal, and the literal. A form that the first bytes exclude is not

@@ -71,7 +71,7 @@ impl<'a> Specials<'a> {
     ///
     /// A text can be both a literal and a special value, such as `inf` in radix 36.
     #[must_use]
-    pub const fn read(&self, syntax: &Syntax, text: &[u8]) -> Option<Special> {
+    pub const fn read_bytes(&self, syntax: &Syntax, text: &[u8]) -> Option<Special> {
         let grammar = syntax.as_grammar();
         let (sign, rest) = split_sign(text);
         if !allows(grammar, sign) {
@@ -117,7 +117,7 @@ impl<'a> Specials<'a> {
     // Returns the special value that a word is behind a sign.
     const fn read_signed(&self, syntax: &Syntax, sign: Option<Sign>, word: &[u8]) -> Option<Special> {
         let Some(given) = sign else {
-            return self.read(syntax, word);
+            return self.read_bytes(syntax, word);
         };
         self.behind(syntax.as_grammar(), given, word)
     }
