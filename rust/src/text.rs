@@ -45,14 +45,20 @@ impl fmt::Display for ShortText {
     }
 }
 
-/// Compares the text.
-impl<T: AsRef<str> + ?Sized> PartialEq<T> for ShortText {
-    fn eq(&self, other: &T) -> bool {
-        self.as_str() == other.as_ref()
+impl PartialEq for ShortText {
+    fn eq(&self, other: &Self) -> bool {
+        self.as_str() == other.as_str()
     }
 }
 
 impl Eq for ShortText {}
+
+/// Compares the text.
+impl PartialEq<str> for ShortText {
+    fn eq(&self, other: &str) -> bool {
+        self.as_str() == other
+    }
+}
 
 /// Returns [`as_str`][ShortText::as_str].
 impl AsRef<str> for ShortText {
