@@ -23,7 +23,7 @@ syntax of each form, and its settings. What no format can express is in
 [FORMAT](FORMAT.md#what-a-format-cannot-express).
 
 [languages.py](languages.py) writes this page from the [constants](../rust/src/literal/language/tables.rs). Each language
-is [compared with its own tool](../compare/README.md#languages-and-their-tools).
+of which Debian has a tool is [compared with it](../compare/README.md#languages-and-their-tools).
 """
 
 
