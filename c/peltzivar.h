@@ -107,8 +107,9 @@ typedef struct {
  * If both are 0, numbers are integers. The other members are conditions: that a number has the base prefix or the base
  * suffix, that its sign is not `-`, and that the digit separators of its integer or its fraction, if there are any, make
  * groups of 2 to 8 digits, as in `1,234`. Groups of the integer before the last have higher_group_size digits, if this
- * is not 0, as in `12,34,567`. Members that an initialiser leaves out are 0 or false, which is no condition. A later
- * version may have conditions in `reserved`, so a syntax is refused if one of these bytes is not 0.
+ * is not 0, as in `12,34,567`. The last two conditions are that a number begins, behind its sign, with `0`, as C's `017`,
+ * or with `0` to `9`, as NASM's `0FFh`. Members that an initialiser leaves out are 0 or false, which is no condition. A
+ * later version may have conditions in `reserved`, so a syntax is refused if one of these bytes is not 0.
  * peltzivar_read_settings writes a syntax, and the forms of a language have some. Check one of your own with
  * peltzivar_check_syntax. */
 typedef struct {
@@ -116,7 +117,8 @@ typedef struct {
     uint8_t exponent, decimal_point;
     bool required_base_prefix, required_base_suffix, no_negative_mantissa_sign;
     uint8_t integer_group_size, higher_group_size, fraction_group_size;
-    uint8_t reserved[8];
+    bool required_leading_zero, decimal_first_digit;
+    uint8_t reserved[6];
 } peltzivar_syntax;
 
 /* Settings build a syntax. A text, such as a file, has one setting a line, NAME=VALUE, of a field, a group, an option
@@ -311,7 +313,9 @@ enum {
     PELTZIVAR_CONDITION_NO_NEGATIVE_MANTISSA_SIGN = 4,
     PELTZIVAR_CONDITION_INTEGER_GROUP_SIZE = 8,
     PELTZIVAR_CONDITION_HIGHER_GROUP_SIZE = 16,
-    PELTZIVAR_CONDITION_FRACTION_GROUP_SIZE = 32
+    PELTZIVAR_CONDITION_FRACTION_GROUP_SIZE = 32,
+    PELTZIVAR_CONDITION_REQUIRED_LEADING_ZERO = 64,
+    PELTZIVAR_CONDITION_DECIMAL_FIRST_DIGIT = 128
 };
 
 /* Writes why a text is not a literal to *out and returns true. If no call has written *error, or if the syntax, the
@@ -405,7 +409,7 @@ const char *peltzivar_language_name(size_t index);
 /* Do what peltzivar_read, peltzivar_read_prefix and peltzivar_read_special do, by forms. peltzivar_forms_read
  * refuses special values, and peltzivar_forms_read_prefix finds the longest literal of any form. Forms are refused
  * if they are null or have no array, too many elements, or reserved members that are not 0. A form may read a text
- * that an earlier one reads otherwise: C's octal form reads `17` as 15. */
+ * that an earlier one reads otherwise: an octal form without required_leading_zero reads `17` as 15. */
 PELTZIVAR_MUST_USE bool peltzivar_forms_read(const peltzivar_forms *forms, const char *text, size_t len,
     peltzivar_literal *literal, peltzivar_read_error *error);
 PELTZIVAR_MUST_USE bool peltzivar_forms_read_prefix(const peltzivar_forms *forms, const char *text, size_t len,

@@ -275,7 +275,9 @@ class _Syntax(Structure):
         ("integer_group_size", c_uint8),
         ("higher_group_size", c_uint8),
         ("fraction_group_size", c_uint8),
-        ("reserved", c_uint8 * 8),
+        ("required_leading_zero", c_bool),
+        ("decimal_first_digit", c_bool),
+        ("reserved", c_uint8 * 6),
     ]
 
 
@@ -1674,6 +1676,8 @@ class Syntax(_Reader):
     integer_group_size: Optional[int] = None
     higher_group_size: Optional[int] = None
     fraction_group_size: Optional[int] = None
+    required_leading_zero: bool = False
+    decimal_first_digit: bool = False
     # End
     # What calls read by: as a syntax, and as one form.
     _by: Any = field(init=False, repr=False, compare=False)
@@ -1771,6 +1775,8 @@ class Syntax(_Reader):
         integer_group_size: Optional[int] = _KEPT,
         higher_group_size: Optional[int] = _KEPT,
         fraction_group_size: Optional[int] = _KEPT,
+        required_leading_zero: bool = _KEPT,
+        decimal_first_digit: bool = _KEPT,
         # End
     ) -> Syntax:
         """Returns the syntax that settings make, such as the lines of a file, and then keyword arguments. Raises
@@ -1851,6 +1857,8 @@ class Syntax(_Reader):
         integer_group_size: Optional[int] = _KEPT,
         higher_group_size: Optional[int] = _KEPT,
         fraction_group_size: Optional[int] = _KEPT,
+        required_leading_zero: bool = _KEPT,
+        decimal_first_digit: bool = _KEPT,
         # End
     ) -> Tuple[Note, ...]:
         """Returns the notes on settings that later ones override, the first 32 alone, and on those that have no effect,
@@ -2164,7 +2172,8 @@ class Language(_Several, _Named):
     is none. `forms` has the same forms, with the syntax of each by its name, and the spellings of NaN and infinity.
 
     ADA: Ada's decimal literals (Reference Manual 2012, 2.4.1). A format cannot accept based literals, such as
-        `16#FF#`, or accept `1.0E-3` but reject `1E-3`. Forms: decimal.
+        `16#FF#`, or accept `1.0E-3` and `1E3` but reject `1E-3`, which the first form does not write. Forms: decimal;
+        integer with an exponent.
 
     C: C's integer and floating constants (C23, 6.4.4.1 and 6.4.4.2). A format cannot accept `1u`, `1L` and `1.0f`.
         Forms: decimal; octal; hexadecimal; binary; hexadecimal float.
@@ -2221,10 +2230,10 @@ class Language(_Several, _Named):
         a hexadecimal one keeps its last 64 bits: `0xffffffffffffffff` is -1. Forms: decimal; hexadecimal.
 
     NASM: NASM's numeric constants (NASM manual, Numeric Constants and Floating-Point Constants). A format cannot
-        accept `$0c8`, `0x_`, `0._` and `1e_`, which have separators alone, or `0h.` and `0op7`, which have no digit;
-        or reject `ffh`, which is a name. NASM keeps the last 64 bits of an integer: `0x10000000000000000` is 0 there.
-        Forms: decimal; decimal, d; decimal, t; hexadecimal, h; hexadecimal, x; octal, o; octal, q; binary, b; binary,
-        y; decimal, 0d; decimal, 0t; hexadecimal, 0h; hexadecimal, 0x; octal, 0o; octal, 0q; binary, 0b; binary, 0y.
+        accept `$0c8`, `0x_`, `0._` and `1e_`, which have separators alone, or `0h.` and `0op7`, which have no digit.
+        NASM keeps the last 64 bits of an integer: `0x10000000000000000` is 0 there. Forms: decimal; decimal, d;
+        decimal, t; hexadecimal, h; hexadecimal, x; octal, o; octal, q; binary, b; binary, y; decimal, 0d; decimal, 0t;
+        hexadecimal, 0h; hexadecimal, 0x; octal, 0o; octal, 0q; binary, 0b; binary, 0y.
 
     OCAML: OCaml's integers and floats (Manual 5.2, 11.1 Lexical conventions). A format cannot accept `1._`, whose
         fraction has a separator alone, or `1l`, `1L` and `1n`. In OCaml, an integer has 63 bits, and

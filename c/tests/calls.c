@@ -121,9 +121,9 @@ static void test_words(void) {
 }
 
 static void test_syntaxes(void) {
-    static const peltzivar_syntax integers = {PELTZIVAR_STANDARD_INIT, 0, 0, false, false, false, 0, 0, 0, {0}};
-    static const peltzivar_syntax wrong[] = {{{0, 0}, 0, 0, false, false, false, 0, 0, 0, {0}},
-        {PELTZIVAR_STANDARD_INIT, 'e', 0, false, false, false, 0, 0, 0, {0}}, {PELTZIVAR_STANDARD_INIT, 0, 0, true, false, false, 0, 0, 0, {0}}};
+    static const peltzivar_syntax integers = {PELTZIVAR_STANDARD_INIT, 0, 0, false, false, false, 0, 0, 0, false, false, {0}};
+    static const peltzivar_syntax wrong[] = {{{0, 0}, 0, 0, false, false, false, 0, 0, 0, false, false, {0}},
+        {PELTZIVAR_STANDARD_INIT, 'e', 0, false, false, false, 0, 0, 0, false, false, {0}}, {PELTZIVAR_STANDARD_INIT, 0, 0, true, false, false, 0, 0, 0, false, false, {0}}};
     static const peltzivar_error errors[] = {PELTZIVAR_INVALID_MANTISSA_RADIX, PELTZIVAR_INVALID_DECIMAL_POINT, PELTZIVAR_INVALID_BASE_PREFIX};
     static const peltzivar_specials specials = {"1", "1", "1"};
     peltzivar_literal literal;
@@ -161,29 +161,30 @@ static void test_syntaxes(void) {
 static void test_errors(void) {
     static const char *const refused[] = {".5", "1.", "1e", ".", "+1", "1", "1e5", "1e+5", "1e5", "1e5", NULL, NULL, "01", "01.5", "1", "1E5",
         "0X1", "1H", "1_1", "1.5_5", "1e5_5", "_1", "1._5", "1e_5", "1_.5", "1.5_e5", "1e5_h", "1__1", "1.5__5", "1e5__5",
-        "1h", "0x1", "-1", "1_1", "1.1_1", "", "1._", "1e_", "1x"};
+        "1h", "0x1", "-1", "1_1", "1.1_1", "17", ".5", "", "1._", "1e_", "1x"};
     static const char *const others[] = {"required_base_prefix=true", "required_base_suffix=true", "no_negative_mantissa_sign=true",
-        "integer_group_size=3", "fraction_group_size=3", "", "", "", ""};
+        "integer_group_size=3", "fraction_group_size=3", "required_leading_zero=true", "decimal_first_digit=true", "", "", "", ""};
     static const int conditions[] = {PELTZIVAR_CONDITION_REQUIRED_BASE_PREFIX, PELTZIVAR_CONDITION_REQUIRED_BASE_SUFFIX,
-        PELTZIVAR_CONDITION_NO_NEGATIVE_MANTISSA_SIGN, PELTZIVAR_CONDITION_INTEGER_GROUP_SIZE, PELTZIVAR_CONDITION_FRACTION_GROUP_SIZE};
-    char sentences[39][PELTZIVAR_TEXT_SIZE] = {""};
+        PELTZIVAR_CONDITION_NO_NEGATIVE_MANTISSA_SIGN, PELTZIVAR_CONDITION_INTEGER_GROUP_SIZE, PELTZIVAR_CONDITION_FRACTION_GROUP_SIZE,
+        PELTZIVAR_CONDITION_REQUIRED_LEADING_ZERO, PELTZIVAR_CONDITION_DECIMAL_FIRST_DIGIT};
+    char sentences[41][PELTZIVAR_TEXT_SIZE] = {""};
     peltzivar_syntax syntax;
     peltzivar_read_error error, copied;
     peltzivar_explanation why;
-    for (int i = 0; i < 39; i++) {
+    for (int i = 0; i < 41; i++) {
         const int flag = i < 18 ? i : i < 30 ? i + 14 : PELTZIVAR_NO_SETTER;
         const int kind = i < 15 ? PELTZIVAR_KIND_REQUIREMENT : i < 18 ? PELTZIVAR_KIND_CASE : i < 30 ? PELTZIVAR_KIND_SEPARATOR
-            : i < 35 ? PELTZIVAR_KIND_REQUIREMENT : i < 38 ? PELTZIVAR_KIND_MISSING : PELTZIVAR_KIND_BYTE;
+            : i < 37 ? PELTZIVAR_KIND_REQUIREMENT : i < 40 ? PELTZIVAR_KIND_MISSING : PELTZIVAR_KIND_BYTE;
         if (!refused[i]) continue;
         snprintf(text, sizeof text, "digit_separator='_'\ndigit_separator_flags=true\nbase_prefix='x'\nbase_suffix='h'\n%s%s",
             i < 30 ? peltzivar_setter_name((peltzivar_setter)flag) : others[i - 30], i < 18 ? "=true" : i < 30 ? "=false" : "");
         CHECK(make_syntax(text, &syntax) && !peltzivar_read(&syntax, refused[i], strlen(refused[i]), NULL, &error));
         CHECK(peltzivar_explain(&error, &why) && why.kind == kind && why.number == flag && !why.mask.low == (i >= 30));
-        CHECK(why.conditions == (30 <= i && i < 35 ? conditions[i - 30] : 0));
-        CHECK(why.part == (kind == PELTZIVAR_KIND_SEPARATOR ? i % 3 : kind == PELTZIVAR_KIND_MISSING ? i - 35 : PELTZIVAR_NO_PART));
+        CHECK(why.conditions == (30 <= i && i < 37 ? conditions[i - 30] : 0));
+        CHECK(why.part == (kind == PELTZIVAR_KIND_SEPARATOR ? i % 3 : kind == PELTZIVAR_KIND_MISSING ? i - 37 : PELTZIVAR_NO_PART));
         CHECK(peltzivar_read_error_full_text(&error, sentences[i], sizeof sentences[i]) < sizeof sentences[i]);
         const size_t len = peltzivar_read_error_text(&error, text, sizeof text);
-        CHECK(len && !strncmp(sentences[i], text, len) && !strncmp(sentences[i] + len, i < 35 ? ", which " : "", i < 35 ? 8 : 1));
+        CHECK(len && !strncmp(sentences[i], text, len) && !strncmp(sentences[i] + len, i < 37 ? ", which " : "", i < 37 ? 8 : 1));
         for (int j = 0; j < i; j++) CHECK(strcmp(sentences[i], sentences[j]));
     }
     memcpy(&copied, &error, sizeof error), memset(&error, 0, sizeof error);
@@ -462,14 +463,14 @@ static void test_forms(void) {
         peltzivar_forms refused = most;
         if (i < sizeof most.reserved) ((uint8_t *)refused.reserved)[i] = 1;
         else if (of_form < sizeof list->reserved) ((uint8_t *)list[63].reserved)[of_form] = 1;
-        else if (of_syntax < sizeof names.reserved) list[63].syntax.reserved[of_syntax] = 1;
-        else if (of_syntax == sizeof names.reserved) refused.count = 0;
-        else if (of_syntax == sizeof names.reserved + 1) refused.count = 65;
-        else if (of_syntax == sizeof names.reserved + 2) refused.forms = NULL;
-        const peltzivar_forms *const by = of_syntax == sizeof names.reserved + 3 ? NULL : &refused;
+        else if (of_syntax < sizeof list->syntax.reserved) list[63].syntax.reserved[of_syntax] = 1;
+        else if (of_syntax == sizeof list->syntax.reserved) refused.count = 0;
+        else if (of_syntax == sizeof list->syntax.reserved + 1) refused.count = 65;
+        else if (of_syntax == sizeof list->syntax.reserved + 2) refused.forms = NULL;
+        const peltzivar_forms *const by = of_syntax == sizeof list->syntax.reserved + 3 ? NULL : &refused;
         const int64_t offsets[] = {0, 1};
         uint8_t status = 7;
-        CHECK(peltzivar_forms_read(&most, "1", 1, &literal, NULL) == (i < sizeof most.reserved || i >= sizeof most.reserved + sizeof list->reserved + sizeof names.reserved));
+        CHECK(peltzivar_forms_read(&most, "1", 1, &literal, NULL) == (i < sizeof most.reserved || i >= sizeof most.reserved + sizeof list->reserved + sizeof list->syntax.reserved));
         CHECK(!peltzivar_forms_read(by, "1", 1, &literal, NULL) && !peltzivar_forms_read_special(by, "nan", 3, &special));
         CHECK(!peltzivar_forms_read_prefix(by, "1", 1, &literal, &error) && error.valid_up_to == 0 && !peltzivar_explain(&error, NULL));
         CHECK(WRITES("the forms are null, not 1 to 64, or have reserved members", peltzivar_read_error_text(&error, text, sizeof text)));
@@ -484,7 +485,7 @@ static void test_forms(void) {
  * that is longer than an object can be is not read. */
 static void test_null(void) {
     peltzivar_fields fields = PELTZIVAR_NEW_FIELDS;
-    peltzivar_syntax syntax = {{1, 2}, 3, 4, true, true, true, 7, 0, 0, {0}};
+    peltzivar_syntax syntax = {{1, 2}, 3, 4, true, true, true, 7, 0, 0, true, true, {0}};
     peltzivar_word word = {1, 2};
     peltzivar_edit edit = {104, 16};
     size_t to[] = {7, 7};

@@ -266,12 +266,13 @@ class Literals(unittest.TestCase):
     def test_conditions(self):
         fields = {"base_prefix": "x", "base_suffix": "h", "digit_separator": ",", "internal_digit_separator": True}
         conditions = {"required_base_prefix": "1h", "required_base_suffix": "0x1", "no_negative_mantissa_sign": "-0x1h", "integer_group_size": "0x12,34h", "fraction_group_size": "0x1.2,3h"}
-        settings = {name: 3 if "group" in name else True for name in peltzivar._CONDITIONS}
+        first = {"required_leading_zero": "17", "decimal_first_digit": ".5"}
+        settings = {name: 3 if "group" in name else True for name in peltzivar._CONDITIONS if name not in first}
         syntax = Syntax.of(**fields, **settings)
         for it in (syntax, eval(repr(syntax)), pickle.loads(pickle.dumps(syntax)), Syntax(Format.of(**fields), **settings)):
             self.assertEqual((it, it.read("0x1,234.5e-1h").value), (syntax, 123.45))
             self.assertNotEqual(it, Syntax.of(**fields))
-        for name, text in conditions.items():
+        for name, text, syntax in [*((*it, syntax) for it in conditions.items()), *((*it, Syntax.of(**{it[0]: True})) for it in first.items())]:
             with self.assertRaises(LiteralError) as caught:
                 syntax.read(text)
             error = pickle.loads(pickle.dumps(caught.exception))

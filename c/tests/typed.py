@@ -31,6 +31,7 @@ syntax: Syntax = Syntax.of("radix = 10", digit_separator="_", internal_digit_sep
 integers: Syntax = Syntax.integers(format)
 others: Tuple[Union[int, str, bytes, None], Union[int, str, bytes, None], Format] = syntax.exponent, syntax.point, syntax.format
 conditions: Tuple[bool, bool, bool] = syntax.required_base_prefix, syntax.required_base_suffix, syntax.no_negative_mantissa_sign
+first: Tuple[bool, bool] = syntax.required_leading_zero, syntax.decimal_first_digit
 sizes: Tuple[Optional[int], ...] = syntax.integer_group_size, syntax.higher_group_size, syntax.fraction_group_size
 texts: Tuple[str, str, str, Optional[Role]] = syntax.sentence(), syntax.grammar(), syntax.regex(), syntax.role_of("_")
 literal: Literal[str] = syntax.read("-1_234,50")

@@ -129,7 +129,7 @@ LANGUAGES = [
         Cause("+", r"[\da-fA-FxXbB_]+_[uU]L?", "a separator before a suffix, beside the specification")]),
     Language("LUA", "lua", "018.aexp-+", "_", "0x.8 0x1.8 0x1p3", [wraps(64, True)]),
     Language("NASM", "nasm", "01a._hxebd", "_", "0c8h 0c8x 17q 17o 10d 10t 101b 101y 0h1F 0y1 0q7 0t9 $0c8 1h. 1x. 7q. 7o. 9d. 9t. 1b. 1y.", [
-        Cause("+", r"\$[\w$.]*", "the prefix $, or an address"), Cause("-", r"[a-fA-F][\da-fA-F_]*[hHxX]", "a name, which a letter begins"),
+        Cause("+", r"\$[\w$.]*", "the prefix $, or an address"),
         Cause("+", r"0[a-zA-Z][_.]*([eEpP][+-]?[0-9_]*)?", "no digits behind a prefix"),
         Cause("+", r"0[a-zA-Z][\w.]*[pP][+-]_*", "a sign without an exponent"),
         Cause("+", r"[\w.]+(\._+([eEpP][+-]?[\d_]*)?|[eEpP][+-]?_+)|0[a-zA-Z]_+\.[\w.]*([pP][+-]?[\d_]*)?", "a part of separators alone"), wraps(64, False),

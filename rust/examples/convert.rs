@@ -5,7 +5,7 @@ use peltzivar::literal::{Language, Number, Style, WriteError};
 use std::io::{self, BufRead, Write};
 
 /// Returns a number as the first form of a language that can have it. Without such a form, returns the last error. A text
-/// that another form of the language reads is not used: 15 as `17`, of C's octal form, is seventeen.
+/// that another form of the language reads is not used.
 fn convert(number: Number<'_>, target: Language) -> Result<String, WriteError> {
     let literal = match number {
         Number::Literal { literal, .. } => literal,

@@ -398,6 +398,48 @@ fn the_style_and_conditions_decide_on_prefix_suffix_and_groups() {
     assert_eq!(texts, ["FFF", "F,FFF", "FF,FFF", "FF,FF,FFF"]);
 }
 
+/// The expected texts are those of C and NASM, and for the last rows, of docs/FORMAT.md.
+#[test]
+fn a_zero_is_written_where_a_number_may_not_begin_with_another_digit() {
+    let plain = Style::PLAIN;
+    let form =
+        |language: Language, name| language.forms().as_slice().iter().find(|it| it.name() == name).unwrap().syntax();
+    let (octal, nasm) = (form(Language::C, "octal"), form(Language::NASM, "hexadecimal, h"));
+    let binary = NonZeroU8::new(2);
+    let none = NumberFormatBuilder::new().mantissa_radix(16).exponent_base(binary).exponent_radix(NonZeroU8::new(10));
+    let floats = Syntax::new_or_panic(none.required_digits(false).build_format_or_panic(), b'p', b'.');
+    let zeros = floats.with_conditions(Conditions::NONE.required_leading_zero(true)).unwrap();
+    let decimal = floats.with_conditions(Conditions::NONE.decimal_first_digit(true)).unwrap();
+    let prefix = none.base_prefix(NonZeroU8::new(b'x')).build_format_or_panic();
+    let prefixed = Syntax::integers(prefix).with_conditions(Conditions::NONE.decimal_first_digit(true)).unwrap();
+    let long = format!("AB{}", "0".repeat(40));
+    for (text, target, style, wanted) in [
+        ("F", octal, plain, "017".into()),
+        ("0", octal, plain, "0".into()),
+        ("53977", octal, plain.group(3), "01'234'567".into()),
+        ("F", octal, plain.min_digits(2), "017".into()),
+        ("F", octal, plain.min_digits(4), "0017".into()),
+        ("AB", nasm, plain.lowercase(), "0abh".into()),
+        ("00AB", nasm, plain, "0ABh".into()),
+        ("12", nasm, plain, "12h".into()),
+        ("0", nasm, plain, "0h".into()),
+        ("Ap8", nasm, plain, "0A00h".into()),
+        (&long, nasm, plain, format!("0{long}h")),
+        ("AB", prefixed, plain, "0xAB".into()),
+        ("AB", prefixed, plain.without_base(), "0AB".into()),
+        (".8", zeros, plain, "0.8".into()),
+        ("12.8", zeros, plain, "012.8".into()),
+        (".8", decimal, plain, "0.8".into()),
+        ("A.8", decimal, plain, "0A.8".into()),
+        ("-1.8", decimal, plain, "-1.8".into()),
+    ] {
+        let literal = floats.read(text).unwrap();
+        let written = target.format_literal(&literal, style).unwrap().to_string();
+        assert!(target.read(&written).is_ok());
+        assert_eq!(written, wanted, "{text}");
+    }
+}
+
 /// Returns the next pseudo-random number below `bound`.
 fn below(state: &mut u64, bound: u64) -> u64 {
     *state = state.wrapping_mul(6_364_136_223_846_793_005).wrapping_add(1_442_695_040_888_963_407);

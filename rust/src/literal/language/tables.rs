@@ -48,6 +48,17 @@ const fn integers(radix: u8, builder: NumberFormatBuilder) -> Syntax {
     unsigned(Syntax::integers(builder.mantissa_radix(radix).build_format_or_panic()))
 }
 
+/// Returns the syntax of octal integers, which begin with a zero: `017` is accepted, and `17` rejected.
+const fn octal(builder: NumberFormatBuilder) -> Syntax {
+    let syntax = integers(8, builder);
+    syntax.with_conditions_or_panic(syntax.conditions().required_leading_zero(true))
+}
+
+/// Returns the same syntax with a first digit that is not a letter: `0FFh` is accepted, and `FFh`, a name, rejected.
+const fn nameless(syntax: Syntax) -> Syntax {
+    syntax.with_conditions_or_panic(syntax.conditions().decimal_first_digit(true))
+}
+
 /// Returns the same syntax with its prefix required: `0x1F` is accepted, and `1F` rejected.
 const fn required_prefix(syntax: Syntax) -> Syntax {
     syntax.with_conditions_or_panic(syntax.conditions().required_base_prefix(true))
@@ -197,15 +208,21 @@ const POINTS_BACK: Tokens = Tokens::new(&[], &[]).gives_points_back(true);
 
 languages! {
     /// Ada's decimal literals (Reference Manual 2012, 2.4.1). A format cannot accept based literals, such as `16#FF#`, or
-    /// accept `1.0E-3` but reject `1E-3`.
-    ADA = { "decimal": decimal(separated(b'_')
-        .required_digits(true) // rejects `.5`, `1.`, `1e` and `.`
-    ) };
+    /// accept `1.0E-3` and `1E3` but reject `1E-3`, which the first form does not write.
+    ADA = {
+        "decimal": decimal(separated(b'_')
+            .required_digits(true) // rejects `.5`, `1.`, `1e` and `.`
+            .no_exponent_without_fraction(true) // rejects `1e3`, not `1.0e3`
+        ),
+        "integer with an exponent": decimal(separated(b'_')
+            .required_digits(true) // rejects `.5`, `1.`, `1e` and `.`
+        ),
+    };
 
     /// C's integer and floating constants (C23, 6.4.4.1 and 6.4.4.2). A format cannot accept `1u`, `1L` and `1.0f`.
     C = {
         "decimal": decimal(C.no_integer_leading_zeros(true)) => C_WORDS, // rejects `08`, not `08.5`
-        "octal": integers(8, C) => C_WORDS,
+        "octal": octal(C) => C_WORDS,
         "hexadecimal": prefixed(b'x', 16, C) => C_WORDS,
         "binary": prefixed(b'b', 2, C) => C_WORDS,
         "hexadecimal float": binary_floats(b'x', 16, C.required_exponent_notation(true)) => C_WORDS, // rejects `0x1.8`
@@ -229,7 +246,7 @@ languages! {
     /// of users.
     C_PLUS_PLUS = {
         "decimal": decimal(C.no_integer_leading_zeros(true)) => C_PLUS_PLUS_WORDS, // rejects `08`, not `08.5`
-        "octal": integers(8, C) => C_PLUS_PLUS_WORDS,
+        "octal": octal(C) => C_PLUS_PLUS_WORDS,
         "hexadecimal": prefixed(b'x', 16, C) => C_PLUS_PLUS_WORDS,
         "binary": prefixed(b'b', 2, C) => C_PLUS_PLUS_WORDS,
         "hexadecimal float": binary_floats(b'x', 16, C.required_exponent_notation(true)) => C_PLUS_PLUS_WORDS, // rejects `0x1.8`
@@ -263,7 +280,7 @@ languages! {
     /// Go's integer and floating-point literals (Language Specification). A format cannot accept `1i`.
     GO = {
         "decimal": decimal(separated(b'_').no_integer_leading_zeros(true)) => GO_WORDS, // rejects `08`, not `08.5`
-        "octal": integers(8, separated(b'_')) => GO_POINTLESS,
+        "octal": octal(separated(b'_')) => GO_POINTLESS,
         "hexadecimal": prefixed(b'x', 16, GO_PREFIXED) => GO_WORDS,
         "octal, 0o": prefixed(b'o', 8, GO_PREFIXED) => GO_POINTLESS,
         "binary": prefixed(b'b', 2, GO_PREFIXED) => GO_POINTLESS,
@@ -297,7 +314,7 @@ languages! {
     /// `1L`, `1f` and `1d`. In Java, a hexadecimal, octal or binary integer from 2^31 on is negative: `0xffffffff` is -1.
     JAVA = {
         "decimal": decimal(JAVA.no_integer_leading_zeros(true)) => words(&[b"l", b"f", b"d"], &[b"f", b"d"]).either_case(true), // rejects `08`, not `08.5`
-        "octal": integers(8, JAVA) => JAVA_INTEGERS,
+        "octal": octal(JAVA) => JAVA_INTEGERS,
         "hexadecimal": prefixed(b'x', 16, JAVA) => JAVA_INTEGERS,
         "binary": prefixed(b'b', 2, JAVA) => JAVA_INTEGERS,
         "hexadecimal float": binary_floats(b'x', 16, JAVA.required_exponent_notation(true)) => JAVA_FLOATS, // rejects `0x1.8`
@@ -351,8 +368,8 @@ languages! {
     };
 
     /// NASM's numeric constants (NASM manual, Numeric Constants and Floating-Point Constants). A format cannot accept `$0c8`,
-    /// `0x_`, `0._` and `1e_`, which have separators alone, or `0h.` and `0op7`, which have no digit; or reject `ffh`, which is a
-    /// name. NASM keeps the last 64 bits of an integer: `0x10000000000000000` is 0 there.
+    /// `0x_`, `0._` and `1e_`, which have separators alone, or `0h.` and `0op7`, which have no digit. NASM keeps the last 64 bits
+    /// of an integer: `0x10000000000000000` is 0 there.
     NASM = {
         "decimal": decimal(NASM
             .required_integer_digits(true) // rejects `.5`, not `1.`
@@ -360,8 +377,8 @@ languages! {
         ),
         "decimal, d": suffixed(b'd', 10, NASM),
         "decimal, t": suffixed(b't', 10, NASM),
-        "hexadecimal, h": suffixed(b'h', 16, NASM),
-        "hexadecimal, x": suffixed(b'x', 16, NASM),
+        "hexadecimal, h": nameless(suffixed(b'h', 16, NASM)), // rejects `ffh`
+        "hexadecimal, x": nameless(suffixed(b'x', 16, NASM)), // rejects `ffx`
         "octal, o": suffixed(b'o', 8, NASM),
         "octal, q": suffixed(b'q', 8, NASM),
         "binary, b": suffixed(b'b', 2, NASM),
@@ -401,7 +418,7 @@ languages! {
     /// a float.
     PHP = {
         "decimal": decimal(separated(b'_').no_integer_leading_zeros(true)), // rejects `08`, not `08.5`
-        "octal": integers(8, separated(b'_')),
+        "octal": octal(separated(b'_')),
         "hexadecimal": prefixed(b'x', 16, separated(b'_')),
         "octal, 0o": prefixed(b'o', 8, separated(b'_')),
         "binary": prefixed(b'b', 2, separated(b'_')),
@@ -430,7 +447,7 @@ languages! {
     /// Ruby's integers and floats (ISO/IEC 30170:2012, 8.7.6.2), with signs. A format cannot accept `1r` and `1i`.
     RUBY = {
         "decimal": signed(decimal(without_zeros(RUBY).required_digits(true))) => RUBY_WORDS, // rejects `.5`, `1.`, `1e` and `.`
-        "octal": signed(integers(8, RUBY)) => RUBY_WORDS,
+        "octal": signed(octal(RUBY)) => RUBY_WORDS,
         "hexadecimal": signed(prefixed(b'x', 16, RUBY)) => RUBY_WORDS,
         "octal, 0o": signed(prefixed(b'o', 8, RUBY)) => RUBY_WORDS,
         "binary": signed(prefixed(b'b', 2, RUBY)) => RUBY_WORDS,
@@ -518,7 +535,7 @@ languages! {
             .required_exponent_sign(true) // rejects `1.5e3`
             .no_exponent_without_fraction(true) // rejects `1e+3`, not `1.e+3`
         ),
-        "octal": signed(integers(8, YAML_1_1)),
+        "octal": signed(octal(YAML_1_1)),
         "hexadecimal": signed(prefixed(b'x', 16, YAML_1_1
             .case_sensitive_base_prefix(true) // rejects `0X1F`
             .integer_leading_digit_separator(true) // accepts `0x_1F`
