@@ -4,12 +4,12 @@
 //! decimal, which takes less time where the compiler knows it. Then reading also stops behind a leading zero, and where the digits
 //! of a part are absent, so that fewer paths join.
 
-ghost use Rattle.std.specs.Prelude.{◌≡◌, ◌<◌, ◌≤◌, ◌+◌, ◌-◌, ◌*◌, ◌%◌, ◌^◌, ◌∷◌, [], false, true, IfSome, IsNone, IsTrue, get_or, length};
+ghost use Rattle.std.specs.Prelude.{◌≡◌, ◌<◌, ◌≤◌, ◌+◌, ◌-◌, ◌*◌, ◌%◌, ◌^◌, ◌∷◌, [], false, true, IfSome, IsNone, IsTrue, get_or, length, nat_lt, ◌&&◌};
 ghost use Rattle.lexical_util.specs.Record.{raw};
 ghost use Rattle.lexical_literal.specs.Notation.{Notation, radix_of};
 ghost use Rattle.lexical_literal.specs.Additions.Longest.{HasFound};
 ghost use Rattle.lexical_literal.specs.Additions.Plain.{IsAt, IsBegun, IsDecimal, IsDigitAt, IsOpened, IsOver, IsPassed, IsReadOn, IsReady, IsRefused};
-ghost use Rattle.lexical_literal.specs.Additions.Plain.{IsRunOn, IsSeparated, IsSign, behind_sign, counts_of, fresh, has_first, is_free, at_stage, may_read, reached};
+ghost use Rattle.lexical_literal.specs.Additions.Plain.{IsRunOn, IsSeparated, IsSign, behind_sign, counts_of, fresh, has_first, is_first, is_free, at_stage, may_read, reached};
 ghost use Rattle.lexical_literal.specs.Additions.Sizes.{steps_of};
 ghost use Rattle.lexical_literal.specs.Additions.Read.{AreSums, IsMantissa, IsSummed, cut};
 ghost use Rattle.lexical_literal.specs.Additions.Summary.{Cuts, after_mark, after_point, awaits_integer, cuts_of, has_digit, is_bare, is_fresh};
@@ -438,13 +438,20 @@ const fn has_first(grammar: Grammar, text: &[u8], size: usize) -> bool
 {
     let needs_zero = grammar.conditions.has(Condition::LeadingZero);
     let needs_decimal = grammar.conditions.has(Condition::DecimalFirstDigit);
-    if !needs_zero && !needs_decimal {
-        return true;
-    }
+    (!needs_zero && !needs_decimal) || is_first(grammar, text, size)
+}
+
+// Returns whether a digit follows that the conditions on the first digit allow. It is not inlined, so that reading without them
+// takes no longer.
+#[cold]
+const fn is_first(grammar: Grammar, text: &[u8], size: usize) -> bool
+    ensures { result ≡ (nat_lt size (length text.now) && ((steps_of grammar).digit Part.Integer (get_or text.now size 0)
+        && is_first (steps_of grammar) (get_or text.now size 0))) }
+{
     size < text.len()
         && is_digit(grammar, Part::Integer, text[size])
-        && (!needs_zero || text[size] == b'0')
-        && (!needs_decimal || text[size] <= b'9')
+        && (!grammar.conditions.has(Condition::LeadingZero) || text[size] == b'0')
+        && (!grammar.conditions.has(Condition::DecimalFirstDigit) || text[size] <= b'9')
 }
 
 // Returns what comes before the digits of the integer, or `None` if a base prefix or a first digit is required that does not

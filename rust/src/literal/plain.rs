@@ -269,13 +269,17 @@ pub(crate) const fn plain(grammar: Grammar, decimal: bool, text: &[u8], fronts: 
 const fn has_first(grammar: Grammar, text: &[u8], size: usize) -> bool {
     let needs_zero = grammar.conditions.has(Condition::LeadingZero);
     let needs_decimal = grammar.conditions.has(Condition::DecimalFirstDigit);
-    if !needs_zero && !needs_decimal {
-        return true;
-    }
+    (!needs_zero && !needs_decimal) || is_first(grammar, text, size)
+}
+
+// Returns whether a digit follows that the conditions on the first digit allow. It is not inlined, so that reading without them
+// takes no longer.
+#[cold]
+const fn is_first(grammar: Grammar, text: &[u8], size: usize) -> bool {
     size < text.len()
         && is_digit(grammar, Part::Integer, text[size])
-        && (!needs_zero || text[size] == b'0')
-        && (!needs_decimal || text[size] <= b'9')
+        && (!grammar.conditions.has(Condition::LeadingZero) || text[size] == b'0')
+        && (!grammar.conditions.has(Condition::DecimalFirstDigit) || text[size] <= b'9')
 }
 
 // Returns what comes before the digits of the integer, or `None` if a base prefix or a first digit is required that does not
