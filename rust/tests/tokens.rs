@@ -162,7 +162,7 @@ fn a_whole_token_without_a_suffix_is_read() {
 
 #[test]
 fn rules_are_those_of_the_list() {
-    const WORDS: Suffixes = Suffixes::new(&[b"u", b"uu"], &[b"f"], &[Stop::new(b"f", b"-", b"-")]).either_case(true);
+    const WORDS: Suffixes = Suffixes::new(&[b"u", b"uu", b"%"], &[b"f"], &[Stop::new(b"f", b"-", b"-")]).either_case(true);
     const POINT: Syntax = Syntax::new_or_panic(
         NumberFormatBuilder::new().required_integer_digits(true).build_format_or_panic(),
         b'e',
@@ -182,6 +182,7 @@ fn rules_are_those_of_the_list() {
         ("1.5f--", "3..5 unknown suffix", "3..5 unknown suffix"),
         ("1.5f-", "1.5|f", "1.5|f"),
         ("1uis", "1|u", "1..4 unknown suffix"),
+        ("1%", "1|", "1|"),
     ] {
         assert_eq!((stated(&plain, text), stated(&back, text)), (without.into(), with.into()), "{text}");
         assert_eq!(none.token(text), Err(TokenError::NoTokens));

@@ -26,12 +26,12 @@ word_size (byte ∷ text) = if is_word_byte byte then 1 + word_size text else 0
 abbrev pub stop_end : List ℕ → ℕ → ℕ
 stop_end text index = if nat_lt index (length text) then index + 1 + word_size (drop (index + 1) text) else index
 
--- `begins either word text` is true if `text` begins with `word`, letter case aside if `either` is true.
+-- `begins either word text` is true if `text` begins with `word`, letter case aside if `either` is true, and if these are bytes of a word.
 abbrev pub begins : Bool → List ℕ → List ℕ → Bool
 begins either [] text = true
 begins either (letter ∷ word) [] = false
 begins either (letter ∷ word) (byte ∷ text) =
-    (if either then eq_ignore_ascii_case letter byte else letter == byte) && begins either word text
+    is_word_byte byte && (if either then eq_ignore_ascii_case letter byte else letter == byte) && begins either word text
 
 -- `longest_word either words text` is the length of the longest of `words` with which `text` begins, or 0 if it begins with none.
 abbrev pub longest_word : Bool → List (Bor (List ℕ)) → List ℕ → ℕ

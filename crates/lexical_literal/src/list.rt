@@ -442,7 +442,7 @@ const fn excludes(grammar: Grammar, text: &[u8]) -> bool
 
 // Returns whether `byte` plays no role, and is no zero, which a prefix begins with.
 #[inline(always)]
-const fn plays_no_role(grammar: Grammar, byte: u8) -> bool
+pub(crate) const fn plays_no_role(grammar: Grammar, byte: u8) -> bool
     ensures { IsTrue result → PlaysNoRole (notation_of grammar) byte }
 {
     byte != b'0'
@@ -452,7 +452,7 @@ const fn plays_no_role(grammar: Grammar, byte: u8) -> bool
 
 // Returns the length of the sign with which `text` begins.
 #[inline(always)]
-const fn sign_size(text: &[u8]) -> usize
+pub(crate) const fn sign_size(text: &[u8]) -> usize
     ensures { result ≡ sign_size text.now }
 {
     match text {

@@ -3,6 +3,7 @@
 ghost use Rattle.std.specs.Prelude.{◌≡◌, ◌==◌, [], ◌+◌, ◌≤◌, IsTrue, Some, false, if◌then◌else◌, length, slice_get};
 ghost use Rattle.std.specs.Char.{eq_ignore_ascii_case};
 ghost use Rattle.std.specs.List.{list_any};
+ghost use Rattle.lexical_literal.specs.Cause.{is_in};
 ghost use Rattle.lexical_literal.specs.Suffix.{admits, any_word_size, begins, byte_before, is_followed, is_stopped, is_word_byte, longest_word};
 ghost use Rattle.lexical_literal.specs.Suffix.{meets, suffix_size, word_size};
 
@@ -42,7 +43,7 @@ pub struct Suffixes {
 
 impl Suffixes {
     /// Returns suffixes: the words `integers` behind integers, and `floats` behind floats, in this case, with the bytes that
-    /// may not follow. Letters, digits, `_` and bytes from 128 up never may.
+    /// may not follow. Letters, digits, `_` and bytes from 128 up never may. A word that has other bytes is never found.
     #[must_use]
     pub const fn new(
         integers: &'static [&'static [u8]],
@@ -117,7 +118,13 @@ pub(crate) const fn suffix_size(
 {
     match suffixes {
         None => 0,
-        Some(suffixes) => suffixes.size(float, text),
+        Some(suffixes) => {
+            if has_word_byte(text, 0) {
+                suffixes.size(float, text)
+            } else {
+                0
+            }
+        }
     }
 }
 
@@ -126,13 +133,21 @@ pub(crate) const fn suffix_size(
 pub(crate) const fn is_stopped(suffixes: Option<&'static Suffixes>, text: &[u8], end: usize) -> bool
     ensures { result ≡ is_stopped suffixes.entry text.now end }
 {
-    let word = match byte_at(text, end) {
+    has_word_byte(text, end)
+        || match suffixes {
+            None => false,
+            Some(suffixes) => is_one_met(suffixes.stops, text, end),
+        }
+}
+
+// Returns whether the byte at `index` is one of a word.
+#[inline(always)]
+const fn has_word_byte(text: &[u8], index: usize) -> bool
+    ensures { result ≡ is_in is_word_byte (slice_get text.now index) }
+{
+    match byte_at(text, index) {
         None => false,
         Some(byte) => is_word_byte(byte),
-    };
-    word || match suffixes {
-        None => false,
-        Some(suffixes) => is_one_met(suffixes.stops, text, end),
     }
 }
 
@@ -234,7 +249,7 @@ const fn any_word_size(begins: &[u8], text: &[u8]) -> usize
     }
 }
 
-// Returns whether `text` begins with `word`, letter case aside if `either` is true.
+// Returns whether `text` begins with `word`, letter case aside if `either` is true, and if these are bytes of a word.
 const fn begins(either: bool, word: &[u8], text: &[u8]) -> bool
     ensures begins { result ≡ begins either word.now text.now }
     ensures within { IsTrue result → length word.now ≤ length text.now }
@@ -243,7 +258,9 @@ const fn begins(either: bool, word: &[u8], text: &[u8]) -> bool
         [] => true,
         [letter, word @ ..] => match text {
             [] => false,
-            [byte, text @ ..] => is_same(either, *letter, *byte) && begins(either, word, text),
+            [byte, text @ ..] => {
+                is_word_byte(*byte) && is_same(either, *letter, *byte) && begins(either, word, text)
+            }
         },
     }
 }

@@ -314,13 +314,13 @@ const fn excludes(grammar: Grammar, text: &[u8]) -> bool {
 
 // Returns whether `byte` plays no role, and is no zero, which a prefix begins with.
 #[inline(always)]
-const fn plays_no_role(grammar: Grammar, byte: u8) -> bool {
+pub(crate) const fn plays_no_role(grammar: Grammar, byte: u8) -> bool {
     byte != b'0' && matches!(role_at(grammar, Part::Integer, byte), None) && !is_digit(grammar, Part::Exponent, byte)
 }
 
 // Returns the length of the sign with which `text` begins.
 #[inline(always)]
-const fn sign_size(text: &[u8]) -> usize {
+pub(crate) const fn sign_size(text: &[u8]) -> usize {
     match text {
         [b'+' | b'-', ..] => 1,
         _ => 0,

@@ -34,7 +34,7 @@ pub struct Suffixes {
 
 impl Suffixes {
     /// Returns suffixes: the words `integers` behind integers, and `floats` behind floats, in this case, with the bytes that
-    /// may not follow. Letters, digits, `_` and bytes from 128 up never may.
+    /// may not follow. Letters, digits, `_` and bytes from 128 up never may. A word that has other bytes is never found.
     #[must_use]
     pub const fn new(
         integers: &'static [&'static [u8]],
@@ -73,20 +73,32 @@ impl Suffixes {
 pub(crate) const fn suffix_size(suffixes: Option<&'static Suffixes>, float: bool, text: &[u8]) -> usize {
     match suffixes {
         None => 0,
-        Some(suffixes) => suffixes.size(float, text),
+        Some(suffixes) => {
+            if has_word_byte(text, 0) {
+                suffixes.size(float, text)
+            } else {
+                0
+            }
+        }
     }
 }
 
 // Returns whether what is behind the number that ends at `end` may not follow it.
 #[inline(always)]
 pub(crate) const fn is_stopped(suffixes: Option<&'static Suffixes>, text: &[u8], end: usize) -> bool {
-    let word = match byte_at(text, end) {
+    has_word_byte(text, end)
+        || match suffixes {
+            None => false,
+            Some(suffixes) => is_one_met(suffixes.stops, text, end),
+        }
+}
+
+// Returns whether the byte at `index` is one of a word.
+#[inline(always)]
+const fn has_word_byte(text: &[u8], index: usize) -> bool {
+    match byte_at(text, index) {
         None => false,
         Some(byte) => is_word_byte(byte),
-    };
-    word || match suffixes {
-        None => false,
-        Some(suffixes) => is_one_met(suffixes.stops, text, end),
     }
 }
 
@@ -168,13 +180,13 @@ const fn any_word_size(begins: &[u8], text: &[u8]) -> usize {
     }
 }
 
-// Returns whether `text` begins with `word`, letter case aside if `either` is true.
+// Returns whether `text` begins with `word`, letter case aside if `either` is true, and if these are bytes of a word.
 const fn begins(either: bool, word: &[u8], text: &[u8]) -> bool {
     match word {
         [] => true,
         [letter, word @ ..] => match text {
             [] => false,
-            [byte, text @ ..] => is_same(either, *letter, *byte) && begins(either, word, text),
+            [byte, text @ ..] => is_word_byte(*byte) && is_same(either, *letter, *byte) && begins(either, word, text),
         },
     }
 }
