@@ -2170,7 +2170,8 @@ class Language(_Several, _Named):
         Forms: decimal; octal; hexadecimal; binary; hexadecimal float.
 
     CSS: CSS's numbers, with signs (CSS Syntax Module Level 3, 4.3.12). A format cannot accept a unit, as in `10px` and
-        `5%`. Forms: decimal.
+        `5%`. A token has a word as its unit, but neither `%` nor what follows `-` behind a digit: of `1p2-x`, it is
+        `1p2`. Forms: decimal.
 
     CSV_DE: Numbers in CSV, as German spreadsheets write cells of the format `#.##0,00` (RFC 4180): `1.234,50`. The
         cause of `0.123` is its leading zero, since its groups are right. Forms: decimal.
@@ -2234,7 +2235,8 @@ class Language(_Several, _Named):
         from 2^63 on is a float. Forms: decimal; octal; hexadecimal; octal, 0o; binary.
 
     PYTHON: Python's integers and floats (Language Reference 3.12, 2.4.5 and 2.4.6). A format cannot accept `00` and
-        reject `01`, or accept `1j`. Forms: decimal; hexadecimal; octal; binary.
+        reject `01`, or accept `1j`. CPython takes the `0o` of `0or x` for a prefix, and refuses it: its token here is
+        `0`. Forms: decimal; hexadecimal; octal; binary.
 
     R: R's numeric constants (R Language Definition 4.2, 10.3.1). A format cannot accept `1L` and `1i`. In R, all are
         doubles: `9007199254740993` is 9007199254740992 there. Forms: decimal; hexadecimal; hexadecimal float.
@@ -2243,7 +2245,9 @@ class Language(_Several, _Named):
         Forms: decimal; octal; hexadecimal; octal, 0o; binary; decimal, 0d.
 
     RUST: Rust's integers and floats (Reference, Integer literals and Floating-point literals). A format cannot accept
-        the suffixes in `0x1F_u8` and `1f32`. Forms: decimal; with a point at the end; hexadecimal; octal; binary.
+        the suffixes in `0x1F_u8` and `1f32`. The token of `0b1.` is `0b1`, but rustc takes the point if neither a
+        second one nor a name follows, and refuses it. Forms: decimal; with a point at the end; hexadecimal; octal;
+        binary.
 
     SQL: SQL's signed numeric literals (ISO/IEC 9075-2:2016, 5.3 `<literal>`). Forms: decimal.
 

@@ -93,8 +93,7 @@ impl Language {
     }
 
     /// Returns the number that `text` begins with, with its suffix, and the rest, as [`Forms::token`] does. ADA, FORTRAN, NASM,
-    /// SQL and languages of data, such as JSON, have no tokens, and neither, so far, do CSS, ELIXIR, HASKELL_GHC2021, LUA, PHP
-    /// and R.
+    /// SQL and languages of data, such as JSON, have no tokens.
     ///
     /// # Errors
     ///

@@ -141,6 +141,29 @@ const C_WORDS: Suffixes = Suffixes::new(C_INTEGERS, C_FLOATS, C_STOPS);
 /// Suffixes of C++, and of its users: `1_km`.
 const C_PLUS_PLUS_WORDS: Suffixes = C_WORDS.any_word(b"_");
 
+/// Units of CSS: any word, such as `px`. A name may also have `-` and escapes: `1px-x`, `1-x` and `1--x` are refused.
+const CSS_WORDS: Suffixes = Suffixes::new(&[], &[], CSS_STOPS).any_word(&LETTERS);
+const CSS_STOPS: &[Stop] = &[
+    Stop::new(&LETTERS, b"-", b""),
+    Stop::new(b"", b"-", &LETTERS),
+    Stop::new(b"", b"-", b"-\\"),
+    Stop::new(b"", b"\\", b""),
+];
+const LETTERS: [u8; 181] = letters();
+
+/// Returns letters, `_` and the bytes from 128 up.
+const fn letters() -> [u8; 181] {
+    let (mut letters, mut at, mut byte) = ([0; 181], 0, 0);
+    while at < letters.len() {
+        byte += 1;
+        if byte == b'_' || byte.is_ascii_alphabetic() || byte >= 128 {
+            letters[at] = byte;
+            at += 1;
+        }
+    }
+    letters
+}
+
 /// Suffixes of C#, in either case.
 const C_SHARP_INTEGERS: &[&[u8]] = &[b"u", b"l", b"ul", b"lu"];
 const C_SHARP_DECIMALS: &[&[u8]] = &[b"u", b"l", b"ul", b"lu", b"f", b"d", b"m"];
@@ -156,8 +179,9 @@ const JAVA_FLOATS: Suffixes = words(&[b"f", b"d"], &[b"f", b"d"]).either_case(tr
 /// The suffix of big integers of JavaScript. A name, which `$` and `\\` may begin, does not follow a number.
 const BIG: Suffixes = Suffixes::new(&[b"n"], &[], &[Stop::new(b"", b"$\\", b"")]);
 
-/// A second point of Julia: `1..2` is no number, and no range.
+/// A second point of Julia and Lua: `1..2` is no number, and no range.
 const JULIA_WORDS: Suffixes = Suffixes::new(&[], &[], &[Stop::new(b"", b".", b"")]);
+const LUA_WORDS: Suffixes = JULIA_WORDS;
 
 /// Suffixes of Kotlin.
 const KOTLIN_INTEGERS: &[&[u8]] = &[b"u", b"U", b"L", b"uL", b"UL"];
@@ -171,6 +195,9 @@ const PYTHON_WORDS: Suffixes = words(&[b"j"], &[b"j"]).either_case(true);
 
 /// Words of Python that may follow a number: `1if x else 0`.
 const PYTHON_KEYWORDS: &[&[u8]] = &[b"and", b"else", b"for", b"if", b"in", b"is", b"not", b"or"];
+
+/// Suffixes of R, for integers and imaginary numbers.
+const R_WORDS: Suffixes = words(&[b"L", b"i"], &[b"L", b"i"]);
 
 /// Suffixes of Ruby.
 const RUBY_INTEGERS: &[&[u8]] = &[b"r", b"i", b"ri"];
@@ -211,11 +238,12 @@ languages! {
         "hexadecimal float": binary_floats(b'x', 16, C.required_exponent_notation(true)) => C_WORDS, // rejects `0x1.8`
     } => Tokens::new(&[], &[]);
 
-    /// CSS's numbers, with signs (CSS Syntax Module Level 3, 4.3.12). A format cannot accept a unit, as in `10px` and `5%`.
+    /// CSS's numbers, with signs (CSS Syntax Module Level 3, 4.3.12). A format cannot accept a unit, as in `10px` and `5%`. A
+    /// token has a word as its unit, but neither `%` nor what follows `-` behind a digit: of `1p2-x`, it is `1p2`.
     CSS = { "decimal": numbers(b'e', b'.', NumberFormatBuilder::new()
         .no_special(true) // rejects `NaN` and `inf`
         .required_fraction_digits(true) // rejects `1.`, not `.5`
-    ) };
+    ) => CSS_WORDS } => Tokens::new(&[], &[]);
 
     /// Numbers in CSV, as German spreadsheets write cells of the format `#.##0,00` (RFC 4180): `1.234,50`. The
     /// cause of `0.123` is its leading zero, since its groups are right.
@@ -251,7 +279,7 @@ languages! {
         "hexadecimal": prefixed(b'x', 16, separated(b'_').case_sensitive_base_prefix(true)), // rejects `0X1F`
         "octal": prefixed(b'o', 8, separated(b'_').case_sensitive_base_prefix(true)), // rejects `0O17`
         "binary": prefixed(b'b', 2, separated(b'_').case_sensitive_base_prefix(true)), // rejects `0B1`
-    };
+    } => POINTS_BACK;
 
     /// Fortran's signed integers and reals (ISO/IEC 1539-1:2018, 7.4.3). A format cannot accept a kind, as in `1.0_8`, or
     /// binary, octal and hexadecimal constants, such as `Z'FF'`. Fortran rounds `0.1`, but not `0.1d0`, to single precision.
@@ -291,7 +319,7 @@ languages! {
         ),
         "octal": prefixed(b'o', 8, JAVA.integer_leading_digit_separator(true)), // accepts `0o_17`
         "binary": prefixed(b'b', 2, JAVA.integer_leading_digit_separator(true)), // accepts `0b_1`
-    };
+    } => POINTS_BACK;
 
     /// Java's integer and floating-point literals (Language Specification 21, 3.10.1 and 3.10.2). A format cannot accept
     /// `1L`, `1f` and `1d`. In Java, a hexadecimal, octal or binary integer from 2^31 on is negative: `0xffffffff` is -1.
@@ -346,9 +374,9 @@ languages! {
     /// Lua's integers and floats (Reference Manual 5.4, 3.1). In Lua, a decimal integer from 2^63 on is a float, and a
     /// hexadecimal one keeps its last 64 bits: `0xffffffffffffffff` is -1.
     LUA = {
-        "decimal": decimal(TOKENS),
-        "hexadecimal": binary_floats(b'x', 16, TOKENS),
-    };
+        "decimal": decimal(TOKENS) => LUA_WORDS,
+        "hexadecimal": binary_floats(b'x', 16, TOKENS) => LUA_WORDS,
+    } => Tokens::new(&[], &[]);
 
     /// NASM's numeric constants (NASM manual, Numeric Constants and Floating-Point Constants). A format cannot accept `$0c8`,
     /// `0x_`, `0._` and `1e_`, which have separators alone, or `0h.` and `0op7`, which have no digit; or reject `ffh`, which is a
@@ -405,10 +433,10 @@ languages! {
         "hexadecimal": prefixed(b'x', 16, separated(b'_')),
         "octal, 0o": prefixed(b'o', 8, separated(b'_')),
         "binary": prefixed(b'b', 2, separated(b'_')),
-    };
+    } => Tokens::new(&[], &[]);
 
     /// Python's integers and floats (Language Reference 3.12, 2.4.5 and 2.4.6). A format cannot accept `00` and reject `01`,
-    /// or accept `1j`.
+    /// or accept `1j`. CPython takes the `0o` of `0or x` for a prefix, and refuses it: its token here is `0`.
     PYTHON = {
         "decimal": decimal(separated(b'_').no_integer_leading_zeros(true)) => PYTHON_WORDS, // rejects `01`, not `01.0`
         "hexadecimal": prefixed(b'x', 16, GO_PREFIXED),
@@ -422,10 +450,10 @@ languages! {
     /// R's numeric constants (R Language Definition 4.2, 10.3.1). A format cannot accept `1L` and `1i`. In R, all are doubles:
     /// `9007199254740993` is 9007199254740992 there.
     R = {
-        "decimal": decimal(TOKENS),
-        "hexadecimal": prefixed(b'x', 16, TOKENS),
-        "hexadecimal float": binary_floats(b'x', 16, TOKENS.required_exponent_notation(true)), // rejects `0x1.8`
-    };
+        "decimal": decimal(TOKENS) => R_WORDS,
+        "hexadecimal": prefixed(b'x', 16, TOKENS) => R_WORDS,
+        "hexadecimal float": binary_floats(b'x', 16, TOKENS.required_exponent_notation(true)) => R_WORDS, // rejects `0x1.8`
+    } => Tokens::new(&[], &[]);
 
     /// Ruby's integers and floats (ISO/IEC 30170:2012, 8.7.6.2), with signs. A format cannot accept `1r` and `1i`.
     RUBY = {
@@ -445,7 +473,8 @@ languages! {
     .gives_points_back(true);
 
     /// Rust's integers and floats (Reference, Integer literals and Floating-point literals). A format cannot accept the
-    /// suffixes in `0x1F_u8` and `1f32`.
+    /// suffixes in `0x1F_u8` and `1f32`. The token of `0b1.` is `0b1`, but rustc takes the point if neither a second one nor a
+    /// name follows, and refuses it.
     RUST = {
         "decimal": decimal(RUST
             .required_integer_digits(true) // rejects `.5`
