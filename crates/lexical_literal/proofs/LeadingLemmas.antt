@@ -15,7 +15,7 @@ use Rattle.lexical_literal.specs.Additions.Token.{FrontsWithin, IsLeading, IsPic
 use Rattle.lexical_literal.specs.Cause.{is_in}
 use Rattle.lexical_literal.specs.FormList.{FormList}
 use Rattle.lexical_literal.specs.Forms.{ReadsForm}
-use Rattle.lexical_literal.specs.Front.{IsFront, IsValidUpTo}
+use Rattle.lexical_literal.specs.Front.{IsFront, IsValidUpTo, NoLiteral}
 use Rattle.lexical_literal.specs.Literal.{Literal, Reads, is_float, text_of}
 use Rattle.lexical_literal.specs.Notation.{Notation, notation_of}
 use Rattle.lexical_literal.specs.Suffix.{any_word_size, begins, is_stopped, is_word_byte, longest_word, suffix_size, word_size}
@@ -124,6 +124,13 @@ fronts_within text size form is n front =
 -- A literal that stops at `stop` has no longer front.
 pub stopped_within : (text : List ℕ) (form : Form) (stop : ℕ) → IsValidUpTo (notation_of form.syntax) text stop → FrontsWithin text stop form
 stopped_within text form stop is = fronts_within text stop form is.no_longer
+
+pub before_stop : (text : List ℕ) (form : Form) (stop : ℕ) → IsValidUpTo (notation_of form.syntax) text stop
+    → NoLiteral (notation_of form.syntax) (take stop text) → FrontsWithin text (stop - 1) form
+before_stop text form stop is none n front =
+    let low = stopped_within text form stop is n front in
+    let other = λ (same : n ≡ stop). none front.0 (subst (λ k. Reads (notation_of form.syntax) front.0 (take k text)) same front.1.reads) in
+    grind arith
 
 more_within : (text : List ℕ) (form : Form) (a b : ℕ) → a ≤ b → FrontsWithin text a form → FrontsWithin text b form
 more_within text form a b less is n front = let own = is n front in omega (arith, own, less)

@@ -5,7 +5,7 @@ ghost use Rattle.std.specs.Option.{ForSome};
 ghost use Rattle.lexical_literal.specs.Additions.Forms.{IsFurthestForm, sign_size};
 ghost use Rattle.lexical_literal.specs.Additions.Longest.{HasBegun, IsCountedFront, IsMeasured, IsStopped};
 ghost use Rattle.lexical_literal.specs.Additions.Read.{IsSummed};
-ghost use Rattle.lexical_literal.specs.Additions.Token.{AreWithin, IsBestOf, IsLeading, IsMade, IsOwn, IsPicked, IsWithin, NoOwn, better, goes_on};
+ghost use Rattle.lexical_literal.specs.Additions.Token.{AreWithin, FrontsWithin, IsBestOf, IsLeading, IsMade, IsOwn, IsPicked, IsWithin, NoOwn, better, goes_on};
 ghost use Rattle.lexical_literal.specs.Additions.Token.{has_float, has_prefix, suffixed, whole};
 ghost use Rattle.lexical_literal.specs.Cause.{is_in};
 ghost use Rattle.lexical_literal.specs.Forms.{ReadsForm};
@@ -153,7 +153,7 @@ impl<'a> Forms<'a> {
                 {
                     return self.behind(tokens, text, it, form, counted);
                 }
-                reached = larger(reached, it.syntax.reach(text, counted).size);
+                reached = larger(reached, it.bound(text, it.syntax.reach(text, counted)));
             }
             form += 1;
         }
@@ -336,6 +336,19 @@ fn made<'t>(it: &Form, text: &'t [u8], form: usize, candidate: Candidate) -> Tok
 }
 
 impl Form {
+    // Returns a size that no front of `text` that is a literal exceeds, where reading stops at `stop`.
+    #[inline(always)]
+    fn bound(&self, text: &[u8], stop: At) -> usize
+        requires { IsStopped (notation_of self.now.syntax) text.now stop }
+        ensures { FrontsWithin text.now result self.now }
+    {
+        if stop.size == 0 || self.syntax.is_literal_up_to(text, stop) {
+            stop.size
+        } else {
+            stop.size - 1
+        }
+    }
+
     // Returns where reading `text` stops, and the candidate, if there is one.
     #[inline(always)]
     fn candidate(&self, back: bool, needs: bool, text: &[u8]) -> (At, Option<Candidate>)

@@ -132,7 +132,7 @@ impl<'a> Forms<'a> {
                 {
                     return self.behind(tokens, text, it, form, counted);
                 }
-                reached = larger(reached, it.syntax.reach(text, counted).size);
+                reached = larger(reached, it.bound(text, it.syntax.reach(text, counted)));
             }
             form += 1;
         }
@@ -265,6 +265,16 @@ const fn made<'t>(it: &Form, text: &'t [u8], form: usize, candidate: Candidate) 
 }
 
 impl Form {
+    // Returns a size that no front of `text` that is a literal exceeds, where reading stops at `stop`.
+    #[inline(always)]
+    const fn bound(&self, text: &[u8], stop: At) -> usize {
+        if stop.size == 0 || self.syntax.is_literal_up_to(text, stop) {
+            stop.size
+        } else {
+            stop.size - 1
+        }
+    }
+
     // Returns where reading `text` stops, and the candidate, if there is one.
     #[inline(always)]
     const fn candidate(&self, back: bool, needs: bool, text: &[u8]) -> (At, Option<Candidate>) {

@@ -4,7 +4,7 @@ use Rattle.std.proofs.lemmas.Option.{slice_get-get_or}
 use Rattle.lexical_literal.specs.Additions.Token.{IsWithin}
 use Rattle.lexical_literal.specs.Notation.{notation_of}
 use Rattle.lexical_literal.specs.declared.syntax.Grammar.{Grammar}
-use Rattle.lexical_literal.proofs.LeadingLemmas.{fronts_more, fronts_within, stopped_within}
+use Rattle.lexical_literal.proofs.LeadingLemmas.{fronts_more, fronts_within}
 use Rattle.lexical_literal.proofs.list.Forms.leading.Goals as goal
 use Rattle.lexical_literal.proofs.list.Forms.leading.Goals.{then-excluding+then-is_past, else-excluding+else-counted}
 
@@ -37,6 +37,6 @@ loop-form-preserved c =
           record {
             sign = omega (arith, low, one, is);
             fronts = fronts_more forms text i it c.loop-form.reached c.if-excluding.reached c.loop-form-test.true (omega (arith, one, is))
-                c.loop-form.invariant.fronts (λ n front. let own = stopped_within text (get_or forms i it) _ w.reach.ensures.valid n front in omega (arith, own, other, is));
+                c.loop-form.invariant.fronts (λ n front. let own = w.bound.ensures n front in omega (arith, own, other, is));
           })
     ]
