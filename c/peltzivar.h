@@ -488,8 +488,9 @@ enum {
     PELTZIVAR_WRITE_FLOAT = 5, /* Each literal has an exponent, and the number is of an integer type. */
     PELTZIVAR_WRITE_SPECIAL = 6, /* The number is NaN or infinity, and no spelling is read back as it. */
     PELTZIVAR_WRITE_BUFFER = 7, /* The buffer is too short. */
-    PELTZIVAR_WRITE_ARGUMENT = 8, /* The syntax is null or refused, or no call has made the literal. */
-    PELTZIVAR_WRITE_LONG = 9 /* Without an exponent, which no literal has, the text has more than 800 bytes. */
+    PELTZIVAR_WRITE_ARGUMENT = 8, /* The syntax or the forms are null or refused, or no call has made the literal. */
+    PELTZIVAR_WRITE_LONG = 9, /* Without an exponent, which no literal has, the text has more than 800 bytes, or by forms more than 4096. */
+    PELTZIVAR_WRITE_READ_BACK = 10 /* The forms read the text as another number. */
 };
 
 /* The sizes of buffers for any integer of the next three calls, and for any float of peltzivar_format_f64. */
@@ -517,6 +518,21 @@ PELTZIVAR_MUST_USE peltzivar_write_status peltzivar_format_literal(const peltziv
 /* Writes NaN or infinity: its sign, and the first of the spellings that peltzivar_read_special reads back as this value. */
 PELTZIVAR_MUST_USE peltzivar_write_status peltzivar_format_special(const peltzivar_syntax *syntax,
     const peltzivar_specials *specials, peltzivar_special special, char *text, size_t len, size_t *needed);
+
+/* Write a number by the first form whose text all forms read as the same integer, the same bits of a double or, of a literal, the
+ * same of these. Forms of the mantissa radix of a literal are asked first, then decimal ones, and then the others, each in
+ * their order. If there is none, the error is that of the form that is asked first. NaN and infinity have
+ * PELTZIVAR_WRITE_SPECIAL. */
+PELTZIVAR_MUST_USE peltzivar_write_status peltzivar_forms_format_i64(const peltzivar_forms *forms, int64_t value,
+    const peltzivar_style *style, char *text, size_t len, size_t *needed);
+PELTZIVAR_MUST_USE peltzivar_write_status peltzivar_forms_format_u64(const peltzivar_forms *forms, uint64_t value,
+    const peltzivar_style *style, char *text, size_t len, size_t *needed);
+PELTZIVAR_MUST_USE peltzivar_write_status peltzivar_forms_format_i128(const peltzivar_forms *forms, peltzivar_i128 value,
+    const peltzivar_style *style, char *text, size_t len, size_t *needed);
+PELTZIVAR_MUST_USE peltzivar_write_status peltzivar_forms_format_f64(const peltzivar_forms *forms, double value,
+    const peltzivar_style *style, char *text, size_t len, size_t *needed);
+PELTZIVAR_MUST_USE peltzivar_write_status peltzivar_forms_format_literal(const peltzivar_forms *forms,
+    const peltzivar_literal *literal, const peltzivar_style *style, char *text, size_t len, size_t *needed);
 
 /* Returns what a status means, such as "no literal has the sign '-'". PELTZIVAR_WRITE_OK has an empty string. */
 const char *peltzivar_write_description(peltzivar_write_status status);

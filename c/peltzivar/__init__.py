@@ -453,6 +453,11 @@ _CALLS: Dict[str, Tuple[Any, List[Any]]] = {
     "format_f64": (c_uint8, [POINTER(_Syntax), c_double, POINTER(_Style), c_char_p, c_size_t, POINTER(c_size_t)]),
     "format_literal": (c_uint8, [POINTER(_Syntax), POINTER(_Literal), POINTER(_Style), c_char_p, c_size_t, POINTER(c_size_t)]),
     "format_special": (c_uint8, [POINTER(_Syntax), POINTER(_Specials), _Special, c_char_p, c_size_t, POINTER(c_size_t)]),
+    "forms_format_i64": (c_uint8, [c_void_p, c_int64, POINTER(_Style), c_char_p, c_size_t, POINTER(c_size_t)]),
+    "forms_format_u64": (c_uint8, [c_void_p, c_uint64, POINTER(_Style), c_char_p, c_size_t, POINTER(c_size_t)]),
+    "forms_format_i128": (c_uint8, [c_void_p, _I128, POINTER(_Style), c_char_p, c_size_t, POINTER(c_size_t)]),
+    "forms_format_f64": (c_uint8, [c_void_p, c_double, POINTER(_Style), c_char_p, c_size_t, POINTER(c_size_t)]),
+    "forms_format_literal": (c_uint8, [c_void_p, POINTER(_Literal), POINTER(_Style), c_char_p, c_size_t, POINTER(c_size_t)]),
     "write_description": (c_char_p, [c_uint8]),
     "build": (c_bool, [POINTER(_Edit), c_size_t, POINTER(_Word)]),
     "edit_word": (c_bool, [_Word, POINTER(_Edit), c_size_t, POINTER(_Word)]),
@@ -1510,6 +1515,66 @@ class _Reader:
             raise self._refusal(text)
         return literal, text[len(literal.text) :]
 
+    def format_number(
+        self,
+        value: Union[SupportsIndex, SupportsFloat],
+        *,
+        group: Optional[int] = None,
+        fraction_group: Optional[int] = None,
+        without_base: bool = False,
+        lowercase: bool = False,
+        min_digits: int = 0,
+        keep_leading_zeros: bool = False,
+        exponent: Union[int, str, None] = None,
+    ) -> str:
+        """Returns a number as a literal, or as NaN or infinity of several forms. Reading the text returns the same value.
+
+            >>> prices = Syntax.of(digit_separator=".", internal_digit_separator=True, point=",")
+            >>> prices.format_number(Decimal("1234567.50"), group=3)
+            '1.234.567,50'
+            >>> languages.PYTHON.format_number(languages.C.read("0x1.8p1"))
+            '3'
+
+        Takes an int, a float, a Decimal, a `Literal`, or an object with `__index__` or `__float__`, as those of numpy,
+        but no bool. Of a float, the digits are those of `repr`. A `Literal` keeps its exponent, and a Decimal has one
+        from 1E+401 on and below 1E-400. Where no exponent is allowed, the point moves, and the text has at most 800
+        bytes.
+
+        The other arguments are wishes: what the syntax forbids is not done, and what it requires is. `group` and
+        `fraction_group` are the numbers of digits in a group of the integer, counted from the right, and of the
+        fraction, counted from the left. If the syntax has a size, this replaces them, also None, for which there are no
+        groups otherwise, but not 0, for which there are none. `without_base` leaves out the base prefix and the base
+        suffix. `lowercase` writes digits in lowercase, and `min_digits` at least so many integer digits, with zeros
+        before the others. `keep_leading_zeros` keeps those of a `Literal` whose point does not move. `exponent` is
+        "never", for a point that moves in place of an exponent, "always", or a number from which on, and below minus
+        which, an exponent is kept, and otherwise moves the point.
+
+        Of several forms, as those of a Language, that is taken whose text all of them read as the same integer, or the same
+        float. Forms of the radix of a `Literal` are asked first, then decimal ones, and then the others. If there is none,
+        the error is that of the first.
+
+        Raises ValueError for NaN and infinity without a spelling, for a sign `-` if no literal has one, for a number that is not whole if
+        literals are integers, for an int if each literal has an exponent, for an int of more than 4300 digits in radix
+        10, as `str` does, for another mantissa radix than that of the syntax, which is 10 for a float and a Decimal, if
+        the number is not whole or has more than 128 bits, and, of a float, for another exponent base.
+        """
+        sizes = ((group, "group"), (fraction_group, "fraction_group"))
+        groups = (0 if size is None else _number(name, size, 255, "a number from 0 to 254") or 255 for size, name in sizes)
+        flags = (("without_base", without_base), ("lowercase", lowercase), ("keep_leading_zeros", keep_leading_zeros))
+        if exponent is not None and exponent not in ("never", "always"):
+            wish = 3, _number("exponent", exponent, 1 << 32, '"never", "always" or a number from 0 to 4294967295')
+        else:
+            wish = (None, "never", "always").index(exponent), 0
+        flags_of, least = (_typed(name, flag, bool) for name, flag in flags), _number("min_digits", min_digits)
+        style = _Style(*groups, *flags_of, least, *wish)
+        if isinstance(self, _Several) and isinstance(value, float) and not math.isfinite(value):
+            spelling = Spelling.NAN if math.isnan(value) else Spelling.INF
+            return cast(str, self.specials.format(next(iter(self._named.values())), Special("-" if value < 0 else "", spelling)))
+        name, number, _literal = _writing(value, self._fields.mantissa_radix if isinstance(self, Syntax) else 10)
+        if isinstance(self, Syntax):
+            return _written(getattr(_library, name), self._by, number, style)
+        return _written(getattr(_library, f"forms_{name}"), self._forms, number, style)
+
     def parse(self, text: Union[str, bytes], type: Type[Number] = cast(Any, float)) -> Number:
         """Returns the value of a text as a `float` or an `int`, faster than `read` does. Raises LiteralError if the text is
         not a number, and ValueError if an `int` is wanted and it is not an integer.
@@ -1903,55 +1968,6 @@ class Syntax(_Reader):
         """
         return _text(_library.regex, self._by, size=_SOURCE_SIZE)
 
-    def format_number(
-        self,
-        value: Union[SupportsIndex, SupportsFloat],
-        *,
-        group: Optional[int] = None,
-        fraction_group: Optional[int] = None,
-        without_base: bool = False,
-        lowercase: bool = False,
-        min_digits: int = 0,
-        keep_leading_zeros: bool = False,
-        exponent: Union[int, str, None] = None,
-    ) -> str:
-        """Returns a number as a literal. Reading the text returns the same value.
-
-            >>> prices = Syntax.of(digit_separator=".", internal_digit_separator=True, point=",")
-            >>> prices.format_number(Decimal("1234567.50"), group=3)
-            '1.234.567,50'
-
-        Takes an int, a float, a Decimal, a `Literal`, or an object with `__index__` or `__float__`, as those of numpy,
-        but no bool. Of a float, the digits are those of `repr`. A `Literal` keeps its exponent, and a Decimal has one
-        from 1E+401 on and below 1E-400. Where no exponent is allowed, the point moves, and the text has at most 800
-        bytes.
-
-        The other arguments are wishes: what the syntax forbids is not done, and what it requires is. `group` and
-        `fraction_group` are the numbers of digits in a group of the integer, counted from the right, and of the
-        fraction, counted from the left. If the syntax has a size, this replaces them, also None, for which there are no
-        groups otherwise, but not 0, for which there are none. `without_base` leaves out the base prefix and the base
-        suffix. `lowercase` writes digits in lowercase, and `min_digits` at least so many integer digits, with zeros
-        before the others. `keep_leading_zeros` keeps those of a `Literal` whose point does not move. `exponent` is
-        "never", for a point that moves in place of an exponent, "always", or a number from which on, and below minus
-        which, an exponent is kept, and otherwise moves the point.
-
-        Raises ValueError for NaN and infinity, for a sign `-` if no literal has one, for a number that is not whole if
-        literals are integers, for an int if each literal has an exponent, for an int of more than 4300 digits in radix
-        10, as `str` does, for another mantissa radix than that of the syntax, which is 10 for a float and a Decimal, if
-        the number is not whole or has more than 128 bits, and, of a float, for another exponent base.
-        """
-        sizes = ((group, "group"), (fraction_group, "fraction_group"))
-        groups = (0 if size is None else _number(name, size, 255, "a number from 0 to 254") or 255 for size, name in sizes)
-        flags = (("without_base", without_base), ("lowercase", lowercase), ("keep_leading_zeros", keep_leading_zeros))
-        if exponent is not None and exponent not in ("never", "always"):
-            wish = 3, _number("exponent", exponent, 1 << 32, '"never", "always" or a number from 0 to 4294967295')
-        else:
-            wish = (None, "never", "always").index(exponent), 0
-        flags_of, least = (_typed(name, flag, bool) for name, flag in flags), _number("min_digits", min_digits)
-        style = _Style(*groups, *flags_of, least, *wish)
-        call, number, _literal = _writing(value, self._fields.mantissa_radix)
-        return _written(call, self._by, number, style)
-
     @property
     def _named(self) -> Any:
         return {"": self}
@@ -1967,8 +1983,8 @@ def _written(call: Any, *arguments: Any) -> str:
     raise ValueError(_library.write_description(status).decode())
 
 
-def _writing(value: Any, radix: int) -> Tuple[Any, Any, Optional[Literal[Any]]]:
-    """Returns the call that writes a number, its argument, and the literal to which this points. A longer int than 128
+def _writing(value: Any, radix: int) -> Tuple[str, Any, Optional[Literal[Any]]]:
+    """Returns the name of the call that writes a number, its argument, and the literal to which this points. A longer int than 128
     bits is a literal of the radix."""
     kind = type(value)
     if kind is bool or not (hasattr(kind, "__float__") or hasattr(kind, "__index__")):
@@ -1978,15 +1994,15 @@ def _writing(value: Any, radix: int) -> Tuple[Any, Any, Optional[Literal[Any]]]:
     elif isinstance(value, Decimal) and value.is_finite():
         literal = _DECIMALS.read(str(value) if abs(value.adjusted()) > 400 else f"{value:f}")
     elif not hasattr(kind, "__index__"):
-        return _library.format_f64, float(value), None
+        return "format_f64", float(value), None
     elif -(1 << 127) <= (number := operator.index(value)) < 1 << 127:
-        return _library.format_i128, _I128(number & (1 << 64) - 1, number >> 64), None
+        return "format_i128", _I128(number & (1 << 64) - 1, number >> 64), None
     else:
         rest, digits = (0, format(abs(number), "d" if radix == 10 else "X")) if radix in (10, 16) else (abs(number), "")
         while rest:
             rest, digits = rest // radix, "0123456789ABCDEFGHIJKLMNOPQRSTUVWXYZ"[rest % radix] + digits
         literal = Syntax.integers(Format.of(radix=radix)).read(digits if number > 0 else f"-{digits}")
-    return _library.format_literal, literal._found, literal
+    return "format_literal", literal._found, literal
 
 
 _DECIMALS = Syntax(Format())

@@ -340,40 +340,95 @@ static void test_writing(void) {
     CHECK(!strcmp(text, "-1234.5") && text[8] == '#');
 }
 
-/* A style is a wish, and a special value is the first of its spellings that is read back. */
+/* The rows of what is written, and the errors behind `!` in the order of their statuses. */
+static const char *rows = NULL;
+static const char *const write_errors[] = {"", "Radix", "Negative", "Fraction", "Exponent", "Float", "Special", "Buffer", "", "Long", "ReadBack"};
+
+/* Returns a cell of a row without spaces around it, and leaves the rest. */
+static char *cell(char **rest) {
+    char *const start = *rest + strspn(*rest, " "), *const end = start + strcspn(start, "|\n");
+    *rest = end + (*end != 0);
+    *end = 0;
+    for (char *last = end; last > start && last[-1] == ' ';) *--last = 0;
+    return start;
+}
+
+/* Writes the syntax with the settings of a cell, in which no digits are required unless they say so. */
+static bool syntax_of(const char *settings, peltzivar_syntax *syntax) {
+    char lines[256] = "required_digits=false\n";
+    strcat(lines, settings);
+    for (char *it = lines; *it; it++) *it = *it == ' ' ? '\n' : *it;
+    return make_syntax(lines, syntax);
+}
+
+/* Returns the style of wishes. */
+static peltzivar_style style_of(const char *wishes) {
+    peltzivar_style style = {0, 0, false, false, false, 0, 0, 0};
+    const char *const group = strstr(wishes, "fraction_group="), *const least = strstr(wishes, "min_digits="), *const power = strstr(wishes, "exponent=");
+    if (!strncmp(wishes, "group=", 6)) style.group = wishes[6] == '0' ? PELTZIVAR_NO_GROUPS : (uint8_t)(wishes[6] - '0');
+    if (group) style.fraction_group = (uint8_t)(group[15] - '0');
+    if (least) style.min_digits = (uint8_t)(least[11] - '0');
+    style.without_base = strstr(wishes, "without_base=true") != NULL, style.lowercase = strstr(wishes, "lowercase=true") != NULL;
+    style.keep_leading_zeros = strstr(wishes, "keep_leading_zeros=true") != NULL;
+    if (power) style.exponent = power[9] == 'n' ? PELTZIVAR_STYLE_NEVER : power[9] == 'a' ? PELTZIVAR_STYLE_ALWAYS : PELTZIVAR_STYLE_FROM;
+    if (style.exponent == PELTZIVAR_STYLE_FROM) style.exponent_from = (uint32_t)(power[9] - '0');
+    return style;
+}
+
+/* Literals are written as the rows say, and a special value is the first of its spellings that is read back. */
 static void test_styles(void) {
-    static const struct {
-        const char *text, *settings, *wanted;
-        peltzivar_style style;
-    } rows[] = {
-        {"12345.6789", "digit_separator='_'\ninternal_digit_separator=true", "12_345.678_9", {3, 3, false, false, false, 0, 0, 0}},
-        {"12345.6789", "", "12345.6789", {3, 3, false, false, false, 0, 0, 0}},
-        {"1234567", "digit_separator='_'\ninternal_digit_separator=true\ninteger_group_size=3", "1_234_567", {0, 0, false, false, false, 0, 0, 0}},
-        {"1234567", "digit_separator='_'\ninternal_digit_separator=true\ninteger_group_size=3", "1234567", {PELTZIVAR_NO_GROUPS, 0, false, false, false, 0, 0, 0}},
-        {"171", "radix=16\nbase_prefix='x'\nexponent='p'", "0x0ab", {0, 0, false, true, false, 3, 0, 0}},
-        {"7", "no_integer_leading_zeros=true", "7", {0, 0, false, false, false, 3, 0, 0}},
-        {"007.5", "", "007.5", {0, 0, false, false, true, 0, 0, 0}},
-        {"1.2e3", "", "1200", {0, 0, false, false, false, 0, PELTZIVAR_STYLE_NEVER, 0}},
-        {"1e800", "", "1e800", {0, 0, false, false, false, 0, PELTZIVAR_STYLE_NEVER, 0}},
-        {"1200", "", "1200e0", {0, 0, false, false, false, 0, PELTZIVAR_STYLE_ALWAYS, 0}},
-        {"1.2e2", "", "120", {0, 0, false, false, false, 0, PELTZIVAR_STYLE_FROM, 3}},
-        {"1.2e3", "", "1.2e3", {0, 0, false, false, false, 0, PELTZIVAR_STYLE_FROM, 3}},
-    };
     static const peltzivar_specials specials = {"nan", "nan", "inf"};
     static const peltzivar_special minus = {PELTZIVAR_SPELLING_INF, '-'}, none = {0, 0};
+    FILE *const file = rows ? fopen(rows, "r") : NULL;
     peltzivar_syntax source, target;
     peltzivar_literal literal;
     size_t needed = 7;
-    CHECK(make_syntax("", &source));
-    for (size_t i = 0; i < sizeof rows / sizeof *rows; i++) {
-        CHECK(make_syntax(rows[i].settings, &target) && peltzivar_read(&source, rows[i].text, strlen(rows[i].text), &literal, NULL));
-        CHECK(!peltzivar_format_literal(&target, &literal, &rows[i].style, text, sizeof text, NULL) && !strcmp(text, rows[i].wanted));
+    char line[256];
+    CHECK(!rows == !file);
+    while (file && fgets(line, sizeof line, file)) {
+        char *rest = line, *const given = *line == '#' || *line == '\n' ? NULL : cell(&rest);
+        if (!given) continue;
+        CHECK(syntax_of(cell(&rest), &source) && syntax_of(cell(&rest), &target) && peltzivar_read(&source, given, strlen(given), &literal, NULL));
+        const peltzivar_style style = style_of(cell(&rest));
+        const char *const wanted = cell(&rest);
+        const int status = peltzivar_format_literal(&target, &literal, &style, text, sizeof text, NULL);
+        CHECK(*wanted == '!' ? status && !strcmp(write_errors[status], wanted + 1) : !status && !strcmp(text, wanted));
     }
+    if (file) fclose(file);
+    CHECK(make_syntax("", &source));
     CHECK(!peltzivar_format_special(&source, &specials, minus, text, sizeof text, &needed) && !strcmp(text, "-inf") && needed == 5);
     CHECK(peltzivar_format_special(&source, &specials, none, text, sizeof text, &needed) == PELTZIVAR_WRITE_SPECIAL && needed == 5);
     CHECK(make_syntax("no_special=true", &target));
     CHECK(peltzivar_format_special(&target, &specials, minus, text, sizeof text, NULL) == PELTZIVAR_WRITE_SPECIAL);
 }
+
+/* Forms write what they read as the same number. */
+static void test_choice(void) {
+    static const peltzivar_i128 wide = {0, 1};
+    const peltzivar_forms *const c = language("C"), *const python = language("PYTHON");
+    peltzivar_form own[2] = {python->forms[0], python->forms[0]};
+    peltzivar_literal literal;
+    size_t needed = 7;
+    CHECK(make_syntax("radix=16\nexponent=none\npoint=none", &own[0].syntax));
+    const peltzivar_forms forms = forms_of(own, 2);
+    CHECK(peltzivar_forms_read(c, "0x1.8p1", 7, &literal, NULL));
+    CHECK(!peltzivar_forms_format_literal(python, &literal, NULL, text, 2, &needed) && !strcmp(text, "3") && needed == 2);
+    CHECK(!peltzivar_forms_format_literal(c, &literal, NULL, text, sizeof text, NULL) && !strcmp(text, "0x1.8p1"));
+    CHECK(peltzivar_forms_format_literal(python, &literal, NULL, text, 1, &needed) == PELTZIVAR_WRITE_BUFFER && needed == 2 && !*text);
+    /* Decimal digits are hexadecimal ones. */
+    CHECK(!peltzivar_forms_format_i64(&forms, 300, NULL, text, sizeof text, NULL) && !strcmp(text, "12C"));
+    CHECK(!peltzivar_forms_format_u64(&forms, 7, NULL, text, sizeof text, NULL) && !strcmp(text, "7"));
+    CHECK(!peltzivar_forms_format_i128(&forms, wide, NULL, text, sizeof text, NULL) && !strcmp(text, "10000000000000000"));
+    CHECK(!peltzivar_forms_format_f64(&forms, 0.1, NULL, text, sizeof text, NULL) && !strcmp(text, "0.1"));
+    CHECK(peltzivar_forms_read(python, "340282366920938463463374607431768211456", 39, &literal, NULL));
+    CHECK(peltzivar_forms_format_literal(&forms, &literal, NULL, text, sizeof text, NULL) == PELTZIVAR_WRITE_READ_BACK);
+    CHECK(peltzivar_forms_format_i64(c, -1, NULL, text, sizeof text, NULL) == PELTZIVAR_WRITE_NEGATIVE);
+    CHECK(peltzivar_forms_format_f64(c, HUGE_VAL, NULL, text, sizeof text, NULL) == PELTZIVAR_WRITE_SPECIAL);
+    CHECK(peltzivar_forms_format_i64(NULL, 1, NULL, text, sizeof text, NULL) == PELTZIVAR_WRITE_ARGUMENT);
+    memset(&literal, 0, sizeof literal);
+    CHECK(peltzivar_forms_format_literal(c, &literal, NULL, text, sizeof text, NULL) == PELTZIVAR_WRITE_ARGUMENT);
+}
+
 /* Returns whether two errors are the same. */
 static bool is_same_error(const peltzivar_read_error *error, const peltzivar_read_error *other) {
     peltzivar_explanation whys[2];
@@ -546,6 +601,8 @@ static void test_misuse(void) {
                 + peltzivar_read_prefix(by, bytes, len, to, stopped));
             sum += peltzivar_read_special(by, &specials, bytes, len, (peltzivar_special *)(out + shift));
             sum += peltzivar_format_i64(by, INT64_MIN, style, text, sizeof text, (size_t *)(out + shift)) + peltzivar_format_f64(by, 1.5, style, text, 0, NULL);
+            sum += (size_t)(peltzivar_forms_format_i64(forms, 1, style, text, 9, NULL) + peltzivar_forms_format_f64(forms, 0.5, style, text, 9, NULL)
+                + peltzivar_forms_format_literal(forms, literal, style, text, 9, NULL));
             sum += peltzivar_format_u64(by, 7, style, text, 9, NULL) + peltzivar_format_literal(by, literal, style, text, sizeof text, NULL);
         }
         sum += (size_t)(peltzivar_to_i64(literal, (int64_t *)out) + peltzivar_to_u64(literal, NULL)
@@ -571,14 +628,15 @@ static void test_misuse(void) {
 static void *test_all(void *unused) {
     for (int i = 0; i < 5; i++) {
         test_constants(), test_setters(), test_words(), test_syntaxes(), test_errors(), test_groups(), test_values(), test_columns();
-        test_writing(), test_styles(), test_languages(), test_forms(), test_null(), test_misuse();
+        test_writing(), test_styles(), test_choice(), test_languages(), test_forms(), test_null(), test_misuse();
     }
     return unused;
 }
 
-/* Four threads call the functions at the same time. */
-int main(void) {
+/* Four threads call the functions at the same time. The argument is the file of rows. */
+int main(int count, char **arguments) {
     pthread_t threads[4];
+    if (count > 1) rows = arguments[1];
     for (int i = 0; i < 4; i++) CHECK(!pthread_create(&threads[i], NULL, test_all, NULL));
     for (int i = 0; i < 4; i++) CHECK(!pthread_join(threads[i], NULL));
     return failed;

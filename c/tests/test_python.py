@@ -290,17 +290,11 @@ class Literals(unittest.TestCase):
             self.assertEqual(german.format_number(value, group=3), text)
             if not isinstance(value, (peltzivar.Literal, FormatView)):
                 self.assertEqual(german.read(text).decimal(), Decimal(repr(value)) if isinstance(value, float) else value)
-        for text, value in [("1.2E3", "1,200"), ("12.50E1", "125"), ("0E5", "0"), ("1.50", "1.50"), ("1E-7", "0.0000001")]:
-            self.assertEqual(Language.CSV_EN.forms["decimal"].format_number(Language.JSON.read(text)), value)
         grouped = Syntax.of(digit_separator="_", internal_digit_separator=True, integer_group_size=3)
         for number, style, text in (
             (Decimal("1234567.6789"), {"fraction_group": 3}, "1_234_567.678_9"),
             (1234567, {"group": 0}, "1234567"),
             (7, {"min_digits": 3}, "007"),
-            (grouped.read("007"), {"keep_leading_zeros": True}, "007"),
-            (grouped.read("1.2e3"), {"exponent": "never"}, "1_200"),
-            (grouped.read("1.2e3"), {"exponent": 3}, "1.2e3"),
-            (grouped.read("1.2e3"), {"exponent": 4}, "1_200"),
             (1200, {"exponent": "always"}, "1_200e0"),
         ):
             self.assertEqual(grouped.format_number(number, **style), text)
@@ -315,6 +309,37 @@ class Literals(unittest.TestCase):
         wrong = [(german, math.inf, "NaN or infinity"), (german, Decimal("NaN"), "NaN or infinity"), (hexadecimal, Decimal("1.5"), "radix")]
         for syntax, value, sentence in [*wrong, (Syntax.integers(Format()), 1.5, "not whole"), (Language.C.forms["octal"], -1, "'-'")]:
             self.assertRaisesRegex(ValueError, sentence, syntax.format_number, value)
+
+    def test_literals_are_written_as_the_rows_say(self):
+        errors = {"Radix": "radix", "Negative": "sign '-'", "Fraction": "not whole", "Exponent": "no literal has an exponent", "Long": "800 bytes"}
+        known = {"true": True, "never": "never", "always": "always"}
+        lines = (TOP / "rust/tests/writing.txt").read_text().splitlines()
+        for line in [line for line in lines if line and not line.startswith("#")]:
+            text, source, target, wishes, wanted = (cell.strip() for cell in line.split("|"))
+            literal = Syntax.of("required_digits=false", *source.split()).read(text)
+            target = Syntax.of("required_digits=false", *target.split())
+            style = {name: known.get(value) or int(value) for name, value in (it.split("=") for it in wishes.split())}
+            with self.subTest(line):
+                if wanted.startswith("!"):
+                    self.assertRaisesRegex(ValueError, errors[wanted[1:]], target.format_number, literal, **style)
+                else:
+                    self.assertEqual(target.format_number(literal, **style), wanted)
+
+    def test_forms_write_what_they_read_as_the_same_number(self):
+        hexadecimal = Syntax.of("radix=16", "exponent=none", "point=none")
+        forms = Forms({"hexadecimal": hexadecimal, "decimal": Syntax(Format())}, nan="nan", inf="inf")
+        # Decimal digits are hexadecimal ones.
+        for number, text in ((300, "12C"), (7, "7"), (-0.1, "-0.1"), (math.nan, "nan"), (-math.inf, "-inf"), (Decimal("1.50"), "1.50"), (2**200, None)):
+            with self.subTest(number):
+                if text is None:
+                    self.assertRaisesRegex(ValueError, "read as another number", forms.format_number, number)
+                else:
+                    self.assertEqual(forms.format_number(number), text)
+        for source, text, target, wanted in (("C", "0x1p3", "PYTHON", "8"), ("C", "0x1.8p1", "JAVA", "0x1.8p1"), ("PYTHON", "0o17", "C", "15")):
+            self.assertEqual(Language[target].format_number(Language[source].read(text)), wanted)
+        self.assertEqual(Language.C.format_number(1234567, group=3), "1'234'567")
+        for language, number, sentence in ((Language.C, -1, "sign '-'"), (Language.C, math.inf, "NaN or infinity"), (Language.JSON, Language.C.read("0x1p-3"), "radix")):
+            self.assertRaisesRegex(ValueError, sentence, language.format_number, number)
 
     def test_a_locale_plays_no_role(self):
         """Tests C, too, which is in the same process."""

@@ -141,3 +141,5 @@ pub use syntax::{Condition, Conditions, ConditionsError, ConditionsErrorKind, Sy
 pub use token::{Token, TokenError};
 pub use value::{FromLiteral, ParseError, Plain, Target, ValueError, ValueErrorKind};
 pub use writer::{ExponentStyle, Grouping, Style, WriteError, WriteFloat, WriteInteger, Written};
+#[doc(hidden)]
+pub use writer::{Real, Whole, Writable};

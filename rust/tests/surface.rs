@@ -579,6 +579,7 @@ const _: () = { fn call(it: &'static FormatView) -> impl Iterator<Item = Note> +
 const _: () = { fn call(it: &'static FormatView) -> impl Iterator<Item = Reason> + Clone { <FormatView>::reasons(it) } };
 const _: () = { fn call(it: &'static FormatView) -> impl Iterator<Item = Rule> + Clone { <FormatView>::broken_rules(it) } };
 const _: () = { fn call(it: &'static FormatView, exponent: u8, decimal_point: u8) -> impl Iterator<Item = Reason> + Clone { <FormatView>::options_reasons(it, exponent, decimal_point) } };
+const _: () = { fn call(it: &'static Forms<'static>, literal: &'static Literal<'static>, style: Style) -> Result<Written<'static>, WriteError> { <Forms<'static>>::format_literal(it, literal, style) } };
 const _: () = { fn call(it: &'static Forms<'static>, text: &'static (impl AsRef<[u8]> + ?Sized)) -> Result<(Number<'static>, &'static [u8]), FormError> { <Forms<'static>>::read_prefix(it, text) } };
 const _: () = { fn call(it: &'static Forms<'static>, text: &'static (impl AsRef<[u8]> + ?Sized)) -> Result<Number<'static>, FormError> { <Forms<'static>>::read(it, text) } };
 const _: () = { fn call(it: &'static Forms<'static>, text: &'static (impl AsRef<[u8]> + ?Sized)) -> Result<Token<'static>, TokenError> { <Forms<'static>>::token(it, text) } };
@@ -620,7 +621,9 @@ const _: () = { fn call<T: FromLiteral>(it: &'static Syntax, text: &'static (imp
 const _: () = { fn call<T: FromLiteral>(it: &'static Syntax, text: impl AsRef<[u8]>) -> Result<T, ParseError> { <Syntax>::parse(it, text) } };
 const _: () = { fn call<T: FromLiteral>(it: Number<'static>) -> Result<T, ValueError> { <Number<'static>>::value(it) } };
 const _: () = { fn call<T: FromLiteral>(literal: Literal<'static>) -> Result<T, ValueErrorKind> { <T>::from_literal(literal) } };
+const _: () = { fn call<T: WriteFloat>(it: &'static Forms<'static>, value: T, style: Style) -> Result<Written<'static>, WriteError> { <Forms<'static>>::format_float(it, value, style) } };
 const _: () = { fn call<T: WriteFloat>(it: &'static Syntax, value: T, style: Style) -> Result<Written<'static>, WriteError> { <Syntax>::format_float(it, value, style) } };
+const _: () = { fn call<T: WriteInteger>(it: &'static Forms<'static>, value: T, style: Style) -> Result<Written<'static>, WriteError> { <Forms<'static>>::format_integer(it, value, style) } };
 const _: () = { fn call<T: WriteInteger>(it: &'static Syntax, value: T, style: Style) -> Result<Written<'static>, WriteError> { <Syntax>::format_integer(it, value, style) } };
 const _: () = { fn has() where &'static Forms<'static>: IntoIterator {} };
 const _: () = { fn has() where ArgumentKind: Clone {} };
@@ -1402,6 +1405,7 @@ const _: WriteError = <WriteError>::Fraction;
 const _: WriteError = <WriteError>::Long;
 const _: WriteError = <WriteError>::Negative;
 const _: WriteError = <WriteError>::Radix;
+const _: WriteError = <WriteError>::ReadBack;
 const _: WriteError = <WriteError>::Special;
 const _: bool = <NumberFormat<STANDARD>>::CASE_SENSITIVE_BASE_PREFIX;
 const _: bool = <NumberFormat<STANDARD>>::CASE_SENSITIVE_BASE_SUFFIX;

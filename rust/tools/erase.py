@@ -167,12 +167,15 @@ REPLACED += [
     # A decimal literal need not be in memory where another one would be.
     ("lexical_value/src/float.rt", "binary_size(F::DOUBLE, literal)", "binary_size(F::DOUBLE, &{ *literal })"),
     # Calls for constants.
-    ("lexical_value/src/integer.rt", "pub(crate) fn integer_numeral", "pub(crate) const fn integer_numeral"),
+    ("lexical_value/src/integer.rt", "pub fn integer_numeral", "pub(crate) const fn integer_numeral"),
     ("lexical_value/src/integer.rt", "\nfn magnitude", "\nconst fn magnitude"),
     ("lexical_value/src/float.rt", "pub(crate) fn binary_size", "pub(crate) const fn binary_size"),
     ("lexical_value/src/float.rt", "\nfn leading_of", "\nconst fn leading_of"),
     ("lexical_value/src/float.rt", "\nfn exponent_of", "\nconst fn exponent_of"),
     ("sink.rt", "#[derive(Drop)]", "#[derive(Debug)]"),
+    # Programs have one copy of these, for any kind of number.
+    ("choice.rt", "fn choose<N: Writable>(", "fn choose<N: Writable + ?Sized>("),
+    ("choice.rt", "fn write_by<N: Writable>(", "fn write_by<N: Writable + ?Sized>("),
     # `Debug` prints the answers.
     ("cause.rt", "#[derive(Debug, Clone, Copy, PartialEq, Eq, Hash)]\npub struct ReadError {", "#[derive(Clone, Copy, PartialEq, Eq, Hash)]\npub struct ReadError {"),
     ("lawful.rt", "Eq)]\npub struct FormatError", "Eq, Hash)]\npub struct FormatError"),

@@ -59,9 +59,9 @@ pub fn to_integer<T: Integer>(literal: &Literal) -> Result<T, ValueErrorKind>
     }
 }
 
-// Returns the sign and the number of a literal, or `None` if it has a decimal point or an exponent.
+/// Returns the sign and the number of a literal, or `None` if it has a decimal point or an exponent.
 #[inline(always)]
-pub(crate) fn integer_numeral<'a>(literal: &Literal<'a>) -> Option<Numeral<'a>>
+pub fn integer_numeral<'a>(literal: &Literal<'a>) -> Option<Numeral<'a>>
     ensures float { IsTrue (is_float literal.now.literal) ↔ IsNone result }
     ensures negative { IfSome result (λ numeral. numeral.negative ≡ is_minus literal.now.literal.sign) }
     ensures size { IfSome result (λ numeral. size_of numeral ≡ integer_size (raw literal.now.format) literal.now.literal) }

@@ -4,3 +4,4 @@ pub mod Moved
 pub mod Conversion
 pub mod Buffer
 pub mod Float
+pub mod Choice

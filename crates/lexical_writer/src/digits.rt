@@ -4,7 +4,7 @@ ghost use Rattle.std.specs.Prelude.{◌≡◌, ◌++◌, ◌∷◌, [], true, fa
 ghost use Rattle.std.specs.Int.Digits.{digits_of, number_from_digits};
 ghost use Rattle.lexical_number.specs.Number.{digits_in, number, places};
 ghost use Rattle.lexical_util.specs.Rules.{IsRadix};
-ghost use Rattle.lexical_writer.specs.Digits.{at_least, character, ends_group, grouped, grouped_front, only_if, padded_values, run_digits, run_text, separated};
+ghost use Rattle.lexical_writer.specs.Digits.{at_least, character, ends_group, grouped, grouped_front, only_if, padded_values, run_digits, run_text, separated, values_of};
 
 use crate::run::{Padded, Pattern, Run, Source};
 use crate::sink::Sink;
@@ -291,6 +291,20 @@ impl<'a> Padded<'a> {
     }
 }
 
+impl Source<'_> {
+    // Returns the number of digits.
+    pub(crate) fn count(&self, radix: u32) -> u128
+        requires { IsRadix radix }
+        ensures { result ≡ length (values_of radix self.now) }
+    {
+        match self {
+            Source::Bytes(bytes) => count(bytes, radix) as u128,
+            Source::Number(number) => characters(&mut [0; 128], *number, radix).len() as u128,
+            Source::Padded(padded) => padded.count(radix),
+        }
+    }
+}
+
 impl Run<'_> {
     // Returns the number of digits if there can be zeros around them, and 0 otherwise.
     pub(crate) fn count(&self) -> u128
@@ -306,12 +320,7 @@ impl Run<'_> {
     pub(crate) fn length(&self) -> u128
         ensures { result ≡ length (run_digits self.now) }
     {
-        let count = match &self.source {
-            Source::Bytes(bytes) => count(bytes, self.radix) as u128,
-            Source::Number(number) => characters(&mut [0; 128], *number, self.radix).len() as u128,
-            Source::Padded(padded) => padded.count(self.radix),
-        };
-        count.max(self.least as u128)
+        self.source.count(self.radix).max(self.least as u128)
     }
 
     // Writes the digits.

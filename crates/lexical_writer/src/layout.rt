@@ -104,6 +104,8 @@ pub enum WriteError {
     Long,
     /// A limit: the buffer is too short for the text, which has this number of bytes.
     Buffer(usize),
+    /// A list of forms reads the text as another number, or not at all.
+    ReadBack,
 }
 
 /// The exponent of a number.
@@ -458,7 +460,7 @@ impl<'a> Amount<'a> {
 
     // Returns the fraction digits, if there are any.
     #[inline]
-    fn fraction(&self) -> Source<'a>
+    pub(crate) fn fraction(&self) -> Source<'a>
         ensures { result ≡ given_fraction self.now }
     {
         match self.fraction {

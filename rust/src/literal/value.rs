@@ -9,7 +9,7 @@ use crate::literal::{FormError, Literal, Number, ReadError, Sign, Special, Spell
 
 #[allow(clippy::question_mark, reason = "as it is proved")]
 pub(crate) mod float;
-mod integer;
+pub(crate) mod integer;
 
 pub use integer::ValueErrorKind;
 

@@ -3,10 +3,12 @@
 use core::fmt::{self, Write};
 use core::str;
 
-use crate::literal::{Literal, Sign, Special, Specials, Syntax};
+use crate::literal::{Forms, Literal, Sign, Special, Specials, Spelling, Syntax};
 use crate::number::float::Float;
 use crate::number::integer::Integer;
 
+#[allow(clippy::exhaustive_structs, clippy::needless_lifetimes, reason = "as it is proved, and for the library for C alone")]
+mod choice;
 mod digits;
 mod float;
 mod float_digits;
@@ -21,6 +23,9 @@ mod sink;
 
 pub use layout::{ExponentStyle, Grouping, Style, WriteError};
 
+use choice::choose;
+#[doc(hidden)]
+pub use choice::{Real, Whole, Writable};
 use float_digits::FloatDigits;
 use layout::Layout;
 use sink::{Sink, Window};
@@ -189,6 +194,109 @@ impl Syntax {
     /// If the literal cannot be written, returns why.
     pub fn format_literal<'a>(&self, literal: &Literal<'a>, style: Style) -> Result<Written<'a>, WriteError> {
         literal::format_literal(literal, self, style).map(|layout| Written { text: Text::Number(layout) })
+    }
+}
+
+/// The longest text that is read back.
+const LONGEST: usize = 4096;
+
+impl<'a> Forms<'a> {
+    /// Returns the value of an integer as a number of one of these forms. [Reading][Self::read] the text returns the same
+    /// value.
+    ///
+    /// Decimal forms are asked first, and then the others, each in the order of the list. The first is taken whose text is
+    /// read, by all forms, as the same value: in C, 15 is not written as `17` of the octal form, which is decimal if it
+    /// begins with another digit than 0.
+    ///
+    /// ```
+    /// use peltzivar::literal::{Language, Style, WriteError};
+    ///
+    /// assert_eq!(Language::C.forms().format_integer(1_234_567, Style::PLAIN.group(3))?.to_string(), "1'234'567");
+    /// assert_eq!(Language::C.forms().format_integer(-1, Style::PLAIN).unwrap_err(), WriteError::Negative);
+    /// # Ok::<(), WriteError>(())
+    /// ```
+    ///
+    /// # Errors
+    ///
+    /// If no form is taken, returns the error of the form that was asked first, or [`WriteError::ReadBack`] if its text is read
+    /// as another number. [`WriteError::Buffer`] is that of a text of more than 4,096 bytes, which is not read back.
+    pub fn format_integer<T: WriteInteger>(&self, value: T, style: Style) -> Result<Written<'static>, WriteError> {
+        self.syntax_for(&Whole { value }, style)?.format_integer(value, style)
+    }
+
+    /// Returns the value of a float as a number of one of these forms, or as one of the spellings of NaN and infinity.
+    /// [Reading][Self::read] the text returns the same bits, but for a NaN.
+    ///
+    /// Forms are asked as by [`format_integer`][Self::format_integer].
+    ///
+    /// ```
+    /// use peltzivar::literal::{Language, Style, WriteError};
+    ///
+    /// assert_eq!(Language::TOML.forms().format_float(-1e300, Style::PLAIN)?.to_string(), "-1e300");
+    /// assert_eq!(Language::TOML.forms().format_float(f32::INFINITY, Style::PLAIN)?.to_string(), "inf");
+    /// # Ok::<(), WriteError>(())
+    /// ```
+    ///
+    /// # Errors
+    ///
+    /// As [`format_integer`][Self::format_integer], and [`WriteError::Special`] for NaN and infinity without a spelling.
+    pub fn format_float<T: WriteFloat>(&self, value: T, style: Style) -> Result<Written<'a>, WriteError> {
+        match self.syntax_for(&Real { value }, style) {
+            Ok(syntax) => syntax.format_float(value, style),
+            Err(WriteError::Special) => {
+                let sign = value.bits().filter(|bits| *bits > u64::MAX >> if T::DOUBLE { 1 } else { 33 });
+                let spelling = value.bits().map_or(Spelling::Nan, |_| Spelling::Inf);
+                let special = Special { sign: sign.map(|_| Sign::Minus), spelling };
+                self.specials().format(&self[0].syntax(), special)
+            }
+            Err(error) => Err(error),
+        }
+    }
+
+    /// Returns a literal, which may be of other forms, as a number of one of these forms. [Reading][Self::read] the text
+    /// returns the same integer or, if either is a float, the same bits of `f64`.
+    ///
+    /// Forms of the radix of the literal are asked first, then decimal ones, and then the others, each in the order of the
+    /// list. The first is taken whose text is read, by all forms, as the same number.
+    ///
+    /// ```
+    /// use peltzivar::literal::{Language, Style, WriteError};
+    ///
+    /// let literal = Language::C.read("0x1.8p1").unwrap().literal().unwrap();
+    /// let write = |language: Language| language.forms().format_literal(&literal, Style::PLAIN).map(|it| it.to_string());
+    /// assert_eq!(write(Language::JAVA)?, "0x1.8p1");
+    /// assert_eq!(write(Language::PYTHON)?, "3");
+    /// # Ok::<(), WriteError>(())
+    /// ```
+    ///
+    /// # Errors
+    ///
+    /// As [`format_integer`][Self::format_integer].
+    pub fn format_literal<'b>(&self, literal: &Literal<'b>, style: Style) -> Result<Written<'b>, WriteError> {
+        self.syntax_for(literal, style)?.format_literal(literal, style)
+    }
+
+    /// Returns the syntax of the form that writes a number.
+    fn syntax_for(&self, number: &dyn Writable, style: Style) -> Result<Syntax, WriteError> {
+        let (form, _) = choose(self, number, style, &mut [0; LONGEST])?;
+        Ok(self[form].syntax())
+    }
+
+    /// Passes the text of a number in one of these forms, for programs with few bytes.
+    ///
+    /// # Errors
+    ///
+    /// As those of the other calls.
+    #[doc(hidden)]
+    pub fn written<R>(
+        &self,
+        number: &dyn Writable,
+        style: Style,
+        then: impl FnOnce(&[u8]) -> R,
+    ) -> Result<R, WriteError> {
+        let buffer = &mut [0; LONGEST];
+        let (_, length) = choose(self, number, style, buffer)?;
+        Ok(then(&buffer[..length]))
     }
 }
 
@@ -426,6 +534,7 @@ impl fmt::Display for WriteError {
             WriteError::Special => "no literal is NaN or infinity, and no spelling is read back as it",
             WriteError::Long => "without an exponent, the text has more than 800 bytes",
             WriteError::Buffer(length) => return write!(f, "the text has {length} bytes"),
+            WriteError::ReadBack => "the text is read as another number",
         })
     }
 }

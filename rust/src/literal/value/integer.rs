@@ -50,7 +50,7 @@ pub fn to_integer<T: Integer>(literal: &Literal) -> Result<T, ValueErrorKind> {
     }
 }
 
-// Returns the sign and the number of a literal, or `None` if it has a decimal point or an exponent.
+/// Returns the sign and the number of a literal, or `None` if it has a decimal point or an exponent.
 #[inline(always)]
 pub(crate) const fn integer_numeral<'a>(literal: &Literal<'a>) -> Option<Numeral<'a>> {
     if literal.is_float() {

@@ -208,6 +208,17 @@ impl<'a> Padded<'a> {
     }
 }
 
+impl Source<'_> {
+    // Returns the number of digits.
+    pub(crate) fn count(&self, radix: u32) -> u128 {
+        match self {
+            Source::Bytes(bytes) => count(bytes, radix) as u128,
+            Source::Number(number) => characters(&mut [0; 128], *number, radix).len() as u128,
+            Source::Padded(padded) => padded.count(radix),
+        }
+    }
+}
+
 impl Run<'_> {
     // Returns the number of digits if there can be zeros around them, and 0 otherwise.
     pub(crate) fn count(&self) -> u128 {
@@ -219,12 +230,7 @@ impl Run<'_> {
 
     // Returns the number of digits that are written.
     pub(crate) fn length(&self) -> u128 {
-        let count = match &self.source {
-            Source::Bytes(bytes) => count(bytes, self.radix) as u128,
-            Source::Number(number) => characters(&mut [0; 128], *number, self.radix).len() as u128,
-            Source::Padded(padded) => padded.count(self.radix),
-        };
-        count.max(self.least as u128)
+        self.source.count(self.radix).max(self.least as u128)
     }
 
     // Writes the digits.

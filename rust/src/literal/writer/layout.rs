@@ -95,6 +95,8 @@ pub enum WriteError {
     Long,
     /// A limit: the buffer is too short for the text, which has this number of bytes.
     Buffer(usize),
+    /// A list of forms reads the text as another number, or not at all.
+    ReadBack,
 }
 
 /// The exponent of a number.
@@ -349,7 +351,7 @@ impl<'a> Amount<'a> {
 
     // Returns the fraction digits, if there are any.
     #[inline]
-    fn fraction(&self) -> Source<'a> {
+    pub(crate) fn fraction(&self) -> Source<'a> {
         match self.fraction {
             Some(source) => source,
             None => Source::Number(0),
