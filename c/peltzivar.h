@@ -224,15 +224,16 @@ PELTZIVAR_MUST_USE bool peltzivar_read_prefix(const peltzivar_syntax *syntax, co
 /* VALUES
  *
  * Each call writes the exact value of a literal, rounded once if it is of a float type, to *out and returns
- * PELTZIVAR_VALUE_OK. Otherwise, it leaves *out unchanged and returns why. */
+ * PELTZIVAR_VALUE_OK. Otherwise, it leaves *out unchanged and returns why. The value is that of the kind of the form: Java's
+ * `0xffffffff` is -1. */
 
 /* Whether a literal has a value of a type. */
 typedef uint8_t peltzivar_value_status;
 enum {
     PELTZIVAR_VALUE_OK = 0,
     PELTZIVAR_VALUE_FLOAT = 1, /* The literal is a float, even if its value is whole, and the type an integer type. */
-    PELTZIVAR_VALUE_TOO_LARGE = 2, /* The value is above the largest value of an integer type. */
-    PELTZIVAR_VALUE_TOO_SMALL = 3, /* The value is below the least value of an integer type. */
+    PELTZIVAR_VALUE_TOO_LARGE = 2, /* The value is above the largest value of an integer type, or too large for its kind. */
+    PELTZIVAR_VALUE_TOO_SMALL = 3, /* The value is below the least value of an integer type, or of its kind. */
     /* The type is a float type, and the mantissa radix and the exponent base are neither both 10 nor both powers of
      * two. This is so for all literals of a syntax, or for none. */
     PELTZIVAR_VALUE_RADIX = 4,
@@ -338,13 +339,24 @@ enum { PELTZIVAR_SPELLING_NAN = 1, PELTZIVAR_SPELLING_INF = 2, PELTZIVAR_SPELLIN
 PELTZIVAR_MUST_USE bool peltzivar_read_special(const peltzivar_syntax *syntax, const peltzivar_specials *specials,
     const char *text, size_t len, peltzivar_special *out);
 
-/* A form of numbers, such as `0x1F`: its name, which may be null, and its syntax. A later version may have other
- * members in `reserved`, so forms are refused if it is not 0. */
+/* A form of numbers, such as `0x1F`: its name, which may be null, its syntax, and its kind, by which the values of its
+ * literals are found. FORMAT.md describes kinds: integers have at most integer_bits bits, or wrap at them, and so may be
+ * negative, and floats are the nearest single, or else the nearest value of the type. integer_bits is from 1 to 64, or 0
+ * for exact integers. Zeros are exact integers and nearest floats. A later version may have other members in `reserved`,
+ * so forms are refused if it is not 0. */
 typedef struct {
     const char *name;
     peltzivar_syntax syntax;
-    uint64_t reserved[2];
+    uint8_t integer_kind, integer_bits, float_kind;
+    uint8_t reserved[13];
 } peltzivar_form;
+enum {
+    PELTZIVAR_INTEGERS_EXACT = 0,
+    PELTZIVAR_INTEGERS_AT_MOST = 1,
+    PELTZIVAR_INTEGERS_WRAP = 2, /* From 2^integer_bits on, a number is too large. */
+    PELTZIVAR_INTEGERS_WRAP_MODULO = 3 /* The lowest bits of any number count. */
+};
+enum { PELTZIVAR_FLOATS_NEAREST = 0, PELTZIVAR_FLOATS_SINGLE = 1 };
 
 /* Several forms of numbers, such as `10`, `0x1F` and `0b1`: an array of `count` forms, and the spellings of special
  * values. The first form of which a text is a literal decides its parts and its value. If it is one of none, a
@@ -404,7 +416,7 @@ const char *peltzivar_language_name(size_t index);
 
 /* Do what peltzivar_read, peltzivar_read_prefix and peltzivar_read_special do, by forms. peltzivar_forms_read
  * refuses special values, and peltzivar_forms_read_prefix finds the longest literal of any form. Forms are refused
- * if they are null or have no array, too many elements, or reserved members that are not 0. A form may read a text
+ * if they are null or have no array, too many elements, an unknown kind, or reserved members that are not 0. A form may read a text
  * that an earlier one reads otherwise: C's octal form reads `17` as 15. */
 PELTZIVAR_MUST_USE bool peltzivar_forms_read(const peltzivar_forms *forms, const char *text, size_t len,
     peltzivar_literal *literal, peltzivar_read_error *error);
@@ -489,7 +501,8 @@ enum {
     PELTZIVAR_WRITE_SPECIAL = 6, /* The number is NaN or infinity, and no spelling is read back as it. */
     PELTZIVAR_WRITE_BUFFER = 7, /* The buffer is too short. */
     PELTZIVAR_WRITE_ARGUMENT = 8, /* The syntax is null or refused, or no call has made the literal. */
-    PELTZIVAR_WRITE_LONG = 9 /* Without an exponent, which no literal has, the text has more than 800 bytes. */
+    PELTZIVAR_WRITE_LONG = 9, /* Without an exponent, which no literal has, the text has more than 800 bytes. */
+    PELTZIVAR_WRITE_TOO_LARGE = 11 /* The literal is too large for its kind. */
 };
 
 /* The sizes of buffers for any integer of the next three calls, and for any float of peltzivar_format_f64. */

@@ -57,7 +57,7 @@ from typing import Any, AnyStr, Callable, Dict, Generic, Iterable, Iterator, Lis
 from typing import SupportsFloat, SupportsIndex, Tuple, Type, TypeVar, Union, cast
 
 __all__ = ["STANDARD", "Byte", "Column", "ColumnError", "Edit", "Error", "Format", "FormatError", "FormatView", "Forms"]
-__all__ += ["Language", "Literal", "LiteralError", "Note", "OptionsError", "Part", "Parts", "ReadErrorKind", "Reason", "ReasonsError"]
+__all__ += ["Kind", "Language", "Literal", "LiteralError", "Note", "OptionsError", "Part", "Parts", "ReadErrorKind", "Reason", "ReasonsError"]
 __all__ += ["Role", "Rule", "Separators", "Setter", "SettingsError", "Special", "Specials", "Spelling", "Syntax", "Value"]
 __all__ += ["WrongCell", "languages", "notes_of"]
 
@@ -354,7 +354,10 @@ class _Form(Structure):
     _fields_ = [
         ("name", c_char_p),
         ("syntax", _Syntax),
-        ("reserved", c_uint64 * 2),
+        ("integer_kind", c_uint8),
+        ("integer_bits", c_uint8),
+        ("float_kind", c_uint8),
+        ("reserved", c_uint8 * 13),
     ]
 
 
@@ -1234,7 +1237,9 @@ class Literal(Generic[AnyStr]):
     `float(literal)` is the float that is nearest to the value, or `inf` if that is too large. It raises a ValueError if
     the mantissa radix and the exponent base are neither both 10 nor both powers of two.
 
-    Literals are equal if their formats and their parts are equal, as in Rust.
+    All three are those of the `kind` of the form. `digits`, `decimal()` and `fraction()` are those of the text.
+
+    Literals are equal if their formats, their parts and their kinds are equal, as in Rust.
     """
 
     __slots__ = ("_owner", "_text", "_found", "_data")
@@ -1258,6 +1263,11 @@ class Literal(Generic[AnyStr]):
     def form(self) -> str:
         """The name of the form of a language, such as `hexadecimal`. It is empty if `Syntax.read` has read the text."""
         return str([*self._owner._named][self._found.form])
+
+    @property
+    def kind(self) -> Kind:
+        """The kind of the form."""
+        return Kind._of(_Forms.from_address(self._owner._forms.value).forms[self._found.form])
 
     @property
     def text(self) -> AnyStr:
@@ -1286,6 +1296,8 @@ class Literal(Generic[AnyStr]):
             return value.value
         if self._found.is_float:
             raise ValueError(f"{reprlib.repr(self._text)} is a float")
+        if _library.to_f64(self._found, c_double()) in (2, 3):
+            raise ValueError(f"{reprlib.repr(self._text)} is too large for its kind")
         sign, integer, *_ = self._written()
         return int(sign + integer, self.syntax._fields.mantissa_radix)
 
@@ -1389,7 +1401,7 @@ class Literal(Generic[AnyStr]):
         return hash(self._key())
 
     def _key(self) -> Tuple[Any, ...]:
-        return self.syntax.format, self._text, _ENDS(self._found)
+        return self.syntax.format, self._text, _ENDS(self._found), self.kind
 
     def __reduce__(self) -> Tuple[Any, ...]:
         """Returns what reads the text again."""
@@ -2095,6 +2107,39 @@ class _Several(_Reader):
         return number
 
 
+@dataclass(frozen=True)
+class Kind:
+    """What the literals of a form are worth. Without arguments, it is the number that they represent.
+
+    From 2^at_most on, an integer is too large. From 2^(wraps - 1) on, it is 2^wraps less, and too large from 2^wraps on or,
+    if `modulo` is true, its lowest bits count. A float is the nearest one of 32 bits if `single` is true. Raises ValueError
+    if both numbers are given, or if one is not from 1 to 64.
+
+        >>> forms = Forms([("number", Syntax(Format()))], kinds={"number": Kind(wraps=8, single=True)})
+        >>> forms.parse("200", int), forms.parse("0.1"), languages.JAVA.read("0xffffffff").value
+        (-56, 0.10000000149011612, -1)
+    """
+
+    at_most: Optional[int] = None
+    wraps: Optional[int] = None
+    modulo: bool = False
+    single: bool = False
+
+    def __post_init__(self) -> None:
+        bits = [it for it in (self.at_most, self.wraps) if it is not None]
+        if len(bits) > 1 or not all(1 <= _typed("a number of bits", it, int) <= 64 for it in bits) or self.modulo and self.wraps is None:
+            raise ValueError(f"a kind has one number of bits, from 1 to 64, and `modulo` only with `wraps`: {self}")
+
+    def _numbers(self) -> Tuple[int, int, int]:
+        number = 1 if self.at_most else 0 if not self.wraps else 3 if self.modulo else 2
+        return number, self.at_most or self.wraps or 0, int(self.single)
+
+    @classmethod
+    def _of(cls, form: _Form) -> Kind:
+        number, bits = form.integer_kind, form.integer_bits
+        return cls(bits if number == 1 else None, bits if number > 1 else None, number == 3, bool(form.float_kind))
+
+
 class Forms(_Several, Mapping[str, Syntax]):
     """Several forms of numbers, such as `10` and `0x1F`, and the spellings of NaN and infinity.
 
@@ -2108,8 +2153,9 @@ class Forms(_Several, Mapping[str, Syntax]):
 
     The first form of which a text is a literal decides its parts and its value, so the order matters. If it is a literal
     of none, a spelling may match, by the flags of the first form. A LiteralError is that of the form for which most of
-    the text is right. The syntaxes are had by their names, as in `forms["hexadecimal"]`. Raises ValueError if there are
-    no forms or more than 64, or if two have the same name.
+    the text is right. The syntaxes are had by their names, as in `forms["hexadecimal"]`. `kinds` has the kinds of forms,
+    by their names, and is that of `forms` if these are `Forms`. Raises ValueError if there are no forms or more than 64, if two have the same name, or if there is a
+    kind of no form.
     """
 
     def __init__(
@@ -2119,13 +2165,19 @@ class Forms(_Several, Mapping[str, Syntax]):
         nan: Optional[str] = None,
         inf: Optional[str] = None,
         infinity: Optional[str] = None,
+        kinds: Optional[Mapping[str, Kind]] = None,
     ) -> None:
         pairs = [*(forms.items() if isinstance(forms, Mapping) else forms)]
         self._named = {_typed("a name", name, str): _typed("a form", it, Syntax) for name, it in pairs}
         if not 0 < len(pairs) == len(self) <= _FORMS_MAX:
             raise ValueError(f"there are 1 to {_FORMS_MAX} forms, no two with the same name: {reprlib.repr([it for it, _ in pairs])}")
         self.specials = Specials(nan, inf, infinity)
-        listed = (_Form * len(self))(*(_Form(None, it._by) for it in self.values()))
+        given: Mapping[str, Kind] = forms.kinds if kinds is None and isinstance(forms, Forms) else kinds or {}
+        self.kinds: Dict[str, Kind] = {_typed("a name", name, str): _typed("a kind", it, Kind) for name, it in given.items()}
+        if unknown := [*(self.kinds.keys() - self.keys())]:
+            raise ValueError(f"there is no form with this name: {unknown[0]!r}")
+        of = [(it._by, *self.kinds.get(name, Kind())._numbers()) for name, it in self.items()]
+        listed = (_Form * len(self))(*(_Form(None, *it) for it in of))
         self._made = _Forms(listed, len(self), self.specials._spellings())
         self._forms = c_void_p(addressof(self._made))
 
@@ -2140,7 +2192,8 @@ class Forms(_Several, Mapping[str, Syntax]):
 
     def __repr__(self) -> str:
         spelled = "".join(f", {name}={it!r}" for name, it in vars(self.specials).items() if it)
-        return f"Forms({[*self.items()]}{spelled})"
+        kinds = f", kinds={self.kinds!r}" if self.kinds else ""
+        return f"Forms({[*self.items()]}{spelled}{kinds})"
 
     def __eq__(self, other: object) -> bool:
         return isinstance(other, Forms) and self._key() == other._key()
@@ -2149,10 +2202,10 @@ class Forms(_Several, Mapping[str, Syntax]):
         return hash(self._key())
 
     def _key(self) -> Tuple[Any, ...]:
-        return *self.items(), self.specials
+        return *self.items(), self.specials, *(self.kinds.get(it, Kind()) for it in self)
 
     def __reduce__(self) -> Tuple[Any, ...]:
-        return functools.partial(Forms, **vars(self.specials)), ([*self.items()],)
+        return functools.partial(Forms, **vars(self.specials), kinds=self.kinds), ([*self.items()],)
 
 
 class Language(_Several, _Named):
@@ -2188,8 +2241,8 @@ class Language(_Several, _Named):
         Forms: decimal; hexadecimal; octal; binary.
 
     FORTRAN: Fortran's signed integers and reals (ISO/IEC 1539-1:2018, 7.4.3). A format cannot accept a kind, as in
-        `1.0_8`, or binary, octal and hexadecimal constants, such as `Z'FF'`. Fortran rounds `0.1`, but not `0.1d0`, to
-        single precision. Forms: decimal; double precision.
+        `1.0_8`, or binary, octal and hexadecimal constants, such as `Z'FF'`. Integers have at most 31 bits, and `0.1`,
+        but not `0.1d0`, is an `f32`. Forms: decimal; double precision.
 
     GO: Go's integer and floating-point literals (Language Specification). A format cannot accept `1i`. Forms: decimal;
         octal; hexadecimal; octal, 0o; binary; hexadecimal float.
@@ -2202,33 +2255,37 @@ class Language(_Several, _Named):
         also accepts `_0.1`, which the guide does not. Forms: decimal; hexadecimal; octal; binary.
 
     JAVA: Java's integer and floating-point literals (Language Specification 21, 3.10.1 and 3.10.2). A format cannot
-        accept `1L`, `1f` and `1d`. In Java, a hexadecimal, octal or binary integer from 2^31 on is negative:
-        `0xffffffff` is -1. Forms: decimal; octal; hexadecimal; binary; hexadecimal float.
+        accept `1L`, `1f` and `1d`. Values are those of `int` or, with `L`, of `long`: a hexadecimal, octal or binary
+        integer from 2^31 on is negative, as `0xffffffff`, which is -1. `2147483648`, which is lawful behind the
+        operator `-` alone, is too large. Forms: decimal; octal; hexadecimal; binary; hexadecimal float.
 
     JAVASCRIPT: JavaScript's numeric literals in strict code (ECMA-262, Numeric Literals). A format cannot accept `1n`.
-        JavaScript rounds integers to doubles: `9007199254740993` is 9007199254740992 there. Forms: decimal;
+        JavaScript makes integers doubles, which it rounds from 2^53 on: take their values as `f64`. Forms: decimal;
         hexadecimal; octal; binary.
 
     JSON: JSON's numbers (RFC 8259, 6. Numbers). Forms: decimal.
 
-    JULIA: Julia's integers and floats (Manual 1.11, Integers and Floating-Point Numbers). Julia rounds `0.1f0`, but
-        not `0.1`, to single precision. Forms: decimal; 32 bits; hexadecimal; octal; binary; hexadecimal float.
+    JULIA: Julia's integers and floats (Manual 1.11, Integers and Floating-Point Numbers). `0.1f0`, but not `0.1`, is
+        an `f32`. Forms: decimal; 32 bits; hexadecimal; octal; binary; hexadecimal float.
 
     KOTLIN: Kotlin's integer and real literals (Kotlin language specification 1.9, Literals). A format cannot accept
         `1L`, `1f` and `1u`. Forms: decimal; hexadecimal; binary.
 
-    LUA: Lua's integers and floats (Reference Manual 5.4, 3.1). In Lua, a decimal integer from 2^63 on is a float, and
-        a hexadecimal one keeps its last 64 bits: `0xffffffffffffffff` is -1. Forms: decimal; hexadecimal.
+    LUA: Lua's integers and floats (Reference Manual 5.4, 3.1). In Lua, a decimal integer from 2^63 on is a float: take
+        its value as an `f64`. A hexadecimal one keeps its last 64 bits: `0xffffffffffffffff` is -1. Forms: decimal;
+        hexadecimal.
 
     NASM: NASM's numeric constants (NASM manual, Numeric Constants and Floating-Point Constants). A format cannot
         accept `$0c8`, `0x_`, `0._` and `1e_`, which have separators alone, or `0h.` and `0op7`, which have no digit;
-        or reject `ffh`, which is a name. NASM keeps the last 64 bits of an integer: `0x10000000000000000` is 0 there.
-        Forms: decimal; decimal, d; decimal, t; hexadecimal, h; hexadecimal, x; octal, o; octal, q; binary, b; binary,
-        y; decimal, 0d; decimal, 0t; hexadecimal, 0h; hexadecimal, 0x; octal, 0o; octal, 0q; binary, 0b; binary, 0y.
+        or reject `ffh`, which is a name. NASM keeps the last 64 bits of an integer, with a sign: `0x10000000000000001`
+        is 1, and `0xffffffffffffffff` -1. Forms: decimal; decimal, d; decimal, t; hexadecimal, h; hexadecimal, x;
+        octal, o; octal, q; binary, b; binary, y; decimal, 0d; decimal, 0t; hexadecimal, 0h; hexadecimal, 0x; octal,
+        0o; octal, 0q; binary, 0b; binary, 0y.
 
     OCAML: OCaml's integers and floats (Manual 5.2, 11.1 Lexical conventions). A format cannot accept `1._`, whose
-        fraction has a separator alone, or `1l`, `1L` and `1n`. In OCaml, an integer has 63 bits, and
-        `0x7fffffffffffffff` is -1. Forms: decimal; hexadecimal; octal; binary.
+        fraction has a separator alone, or `1l`, `1L` and `1n`. An integer has 63 bits, so `0x7fffffffffffffff` is -1.
+        `4611686018427387904`, which is lawful behind the operator `-` alone, is too large. Forms: decimal;
+        hexadecimal; octal; binary.
 
     PHP: PHP's integers and floats (Manual, 8.1 and later, Integers and Floating point numbers). In PHP, an integer
         from 2^63 on is a float. Forms: decimal; octal; hexadecimal; octal, 0o; binary.
@@ -2305,7 +2362,9 @@ class Language(_Several, _Named):
         """The forms of literals, in the order of the documentation, with the spellings of NaN and infinity."""
         made = _Forms.from_address(self._forms.value)
         spelled = {name: it.decode() for name, _ in _Specials._fields_ if (it := getattr(made.specials, name))}
-        forms = Forms([(it.name.decode(), Syntax._of_numbers(it.syntax)) for it in made.forms[: made.count]], **spelled)
+        listed = [(it.name.decode(), Syntax._of_numbers(it.syntax), Kind._of(it)) for it in made.forms[: made.count]]
+        kinds = {name: kind for name, _, kind in listed if kind != Kind()}
+        forms = Forms([it[:2] for it in listed], **spelled, kinds=kinds)
         forms._forms = self._forms
         return forms
 

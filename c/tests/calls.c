@@ -472,12 +472,33 @@ static void test_forms(void) {
         CHECK(peltzivar_forms_read(&most, "1", 1, &literal, NULL) == (i < sizeof most.reserved || i >= sizeof most.reserved + sizeof list->reserved + sizeof names.reserved));
         CHECK(!peltzivar_forms_read(by, "1", 1, &literal, NULL) && !peltzivar_forms_read_special(by, "nan", 3, &special));
         CHECK(!peltzivar_forms_read_prefix(by, "1", 1, &literal, &error) && error.valid_up_to == 0 && !peltzivar_explain(&error, NULL));
-        CHECK(WRITES("the forms are null, not 1 to 64, or have reserved members", peltzivar_read_error_text(&error, text, sizeof text)));
+        CHECK(WRITES("the forms are null, not 1 to 64, or have an unknown kind or reserved members", peltzivar_read_error_text(&error, text, sizeof text)));
         CHECK(peltzivar_parse_f64(by, "1", 1, &real, &error) == PELTZIVAR_VALUE_REFUSED && !peltzivar_explain(&error, NULL));
         CHECK(peltzivar_parse_i64_column(by, "1", offsets, 1, &value, &status) == 1 && status == PELTZIVAR_VALUE_REFUSED);
         list[63] = kept;
     }
     CHECK(value == 1105034 && real == -HUGE_VAL && peltzivar_forms_read(&most, "1", 1, &literal, NULL));
+    /* A form has the value of its kind, and is refused if there is none with these numbers. */
+    for (uint8_t kind = 0; kind < 5; kind++) {
+        for (uint8_t bits = 0; bits < 66; bits++) {
+            const peltzivar_forms one = forms_of(list, 1);
+            list[0].integer_kind = kind, list[0].integer_bits = bits;
+            const bool is_kind = kind == 0 ? bits == 0 : kind < 4 && bits >= 1 && bits <= 64;
+            CHECK(peltzivar_forms_read(&one, "200", 3, &literal, NULL) == is_kind);
+            if (bits != 8 || !is_kind) continue;
+            CHECK(!peltzivar_to_i64(&literal, &value) && value == (kind == 1 ? 200 : -56) && !peltzivar_to_f64(&literal, &real) && real == (double)value);
+            CHECK(peltzivar_parse_i64(&one, "300", 3, &value, NULL) == (kind == 3 ? PELTZIVAR_VALUE_OK : PELTZIVAR_VALUE_TOO_LARGE));
+            CHECK(peltzivar_parse_f64(&one, "-300", 4, &real, NULL) == (kind == 3 ? PELTZIVAR_VALUE_OK : PELTZIVAR_VALUE_TOO_SMALL));
+        }
+    }
+    list[0].integer_kind = 0, list[0].integer_bits = 0, list[0].float_kind = 2;
+    const peltzivar_forms one = forms_of(list, 1);
+    CHECK(!peltzivar_forms_read(&one, "1", 1, &literal, NULL));
+    list[0].float_kind = PELTZIVAR_FLOATS_SINGLE;
+    CHECK(!peltzivar_parse_f64(&one, "0.1", 3, &real, NULL) && real == (double)0.1f);
+    CHECK(!peltzivar_parse_f64(language("FORTRAN"), "0.1", 3, &real, NULL) && real == (double)0.1f);
+    CHECK(!peltzivar_parse_i64(language("JAVA"), "0xffffffff", 10, &value, NULL) && value == -1);
+    CHECK(language("JAVA")->forms[0].integer_kind == PELTZIVAR_INTEGERS_AT_MOST && language("JAVA")->forms[0].integer_bits == 31);
 }
 
 /* A null pointer with a length of 0 is accepted as an empty array, and a null pointer to output is not written to. Input

@@ -28,7 +28,7 @@ TESTS = pathlib.Path(__file__).resolve().parent
 TOP = TESTS.parent.parent
 sys.path.insert(0, str(TESTS.parent))
 import peltzivar
-from peltzivar import Edit, Error, Format, FormatError, FormatView, Forms, Language, LiteralError, OptionsError, Part, ReadErrorKind
+from peltzivar import Edit, Error, Format, FormatError, FormatView, Forms, Kind, Language, LiteralError, OptionsError, Part, ReadErrorKind
 from peltzivar import Role, Rule, Setter, SettingsError, Special, Specials, Spelling, Syntax, languages, notes_of
 
 PAGE = (TOP / "docs/FORMAT.md").read_text()
@@ -420,6 +420,26 @@ class Literals(unittest.TestCase):
         for language in Language:
             copied = Forms(language.forms, **vars(language.specials))
             self.assertEqual((copied, copied.specials), (language.forms, language.specials))
+
+    def test_a_literal_has_the_value_of_its_kind(self):
+        java, syntax = languages.JAVA, Syntax(Format())
+        rows = {"0xffffffff": -1, "0x7fffffff": 2147483647, "037777777777": -1, "2147483647": 2147483647}
+        for text, value in rows.items():
+            literal = java.read(text)
+            self.assertEqual([literal.value, int(literal), float(literal), java.parse(text, int), java.parse(text)], [value] * 5)
+        literal = java.read("0xffffffff")
+        self.assertEqual((literal.digits(Part.INTEGER), literal.decimal(), literal.fraction()), ("ffffffff", 2**32 - 1, 2**32 - 1))
+        self.assertEqual(languages.RUBY.forms["decimal"].format_number(literal), "-1")
+        for call in (int, float, lambda it: java.parse(it.text, int), lambda it: it.value, languages.RUBY.forms["decimal"].format_number):
+            self.assertRaisesRegex(ValueError, "too large|above", call, java.read("3000000000"))
+        self.assertEqual(languages.FORTRAN.read("0.1").value, 0.10000000149011612)
+        of = lambda *bits, **kind: Forms({"": syntax}, kinds={"": Kind(*bits, **kind)})
+        self.assertEqual([of(wraps=8).parse("200", int), of(wraps=8, modulo=True).parse("456", int), of(64).parse(str(2**64 - 1), int)], [-56, -56, 2**64 - 1])
+        self.assertNotEqual(of(8).read("1"), syntax.read("1"))
+        self.assertEqual(pickle.loads(pickle.dumps(of(wraps=8))), of(wraps=8))
+        for wrong in ({"at_most": 0}, {"wraps": 65}, {"at_most": 8, "wraps": 8}, {"modulo": True}):
+            self.assertRaises(ValueError, Kind, **wrong)
+        self.assertRaises(ValueError, Forms, {"": syntax}, kinds={"x": Kind(8)})
 
     def test_special_values(self):
         for text, wanted in (("+inf", "+INF"), (b"-nan", "-NAN"), ("inf", "INF")):

@@ -53,6 +53,7 @@ mod cause;
 mod conditions;
 mod forms;
 mod groups;
+mod kind;
 mod language;
 #[allow(
     clippy::len_zero,
@@ -91,6 +92,7 @@ mod value;
 mod writer;
 
 pub use cause::{Place, ReadError, ReadErrorKind};
+pub use kind::{FloatKind, IntegerKind, Kind};
 pub use language::{Language, LanguageError};
 /// A text is a number if it is a literal of one of the forms, or a special value. The first such form gives its parts and its
 /// value, so the order matters where forms overlap, as here in `10`:

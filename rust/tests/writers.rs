@@ -2,8 +2,8 @@
 
 use peltzivar::format::FLAG_MASK;
 use peltzivar::literal::{
-    Condition, Conditions, ExponentStyle, Form, FromLiteral, Language, Literal, Sign, Special, Specials, Spelling,
-    Style, Syntax, WriteError, WriteInteger,
+    Condition, Conditions, ExponentStyle, Form, FromLiteral, Kind, Language, Literal, Sign, Special, Specials,
+    Spelling, Style, Syntax, WriteError, WriteInteger,
 };
 use peltzivar::{Format, NumberFormatBuilder, Part};
 use std::collections::{BTreeMap, HashSet};
@@ -103,6 +103,13 @@ fn is_whole(value: &Value) -> bool {
     value.1.values().all(|count| *count > 0)
 }
 
+/// Returns whether a literal that was written has the value of one of another kind: the same integer, or the same bits.
+fn is_worth(literal: &Literal, written: &Literal) -> bool {
+    let bits = |it: &Literal| it.to_f64().map(f64::to_bits).ok();
+    bits(literal) == bits(written)
+        && (literal.is_float() || written.is_float() || literal.to_i128() == written.to_i128())
+}
+
 /// Returns whether an error is why a literal of `source` cannot be written in `target`.
 fn is_reason(error: WriteError, literal: &Literal, exact: &Value, source: &Syntax, target: &Syntax) -> bool {
     let (from, to) = (source.format(), target.format());
@@ -110,7 +117,12 @@ fn is_reason(error: WriteError, literal: &Literal, exact: &Value, source: &Synta
     match error {
         // The numbers of the tests have fewer than 128 bits, unless they have an exponent.
         WriteError::Radix => from.radix() != to.radix() && (has_exponent || !is_whole(exact)),
-        WriteError::Negative => literal.is_negative() && target.conditions().has(Condition::NegativeSign),
+        WriteError::Negative => {
+            let is_negative = literal.is_negative() || literal.to_f64().is_ok_and(f64::is_sign_negative);
+            is_negative && target.conditions().has(Condition::NegativeSign)
+        }
+        WriteError::TooLarge => literal.to_f64().is_err(),
+        WriteError::Special => literal.to_f64().is_ok_and(f64::is_infinite),
         WriteError::Fraction => target.point().is_none() && !is_whole(exact),
         WriteError::Exponent => has_exponent && from.exponent_base() != from.radix(),
         _ => false,
@@ -134,7 +146,11 @@ fn literals_are_written_in_other_languages() {
                         let read = form.syntax().read(&back).unwrap_or_else(|error| {
                             panic!("{language} {text:?} in {target} {}: {back:?}: {error}", form.name())
                         });
-                        let same = value(&read, &form.syntax()) == exact;
+                        let same = if literal.kind() == Kind::EXACT {
+                            value(&read, &form.syntax()) == exact
+                        } else {
+                            is_worth(&literal, &read)
+                        };
                         assert!(same, "{language} {text:?} in {target}: {back:?}");
                         "written".to_string()
                     }

@@ -109,7 +109,7 @@ EVERYWHERE = [
 
 # Types that may grow. In plain Rust, a match outside the crate has to have an arm for what they lack today.
 GROWS = {
-    "enum": "ArgumentKind Byte Cause Class Condition ConditionsErrorKind Edit EditErrorKind Error ExponentStyle FlagSetter Grouping Note Part Place Radixes ReadErrorKind Role Rule "
+    "enum": "ArgumentKind Byte Cause Class Condition ConditionsErrorKind Edit EditErrorKind Error ExponentStyle FlagSetter FloatKind Grouping IntegerKind Note Part Place Radixes ReadErrorKind Role Rule "
     "Setter TokenError ValueErrorKind WriteError",
     "struct": "ConditionsError FormError NamedByte Separators Style",
 }
@@ -166,7 +166,11 @@ REPLACED += [
     ("lexical_literal/src/read.rt", "self.begin(false, text, true)", "self.begin_any(text, true)"),
     # A decimal literal need not be in memory where another one would be.
     ("lexical_value/src/float.rt", "binary_size(F::DOUBLE, literal)", "binary_size(F::DOUBLE, &{ *literal })"),
+    ("lexical_value/src/float.rt", "match nearest_single(literal)", "match nearest_single(&{ *literal })"),
+    ("lexical_value/src/float.rt", "        whole_float(literal)\n", "        whole_float(&{ *literal })\n"),
+    ("lexical_value/src/kind.rt", "fewer(kind, &numeral)", "fewer(kind, &{ numeral })"),
     # Calls for constants.
+    ("lexical_value/src/integer.rt", "pub(crate) fn own_numeral", "pub(crate) const fn own_numeral"),
     ("lexical_value/src/integer.rt", "pub(crate) fn integer_numeral", "pub(crate) const fn integer_numeral"),
     ("lexical_value/src/integer.rt", "\nfn magnitude", "\nconst fn magnitude"),
     ("lexical_value/src/float.rt", "pub(crate) fn binary_size", "pub(crate) const fn binary_size"),

@@ -11,7 +11,7 @@ use Rattle.lexical_literal.specs.Additions.Forms.{GoesTo, IsFoundForm, IsFoundFr
 use Rattle.lexical_literal.specs.Additions.Longest.{IsCountedFront, IsStopped}
 use Rattle.lexical_literal.specs.Cause.{IsRefusal}
 use Rattle.lexical_literal.specs.declared.cause.Refusal.{Refusal}
-use Rattle.lexical_literal.specs.Forms.{HasFront, IsErrorOfForm, IsFormError, IsGreatest, NoForm, Reaches, ReadsForm, is_byte, reach}
+use Rattle.lexical_literal.specs.Forms.{HasFront, IsErrorOfForm, IsFirst, IsFormError, IsGreatest, NoForm, Reaches, ReadsForm, is_byte, reach}
 use Rattle.lexical_literal.specs.Front.{IsValidUpTo, NoFront, NoLiteral, ReadsFront}
 use Rattle.lexical_literal.specs.Literal.{Literal, Reads}
 use Rattle.lexical_literal.specs.Notation.{Notation, notation_of}
@@ -26,6 +26,10 @@ use Rattle.std.proofs.lemmas.Grind.{common_steps}
 -- What holds of some value of an option holds of the value that it is.
 some_of : {X : Type 0} (P : X → Type 0) (o : Option X) → IsSomeAnd o P → (x : X) × (o ≡ Some x) × P x
 some_of P x1 holds = grind arith
+
+-- An index at which there is a form is one of the list.
+pub inside_of : (P : Form → Type 0) (forms : List Form) (i : ℕ) → IsSomeAnd (slice_get forms i) P → i < length forms
+inside_of P forms i holds = let some = some_of P (slice_get forms i) holds in slice_get_within forms i some.0 some.1
 
 -- The form at an index, of a list that is the same.
 pub form_at : (P : Form → Type 0) (forms list : List Form) (g : Form) (i : ℕ) → list ≡ forms
@@ -155,6 +159,15 @@ fronts_more text forms i d inside longest old (Some found) has none = best_more 
 pub found_is : (forms : List Form) (text : List ℕ) (i : ℕ) (d : Form) (read : Read) → i < length forms
     → ReadsForm text read (get_or forms i d) → NoForm (take i forms) text → IsFoundForm forms text (Some (i, read))
 found_is forms text i d read inside is before = grind (arith, slice_get-get_or)
+
+-- A literal of another kind is the same literal.
+pub first_of : (forms : List Form) (text : List ℕ) (i : ℕ) (read own : Read) → own.format ≡ read.format → own.literal ≡ read.literal
+    → IsFirst forms text i read → IsFirst forms text i own
+first_of forms text i read own format same is = record {
+  reads = subst (λ l. IsSomeAnd (slice_get forms i) (λ form. (own.format ≡ form.syntax.word) × Reads (notation_of form.syntax) l text)) (sym same)
+      (subst (λ f. IsSomeAnd (slice_get forms i) (λ form. (f ≡ form.syntax.word) × Reads (notation_of form.syntax) read.literal text)) (sym format) is.reads);
+  before = is.before;
+}
 
 -- All forms have been tried.
 module _ (forms : List Form) (text : List ℕ) (i : ℕ) (end : length forms ≤ i) where

@@ -3,11 +3,13 @@
 ghost use Rattle.std.specs.Prelude.{◌≡◌, ◌<◌, IsSomeAnd, IsTrue, None, Some, SomeIff, false, length, slice_get};
 ghost use Rattle.lexical_literal.specs.Additions.Forms.{IsFoundForm, IsFoundFrontForm, IsFurthestForm, PlaysNoRole, further, longer, sign_size};
 ghost use Rattle.lexical_literal.specs.Additions.Longest.{IsStopped};
-ghost use Rattle.lexical_literal.specs.Forms.{IsErrorOfForm, IsFormError, IsFrontByForms, IsReadByForms, NoForm, special_by};
+ghost use Rattle.lexical_literal.specs.Forms.{HasKind, IsErrorOfForm, IsFormError, IsFrontByForms, IsReadByForms, NoForm, special_by};
 ghost use Rattle.lexical_literal.specs.Front.{NoLiteral};
+ghost use Rattle.lexical_literal.specs.Kind.{exact};
 ghost use Rattle.lexical_literal.specs.Notation.{notation_of};
 
 use crate::cause::ReadError;
+use crate::kind::Kind;
 use crate::literal::Literal;
 use crate::plain::At;
 use crate::read::Found;
@@ -18,26 +20,29 @@ use crate::syntax::{Condition, Grammar, Syntax};
 use lexical_util::format::Part;
 use std::marker::Model;
 
-/// A form of numbers: its name, such as `hexadecimal`, its syntax, and the suffixes of its tokens.
+/// A form of numbers: its name, such as `hexadecimal`, its syntax, the suffixes of its tokens, and its kind.
 #[derive(Clone, Copy)]
 pub struct Form {
     pub(crate) name: &'static str,
     pub(crate) syntax: Syntax,
     pub(crate) suffixes: Option<&'static Suffixes>,
+    pub(crate) kind: Kind,
 }
 
 impl Form {
-    /// Returns the form with a name, which may be empty, and a syntax, without suffixes.
+    /// Returns the form with a name, which may be empty, and a syntax, without suffixes, of the kind [`Kind::EXACT`].
     #[must_use]
     pub const fn new(name: &'static str, syntax: Syntax) -> Form
         ensures name { result.name.now ≡ name.now }
         ensures syntax { result.syntax ≡ syntax }
         ensures suffixes { result.suffixes ≡ None }
+        ensures kind { result.kind ≡ exact }
     {
         Form {
             name,
             syntax,
             suffixes: None,
+            kind: Kind::EXACT,
         }
     }
 
@@ -47,12 +52,38 @@ impl Form {
         ensures name { result.name.now ≡ self.now.name.now }
         ensures syntax { result.syntax ≡ self.now.syntax }
         ensures suffixes { result.suffixes ≡ Some suffixes.entry }
+        ensures kind { result.kind ≡ self.now.kind }
     {
         Form {
             name: self.name,
             syntax: self.syntax,
             suffixes: Some(suffixes),
+            kind: self.kind,
         }
+    }
+
+    /// Returns the same form with another kind, which its literals have.
+    #[must_use]
+    pub const fn with_kind(&self, kind: Kind) -> Form
+        ensures name { result.name.now ≡ self.now.name.now }
+        ensures syntax { result.syntax ≡ self.now.syntax }
+        ensures suffixes { result.suffixes ≡ self.now.suffixes }
+        ensures kind { result.kind ≡ kind }
+    {
+        Form {
+            name: self.name,
+            syntax: self.syntax,
+            suffixes: self.suffixes,
+            kind,
+        }
+    }
+
+    /// Returns the kind.
+    #[must_use]
+    pub const fn kind(&self) -> Kind
+        ensures { result ≡ self.now.kind }
+    {
+        self.kind
     }
 
     /// Returns the suffixes, if there are any.
@@ -240,7 +271,10 @@ impl<'a> Forms<'a> {
         ensures { IsReadByForms self.now text.now result }
     {
         match self.find(text) {
-            Some((form, literal)) => Ok(Number::Literal { literal, form }),
+            Some((form, literal)) => {
+                let literal = self.of_form(form, literal);
+                Ok(Number::Literal { literal, form })
+            }
             None => match self.special(text) {
                 Some(special) => Ok(Number::Special(special)),
                 None => Err(self.refuse(text, self.furthest(text))),
@@ -261,11 +295,23 @@ impl<'a> Forms<'a> {
             Ok((form, found)) => {
                 let Found { size, counts } = found;
                 let (front, rest) = text.split_at(size);
-                let literal = self.as_slice()[form].syntax.summed(front, counts);
+                let summed = self.as_slice()[form].syntax.summed(front, counts);
+                let literal = self.of_form(form, summed);
                 Ok((Number::Literal { literal, form }, rest))
             }
             Err(error) => Err(error),
         }
+    }
+
+    // Returns a literal with the kind of the form with the index `form`.
+    #[inline(always)]
+    fn of_form<'t>(&self, form: usize, literal: Literal<'t>) -> Literal<'t>
+        requires { form < length self.now.forms }
+        ensures format { result.format ≡ literal.entry.format }
+        ensures literal { result.literal ≡ literal.entry.literal }
+        ensures kind { HasKind self.now.forms form result }
+    {
+        literal.with_kind(self.as_slice()[form].kind)
     }
 
     // Returns the special value that `text` is, if it is one.

@@ -3,9 +3,10 @@
 ghost use Rattle.std.specs.Prelude.{◌≡◌, ◌==◌, [], ◌+◌, ◌≤◌, IsTrue, Some, false, if◌then◌else◌, length, slice_get};
 ghost use Rattle.std.specs.Char.{eq_ignore_ascii_case};
 ghost use Rattle.std.specs.List.{list_any};
-ghost use Rattle.lexical_literal.specs.Suffix.{admits, any_word_size, begins, byte_before, is_followed, is_stopped, is_word_byte, longest_word};
+ghost use Rattle.lexical_literal.specs.Suffix.{admits, any_word_size, begins, byte_before, is_followed, is_stopped, is_word_byte, kind_among, kind_with, longest_word};
 ghost use Rattle.lexical_literal.specs.Suffix.{meets, suffix_size, word_size};
 
+use crate::kind::Kind;
 use crate::read::byte_at;
 
 /// Bytes behind a number with which it is no token: one of some bytes, if the number ends in one of others, and if one of
@@ -38,6 +39,7 @@ pub struct Suffixes {
     either_case: bool,
     any: &'static [u8],
     stops: &'static [Stop],
+    kinds: &'static [(&'static [u8], Kind)],
 }
 
 impl Suffixes {
@@ -54,6 +56,7 @@ impl Suffixes {
         ensures case { result.either_case ≡ false }
         ensures any { result.any.now ≡ [] }
         ensures stops { result.stops ≡ stops.entry }
+        ensures kinds { result.kinds.now ≡ [] }
     {
         Suffixes {
             integers,
@@ -61,6 +64,7 @@ impl Suffixes {
             either_case: false,
             any: &[],
             stops,
+            kinds: &[],
         }
     }
 
@@ -83,11 +87,20 @@ impl Suffixes {
         ensures case { result.either_case ≡ self.either_case }
         ensures any { result.any ≡ begins.entry }
         ensures stops { result.stops ≡ self.stops }
+        ensures kinds { result.kinds ≡ self.kinds }
     {
         Suffixes {
             any: begins,
             ..self
         }
+    }
+
+    /// Sets the kinds of numbers with these suffixes. With others, and without one, a number has the kind of its form.
+    #[must_use]
+    pub const fn with_kinds(self, kinds: &'static [(&'static [u8], Kind)]) -> Suffixes
+        ensures { result ≡ record self { kinds = kinds.entry } }
+    {
+        Suffixes { kinds, ..self }
     }
 
     // Returns the length of the longest suffix with which `text` begins, or 0 if there is none.
@@ -118,6 +131,32 @@ pub(crate) const fn suffix_size(
     match suffixes {
         None => 0,
         Some(suffixes) => suffixes.size(float, text),
+    }
+}
+
+// Returns the kind of a number with the suffix `word`, of a form of the kind `kind`.
+pub(crate) const fn kind_with(suffixes: Option<&'static Suffixes>, word: &[u8], kind: Kind) -> Kind
+    ensures { result ≡ kind_with suffixes.entry word.now kind }
+{
+    match suffixes {
+        None => kind,
+        Some(it) => kind_among(it.either_case, it.kinds, word, kind),
+    }
+}
+
+// Returns the kind of the first of `kinds` with the suffix `word`, or `kind` if there is none.
+const fn kind_among(either: bool, kinds: &[(&[u8], Kind)], word: &[u8], kind: Kind) -> Kind
+    ensures { result ≡ kind_among either kinds.now word.now kind }
+{
+    match kinds {
+        [] => kind,
+        [(suffix, own), rest @ ..] => {
+            if begins(either, suffix, word) && suffix.len() == word.len() {
+                *own
+            } else {
+                kind_among(either, rest, word, kind)
+            }
+        }
     }
 }
 

@@ -8,7 +8,7 @@ ghost use Rattle.lexical_literal.specs.Additions.Token.{IsBestOf, IsMade, IsOwn,
 ghost use Rattle.lexical_literal.specs.Cause.{is_in};
 ghost use Rattle.lexical_literal.specs.Forms.{ReadsForm};
 ghost use Rattle.lexical_literal.specs.Notation.{notation_of};
-ghost use Rattle.lexical_literal.specs.Suffix.{is_digit, stop_end};
+ghost use Rattle.lexical_literal.specs.Suffix.{is_digit, kind_with, stop_end};
 ghost use Rattle.lexical_literal.specs.Token.{HasNone, IsAhead, IsReadByTokens, IsTokenError, IsRefused, IsWordUpTo, NoCandidate, gives_back, is_shorter};
 
 use crate::list::{Form, FormError, Forms, Tokens, further};
@@ -16,13 +16,15 @@ use crate::literal::Literal;
 use crate::plain::At;
 use crate::read::{Found, byte_at};
 use crate::steps::is_point;
-use crate::suffix::{byte_before, is_followed, is_stopped, is_word_byte, suffix_size, word_size};
+use crate::suffix::{
+    byte_before, is_followed, is_stopped, is_word_byte, kind_with, suffix_size, word_size,
+};
 use crate::syntax::Syntax;
 
 /// A number that a text begins with, and what follows it.
 #[derive(Drop)]
 pub struct Token<'a> {
-    /// The literal.
+    /// The literal, with the kind that its form and its suffix give it.
     pub literal: Literal<'a>,
     /// The index of its form. Those of forms that need a suffix are behind the others.
     pub form: usize,
@@ -172,6 +174,7 @@ fn made<'t>(it: &Form, text: &'t [u8], form: usize, candidate: Candidate) -> Tok
     requires within { candidate.end ≤ length text.now }
     ensures form { result.form ≡ form }
     ensures literal { ReadsForm (take candidate.size text.now) result.literal it.now }
+    ensures kind { result.literal.kind ≡ kind_with it.now.suffixes result.suffix.now it.now.kind }
     ensures suffix { result.suffix.now ≡ take (candidate.end - candidate.size) (drop candidate.size text.now) }
     ensures rest { result.rest.now ≡ drop candidate.end text.now }
 {
@@ -179,7 +182,8 @@ fn made<'t>(it: &Form, text: &'t [u8], form: usize, candidate: Candidate) -> Tok
     let (front, behind) = text.split_at(size);
     let (suffix, _) = behind.split_at(end - size);
     let (_, rest) = text.split_at(end);
-    let literal = it.syntax.summed(front, counts);
+    let kind = kind_with(it.suffixes, suffix, it.kind);
+    let literal = it.syntax.summed(front, counts).with_kind(kind);
     Token {
         literal,
         form,

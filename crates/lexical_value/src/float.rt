@@ -1,21 +1,24 @@
 //! The value of a literal as a value of a float type.
 
-ghost use Rattle.std.specs.Prelude.{ℕ, ◌≡◌, ◌↔◌, ◌≤◌, ◌^◌, ◌||◌, false, min, IfErr, IfOk, IfSome, IsOk, IsSome, IsTrue};
-ghost use Rattle.std.specs.Float.{NotNan};
+ghost use Rattle.std.specs.Prelude.{ℕ, ◌≡◌, ◌↔◌, ◌≤◌, ◌^◌, ◌||◌, false, min, Err, IfErr, IfOk, Ok, IfSome, IsOk, IsSome, IsTrue};
+ghost use Rattle.std.specs.Float.{NotNan, binary32};
 ghost use Rattle.std.specs.Float.Ieee.{round};
 ghost use Rattle.core.specs.Dec2flt.Rounding.{IsNearestBits};
 ghost use Rattle.lexical_util.specs.Layout as layout;
 ghost use Rattle.lexical_util.specs.Record.{raw};
-ghost use Rattle.lexical_literal.specs.Literal.{is_minus};
+ghost use Rattle.lexical_literal.specs.Literal.{is_float, is_minus};
 ghost use Rattle.lexical_literal.specs.Parts.{literal_of};
 ghost use Rattle.lexical_literal.specs.Read.{exponent, mantissa};
 ghost use Rattle.lexical_number.specs.Binary.{format_of};
 ghost use Rattle.lexical_number.specs.Leading.{Leads};
 ghost use Rattle.lexical_value.specs.Float.{is_binary, is_decimal, nearest};
+ghost use Rattle.lexical_value.specs.Kind.{float_worth, format_by, is_exact};
 ghost use Rattle.lexical_value.specs.Value.{denominator, numerator};
 ghost use Rattle.lexical_value.specs.declared.integer.ValueErrorKind.TheVariants as kinds;
 
-use crate::integer::ValueErrorKind;
+use crate::integer::{ValueErrorKind, integer_numeral};
+use crate::kind::{Worth, fewer, is_exact};
+use lexical_literal::kind::FloatKind;
 use lexical_literal::literal::Literal;
 use lexical_literal::read::Parts;
 use lexical_number::decimal::{decimal_to_float, digits_to_float};
@@ -24,14 +27,90 @@ use lexical_number::leading::{Leading, push_all, saturating};
 use lexical_number::parts::{bits_of, count, raised_bits};
 use lexical_util::format::NumberFormat;
 
-/// Returns the value of a literal as a value of a float type: rounded once to the nearest float, or to the even one if two
-/// are as near. The value is infinite if it is that large. Its sign is that of the literal, also for 0.
+/// Returns the value of a literal by its kind as a value of a float type: rounded once to the nearest float, or to the even one
+/// if two are as near. The value is infinite if it is that large. Its sign is that of the literal, also for 0.
 ///
 /// # Errors
 ///
-/// If the mantissa radix and the exponent base are neither both 10 nor both powers of two, of any literal.
+/// If the mantissa radix and the exponent base are neither both 10 nor both powers of two, of any literal, or if an integer is
+/// too large for its kind.
 #[inline(always)]
 pub fn to_float<F: Float>(literal: &Literal) -> Result<F, ValueErrorKind>
+    ensures value { IfOk result (λ value. float_worth literal.now.kind (format_of F.DOUBLE) (raw literal.now.format) literal.now.literal
+        ≡ Ok (F.value value)) }
+    ensures error { IfErr result (λ error. float_worth literal.now.kind (format_of F.DOUBLE) (raw literal.now.format) literal.now.literal
+        ≡ Err error) }
+    ensures no_nan { IfOk result (λ value. NotNan (F.value value)) }
+{
+    let kind = literal.kind();
+    if is_exact(kind.integers()) || literal.is_float() {
+        float_of_kind(kind.floats(), literal)
+    } else {
+        whole_float(literal)
+    }
+}
+
+// Returns the nearest float, or the nearest `f32` if floats are single.
+#[inline(always)]
+fn float_of_kind<F: Float>(kind: FloatKind, literal: &Literal) -> Result<F, ValueErrorKind>
+    ensures supported { IsTrue (is_decimal (raw literal.now.format) || is_binary (raw literal.now.format)) ↔ IsOk result }
+    ensures error { IfErr result (λ error. error ≡ kinds.UnsupportedRadix) }
+    ensures value { IfOk result (λ value. F.value value ≡ nearest (format_by kind (format_of F.DOUBLE)) (raw literal.now.format) literal.now.literal) }
+    ensures no_nan { IfOk result (λ value. NotNan (F.value value)) }
+{
+    match kind {
+        FloatKind::Nearest => nearest_float(literal),
+        FloatKind::Single => match nearest_single(literal) {
+            Ok(single) => Ok(F::from_single(single)),
+            Err(error) => Err(error),
+        },
+    }
+}
+
+// Returns the nearest `f32`, in one copy.
+#[cold]
+#[inline(never)]
+fn nearest_single(literal: &Literal) -> Result<f32, ValueErrorKind>
+    ensures supported { IsTrue (is_decimal (raw literal.now.format) || is_binary (raw literal.now.format)) ↔ IsOk result }
+    ensures error { IfErr result (λ error. error ≡ kinds.UnsupportedRadix) }
+    ensures value { IfOk result (λ value. value ≡ nearest binary32 (raw literal.now.format) literal.now.literal) }
+    ensures no_nan { IfOk result (λ value. NotNan value) }
+{
+    nearest_float(literal)
+}
+
+// Returns the float nearest to what an integer of a kind that is not exact is worth.
+#[cold]
+fn whole_float<F: Float>(literal: &Literal) -> Result<F, ValueErrorKind>
+    requires kind { is_exact literal.now.kind.integers ≡ false }
+    requires integer { is_float literal.now.literal ≡ false }
+    ensures value { IfOk result (λ value. float_worth literal.now.kind (format_of F.DOUBLE) (raw literal.now.format) literal.now.literal
+        ≡ Ok (F.value value)) }
+    ensures error { IfErr result (λ error. float_worth literal.now.kind (format_of F.DOUBLE) (raw literal.now.format) literal.now.literal
+        ≡ Err error) }
+    ensures no_nan { IfOk result (λ value. NotNan (F.value value)) }
+{
+    if !supports_floats(literal.format()) {
+        return Err(ValueErrorKind::UnsupportedRadix);
+    }
+    let Some(numeral) = integer_numeral(literal) else {
+        unreachable!()
+    };
+    match fewer(literal.kind().integers(), &numeral) {
+        Some(Worth { negative, size }) => {
+            Ok(signed(digits_to_float(size, 0, false, 0), negative))
+        }
+        None => Err(ValueErrorKind::out_of_range(numeral.negative)),
+    }
+}
+
+/// Returns the float nearest to the number that a literal represents, whatever its kind is, or to the even one if two are as near.
+///
+/// # Errors
+///
+/// If the mantissa radix and the exponent base are neither both 10 nor both powers of two.
+#[inline(always)]
+pub fn nearest_float<F: Float>(literal: &Literal) -> Result<F, ValueErrorKind>
     ensures supported { IsTrue (is_decimal (raw literal.now.format) || is_binary (raw literal.now.format)) ↔ IsOk result }
     ensures error { IfErr result (λ kind. kind ≡ kinds.UnsupportedRadix) }
     ensures value { IfOk result (λ value. F.value value ≡ nearest (format_of F.DOUBLE) (raw literal.now.format) literal.now.literal) }

@@ -25,7 +25,7 @@ use lexical_literal::syntax::{Condition, Syntax};
 use lexical_number::numeral::{Magnitude, Numeral};
 use lexical_util::format::NumberFormat;
 
-/// Returns how a literal is written as a literal of `syntax`.
+/// Returns how a literal is written as a literal of `syntax`: the number that it represents, whatever its kind is.
 ///
 /// # Errors
 ///

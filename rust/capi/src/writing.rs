@@ -15,7 +15,7 @@ const BUFFER: WriteStatus = 7;
 const ARGUMENT: WriteStatus = 8;
 
 texts! {
-    DESCRIPTIONS: [10] = |status| match status {
+    DESCRIPTIONS: [12] = |status| match status {
         1 => b"the digits or the exponent have another radix or base",
         2 => b"no literal has the sign '-'",
         3 => b"literals are integers, and the number is not whole",
@@ -25,6 +25,7 @@ texts! {
         7 => b"the buffer is too short",
         8 => b"peltzivar_check_syntax refuses the syntax, or no call has made the literal",
         9 => b"without an exponent, the text has more than 800 bytes",
+        11 => b"the literal is too large for its kind",
         _ => b"",
     };
 }
@@ -98,6 +99,7 @@ unsafe fn write<'a>(
             WriteError::Exponent => 4,
             WriteError::Float => 5,
             WriteError::Long => 9,
+            WriteError::TooLarge => 11,
             _ => SPECIAL,
         },
     }

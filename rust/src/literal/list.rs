@@ -3,6 +3,7 @@
 //! Numbers that have several forms, such as `10`, `0x1F` and `0b1`.
 
 use crate::literal::cause::ReadError;
+use crate::literal::kind::Kind;
 use crate::literal::literal::Literal;
 use crate::literal::plain::At;
 use crate::literal::read::Found;
@@ -12,25 +13,38 @@ use crate::literal::suffix::Suffixes;
 use crate::literal::syntax::{Condition, Grammar, Syntax};
 use crate::word::Part;
 
-/// A form of numbers: its name, such as `hexadecimal`, its syntax, and the suffixes of its tokens.
+/// A form of numbers: its name, such as `hexadecimal`, its syntax, the suffixes of its tokens, and its kind.
 #[derive(Debug, Clone, Copy, PartialEq, Eq, Hash)]
 pub struct Form {
     pub(crate) name: &'static str,
     pub(crate) syntax: Syntax,
     pub(crate) suffixes: Option<&'static Suffixes>,
+    pub(crate) kind: Kind,
 }
 
 impl Form {
-    /// Returns the form with a name, which may be empty, and a syntax, without suffixes.
+    /// Returns the form with a name, which may be empty, and a syntax, without suffixes, of the kind [`Kind::EXACT`].
     #[must_use]
     pub const fn new(name: &'static str, syntax: Syntax) -> Form {
-        Form { name, syntax, suffixes: None }
+        Form { name, syntax, suffixes: None, kind: Kind::EXACT }
     }
 
     /// Returns the same form with the suffixes that its tokens may have.
     #[must_use]
     pub const fn with_suffixes(&self, suffixes: &'static Suffixes) -> Form {
-        Form { name: self.name, syntax: self.syntax, suffixes: Some(suffixes) }
+        Form { name: self.name, syntax: self.syntax, suffixes: Some(suffixes), kind: self.kind }
+    }
+
+    /// Returns the same form with another kind, which its literals have.
+    #[must_use]
+    pub const fn with_kind(&self, kind: Kind) -> Form {
+        Form { name: self.name, syntax: self.syntax, suffixes: self.suffixes, kind }
+    }
+
+    /// Returns the kind.
+    #[must_use]
+    pub const fn kind(&self) -> Kind {
+        self.kind
     }
 
     /// Returns the suffixes, if there are any.
@@ -156,7 +170,10 @@ impl<'a> Forms<'a> {
     /// cause is not a wrong byte, or the first if the cause of each is one. So `0b12` has the error of the binary form.
     pub const fn read_bytes<'t>(&self, text: &'t [u8]) -> Result<Number<'t>, FormError> {
         match self.find(text) {
-            Some((form, literal)) => Ok(Number::Literal { literal, form }),
+            Some((form, literal)) => {
+                let literal = self.of_form(form, literal);
+                Ok(Number::Literal { literal, form })
+            }
             None => match self.special(text) {
                 Some(special) => Ok(Number::Special(special)),
                 None => Err(self.refuse(text, self.furthest(text))),
@@ -175,11 +192,18 @@ impl<'a> Forms<'a> {
             Ok((form, found)) => {
                 let Found { size, counts } = found;
                 let (front, rest) = text.split_at(size);
-                let literal = self.as_slice()[form].syntax.summed(front, counts);
+                let summed = self.as_slice()[form].syntax.summed(front, counts);
+                let literal = self.of_form(form, summed);
                 Ok((Number::Literal { literal, form }, rest))
             }
             Err(error) => Err(error),
         }
+    }
+
+    // Returns a literal with the kind of the form with the index `form`.
+    #[inline(always)]
+    const fn of_form<'t>(&self, form: usize, literal: Literal<'t>) -> Literal<'t> {
+        literal.with_kind(self.as_slice()[form].kind)
     }
 
     // Returns the special value that `text` is, if it is one.

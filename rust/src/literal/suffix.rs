@@ -2,6 +2,7 @@
 
 //! Words that stand directly behind a number, such as `u8`, and bytes that may not follow it.
 
+use crate::literal::kind::Kind;
 use crate::literal::read::byte_at;
 
 /// Bytes behind a number with which it is no token: one of some bytes, if the number ends in one of others, and if one of
@@ -30,6 +31,7 @@ pub struct Suffixes {
     either_case: bool,
     any: &'static [u8],
     stops: &'static [Stop],
+    kinds: &'static [(&'static [u8], Kind)],
 }
 
 impl Suffixes {
@@ -41,7 +43,7 @@ impl Suffixes {
         floats: &'static [&'static [u8]],
         stops: &'static [Stop],
     ) -> Suffixes {
-        Suffixes { integers, floats, either_case: false, any: &[], stops }
+        Suffixes { integers, floats, either_case: false, any: &[], stops, kinds: &[] }
     }
 
     /// Sets whether the words may be in either case.
@@ -54,6 +56,12 @@ impl Suffixes {
     #[must_use]
     pub const fn any_word(self, begins: &'static [u8]) -> Suffixes {
         Suffixes { any: begins, ..self }
+    }
+
+    /// Sets the kinds of numbers with these suffixes. With others, and without one, a number has the kind of its form.
+    #[must_use]
+    pub const fn with_kinds(self, kinds: &'static [(&'static [u8], Kind)]) -> Suffixes {
+        Suffixes { kinds, ..self }
     }
 
     // Returns the length of the longest suffix with which `text` begins, or 0 if there is none.
@@ -74,6 +82,28 @@ pub(crate) const fn suffix_size(suffixes: Option<&'static Suffixes>, float: bool
     match suffixes {
         None => 0,
         Some(suffixes) => suffixes.size(float, text),
+    }
+}
+
+// Returns the kind of a number with the suffix `word`, of a form of the kind `kind`.
+pub(crate) const fn kind_with(suffixes: Option<&'static Suffixes>, word: &[u8], kind: Kind) -> Kind {
+    match suffixes {
+        None => kind,
+        Some(it) => kind_among(it.either_case, it.kinds, word, kind),
+    }
+}
+
+// Returns the kind of the first of `kinds` with the suffix `word`, or `kind` if there is none.
+const fn kind_among(either: bool, kinds: &[(&[u8], Kind)], word: &[u8], kind: Kind) -> Kind {
+    match kinds {
+        [] => kind,
+        [(suffix, own), rest @ ..] => {
+            if begins(either, suffix, word) && suffix.len() == word.len() {
+                *own
+            } else {
+                kind_among(either, rest, word, kind)
+            }
+        }
     }
 }
 

@@ -7,14 +7,14 @@ use crate::literal::literal::Literal;
 use crate::literal::plain::At;
 use crate::literal::read::{byte_at, Found};
 use crate::literal::steps::is_point;
-use crate::literal::suffix::{byte_before, is_followed, is_stopped, is_word_byte, suffix_size, word_size};
+use crate::literal::suffix::{byte_before, is_followed, is_stopped, is_word_byte, kind_with, suffix_size, word_size};
 use crate::literal::syntax::Syntax;
 
 /// A number that a text begins with, and what follows it.
 #[derive(Debug, Clone, Copy, PartialEq, Eq, Hash)]
 #[non_exhaustive]
 pub struct Token<'a> {
-    /// The literal.
+    /// The literal, with the kind that its form and its suffix give it.
     pub literal: Literal<'a>,
     /// The index of its form. Those of forms that need a suffix are behind the others.
     pub form: usize,
@@ -146,7 +146,8 @@ const fn made<'t>(it: &Form, text: &'t [u8], form: usize, candidate: Candidate) 
     let (front, behind) = text.split_at(size);
     let (suffix, _) = behind.split_at(end - size);
     let (_, rest) = text.split_at(end);
-    let literal = it.syntax.summed(front, counts);
+    let kind = kind_with(it.suffixes, suffix, it.kind);
+    let literal = it.syntax.summed(front, counts).with_kind(kind);
     Token { literal, form, suffix, rest }
 }
 

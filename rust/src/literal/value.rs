@@ -5,17 +5,20 @@ use core::ops::Range;
 
 use crate::format_flags::Part;
 use crate::literal::plain::{At, Sums};
-use crate::literal::{FormError, Literal, Number, ReadError, Sign, Special, Spelling, Syntax};
+use crate::literal::{
+    FloatKind, FormError, IntegerKind, Kind, Literal, Number, ReadError, Sign, Special, Spelling, Syntax,
+};
 
 #[allow(clippy::question_mark, reason = "as it is proved")]
 pub(crate) mod float;
 mod integer;
+pub(crate) mod kind;
 
 pub use integer::ValueErrorKind;
 
 use crate::number::float::Float;
-use float::{binary_size, to_float};
-use integer::{integer_numeral, to_integer};
+use float::{binary_size, nearest_float, to_float};
+use integer::{integer_numeral, own_numeral, to_integer};
 
 /// A type that can be [parsed][Syntax::parse]: each integer type of Rust, `f64` and `f32`, and a type of your own.
 ///
@@ -116,6 +119,8 @@ pub struct ValueError {
     kind: ValueErrorKind,
     target: &'static Target,
     size: usize,
+    /// The bits of integers of its kind, from which on a number is too large, or 0.
+    bits: u8,
 }
 
 /// The name of a type of values, and its limits.
@@ -153,9 +158,23 @@ impl ValueError {
         ValueError { size, ..self }
     }
 
-    /// Returns the error of a number of `size` bytes.
-    const fn of<T: FromLiteral>(kind: ValueErrorKind, size: usize) -> ValueError {
-        ValueError { kind, target: const { &T::TARGET }, size }
+    /// Returns the error of a literal of `size` bytes of a kind.
+    const fn of<T: FromLiteral>(kind: ValueErrorKind, size: usize, of: Kind) -> ValueError {
+        let bits = match of.integers() {
+            IntegerKind::AtMost(bits) | IntegerKind::Wraps(bits) => bits,
+            _ => 0,
+        };
+        ValueError { kind, target: const { &T::TARGET }, size, bits }
+    }
+
+    /// Returns whether a number that is out of range is so for its kind: the type has more values.
+    fn is_above_kind(&self) -> bool {
+        let most = (1_i128 << self.bits) - 1;
+        let has_more = |(least, largest): (i128, u128)| match self.kind {
+            ValueErrorKind::TooSmall => least < -most,
+            _ => largest > most.unsigned_abs(),
+        };
+        self.bits > 0 && self.target.limits.is_none_or(has_more)
     }
 
     /// Returns what is wrong.
@@ -178,7 +197,7 @@ impl ValueError {
     }
 }
 
-/// Prints the reason with the type and its limit, such as `above 65535, the largest u16`.
+/// Prints the reason with the type and its limit, such as `above 65535, the largest u16`, or with the limit of the kind.
 impl fmt::Display for ValueError {
     fn fmt(&self, f: &mut fmt::Formatter<'_>) -> fmt::Result {
         let target = self.target();
@@ -187,6 +206,12 @@ impl fmt::Display for ValueError {
             ValueErrorKind::Special => write!(f, "NaN or infinity, and {target} is an integer type"),
             ValueErrorKind::UnsupportedRadix => {
                 write!(f, "no {target}: the mantissa radix and the exponent base are not both 10 or both powers of two")
+            }
+            ValueErrorKind::TooLarge if self.is_above_kind() => {
+                write!(f, "above {}, the largest number of its form", (1_u128 << self.bits) - 1)
+            }
+            ValueErrorKind::TooSmall if self.is_above_kind() => {
+                write!(f, "below -{}, the least number of its form", (1_u128 << self.bits) - 1)
             }
             ValueErrorKind::TooLarge => match self.target.limits {
                 Some((_, largest)) => write!(f, "above {largest}, the largest {target}"),
@@ -296,8 +321,8 @@ macro_rules! conversions {
 
                 #[inline(always)]
                 fn try_from(literal: Literal<'_>) -> Result<$type, ValueError> {
-                    let size = literal.text.len();
-                    $type::from_literal(literal).map_err(|kind| ValueError::of::<$type>(kind, size))
+                    let (size, of) = (literal.text.len(), literal.kind());
+                    $type::from_literal(literal).map_err(|kind| ValueError::of::<$type>(kind, size, of))
                 }
             }
 
@@ -330,14 +355,14 @@ macro_rules! constant_calls {
                 ///
                 /// If the literal is a float, or if its value is not one of the type, returns which.
                 pub const fn $name(self) -> Result<$type, ValueError> {
-                    let kind = match integer_numeral(&self) {
-                        None => ValueErrorKind::Float,
-                        Some(numeral) => match numeral.$call() {
+                    let kind = match own_numeral(&self) {
+                        Err(kind) => kind,
+                        Ok(numeral) => match numeral.$call() {
                             Some(value) => return Ok(value),
                             None => ValueErrorKind::out_of_range(numeral.negative),
                         },
                     };
-                    Err(ValueError::of::<$type>(kind, self.text.len()))
+                    Err(ValueError::of::<$type>(kind, self.text.len(), self.kind()))
                 }
             )*
         }
@@ -345,6 +370,50 @@ macro_rules! constant_calls {
 }
 
 constant_calls! { to_i64 as_i64 i64, to_u64 as_u64 u64, to_i128 as_i128 i128, to_u128 as_u128 u128, }
+
+/// The value of a literal by its kind, which is not the number that it represents.
+pub(crate) enum Other {
+    Integer(i128),
+    Single(f64),
+    TooLarge,
+}
+
+impl Literal<'_> {
+    /// Returns the value by the kind, if it is not the number that the literal represents.
+    #[inline(never)]
+    pub(crate) fn other_value(&self) -> Option<Other> {
+        if self.is_whole() {
+            let Ok(own) = own_numeral(self) else { return Some(Other::TooLarge) };
+            let value = own.as_i128()?;
+            let written = integer_numeral(self)?.as_i128();
+            (written != Some(value)).then_some(Other::Integer(value))
+        } else if self.is_single() {
+            let value = to_float::<f64>(self).ok()?;
+            let nearest = nearest_float::<f64>(self).ok()?;
+            (value.to_bits() != nearest.to_bits()).then_some(Other::Single(value))
+        } else {
+            None
+        }
+    }
+
+    /// Returns whether the literal is an integer of a kind that is not exact.
+    const fn is_whole(&self) -> bool {
+        !self.is_float() && !matches!(self.kind().integers(), IntegerKind::Exact)
+    }
+
+    /// Returns whether floats are single.
+    const fn is_single(&self) -> bool {
+        matches!(self.kind().floats(), FloatKind::Single)
+    }
+
+    /// Returns the nearest `f32` of a radix that is a power of two, without the sign.
+    const fn single_size(&self) -> f32 {
+        match binary_size(false, self) {
+            Some(bits) => f32::from_bits(bits as u32),
+            None => 0.0,
+        }
+    }
+}
 
 /// Makes the calls for a float type.
 macro_rules! floats {
@@ -367,13 +436,18 @@ macro_rules! floats {
                 ///
                 /// # Errors
                 ///
-                /// If they are not both powers of two.
+                /// If they are not both powers of two, or if an integer is too large for its kind.
                 pub const fn $binary_to_float(self) -> Result<$type, ValueError> {
-                    match binary_size(<$type as Float>::DOUBLE, &self) {
-                        Some(bits) if self.is_negative() => Ok(-$type::from_bits(bits as $bits)),
-                        Some(bits) => Ok($type::from_bits(bits as $bits)),
-                        None => Err(ValueError::of::<$type>(ValueErrorKind::UnsupportedRadix, self.text.len())),
-                    }
+                    let (size, negative) = match (binary_size(<$type as Float>::DOUBLE, &self), self.is_whole()) {
+                        (None, _) => return Err(ValueError::of::<$type>(ValueErrorKind::UnsupportedRadix, self.text.len(), self.kind())),
+                        (Some(_), true) => match own_numeral(&self) {
+                            Ok(own) => (own.low_bits() as $type, own.negative),
+                            Err(kind) => return Err(ValueError::of::<$type>(kind, self.text.len(), self.kind())),
+                        },
+                        (Some(_), false) if self.is_single() => (self.single_size() as $type, self.is_negative()),
+                        (Some(bits), false) => ($type::from_bits(bits as $bits), self.is_negative()),
+                    };
+                    Ok(if negative { -size } else { size })
                 }
             }
 
@@ -447,7 +521,7 @@ impl Syntax {
     #[inline(never)]
     fn parse_generally<T: FromLiteral>(&self, text: &[u8]) -> Result<T, ParseError> {
         let literal = self.read_generally(text)?;
-        T::from_literal(literal).map_err(|kind| ParseError::Value(ValueError::of::<T>(kind, text.len())))
+        T::from_literal(literal).map_err(|kind| ParseError::Value(ValueError::of::<T>(kind, text.len(), Kind::EXACT)))
     }
 
     /// Returns the value of the longest literal that `text` begins with, and the rest of `text`, as
@@ -471,7 +545,8 @@ impl Syntax {
     }
 
     /// Returns whether literals have values of float types: whether the mantissa radix and the exponent base of the format
-    /// are both 10 or both powers of two. Where this is true, [`Literal::to_f64`] returns no error.
+    /// are both 10 or both powers of two. Where this is true, [`Literal::to_f64`] returns no error, unless an integer is too
+    /// large for its kind.
     #[must_use]
     pub const fn supports_floats(&self) -> bool {
         float::supports_floats(self.as_grammar().view())
@@ -486,15 +561,16 @@ impl Number<'_> {
     /// If the type does not have the value, returns why.
     #[inline]
     pub fn value<T: FromLiteral>(self) -> Result<T, ValueError> {
-        let (value, size) = match self {
-            Number::Literal { literal, .. } => (T::from_literal(literal), literal.text.len()),
-            Number::Special(special) => (T::from_special(special), 0),
+        let (value, size, of) = match self {
+            Number::Literal { literal, .. } => (T::from_literal(literal), literal.text.len(), literal.kind()),
+            Number::Special(special) => (T::from_special(special), 0, Kind::EXACT),
         };
-        value.map_err(|kind| ValueError::of::<T>(kind, size))
+        value.map_err(|kind| ValueError::of::<T>(kind, size, of))
     }
 
     /// Returns the value, rounded once to the nearest `f64`. The literals of each [`Language`][crate::literal::Language]
-    /// have one, and NaN and infinity keep their sign. For a literal of another syntax that has none, returns NaN.
+    /// have one, unless an integer is too large for its kind, and NaN and infinity keep their sign. For a literal that has
+    /// none, returns NaN.
     ///
     /// ```
     /// use peltzivar::literal::Language;

@@ -3,6 +3,7 @@
 use core::fmt::{self, Write};
 use core::str;
 
+use crate::literal::value::Other;
 use crate::literal::{Literal, Sign, Special, Specials, Syntax};
 use crate::number::float::Float;
 use crate::number::integer::Integer;
@@ -159,6 +160,7 @@ impl Syntax {
     ///
     /// [`WriteError::Special`] for NaN and infinity, [`WriteError::Radix`] if the mantissa radix and the exponent base are
     /// neither both 10 nor both powers of two, and otherwise why no literal has the value.
+    #[inline(never)]
     pub fn format_float<T: WriteFloat>(&self, value: T, style: Style) -> Result<Written<'static>, WriteError> {
         let (mut digits, mut text) = (FloatDigits::new(), [0; 32]);
         let length = float::format_float(self, value, style, &mut digits)?.write(&mut text);
@@ -171,7 +173,8 @@ impl Syntax {
     /// exponent that the literal does not have, `0` and `e0` are added. Trailing zeros are kept, and so is the sign of `-0`.
     /// Where no exponent is allowed, the point moves in its place, and trailing zeros of the fraction are left out: `1.2e3`
     /// is `1200`. So they are in a syntax of integers alone, in which `1.0` is `1`. In another radix, a whole number of up to
-    /// 128 bits is written: `0xFF` is `255`.
+    /// 128 bits is written: `0xFF` is `255`. If the value by the [kind][Literal::kind] of the literal is another number, that is
+    /// written: of Java's `0xffffffff`, it is `-1`.
     ///
     /// ```
     /// use peltzivar::literal::{Style, Syntax};
@@ -188,7 +191,23 @@ impl Syntax {
     ///
     /// If the literal cannot be written, returns why.
     pub fn format_literal<'a>(&self, literal: &Literal<'a>, style: Style) -> Result<Written<'a>, WriteError> {
-        literal::format_literal(literal, self, style).map(|layout| Written { text: Text::Number(layout) })
+        match literal.other_value() {
+            None => literal::format_literal(literal, self, style).map(|layout| Written { text: Text::Number(layout) }),
+            Some(other) => self.format_other(other, style),
+        }
+    }
+}
+
+impl Syntax {
+    /// Returns the value of a literal that is not the number that it represents.
+    #[cold]
+    #[inline(never)]
+    fn format_other(&self, other: Other, style: Style) -> Result<Written<'static>, WriteError> {
+        match other {
+            Other::Integer(value) => self.format_integer(value, style),
+            Other::Single(value) => self.format_float(value, style),
+            Other::TooLarge => Err(WriteError::TooLarge),
+        }
     }
 }
 
@@ -419,6 +438,7 @@ impl fmt::Display for WriteError {
     fn fmt(&self, f: &mut fmt::Formatter<'_>) -> fmt::Result {
         f.pad(match self {
             WriteError::Radix => "the digits or the exponent have another radix or base",
+            WriteError::TooLarge => "the literal is too large for its kind",
             WriteError::Negative => "no literal has the sign '-'",
             WriteError::Fraction => "literals are integers, and the number is not whole",
             WriteError::Exponent => "no literal has an exponent, and this one does not move the point by whole digits",

@@ -2,23 +2,73 @@
 
 //! The value of a literal as a value of a float type.
 
+use crate::literal::kind::FloatKind;
 use crate::literal::literal::Literal;
 use crate::literal::read::Parts;
-use crate::literal::value::integer::ValueErrorKind;
+use crate::literal::value::integer::{integer_numeral, ValueErrorKind};
+use crate::literal::value::kind::{fewer, is_exact, Worth};
 use crate::number::decimal::{decimal_to_float, digits_to_float};
 use crate::number::float::Float;
 use crate::number::leading::{push_all, saturating, Leading};
 use crate::number::parts::{bits_of, count, raised_bits};
 use crate::word::FormatView;
 
-/// Returns the value of a literal as a value of a float type: rounded once to the nearest float, or to the even one if two
-/// are as near. The value is infinite if it is that large. Its sign is that of the literal, also for 0.
+/// Returns the value of a literal by its kind as a value of a float type: rounded once to the nearest float, or to the even one
+/// if two are as near. The value is infinite if it is that large. Its sign is that of the literal, also for 0.
 ///
 /// # Errors
 ///
-/// If the mantissa radix and the exponent base are neither both 10 nor both powers of two, of any literal.
+/// If the mantissa radix and the exponent base are neither both 10 nor both powers of two, of any literal, or if an integer is
+/// too large for its kind.
 #[inline(always)]
 pub fn to_float<F: Float>(literal: &Literal) -> Result<F, ValueErrorKind> {
+    let kind = literal.kind();
+    if is_exact(kind.integers()) || literal.is_float() {
+        float_of_kind(kind.floats(), literal)
+    } else {
+        whole_float(&{ *literal })
+    }
+}
+
+// Returns the nearest float, or the nearest `f32` if floats are single.
+#[inline(always)]
+fn float_of_kind<F: Float>(kind: FloatKind, literal: &Literal) -> Result<F, ValueErrorKind> {
+    match kind {
+        FloatKind::Nearest => nearest_float(literal),
+        FloatKind::Single => match nearest_single(&{ *literal }) {
+            Ok(single) => Ok(F::from_single(single)),
+            Err(error) => Err(error),
+        },
+    }
+}
+
+// Returns the nearest `f32`, in one copy.
+#[cold]
+#[inline(never)]
+fn nearest_single(literal: &Literal) -> Result<f32, ValueErrorKind> {
+    nearest_float(literal)
+}
+
+// Returns the float nearest to what an integer of a kind that is not exact is worth.
+#[cold]
+fn whole_float<F: Float>(literal: &Literal) -> Result<F, ValueErrorKind> {
+    if !supports_floats(literal.format()) {
+        return Err(ValueErrorKind::UnsupportedRadix);
+    }
+    let Some(numeral) = integer_numeral(literal) else { unreachable!() };
+    match fewer(literal.kind().integers(), &numeral) {
+        Some(Worth { negative, size }) => Ok(signed(digits_to_float(size, 0, false, 0), negative)),
+        None => Err(ValueErrorKind::out_of_range(numeral.negative)),
+    }
+}
+
+/// Returns the float nearest to the number that a literal represents, whatever its kind is, or to the even one if two are as near.
+///
+/// # Errors
+///
+/// If the mantissa radix and the exponent base are neither both 10 nor both powers of two.
+#[inline(always)]
+pub fn nearest_float<F: Float>(literal: &Literal) -> Result<F, ValueErrorKind> {
     let size = if has_decimal_floats(literal.format()) {
         decimal_size(literal)
     } else if let Some(bits) = binary_size(F::DOUBLE, &{ *literal }) {

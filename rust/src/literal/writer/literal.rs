@@ -13,7 +13,7 @@ use crate::literal::writer::run::Source;
 use crate::number::numeral::{Magnitude, Numeral};
 use crate::word::FormatView;
 
-/// Returns how a literal is written as a literal of `syntax`.
+/// Returns how a literal is written as a literal of `syntax`: the number that it represents, whatever its kind is.
 ///
 /// # Errors
 ///

@@ -34,7 +34,7 @@ returns-then-is_followed c =
     let picked = c.in-Some-choose.ensures.some _ refl in
     let rules = sym c.in-Some.is ∙ ap (λ (l : FormList). l.tokens) c.self.view_is in
     subst (λ o. IsReadByTokens list o text (Ok c.made.result)) rules
-    (token_is list t text c.in-Some-choose.form form best picked c.made.result c.made.ensures.form c.made.ensures.literal c.made.ensures.suffix
+    (token_is list t text c.in-Some-choose.form form best picked c.made.result c.made.ensures.form c.made.ensures.literal c.made.ensures.kind c.made.ensures.suffix
     c.made.ensures.rest (inl (subst (λ r. is_followed t.following.now r ≡ true) c.split_at.ensures.back (sym c.if-is_followed.ensures))))
 
 pub fail-requires-then-is_one_ahead-clause-refused : goal.fail-requires-then-is_one_ahead-clause-refused
@@ -57,7 +57,7 @@ returns-then-not-is_stopped c =
     (c.if-is_one_ahead.ensures.over refl) in
     let made = c.made-then-not-is_stopped in
     subst (λ o. IsReadByTokens list o text (Ok made.result)) rules
-    (token_is list t text c.in-Some-choose.form form best picked made.result made.ensures.form made.ensures.literal made.ensures.suffix
+    (token_is list t text c.in-Some-choose.form form best picked made.result made.ensures.form made.ensures.literal made.ensures.kind made.ensures.suffix
     made.ensures.rest (inr (over, sym c.if-not-is_stopped.ensures)))
 
 pub fail-requires-then-has_digit-clause-refused : goal.fail-requires-then-has_digit-clause-refused

@@ -6,8 +6,8 @@ use Rattle.lexical_util.specs.Record.{raw}
 use Rattle.lexical_number.specs.Binary.{format_of}
 use Rattle.lexical_value.specs.Value.{denominator, numerator}
 use Rattle.lexical_value.proofs.FloatLemmas.{not_nan}
-use Rattle.lexical_value.proofs.float.to_float.Goals as goal
-use Rattle.lexical_value.proofs.float.to_float.Goals.{then-has_decimal_floats, else-has_decimal_floats+in-Some}
+use Rattle.lexical_value.proofs.float.nearest_float.Goals as goal
+use Rattle.lexical_value.proofs.float.nearest_float.Goals.{then-has_decimal_floats, else-has_decimal_floats+in-Some}
 
 pub returns-clause-value : goal.returns-clause-value
 returns-clause-value g c =
