@@ -90,7 +90,6 @@ fn is_reason<F: Bits>(error: WriteError, value: F, syntax: &Syntax) -> bool {
             syntax.conditions().has(Condition::NegativeSign) && format!("{value:e}").starts_with('-')
         }
         WriteError::Fraction => syntax.point().is_none(),
-        WriteError::Exponent => moves && format.exponent_base() != format.mantissa_radix(),
         WriteError::Long => moves,
         _ => false,
     }
@@ -165,6 +164,9 @@ fn a_style_decides_on_the_exponent() {
     let json = Language::JSON.forms()[0].syntax();
     let swift =
         Language::SWIFT.forms().as_slice().iter().find(|form| form.name() == "hexadecimal float").unwrap().syntax();
+    // The point moves by digits of 3 bits, though the exponent base has 2.
+    let odd = Format::new(0xC | 8 << 104 | 4 << 112 | 10 << 120).unwrap();
+    let odd = Syntax::new(odd, b'e', b'.').unwrap();
     let [always, never, from] = [ExponentStyle::Always, ExponentStyle::Never, ExponentStyle::From(21)];
     for (value, syntax, wish, wanted) in [
         (1234.5, json, always, "1.2345e3"),
@@ -176,6 +178,9 @@ fn a_style_decides_on_the_exponent() {
         (1e20, json, from, "100000000000000000000"),
         (1.5e21, json, from, "1.5e21"),
         (12.0, swift, always, "0x1.8p3"),
+        (12.0, swift, never, "0x1.8p3"),
+        (12.0, odd, never, "14.0"),
+        (0.5, odd, never, "0.4"),
     ] {
         let text = syntax.format_float(value, Style::PLAIN.exponent(wish)).unwrap();
         assert_eq!(text.to_string(), wanted);

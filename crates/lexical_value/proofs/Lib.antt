@@ -1,2 +1,2 @@
-mod FloatLemmas
+pub mod FloatLemmas
 mod ValueLemmas

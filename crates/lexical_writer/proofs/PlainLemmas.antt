@@ -37,7 +37,7 @@ use Rattle.lexical_writer.proofs.MovedLemmas.{absent_is, trimmed_is}
 use lib.Pow.{pow-add}
 
 -- Zeros behind digits.
-zeros_after : (radix n k : ℕ) → number_from_digits_after radix n (replicate k 0) ≡ n * radix ^ k
+pub zeros_after : (radix n k : ℕ) → number_from_digits_after radix n (replicate k 0) ≡ n * radix ^ k
 zeros_after radix n zero = let one = pow-zero radix in sym (ap (λ p. n * p) one ∙ omega arith)
 zeros_after radix n (suc k) =
     ap (λ m. number_from_digits_after radix m (replicate k 0)) {x = n * radix + 0} {y = n * radix} (omega arith) ∙ zeros_after radix (n * radix) k
@@ -47,10 +47,10 @@ zeros_after radix n (suc k) =
     turned a b c = omega arith
 
 -- The product of more factors.
-one_factor : (base : ℕ) → base ^ 1 ≡ base
+pub one_factor : (base : ℕ) → base ^ 1 ≡ base
 one_factor base = pow-suc base 0 ∙ ap (λ p. p * base) (pow-zero base) ∙ omega arith
 
-pow_twice : (base k n : ℕ) → (base ^ k) ^ n ≡ base ^ (n * k)
+pub pow_twice : (base k n : ℕ) → (base ^ k) ^ n ≡ base ^ (n * k)
 pow_twice base k zero = pow-zero (base ^ k) ∙ sym (ap (λ e. base ^ e) {x = 0 * k} {y = 0} (omega arith) ∙ pow-zero base)
 pow_twice base k (suc n) =
     pow-suc (base ^ k) n ∙ ap (λ p. p * base ^ k) (pow_twice base k n) ∙ sym (pow-add base (n * k) k)
@@ -199,7 +199,7 @@ plain_worth left radix n i f some =
     regrouped a b c = omega arith
 
 -- The digits of a source represent its number.
-size_values : (radix : ℕ) (source : Source) → 2 ≤ radix → size_of radix source ≡ number_from_digits radix (values_of radix source)
+pub size_values : (radix : ℕ) (source : Source) → 2 ≤ radix → size_of radix source ≡ number_from_digits radix (values_of radix source)
 size_values radix (sources.Bytes bytes) two = refl
 size_values radix (sources.Number n) two = sym (number_digits_of radix n two)
 size_values radix (sources.Padded padded) two = refl

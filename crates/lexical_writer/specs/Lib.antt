@@ -3,4 +3,3 @@ pub mod Layout
 pub mod Moved
 pub mod Conversion
 pub mod Buffer
-pub mod Float

@@ -45,7 +45,7 @@ fn split_last(number: u128, radix: u32) -> (u128, u32)
 }
 
 // Writes the digits of a number to the end of a buffer, and returns them.
-fn characters(buffer: &mut [u8; 128], number: u128, radix: u32) -> &[u8]
+pub(crate) fn characters(buffer: &mut [u8; 128], number: u128, radix: u32) -> &[u8]
     requires { IsRadix radix }
     ensures { result.now ≡ map (character false) (digits_of radix number) }
 {
@@ -62,7 +62,7 @@ fn characters(buffer: &mut [u8; 128], number: u128, radix: u32) -> &[u8]
 
 // Writes the decimal digits of a number to the end of a buffer, and returns them. Two at a time take less time.
 #[inline(always)]
-fn decimals(buffer: &mut [u8; 20], number: u64) -> &[u8]
+pub(crate) fn decimals(buffer: &mut [u8; 20], number: u64) -> &[u8]
     ensures { result.now ≡ map (character false) (digits_of 10 number) }
 {
     let mut left = number;

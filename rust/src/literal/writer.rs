@@ -160,9 +160,11 @@ impl Syntax {
     /// [`WriteError::Special`] for NaN and infinity, [`WriteError::Radix`] if the mantissa radix and the exponent base are
     /// neither both 10 nor both powers of two, and otherwise why no literal has the value.
     pub fn format_float<T: WriteFloat>(&self, value: T, style: Style) -> Result<Written<'static>, WriteError> {
-        let (mut digits, mut text) = (FloatDigits::new(), [0; 32]);
+        let (mut digits, mut text) = (FloatDigits::new(), [0; 40]);
         let length = float::format_float(self, value, style, &mut digits)?.write(&mut text);
-        Ok(Written { text: Text::Float(FloatText { digits, syntax: *self, style, text, length }) })
+        let float =
+            FloatText { bits: value.bits().unwrap_or(0), double: T::DOUBLE, syntax: *self, style, text, length };
+        Ok(Written { text: Text::Float(float) })
     }
 
     /// Returns a literal, which may be of another syntax, as a literal of this syntax with the same value.
@@ -235,22 +237,26 @@ enum Text<'a> {
     Special(Option<u8>, &'a str),
 }
 
-/// The digits of a float, which can be laid out, and the text, if it is short, with its length.
+/// The bits of a float, which can be laid out, and the text, if it is short, with its length.
 #[derive(Clone, Copy)]
 struct FloatText {
-    digits: FloatDigits,
+    bits: u64,
+    double: bool,
     syntax: Syntax,
     style: Style,
-    text: [u8; 32],
+    text: [u8; 40],
     length: usize,
 }
 
 impl Text<'_> {
-    /// Returns the layout of a number.
-    fn layout(&self) -> Option<Layout<'_>> {
+    /// Returns the layout of a number. The digits of a float are those of `digits`.
+    fn layout<'b>(&'b self, digits: &'b mut FloatDigits) -> Option<Layout<'b>> {
         match self {
             Text::Number(layout) => Some(*layout),
-            Text::Float(float) => float.digits.lay_out(&float.syntax, float.style).ok(),
+            Text::Float(FloatText { bits, double, syntax, style, .. }) => match double {
+                true => float::format_float(syntax, f64::from_bits(*bits), *style, digits).ok(),
+                false => float::format_float(syntax, f32::from_bits(*bits as u32), *style, digits).ok(),
+            },
             Text::Special(..) => None,
         }
     }
@@ -263,7 +269,7 @@ impl Text<'_> {
                 buffer[..*length].copy_from_slice(&text[..*length]);
                 *length
             }
-            Text::Float(_) => self.layout().map_or(0, |layout| layout.write(buffer)),
+            Text::Float(_) => self.layout(&mut FloatDigits::new()).map_or(0, |layout| layout.write(buffer)),
             Text::Special(sign, word) => {
                 let mut window = Window { bytes: buffer, length: 0 };
                 sign.iter().for_each(|sign| window.put(*sign));
@@ -326,7 +332,7 @@ impl Written<'_> {
             return to.write_str(word);
         }
         let mut printer = Printer { f: to, skip: 0, result: Ok(()) };
-        if let Some(layout) = self.text.layout() {
+        if let Some(layout) = self.text.layout(&mut FloatDigits::new()) {
             layout.put(&mut printer);
         }
         printer.result
@@ -335,7 +341,8 @@ impl Written<'_> {
     /// Prints the text, of which the length is known, with what the formatter adds.
     #[cold]
     fn pad(&self, f: &mut fmt::Formatter<'_>, length: usize) -> fmt::Result {
-        let layout = self.text.layout();
+        let mut digits = FloatDigits::new();
+        let layout = self.text.layout(&mut digits);
         let (own, prefix) = match (layout, self.text) {
             (Some(layout), _) => (layout.sign, layout.prefix),
             (None, Text::Special(sign, _)) => (sign, None),
