@@ -171,7 +171,7 @@ REPLACED += [
     ("lexical_value/src/integer.rt", "\nfn magnitude", "\nconst fn magnitude"),
     ("lexical_value/src/float.rt", "pub(crate) fn binary_size", "pub(crate) const fn binary_size"),
     ("lexical_value/src/float.rt", "\nfn leading_of", "\nconst fn leading_of"),
-    ("lexical_value/src/float.rt", "\nfn exponent_of", "\nconst fn exponent_of"),
+    ("lexical_value/src/float.rt", "\nfn exponent_of", "\npub(crate) const fn exponent_of"),
     ("sink.rt", "#[derive(Drop)]", "#[derive(Debug)]"),
     # `Debug` prints the answers.
     ("cause.rt", "#[derive(Debug, Clone, Copy, PartialEq, Eq, Hash)]\npub struct ReadError {", "#[derive(Clone, Copy, PartialEq, Eq, Hash)]\npub struct ReadError {"),

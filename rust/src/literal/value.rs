@@ -13,8 +13,9 @@ mod integer;
 
 pub use integer::ValueErrorKind;
 
+use crate::number::decimal::{decimal_to_bits, digits_to_bits};
 use crate::number::float::Float;
-use float::{binary_size, to_float};
+use float::{binary_size, exponent_of, to_float};
 use integer::{integer_numeral, to_integer};
 
 /// A type that can be [parsed][Syntax::parse]: each integer type of Rust, `f64` and `f32`, and a type of your own.
@@ -346,24 +347,47 @@ macro_rules! constant_calls {
 
 constant_calls! { to_i64 as_i64 i64, to_u64 as_u64 u64, to_i128 as_i128 i128, to_u128 as_u128 u128, }
 
-/// Makes the calls for a float type.
+/// Returns the bits of the float nearest to a literal, without its sign, or `None` if the radix and the base are not both 10.
+const fn decimal_size(double: bool, literal: &Literal) -> Option<u64> {
+    if literal.format().mantissa_radix() != 10 || literal.format().exponent_base() != 10 {
+        return None;
+    }
+    let negative = literal.has_negative_exponent();
+    Some(match (literal.mantissa(), literal.scale()) {
+        (Some(mantissa), Some(exponent)) => {
+            digits_to_bits(double, mantissa, literal.places() as u64, negative, exponent)
+        }
+        _ => {
+            let parts = literal.cut();
+            decimal_to_bits(double, parts.integer, parts.fraction, negative, exponent_of(literal))
+        }
+    })
+}
+
+/// Makes the calls for floats, also in constants.
 macro_rules! floats {
     ($($type:ident $to_float:ident $binary_to_float:ident $bits:ident,)*) => {
         $(
             impl Literal<'_> {
                 #[doc = concat!("Returns the value, rounded once to the nearest `", stringify!($type), "`, or to the even")]
-                /// one if two are as near. It can be infinite, and the sign is that of the literal, also for 0.
+                /// one if two are as near. It can be infinite, and the sign is that of the literal, also for 0. A constant can
+                /// have it, too.
                 ///
                 /// # Errors
                 ///
                 /// If the mantissa radix and the exponent base are neither both 10 nor both powers of two, as
                 /// [`Syntax::supports_floats`] finds out once for all literals.
-                pub fn $to_float(self) -> Result<$type, ValueError> {
-                    self.try_into()
+                pub const fn $to_float(self) -> Result<$type, ValueError> {
+                    match decimal_size(<$type as Float>::DOUBLE, &self) {
+                        Some(bits) if self.is_negative() => Ok(-$type::from_bits(bits as $bits)),
+                        Some(bits) => Ok($type::from_bits(bits as $bits)),
+                        None => self.$binary_to_float(),
+                    }
                 }
 
                 #[doc = concat!("Returns the same as [`", stringify!($to_float), "`][Self::", stringify!($to_float), "], ")]
-                /// also in a constant, where the mantissa radix and the exponent base are powers of two.
+                /// where the mantissa radix and the exponent base are powers of two. A program that only calls this has no
+                /// table of powers of ten.
                 ///
                 /// # Errors
                 ///

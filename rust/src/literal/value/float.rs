@@ -55,7 +55,7 @@ const fn has_decimal_floats(format: FormatView) -> bool {
 
 // Returns the number that the exponent digits of a literal represent, or `2 ^ 90` if that is less.
 #[inline(always)]
-const fn exponent_of(literal: &Literal) -> u128 {
+pub(crate) const fn exponent_of(literal: &Literal) -> u128 {
     match literal.scale() {
         Some(exponent) => exponent as u128,
         None => saturating(literal.cut().exponent, literal.format().exponent_radix()),
