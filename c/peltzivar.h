@@ -468,13 +468,18 @@ enum {
  * integer and the fraction has, unless the syntax has a size. With 0, there are groups only where it has one.
  * `without_base` leaves out the base prefix and the base suffix. `lowercase` writes digits in lowercase. `min_digits` is how
  * many integer digits there are at least, with zeros before the others. `keep_leading_zeros` keeps those of a literal whose
- * point does not move. `exponent_from` is the number of PELTZIVAR_STYLE_FROM. */
+ * point does not move. `exponent_from` is the number of PELTZIVAR_STYLE_FROM. With `point`, a float has a point with a digit
+ * behind it, also before an exponent. With `has_decimals`, a float is rounded to as many digits behind the point as
+ * `decimals`, to the nearest, or to the even one if two are as near, and has no exponent that neither the syntax nor the
+ * style requires. */
 typedef struct {
     uint8_t group, fraction_group;
     bool without_base, lowercase, keep_leading_zeros;
     uint8_t min_digits;
     peltzivar_exponent_style exponent;
     uint32_t exponent_from;
+    bool point, has_decimals;
+    uint8_t decimals;
 } peltzivar_style;
 
 /* Whether a number is written. */

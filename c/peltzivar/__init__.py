@@ -378,6 +378,9 @@ class _Style(Structure):
         ("min_digits", c_uint8),
         ("exponent", c_uint8),
         ("exponent_from", c_uint32),
+        ("point", c_bool),
+        ("has_decimals", c_bool),
+        ("decimals", c_uint8),
     ]
 
 
@@ -1914,6 +1917,8 @@ class Syntax(_Reader):
         min_digits: int = 0,
         keep_leading_zeros: bool = False,
         exponent: Union[int, str, None] = None,
+        point: bool = False,
+        decimals: Optional[int] = None,
     ) -> str:
         """Returns a number as a literal. Reading the text returns the same value.
 
@@ -1933,7 +1938,12 @@ class Syntax(_Reader):
         suffix. `lowercase` writes digits in lowercase, and `min_digits` at least so many integer digits, with zeros
         before the others. `keep_leading_zeros` keeps those of a `Literal` whose point does not move. `exponent` is
         "never", for a point that moves in place of an exponent, "always", or a number from which on, and below minus
-        which, an exponent is kept, and otherwise moves the point.
+        which, an exponent is kept, and otherwise moves the point. With `point`, a float has a point with a digit behind
+        it, also before an exponent. `decimals` rounds a float to so many digits behind the point, as `format(value,
+        ".2f")` does: to the nearest, or to the even one if two are as near.
+
+            >>> prices.format_number(1234.5, group=3, decimals=2)
+            '1.234,50'
 
         Raises ValueError for NaN and infinity, for a sign `-` if no literal has one, for a number that is not whole if
         literals are integers, for an int if each literal has an exponent, for an int of more than 4300 digits in radix
@@ -1948,7 +1958,8 @@ class Syntax(_Reader):
         else:
             wish = (None, "never", "always").index(exponent), 0
         flags_of, least = (_typed(name, flag, bool) for name, flag in flags), _number("min_digits", min_digits)
-        style = _Style(*groups, *flags_of, least, *wish)
+        places = 0 if decimals is None else _number("decimals", decimals)
+        style = _Style(*groups, *flags_of, least, *wish, _typed("point", point, bool), decimals is not None, places)
         call, number, _literal = _writing(value, self._fields.mantissa_radix)
         return _written(call, self._by, number, style)
 

@@ -62,7 +62,7 @@ static void test_constants(void) {
     CHECK(sizeof(peltzivar_read_error) == 128 && sizeof(peltzivar_literal) == 320 && sizeof(peltzivar_span) == 16);
     CHECK(sizeof(peltzivar_syntax) == 32 && sizeof(peltzivar_explanation) == 48 && sizeof(peltzivar_i128) == 16);
     CHECK(sizeof(peltzivar_form) == 56 && sizeof(peltzivar_forms) == 72);
-    CHECK(sizeof(peltzivar_specials) == 24 && sizeof(peltzivar_special) == 2 && sizeof(peltzivar_style) == 12);
+    CHECK(sizeof(peltzivar_specials) == 24 && sizeof(peltzivar_special) == 2 && sizeof(peltzivar_style) == 16);
     CHECK(sizeof(peltzivar_separators) == 4);
 }
 
@@ -293,8 +293,8 @@ static void test_columns(void) {
 
 /* Numbers are written as literals, and a buffer that is too short has the beginning. */
 static void test_writing(void) {
-    static const peltzivar_style styles[] = {{3, 0, false, false, false, 0, 0, 0}, {3, 0, true, false, false, 0, 0, 0}}, bare = {0, 0, true, false, false, 0, 0, 0};
-    static const peltzivar_style ones = {1, 1, false, false, false, 255, PELTZIVAR_STYLE_ALWAYS, 0};
+    static const peltzivar_style styles[] = {{3, 0, false, false, false, 0, 0, 0, false, false, 0}, {3, 0, true, false, false, 0, 0, 0, false, false, 0}}, bare = {0, 0, true, false, false, 0, 0, 0, false, false, 0};
+    static const peltzivar_style ones = {1, 1, false, false, false, 255, PELTZIVAR_STYLE_ALWAYS, 0, false, false, 0};
     static const peltzivar_i128 least = {0, INT64_MIN}, wide = {1234567, 0};
     const peltzivar_syntax json = first_form("JSON"), english = first_form("CSV_EN"), c = first_form("C");
     char integer[PELTZIVAR_INTEGER_SIZE], real[PELTZIVAR_FLOAT_SIZE];
@@ -346,21 +346,32 @@ static void test_styles(void) {
         const char *text, *settings, *wanted;
         peltzivar_style style;
     } rows[] = {
-        {"12345.6789", "digit_separator='_'\ninternal_digit_separator=true", "12_345.678_9", {3, 3, false, false, false, 0, 0, 0}},
-        {"12345.6789", "", "12345.6789", {3, 3, false, false, false, 0, 0, 0}},
-        {"1234567", "digit_separator='_'\ninternal_digit_separator=true\ninteger_group_size=3", "1_234_567", {0, 0, false, false, false, 0, 0, 0}},
-        {"1234567", "digit_separator='_'\ninternal_digit_separator=true\ninteger_group_size=3", "1234567", {PELTZIVAR_NO_GROUPS, 0, false, false, false, 0, 0, 0}},
-        {"171", "radix=16\nbase_prefix='x'\nexponent='p'", "0x0ab", {0, 0, false, true, false, 3, 0, 0}},
-        {"7", "no_integer_leading_zeros=true", "7", {0, 0, false, false, false, 3, 0, 0}},
-        {"007.5", "", "007.5", {0, 0, false, false, true, 0, 0, 0}},
-        {"1.2e3", "", "1200", {0, 0, false, false, false, 0, PELTZIVAR_STYLE_NEVER, 0}},
-        {"1e800", "", "1e800", {0, 0, false, false, false, 0, PELTZIVAR_STYLE_NEVER, 0}},
-        {"1200", "", "1200e0", {0, 0, false, false, false, 0, PELTZIVAR_STYLE_ALWAYS, 0}},
-        {"1.2e2", "", "120", {0, 0, false, false, false, 0, PELTZIVAR_STYLE_FROM, 3}},
-        {"1.2e3", "", "1.2e3", {0, 0, false, false, false, 0, PELTZIVAR_STYLE_FROM, 3}},
+        {"12345.6789", "digit_separator='_'\ninternal_digit_separator=true", "12_345.678_9", {3, 3, false, false, false, 0, 0, 0, false, false, 0}},
+        {"12345.6789", "", "12345.6789", {3, 3, false, false, false, 0, 0, 0, false, false, 0}},
+        {"1234567", "digit_separator='_'\ninternal_digit_separator=true\ninteger_group_size=3", "1_234_567", {0, 0, false, false, false, 0, 0, 0, false, false, 0}},
+        {"1234567", "digit_separator='_'\ninternal_digit_separator=true\ninteger_group_size=3", "1234567", {PELTZIVAR_NO_GROUPS, 0, false, false, false, 0, 0, 0, false, false, 0}},
+        {"171", "radix=16\nbase_prefix='x'\nexponent='p'", "0x0ab", {0, 0, false, true, false, 3, 0, 0, false, false, 0}},
+        {"7", "no_integer_leading_zeros=true", "7", {0, 0, false, false, false, 3, 0, 0, false, false, 0}},
+        {"007.5", "", "007.5", {0, 0, false, false, true, 0, 0, 0, false, false, 0}},
+        {"1.2e3", "", "1200", {0, 0, false, false, false, 0, PELTZIVAR_STYLE_NEVER, 0, false, false, 0}},
+        {"1e800", "", "1e800", {0, 0, false, false, false, 0, PELTZIVAR_STYLE_NEVER, 0, false, false, 0}},
+        {"1200", "", "1200e0", {0, 0, false, false, false, 0, PELTZIVAR_STYLE_ALWAYS, 0, false, false, 0}},
+        {"1.2e2", "", "120", {0, 0, false, false, false, 0, PELTZIVAR_STYLE_FROM, 3, false, false, 0}},
+        {"1.2e3", "", "1.2e3", {0, 0, false, false, false, 0, PELTZIVAR_STYLE_FROM, 3, false, false, 0}},
     };
     static const peltzivar_specials specials = {"nan", "nan", "inf"};
     static const peltzivar_special minus = {PELTZIVAR_SPELLING_INF, '-'}, none = {0, 0};
+    static const struct {
+        double value;
+        const char *wanted;
+        peltzivar_style style;
+    } floats[] = {
+        {1234.005, "1234.01", {0, 0, false, false, false, 0, 0, 0, false, true, 2}},
+        {2.5, "2", {0, 0, false, false, false, 0, 0, 0, false, true, 0}},
+        {-0.004, "-0.00", {0, 0, false, false, false, 0, 0, 0, false, true, 2}},
+        {99999, "1.00e5", {0, 0, false, false, false, 0, PELTZIVAR_STYLE_ALWAYS, 0, false, true, 2}},
+        {1e16, "1.0e16", {0, 0, false, false, false, 0, 0, 0, true, false, 0}},
+    };
     peltzivar_syntax source, target;
     peltzivar_literal literal;
     size_t needed = 7;
@@ -369,6 +380,8 @@ static void test_styles(void) {
         CHECK(make_syntax(rows[i].settings, &target) && peltzivar_read(&source, rows[i].text, strlen(rows[i].text), &literal, NULL));
         CHECK(!peltzivar_format_literal(&target, &literal, &rows[i].style, text, sizeof text, NULL) && !strcmp(text, rows[i].wanted));
     }
+    for (size_t i = 0; i < sizeof floats / sizeof *floats; i++)
+        CHECK(!peltzivar_format_f64(&source, floats[i].value, &floats[i].style, text, sizeof text, NULL) && !strcmp(text, floats[i].wanted));
     CHECK(!peltzivar_format_special(&source, &specials, minus, text, sizeof text, &needed) && !strcmp(text, "-inf") && needed == 5);
     CHECK(peltzivar_format_special(&source, &specials, none, text, sizeof text, &needed) == PELTZIVAR_WRITE_SPECIAL && needed == 5);
     CHECK(make_syntax("no_special=true", &target));

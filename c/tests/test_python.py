@@ -302,6 +302,9 @@ class Literals(unittest.TestCase):
             (grouped.read("1.2e3"), {"exponent": 3}, "1.2e3"),
             (grouped.read("1.2e3"), {"exponent": 4}, "1_200"),
             (1200, {"exponent": "always"}, "1_200e0"),
+            (1234.005, {"decimals": 2}, "1_234.01"),
+            (-0.004, {"decimals": 2}, "-0.00"),
+            (1e16, {"point": True}, "1.0e16"),
         ):
             self.assertEqual(grouped.format_number(number, **style), text)
         self.assertEqual(hexadecimal.format_number(171, lowercase=True), "0xab")

@@ -1,28 +1,30 @@
 -- Digits with a point, zeros around them and an exponent have the value of the literal that is written.
-use Rattle.std.proofs.Common.{ℕ, suc, ◌≡◌, ◌+◌, ◌*◌, ◌<◌, ◌≤◌, ◌^◌, ◌||◌, if◌then◌else◌, Bool, true, false, ap, ◌∙◌, arith, sym}
+use Rattle.std.proofs.Common.{ℕ, suc, ◌≡◌, ◌+◌, ◌-◌, ◌*◌, ◌<◌, ◌≤◌, ◌^◌, ◌||◌, if◌then◌else◌, Bool, true, false, ap, ◌∙◌, arith, sym}
 use Rattle.std.proofs.Common.{List, [], ◌∷◌, ◌++◌, length, take, drop, replicate, Option, Some, None, Result, Ok, Err, IfOk}
 use Rattle.std.proofs.lemmas.Bool.Decides.{nat_tests}
 use Rattle.std.proofs.lemmas.Int.Digits.{number_after_append}
 use Rattle.std.proofs.lemmas.List.{append_assoc, length-append, take-append-drop}
 use Rattle.std.proofs.lemmas.List.Elements.{filter_map-append}
-use lib.Ieee.{Format, round}
+use lib.Ieee.{Format, emax, low, prec, round}
+use lib.Ieee.Exact.{HasValue, round_exact}
 use lib.Ieee.Scale.{round_same}
-use lib.Pow.{pow-add}
-use Rattle.std.proofs.Math.Nat.{one-le-pow}
+use lib.Pow.{pow-add, shl_lt}
+use Rattle.std.proofs.Math.Nat.{one-le-pow, pow-le-pow_right}
 use Rattle.std.specs.Int.Digits.{number_from_digits, number_from_digits_after}
 use Rattle.std.specs.List.{cons_option}
 use Rattle.lexical_util.specs.Layout as layout
 use Rattle.lexical_util.specs.Digits.{digit_of}
 use Rattle.lexical_util.specs.Record.{Record, raw, effective_exponent_base, effective_exponent_radix}
 use Rattle.lexical_literal.specs.Literal.{Literal, is_minus}
-use Rattle.lexical_literal.specs.Read.{mantissa}
+use Rattle.lexical_literal.specs.Read.{exponent, mantissa}
 use Rattle.lexical_literal.specs.declared.syntax.Grammar.{Grammar}
-use Rattle.lexical_number.specs.Binary.{raised_down, raised_up}
+use Rattle.lexical_number.specs.Binary.{format_of, raised_down, raised_up}
 use Rattle.lexical_number.specs.Number.{digits_in, number}
 use Rattle.lexical_value.specs.Float.{is_binary, is_decimal, nearest}
 use Rattle.lexical_value.specs.Value.{denominator, numerator, power, scale}
 use Rattle.lexical_writer.specs.Digits.{size_of, values_of}
 use Rattle.lexical_writer.specs.Layout.{HasNumber, given_fraction, given_power}
+use Rattle.lexical_writer.specs.Rounded.{HasDecimals, rounded}
 use Rattle.lexical_writer.specs.declared.layout.Amount.{Amount}
 use Rattle.lexical_writer.proofs.ConversionLemmas.{zero_scaled}
 use Rattle.lexical_writer.proofs.DigitLemmas.{zeros_number}
@@ -72,6 +74,44 @@ all_digits radix k bytes all =
     let second = fewer radix (drop k bytes) in
     omega (arith, all, digits, whole, first, second)
 
+-- `HasParts r l n places negative e` holds if the mantissa of `l` is `n` over the radix to the power of `places`, and its exponent is `e`.
+record HasParts (r : Record) (l : Literal) (n places : ℕ) (negative : Bool) (e : ℕ) : Type 0 where
+  factor : ℕ
+  mantissa : mantissa r l ≡ n * factor
+  scale : scale r l ≡ r.byte layout.mantissa_radix ^ places * factor
+  up : raised_up (is_minus l.exponent_sign) (effective_exponent_base r) (exponent r l) ≡ raised_up negative (effective_exponent_base r) e
+  down : raised_down (is_minus l.exponent_sign) (effective_exponent_base r) (exponent r l) ≡ raised_down negative (effective_exponent_base r) e
+
+-- What has the digits of an amount has its mantissa and its exponent.
+has_parts : (g : Grammar) (amount : Amount) (n places e : ℕ) (negative : Bool)
+    → number_from_digits ((raw g.word).byte layout.mantissa_radix)
+    (values_of ((raw g.word).byte layout.mantissa_radix) amount.integer ++ values_of ((raw g.word).byte layout.mantissa_radix) (given_fraction amount)) ≡ n
+    → length (values_of ((raw g.word).byte layout.mantissa_radix) (given_fraction amount)) ≡ places
+    → raised_up (given_power amount).negative (effective_exponent_base (raw g.word)) (size_of (effective_exponent_radix (raw g.word)) (given_power amount).source)
+    ≡ raised_up negative (effective_exponent_base (raw g.word)) e
+    → raised_down (given_power amount).negative (effective_exponent_base (raw g.word)) (size_of (effective_exponent_radix (raw g.word)) (given_power amount).source)
+    ≡ raised_down negative (effective_exponent_base (raw g.word)) e
+    → 2 ≤ (raw g.word).byte layout.mantissa_radix → (l : Literal) → HasNumber g amount l
+    → HasParts (raw g.word) l n places negative e
+has_parts g amount n places e negative digits count up down two l has =
+    let s = raw g.word in
+    let radix = s.byte layout.mantissa_radix in
+    let front = values_of radix amount.integer in
+    let rest = values_of radix (given_fraction amount) in
+    let factor = zero_scaled radix (number_from_digits radix front) has.zero rest in
+    let integer : number radix l.integer ≡ number_from_digits radix front = has.integer ∙ size_values radix amount.integer two in
+    let b = effective_exponent_base s in
+    record {
+      factor = factor.0;
+      mantissa = ap (number_from_digits radix) (filter_map-append _ l.integer l.fraction)
+          ∙ number_after_append radix 0 (digits_in radix l.integer) (digits_in radix l.fraction)
+          ∙ (λ j. number_from_digits_after radix (integer j) (has.fraction j)) ∙ factor.1
+          ∙ ap (λ m. m * factor.0) (sym (number_after_append radix 0 front rest) ∙ digits);
+      scale = ap (λ (ds : List ℕ). radix ^ length ds) has.fraction ∙ factor.2 ∙ ap (λ k. radix ^ k * factor.0) count;
+      up = (λ j. raised_up (has.exponent_sign j) b (has.exponent j)) ∙ up;
+      down = (λ j. raised_down (has.exponent_sign j) b (has.exponent j)) ∙ down;
+    }
+
 -- What has the digits of an amount has its value.
 pub same_worth : (g : Grammar) (amount : Amount) (n places e : ℕ) (negative : Bool)
     → number_from_digits ((raw g.word).byte layout.mantissa_radix)
@@ -85,30 +125,62 @@ pub same_worth : (g : Grammar) (amount : Amount) (n places e : ℕ) (negative : 
     → (n * raised_up negative (effective_exponent_base (raw g.word)) e) * denominator (raw g.word) l
     ≡ numerator (raw g.word) l * ((raw g.word).byte layout.mantissa_radix ^ places * raised_down negative (effective_exponent_base (raw g.word)) e)
 same_worth g amount n places e negative digits count up down two l has =
-    let s = raw g.word in
-    let radix = s.byte layout.mantissa_radix in
-    let front = values_of radix amount.integer in
-    let rest = values_of radix (given_fraction amount) in
-    let factor = zero_scaled radix (number_from_digits radix front) has.zero rest in
-    let integer : number radix l.integer ≡ number_from_digits radix front = has.integer ∙ size_values radix amount.integer two in
-    let mantissa_is : mantissa s l ≡ n * factor.0 = ap (number_from_digits radix) (filter_map-append _ l.integer l.fraction)
-    ∙ number_after_append radix 0 (digits_in radix l.integer) (digits_in radix l.fraction)
-    ∙ (λ j. number_from_digits_after radix (integer j) (has.fraction j)) ∙ factor.1
-    ∙ ap (λ m. m * factor.0) (sym (number_after_append radix 0 front rest) ∙ digits) in
-    let scale_is : scale s l ≡ radix ^ places * factor.0 =
-    ap (λ (ds : List ℕ). radix ^ length ds) has.fraction ∙ factor.2 ∙ ap (λ k. radix ^ k * factor.0) count in
-    let b = effective_exponent_base s in
-    let power_is : power s l ≡ b ^ size_of (effective_exponent_radix s) (given_power amount).source = ap (λ k. b ^ k) has.exponent in
-    let above : (if is_minus l.exponent_sign then 1 else power s l) ≡ raised_up negative b e =
-    (λ j. if has.exponent_sign j then 1 else power_is j) ∙ up in
-    let below : (if is_minus l.exponent_sign then power s l else 1) ≡ raised_down negative b e =
-    (λ j. if has.exponent_sign j then power_is j else 1) ∙ down in
-    (λ j. (n * raised_up negative b e) * (scale_is j * below j))
-    ∙ crossed n (radix ^ places) factor.0 (raised_up negative b e) (raised_down negative b e)
-    ∙ sym (λ j. (mantissa_is j * above j) * (radix ^ places * raised_down negative b e))
+    let p = has_parts g amount n places e negative digits count up down two l has in
+    let unit = (raw g.word).byte layout.mantissa_radix ^ places in
+    let b = effective_exponent_base (raw g.word) in
+    (λ j. (n * raised_up negative b e) * (p.scale j * p.down j)) ∙ crossed n unit p.factor (raised_up negative b e) (raised_down negative b e)
+    ∙ sym (λ j. (p.mantissa j * p.up j) * (unit * raised_down negative b e))
   where
     crossed : (m s q u d : ℕ) → (m * u) * ((s * q) * d) ≡ ((m * q) * u) * (s * d)
     crossed m s q u d = omega arith
+
+-- What has the digits of a number that is rounded is rounded.
+pub same_rounded : (g : Grammar) (amount : Amount) (n places e : ℕ) (negative : Bool)
+    → number_from_digits ((raw g.word).byte layout.mantissa_radix)
+    (values_of ((raw g.word).byte layout.mantissa_radix) amount.integer ++ values_of ((raw g.word).byte layout.mantissa_radix) (given_fraction amount)) ≡ n
+    → length (values_of ((raw g.word).byte layout.mantissa_radix) (given_fraction amount)) ≡ places
+    → raised_up (given_power amount).negative (effective_exponent_base (raw g.word)) (size_of (effective_exponent_radix (raw g.word)) (given_power amount).source)
+    ≡ raised_up negative (effective_exponent_base (raw g.word)) e
+    → raised_down (given_power amount).negative (effective_exponent_base (raw g.word)) (size_of (effective_exponent_radix (raw g.word)) (given_power amount).source)
+    ≡ raised_down negative (effective_exponent_base (raw g.word)) e
+    → 2 ≤ (raw g.word).byte layout.mantissa_radix → (l : Literal) → HasNumber g amount l
+    → (num den : ℕ) → n ≡ rounded (num * (raw g.word).byte layout.mantissa_radix ^ places * raised_down negative (effective_exponent_base (raw g.word)) e)
+    (den * raised_up negative (effective_exponent_base (raw g.word)) e)
+    → HasDecimals (raw g.word) l places num den
+same_rounded g amount n places e negative digits count up down two l has num den is =
+    let p = has_parts g amount n places e negative digits count up down two l has in
+    let unit = (raw g.word).byte layout.mantissa_radix ^ places in
+    ap (λ m. m * unit) p.mantissa ∙ turned n p.factor unit ∙ ap (λ m. m * (unit * p.factor)) is
+    ∙ sym (λ j. rounded (num * unit * p.down j) (den * p.up j) * p.scale j)
+  where
+    turned : (n q u : ℕ) → n * q * u ≡ n * (u * q)
+    turned n q u = omega arith
+
+pub twos : (i j : ℕ) → i ≤ j → 2 ^ i ≤ 2 ^ j
+twos i j less = pow-le-pow_right (omega arith) less
+
+-- A number of few bits times a power of two, over another one, is a float.
+pub exact : (double : Bool) (s : Bool) (n up down : ℕ) → n < 2 ^ prec (format_of double) → up ≤ 74 → down ≤ low (format_of double)
+    → HasValue (round (format_of double) s (n * 2 ^ up) (2 ^ down)) s (n * 2 ^ up) (2 ^ down)
+exact double s n up down small few fits =
+    let f = format_of double in
+    let j = up + low f - down in
+    let most = room double in
+    let fine : n * 2 ^ j < 2 ^ (low f + suc (emax f)) =
+    let below = shl_lt (prec f) j small in
+    let more = twos (prec f + j) (low f + suc (emax f)) (omega (arith, few, most)) in
+    omega (arith, below, more) in
+    let same : n * 2 ^ up * 2 ^ low f ≡ n * 2 ^ j * 2 ^ down =
+    assoc n (2 ^ up) (2 ^ low f) ∙ ap (λ p. n * p) (sym (pow-add 2 up (low f)) ∙ ap (λ k. 2 ^ k) {x = up + low f} {y = j + down} (omega (arith, fits))
+    ∙ pow-add 2 j down) ∙ sym (assoc n (2 ^ j) (2 ^ down)) in
+    round_exact f s (n * 2 ^ up) (2 ^ down) n j (one-le-pow down 2 (omega arith)) small fine same
+  where
+    assoc : (a b c : ℕ) → a * b * c ≡ a * (b * c)
+    assoc a b c = omega arith
+
+    room : (double : Bool) → prec (format_of double) + 74 ≤ suc (emax (format_of double))
+    room true = omega arith
+    room false = omega arith
 
 some_product : (m n : ℕ) → 0 < m → 0 < n → 0 < m * n
 some_product m n some more = grind arith

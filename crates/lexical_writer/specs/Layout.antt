@@ -113,6 +113,8 @@ plain_style = record {
   min_digits = 0;
   keep_leading_zeros = false;
   exponent = exponents.AsNumber;
+  decimals = None;
+  point = false;
 }
 
 -- `needs_exponent g` is true if each literal of `g` has an exponent.

@@ -3,3 +3,4 @@ pub mod Layout
 pub mod Moved
 pub mod Conversion
 pub mod Buffer
+pub mod Rounded

@@ -12,5 +12,6 @@ pub mod laws;
 pub mod layout;
 pub mod literal;
 pub mod moved;
+pub mod rounded;
 pub mod run;
 pub mod sink;

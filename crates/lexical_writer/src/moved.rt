@@ -73,7 +73,7 @@ fn size_after(front: u128, bytes: &[u8], radix: u32) -> Option<u128>
 }
 
 // Returns a number with as many zeros behind its digits as `places`, or `None` if it has more than 128 bits.
-fn shifted(number: u128, radix: u32, places: usize) -> Option<u128>
+pub(crate) fn shifted(number: u128, radix: u32, places: usize) -> Option<u128>
     requires { 0 < radix }
     ensures { SomeIff result (number * radix ^ places ≤ 2 ^ 128 - 1) (number * radix ^ places) }
 {

@@ -40,6 +40,9 @@ pub struct Style {
     min_digits: u8,
     exponent: u8,
     exponent_from: u32,
+    point: u8,
+    has_decimals: u8,
+    decimals: u8,
 }
 
 /// A group of this size is none.
@@ -56,6 +59,8 @@ impl Style {
         (style.group, style.fraction_group) = (group(self.group), group(self.fraction_group));
         (style.prefix, style.suffix) = (self.without_base == 0, self.without_base == 0);
         (style.lowercase, style.keep_leading_zeros) = (self.lowercase != 0, self.keep_leading_zeros != 0);
+        style.point = self.point != 0;
+        style.decimals = (self.has_decimals != 0).then_some(self.decimals);
         style.exponent(match self.exponent {
             1 => ExponentStyle::Never,
             2 => ExponentStyle::Always,

@@ -16,6 +16,7 @@ mod layout;
 mod literal;
 #[allow(clippy::needless_lifetimes, clippy::question_mark, reason = "as it is proved")]
 mod moved;
+mod rounded;
 mod run;
 mod sink;
 
@@ -104,6 +105,42 @@ impl Style {
         self.exponent = wish;
         self
     }
+
+    /// Rounds a float to `count` digits behind the point, as `{:.2}` of std does: to the nearest, or to the even one if two
+    /// are as near. The sign of a number that becomes 0 is kept. There is no exponent, unless the syntax requires one, or the
+    /// style has [`ExponentStyle::Always`] or [`ExponentStyle::From`]. Then one digit is before the point. In a syntax of
+    /// integers alone, no digit is behind it.
+    ///
+    /// ```
+    /// use peltzivar::literal::{ExponentStyle, Language, Style};
+    ///
+    /// let syntax = Language::CSV_DE.forms()[0].syntax();
+    /// let money = Style::PLAIN.decimals(2);
+    /// assert_eq!(syntax.format_float(1234.5, money).unwrap().to_string(), "1.234,50");
+    /// assert_eq!(syntax.format_float(-0.004, money).unwrap().to_string(), "-0,00");
+    /// let json = Language::JSON.forms()[0].syntax();
+    /// let always = money.exponent(ExponentStyle::Always);
+    /// assert_eq!(json.format_float(99999.0, always).unwrap().to_string(), "1.00e5");
+    /// ```
+    #[must_use]
+    pub const fn decimals(mut self, count: u8) -> Style {
+        self.decimals = Some(count);
+        self
+    }
+
+    /// Writes a float with a point and a digit behind it, also before an exponent: `1.0e16`.
+    ///
+    /// ```
+    /// use peltzivar::literal::{Language, Style};
+    ///
+    /// let ada = Language::ADA.forms()[0].syntax();
+    /// assert_eq!(ada.format_float(1e16, Style::PLAIN.point()).unwrap().to_string(), "1.0e16");
+    /// ```
+    #[must_use]
+    pub const fn point(mut self) -> Style {
+        self.point = true;
+        self
+    }
 }
 
 /// [`Style::PLAIN`].
@@ -163,7 +200,7 @@ impl Syntax {
         let (mut digits, mut text) = (FloatDigits::new(), [0; 40]);
         let length = float::format_float(self, value, style, &mut digits)?.write(&mut text);
         let float =
-            FloatText { bits: value.bits().unwrap_or(0), double: T::DOUBLE, syntax: *self, style, text, length };
+            FloatText { bits: value.bits().unwrap_or(0), lay_out: lay_out::<T>, syntax: *self, style, text, length };
         Ok(Written { text: Text::Float(float) })
     }
 
@@ -237,11 +274,22 @@ enum Text<'a> {
     Special(Option<u8>, &'a str),
 }
 
+/// A call of [`lay_out`] for a type. A program has only those for the types that it writes.
+type LayOut = for<'b> fn(u64, &Syntax, Style, &'b mut FloatDigits) -> Option<Layout<'b>>;
+
+/// Returns the layout of the float of a type with these bits.
+fn lay_out<'b, T: Float>(bits: u64, syntax: &Syntax, style: Style, digits: &'b mut FloatDigits) -> Option<Layout<'b>> {
+    let sign = if T::DOUBLE { 1 << 63 } else { 1 << 31 };
+    let size = T::from_magnitude(bits % sign);
+    let value = if bits < sign { size } else { size.negated() };
+    float::format_float(syntax, value, style, digits).ok()
+}
+
 /// The bits of a float, which can be laid out, and the text, if it is short, with its length.
 #[derive(Clone, Copy)]
 struct FloatText {
     bits: u64,
-    double: bool,
+    lay_out: LayOut,
     syntax: Syntax,
     style: Style,
     text: [u8; 40],
@@ -253,10 +301,7 @@ impl Text<'_> {
     fn layout<'b>(&'b self, digits: &'b mut FloatDigits) -> Option<Layout<'b>> {
         match self {
             Text::Number(layout) => Some(*layout),
-            Text::Float(FloatText { bits, double, syntax, style, .. }) => match double {
-                true => float::format_float(syntax, f64::from_bits(*bits), *style, digits).ok(),
-                false => float::format_float(syntax, f32::from_bits(*bits as u32), *style, digits).ok(),
-            },
+            Text::Float(FloatText { bits, lay_out, syntax, style, .. }) => lay_out(*bits, syntax, *style, digits),
             Text::Special(..) => None,
         }
     }

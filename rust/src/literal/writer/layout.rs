@@ -57,6 +57,10 @@ pub struct Style {
     pub keep_leading_zeros: bool,
     /// Whether there is an exponent.
     pub exponent: ExponentStyle,
+    /// How many digits the fraction of a float has, to which it is rounded. For `None`, as many as its value needs.
+    pub decimals: Option<u8>,
+    /// Whether a float has a point with a digit behind it, also before an exponent, as in `1.0e16`.
+    pub point: bool,
 }
 
 impl Style {
@@ -71,6 +75,8 @@ impl Style {
         min_digits: 0,
         keep_leading_zeros: false,
         exponent: ExponentStyle::AsNumber,
+        decimals: None,
+        point: false,
     };
 }
 

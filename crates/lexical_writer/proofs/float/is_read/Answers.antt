@@ -1,11 +1,5 @@
--- Floats with the same bits are the same.
-use Rattle.std.proofs.Common.{ap, sym, ◌∙◌}
-use Rattle.std.proofs.lemmas.Bool.{eqb-true}
-use Rattle.std.specs.Prelude.{from_bits}
-use Rattle.lexical_number.specs.Binary.{format_of}
+-- The float that the digits are nearest to is the one that was given.
 use Rattle.lexical_writer.proofs.float.is_read.Goals as goal
 
-pub returns-in-Some-Some-clause-value : goal.returns-in-Some-Some-clause-value
-returns-in-Some-Some-clause-value g c same =
-    sym c.in-Some-Some.ensures'.value ∙ ap (from_bits (format_of g.F.Float.DOUBLE)) (sym (eqb-true _ _ same)) ∙ c.in-Some-Some.ensures.value
-    ∙ c.signed.ensures _ _ c.in-Some.ensures.value
+pub returns-clause-value : goal.returns-clause-value
+returns-clause-value g c same = c.is_same.ensures same _ _ c.in-Some.ensures.value

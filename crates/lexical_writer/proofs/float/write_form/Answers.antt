@@ -22,7 +22,7 @@ returns-clause-value g c =
     let base = effective_exponent_base r in
     let form = c.args.form in
     let num = c.args.number * radix ^ form.after * raised_up form.negative base form.exponent in
-    let two = (radixes s.word c.lay_out-2.ensures.lawful.lawful part.Integer).0 in
+    let two = (radixes s.word c.laid-2.ensures.lawful.lawful part.Integer).0 in
     let all = c.requires.places in
     let word = c.view-format.ensures.word ∙ c.format.ensures.word in
     let supported : (is_decimal r || is_binary r) ≡ true =
@@ -33,7 +33,7 @@ returns-clause-value g c =
     ((raw w).byte layouts.mantissa_radix ^ form.places * raised_down form.negative (effective_exponent_base (raw w)) form.exponent)) word
     (c.if-not-is_read.ensures.value refl) in
     if_ok (λ layout. HasNumber s c.amount_in-amount.result (literal_of layout)) (λ layout. g.F.Float.value c.args.value ≡ nearest f r (literal_of layout))
-    c.lay_out-2.result
+    c.laid-2.result
     (λ layout has. value
     ∙ same_nearest f r (literal_of layout) c.args.negative form.negative num form.places form.exponent supported
     (has.sign ∙ c.amount_in-amount.ensures.sign)
@@ -41,4 +41,4 @@ returns-clause-value g c =
     (c.amount_in-amount.ensures.number radix two all ∙ ap (λ n. n * radix ^ form.after)
     (ap (number_from_digits radix) c.requires.digits ∙ number_digits_of radix c.args.number two))
     (c.amount_in-amount.ensures.places radix all) (c.amount_in-amount.ensures.up (effective_exponent_radix r) base)
-    (c.amount_in-amount.ensures.down (effective_exponent_radix r) base) two (literal_of layout) has)) c.lay_out-2.ensures.number
+    (c.amount_in-amount.ensures.down (effective_exponent_radix r) base) two (literal_of layout) has)) c.laid-2.ensures.number
