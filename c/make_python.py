@@ -73,7 +73,7 @@ def constants():
     for row in (
         ("Setter", r"SET_(\w+)", "The setters. A member has the name of the setter in uppercase."),
         ("Rule", r"RULE_(\w+)", f"The rules, in the order in which they are checked. {RULE}", *CONDITION),
-        ("Error", r"((?!SET_|RULE_|PART_|ROLE_|KIND_|SPELLING_|VALUE_|CONDITION_|WRITE_|STYLE_)\w+)", f"The errors, and success. {ERROR}", *DESCRIPTION),
+        ("Error", r"((?!SET_|RULE_|PART_|ROLE_|KIND_|SPELLING_|VALUE_|CONDITION_|WRITE_|STYLE_|INTEGERS_|FLOATS_)\w+)", f"The errors, and success. {ERROR}", *DESCRIPTION),
         ("Part", r"PART_(\w+)", "The parts of a number that can have digit separators."),
         ("Role", r"ROLE_((?!NONE)\w+)", "The roles of a byte in a number."),
         ("ReadErrorKind", r"KIND_(\w+)", "The kinds of causes why a text is not a literal."),

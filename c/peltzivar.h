@@ -109,8 +109,9 @@ typedef struct {
  * If both are 0, numbers are integers. The other members are conditions: that a number has the base prefix or the base
  * suffix, that its sign is not `-`, and that the digit separators of its integer or its fraction, if there are any, make
  * groups of 2 to 8 digits, as in `1,234`. Groups of the integer before the last have higher_group_size digits, if this
- * is not 0, as in `12,34,567`. Members that an initialiser leaves out are 0 or false, which is no condition. A later
- * version may have conditions in `reserved`, so a syntax is refused if one of these bytes is not 0.
+ * is not 0, as in `12,34,567`. The last two conditions are that a number begins, behind its sign, with `0`, as C's `017`,
+ * or with `0` to `9`, as NASM's `0FFh`. Members that an initialiser leaves out are 0 or false, which is no condition. A
+ * later version may have conditions in `reserved`, so a syntax is refused if one of these bytes is not 0.
  * peltzivar_read_settings writes a syntax, and the forms of a language have some. Check one of your own with
  * peltzivar_check_syntax. */
 typedef struct {
@@ -118,7 +119,8 @@ typedef struct {
     uint8_t exponent, decimal_point;
     bool required_base_prefix, required_base_suffix, no_negative_mantissa_sign;
     uint8_t integer_group_size, higher_group_size, fraction_group_size;
-    uint8_t reserved[8];
+    bool required_leading_zero, decimal_first_digit;
+    uint8_t reserved[6];
 } peltzivar_syntax;
 
 /* Settings build a syntax. A text, such as a file, has one setting a line, NAME=VALUE, of a field, a group, an option
@@ -226,15 +228,16 @@ PELTZIVAR_MUST_USE bool peltzivar_read_prefix(const peltzivar_syntax *syntax, co
 /* VALUES
  *
  * Each call writes the exact value of a literal, rounded once if it is of a float type, to *out and returns
- * PELTZIVAR_VALUE_OK. Otherwise, it leaves *out unchanged and returns why. */
+ * PELTZIVAR_VALUE_OK. Otherwise, it leaves *out unchanged and returns why. The value is that of the kind of the form: Java's
+ * `0xffffffff` is -1. */
 
 /* Whether a literal has a value of a type. */
 typedef uint8_t peltzivar_value_status;
 enum {
     PELTZIVAR_VALUE_OK = 0,
     PELTZIVAR_VALUE_FLOAT = 1, /* The literal is a float, even if its value is whole, and the type an integer type. */
-    PELTZIVAR_VALUE_TOO_LARGE = 2, /* The value is above the largest value of an integer type. */
-    PELTZIVAR_VALUE_TOO_SMALL = 3, /* The value is below the least value of an integer type. */
+    PELTZIVAR_VALUE_TOO_LARGE = 2, /* The value is above the largest value of an integer type, or too large for its kind. */
+    PELTZIVAR_VALUE_TOO_SMALL = 3, /* The value is below the least value of an integer type, or of its kind. */
     /* The type is a float type, and the mantissa radix and the exponent base are neither both 10 nor both powers of
      * two. This is so for all literals of a syntax, or for none. */
     PELTZIVAR_VALUE_RADIX = 4,
@@ -313,7 +316,9 @@ enum {
     PELTZIVAR_CONDITION_NO_NEGATIVE_MANTISSA_SIGN = 4,
     PELTZIVAR_CONDITION_INTEGER_GROUP_SIZE = 8,
     PELTZIVAR_CONDITION_HIGHER_GROUP_SIZE = 16,
-    PELTZIVAR_CONDITION_FRACTION_GROUP_SIZE = 32
+    PELTZIVAR_CONDITION_FRACTION_GROUP_SIZE = 32,
+    PELTZIVAR_CONDITION_REQUIRED_LEADING_ZERO = 64,
+    PELTZIVAR_CONDITION_DECIMAL_FIRST_DIGIT = 128
 };
 
 /* Writes why a text is not a literal to *out and returns true. If no call has written *error, or if the syntax, the
@@ -340,13 +345,24 @@ enum { PELTZIVAR_SPELLING_NAN = 1, PELTZIVAR_SPELLING_INF = 2, PELTZIVAR_SPELLIN
 PELTZIVAR_MUST_USE bool peltzivar_read_special(const peltzivar_syntax *syntax, const peltzivar_specials *specials,
     const char *text, size_t len, peltzivar_special *out);
 
-/* A form of numbers, such as `0x1F`: its name, which may be null, and its syntax. A later version may have other
- * members in `reserved`, so forms are refused if it is not 0. */
+/* A form of numbers, such as `0x1F`: its name, which may be null, its syntax, and its kind, by which the values of its
+ * literals are found. FORMAT.md describes kinds: integers have at most integer_bits bits, or wrap at them, and so may be
+ * negative, and floats are the nearest single, or else the nearest value of the type. integer_bits is from 1 to 64, or 0
+ * for exact integers. Zeros are exact integers and nearest floats. A later version may have other members in `reserved`,
+ * so forms are refused if it is not 0. */
 typedef struct {
     const char *name;
     peltzivar_syntax syntax;
-    uint64_t reserved[2];
+    uint8_t integer_kind, integer_bits, float_kind;
+    uint8_t reserved[13];
 } peltzivar_form;
+enum {
+    PELTZIVAR_INTEGERS_EXACT = 0,
+    PELTZIVAR_INTEGERS_AT_MOST = 1,
+    PELTZIVAR_INTEGERS_WRAP = 2, /* From 2^integer_bits on, a number is too large. */
+    PELTZIVAR_INTEGERS_WRAP_MODULO = 3 /* The lowest bits of any number count. */
+};
+enum { PELTZIVAR_FLOATS_NEAREST = 0, PELTZIVAR_FLOATS_SINGLE = 1 };
 
 /* Several forms of numbers, such as `10`, `0x1F` and `0b1`: an array of `count` forms, and the spellings of special
  * values. The first form of which a text is a literal decides its parts and its value. If it is one of none, a
@@ -406,8 +422,8 @@ const char *peltzivar_language_name(size_t index);
 
 /* Do what peltzivar_read, peltzivar_read_prefix and peltzivar_read_special do, by forms. peltzivar_forms_read
  * refuses special values, and peltzivar_forms_read_prefix finds the longest literal of any form. Forms are refused
- * if they are null or have no array, too many elements, or reserved members that are not 0. A form may read a text
- * that an earlier one reads otherwise: C's octal form reads `17` as 15. */
+ * if they are null or have no array, too many elements, an unknown kind, or reserved members that are not 0. A form may
+ * read a text that an earlier one reads otherwise: an octal form without required_leading_zero reads `17` as 15. */
 PELTZIVAR_MUST_USE bool peltzivar_forms_read(const peltzivar_forms *forms, const char *text, size_t len,
     peltzivar_literal *literal, peltzivar_read_error *error);
 PELTZIVAR_MUST_USE bool peltzivar_forms_read_prefix(const peltzivar_forms *forms, const char *text, size_t len,
@@ -470,13 +486,18 @@ enum {
  * integer and the fraction has, unless the syntax has a size. With 0, there are groups only where it has one.
  * `without_base` leaves out the base prefix and the base suffix. `lowercase` writes digits in lowercase. `min_digits` is how
  * many integer digits there are at least, with zeros before the others. `keep_leading_zeros` keeps those of a literal whose
- * point does not move. `exponent_from` is the number of PELTZIVAR_STYLE_FROM. */
+ * point does not move. `exponent_from` is the number of PELTZIVAR_STYLE_FROM. With `point`, a float has a point with a digit
+ * behind it, also before an exponent. With `has_decimals`, a float is rounded to as many digits behind the point as
+ * `decimals`, to the nearest, or to the even one if two are as near, and has no exponent that neither the syntax nor the
+ * style requires. */
 typedef struct {
     uint8_t group, fraction_group;
     bool without_base, lowercase, keep_leading_zeros;
     uint8_t min_digits;
     peltzivar_exponent_style exponent;
     uint32_t exponent_from;
+    bool point, has_decimals;
+    uint8_t decimals;
 } peltzivar_style;
 
 /* Whether a number is written. */
@@ -490,8 +511,10 @@ enum {
     PELTZIVAR_WRITE_FLOAT = 5, /* Each literal has an exponent, and the number is of an integer type. */
     PELTZIVAR_WRITE_SPECIAL = 6, /* The number is NaN or infinity, and no spelling is read back as it. */
     PELTZIVAR_WRITE_BUFFER = 7, /* The buffer is too short. */
-    PELTZIVAR_WRITE_ARGUMENT = 8, /* The syntax is null or refused, or no call has made the literal. */
-    PELTZIVAR_WRITE_LONG = 9 /* Without an exponent, which no literal has, the text has more than 800 bytes. */
+    PELTZIVAR_WRITE_ARGUMENT = 8, /* The syntax or the forms are null or refused, or no call has made the literal. */
+    PELTZIVAR_WRITE_LONG = 9, /* Without an exponent, which no literal has, the text has more than 800 bytes, or by forms more than 4096. */
+    PELTZIVAR_WRITE_READ_BACK = 10, /* The forms read the text as another number. */
+    PELTZIVAR_WRITE_TOO_LARGE = 11 /* The literal is too large for its kind. */
 };
 
 /* The sizes of buffers for any integer of the next three calls, and for any float of peltzivar_format_f64. */
@@ -519,6 +542,21 @@ PELTZIVAR_MUST_USE peltzivar_write_status peltzivar_format_literal(const peltziv
 /* Writes NaN or infinity: its sign, and the first of the spellings that peltzivar_read_special reads back as this value. */
 PELTZIVAR_MUST_USE peltzivar_write_status peltzivar_format_special(const peltzivar_syntax *syntax,
     const peltzivar_specials *specials, peltzivar_special special, char *text, size_t len, size_t *needed);
+
+/* Write a number by the first form whose text all forms read as the same integer, the same bits of a double or, of a literal, the
+ * same of these. Forms of the mantissa radix of a literal are asked first, then decimal ones, and then the others, each in
+ * their order. If there is none, the error is that of the form that is asked first. NaN and infinity have
+ * PELTZIVAR_WRITE_SPECIAL. */
+PELTZIVAR_MUST_USE peltzivar_write_status peltzivar_forms_format_i64(const peltzivar_forms *forms, int64_t value,
+    const peltzivar_style *style, char *text, size_t len, size_t *needed);
+PELTZIVAR_MUST_USE peltzivar_write_status peltzivar_forms_format_u64(const peltzivar_forms *forms, uint64_t value,
+    const peltzivar_style *style, char *text, size_t len, size_t *needed);
+PELTZIVAR_MUST_USE peltzivar_write_status peltzivar_forms_format_i128(const peltzivar_forms *forms, peltzivar_i128 value,
+    const peltzivar_style *style, char *text, size_t len, size_t *needed);
+PELTZIVAR_MUST_USE peltzivar_write_status peltzivar_forms_format_f64(const peltzivar_forms *forms, double value,
+    const peltzivar_style *style, char *text, size_t len, size_t *needed);
+PELTZIVAR_MUST_USE peltzivar_write_status peltzivar_forms_format_literal(const peltzivar_forms *forms,
+    const peltzivar_literal *literal, const peltzivar_style *style, char *text, size_t len, size_t *needed);
 
 /* Returns what a status means, such as "no literal has the sign '-'". PELTZIVAR_WRITE_OK has an empty string. */
 const char *peltzivar_write_description(peltzivar_write_status status);

@@ -18,8 +18,9 @@ HEAD = """# Languages
 
 `Language` has a constant for each of these languages and files: a name and a list of [forms](FORMAT.md#several-forms).
 `Language::RUST.read("0x1F")` finds the first form of which a text is a number, `parse` its value, and `token` a number
-in [source text](FORMAT.md#tokens). C, Python and the page have the same lists. The example `languages` prints the
-syntax of each form, and its settings. What no format can express is in
+in [source text](FORMAT.md#tokens), with its suffix, such as the `L` of `1L`, which `read` refuses. C, Python and the
+page have the same lists. The example `languages` prints the syntax of each form, and its settings. Values are those of
+the numbers, unless a form has a [kind](FORMAT.md#kinds). What no format can express is in
 [FORMAT](FORMAT.md#what-a-format-cannot-express).
 
 [languages.py](languages.py) writes this page from the [constants](../rust/src/literal/language/tables.rs). Each language
@@ -34,19 +35,19 @@ def documented():
 
 
 def forms():
-    """Returns the rows of each language: a form, and a sentence on the numbers that it reads."""
+    """Returns the rows of each language: a form, a sentence on the numbers that it reads, and its kind."""
     printed = subprocess.run(["cargo", "run", "-q", "--example", "languages"], cwd=TOP, stdout=subprocess.PIPE, text=True, check=True)
     rows = {}
     for line in printed.stdout.splitlines():
-        language, form, sentence, *_ = line.split("\t")
-        rows.setdefault(language, []).append(f"| {form} | {sentence.replace('|', chr(92) + '|')} |\n")
+        language, form, sentence, kind, *_ = line.split("\t")
+        rows.setdefault(language, []).append(f"| {form} | {sentence.replace('|', chr(92) + '|')} | {kind} |\n")
     return rows
 
 
 def tools():
     """Returns the tools of each language, as compare/README.md names them."""
     found = {}
-    for name, tool in re.findall(r"^\| (\w+) \| .*? \| (.*?) \| [\d,]+ \|", (TOP / "compare/README.md").read_text(), re.M):
+    for name, tool in re.findall(r"^\| (\w+) \| (?:`|none:).*? \| (.*?) \|", (TOP / "compare/README.md").read_text(), re.M):
         found.setdefault(name, []).append(tool)
     return found
 
@@ -54,8 +55,8 @@ def tools():
 def made():
     about, compared = documented(), tools()
     for name, rows in forms().items():
-        by = "by " + " and ".join(compared[name]) if name in compared else "by a table of its grammar"
-        yield f"\n## {name}\n\n{about[name]}\nCompared {by}.\n\n| Form | Reads |\n|---|---|\n{''.join(rows)}"
+        by = "with " + " and ".join(compared[name]) if name in compared else "with a table of its grammar"
+        yield f"\n## {name}\n\n{about[name]}\nCompared {by}.\n\n| Form | Reads | Values |\n|---|---|---|\n{''.join(rows)}"
 
 
 def main():

@@ -439,7 +439,10 @@ class Walk(unittest.TestCase):
         self.assertIn("0x1 unexpected character 'x'", self.texts("#texts ul:nth-of-type(2) li"))
         Select(self.find("#compare")).select_by_value("C:octal")
         self.click("#no_special")
-        self.assertEqual(self.texts("#texts li")[-1], "10 is 10 here, and 8 there")
+        self.assertIn("01 unexpected leading zero, which no_integer_leading_zeros and no_float_leading_zeros forbid", self.texts("#texts li"))
+        Select(self.find("#language")).select_by_value("CSV_EN")
+        Select(self.find("#compare")).select_by_value("CSV_DE")
+        self.assertIn("1,000 is 1000 here, and 1 there", self.texts("#texts li"))
         Select(self.find("#language")).select_by_value("ADA")
         Select(self.find("#compare")).select_by_value("TOML")
         self.assertNotIn("NaN", self.text("#texts"))
@@ -704,7 +707,7 @@ class Walk(unittest.TestCase):
         text = self.text("#code")
         self.click("#standard")
         self.type("#word", Keys.CONTROL + "v")
-        self.assertEqual(self.value("#digit_separator"), "SPACE")
+        self.wait(lambda: self.value("#digit_separator") == "SPACE")
         self.find("#word").send_keys(Keys.TAB)
         self.assertEqual(self.value(), word)
         self.click("#standard")
@@ -949,7 +952,10 @@ class Walk(unittest.TestCase):
                 const there = told(answer.error ? undefined : answer);
                 return told(reader) === there ? [] : [list.name, texts[index], told(reader), there];
             }).filter((it) => it.length));""")
-        self.assertEqual([it for it in wrong if "undefined" not in it[2]], [])
+        # Forms that can be changed have no kind: their values are the numbers as they are written.
+        kinds = ["FORTRAN", "JAVA", "JULIA", "LUA", "NASM", "OCAML"]
+        same = [it for it in wrong if it[0] in kinds and it[2].split()[0] == it[3].split()[0]]
+        self.assertEqual([it for it in wrong if "undefined" not in it[2] and it not in same], [])
 
     def test_languages_are_shown_below_each_number(self):
         self.load("#numbers=0x1F%0A1_0%0A!010")

@@ -57,7 +57,7 @@ from typing import Any, AnyStr, Callable, Dict, Generic, Iterable, Iterator, Lis
 from typing import SupportsFloat, SupportsIndex, Tuple, Type, TypeVar, Union, cast
 
 __all__ = ["STANDARD", "Byte", "Column", "ColumnError", "Edit", "Error", "Format", "FormatError", "FormatView", "Forms"]
-__all__ += ["Language", "Literal", "LiteralError", "Note", "OptionsError", "Part", "Parts", "ReadErrorKind", "Reason", "ReasonsError"]
+__all__ += ["Kind", "Language", "Literal", "LiteralError", "Note", "OptionsError", "Part", "Parts", "ReadErrorKind", "Reason", "ReasonsError"]
 __all__ += ["Role", "Rule", "Separators", "Setter", "SettingsError", "Special", "Specials", "Spelling", "Syntax", "Value"]
 __all__ += ["WrongCell", "languages", "notes_of"]
 
@@ -275,7 +275,9 @@ class _Syntax(Structure):
         ("integer_group_size", c_uint8),
         ("higher_group_size", c_uint8),
         ("fraction_group_size", c_uint8),
-        ("reserved", c_uint8 * 8),
+        ("required_leading_zero", c_bool),
+        ("decimal_first_digit", c_bool),
+        ("reserved", c_uint8 * 6),
     ]
 
 
@@ -354,7 +356,10 @@ class _Form(Structure):
     _fields_ = [
         ("name", c_char_p),
         ("syntax", _Syntax),
-        ("reserved", c_uint64 * 2),
+        ("integer_kind", c_uint8),
+        ("integer_bits", c_uint8),
+        ("float_kind", c_uint8),
+        ("reserved", c_uint8 * 13),
     ]
 
 
@@ -378,6 +383,9 @@ class _Style(Structure):
         ("min_digits", c_uint8),
         ("exponent", c_uint8),
         ("exponent_from", c_uint32),
+        ("point", c_bool),
+        ("has_decimals", c_bool),
+        ("decimals", c_uint8),
     ]
 
 
@@ -453,6 +461,11 @@ _CALLS: Dict[str, Tuple[Any, List[Any]]] = {
     "format_f64": (c_uint8, [POINTER(_Syntax), c_double, POINTER(_Style), c_char_p, c_size_t, POINTER(c_size_t)]),
     "format_literal": (c_uint8, [POINTER(_Syntax), POINTER(_Literal), POINTER(_Style), c_char_p, c_size_t, POINTER(c_size_t)]),
     "format_special": (c_uint8, [POINTER(_Syntax), POINTER(_Specials), _Special, c_char_p, c_size_t, POINTER(c_size_t)]),
+    "forms_format_i64": (c_uint8, [c_void_p, c_int64, POINTER(_Style), c_char_p, c_size_t, POINTER(c_size_t)]),
+    "forms_format_u64": (c_uint8, [c_void_p, c_uint64, POINTER(_Style), c_char_p, c_size_t, POINTER(c_size_t)]),
+    "forms_format_i128": (c_uint8, [c_void_p, _I128, POINTER(_Style), c_char_p, c_size_t, POINTER(c_size_t)]),
+    "forms_format_f64": (c_uint8, [c_void_p, c_double, POINTER(_Style), c_char_p, c_size_t, POINTER(c_size_t)]),
+    "forms_format_literal": (c_uint8, [c_void_p, POINTER(_Literal), POINTER(_Style), c_char_p, c_size_t, POINTER(c_size_t)]),
     "write_description": (c_char_p, [c_uint8]),
     "build": (c_bool, [POINTER(_Edit), c_size_t, POINTER(_Word)]),
     "edit_word": (c_bool, [_Word, POINTER(_Edit), c_size_t, POINTER(_Word)]),
@@ -1234,7 +1247,9 @@ class Literal(Generic[AnyStr]):
     `float(literal)` is the float that is nearest to the value, or `inf` if that is too large. It raises a ValueError if
     the mantissa radix and the exponent base are neither both 10 nor both powers of two.
 
-    Literals are equal if their formats and their parts are equal, as in Rust.
+    All three are those of the `kind` of the form. `digits`, `decimal()` and `fraction()` are those of the text.
+
+    Literals are equal if their formats, their parts and their kinds are equal, as in Rust.
     """
 
     __slots__ = ("_owner", "_text", "_found", "_data")
@@ -1258,6 +1273,11 @@ class Literal(Generic[AnyStr]):
     def form(self) -> str:
         """The name of the form of a language, such as `hexadecimal`. It is empty if `Syntax.read` has read the text."""
         return str([*self._owner._named][self._found.form])
+
+    @property
+    def kind(self) -> Kind:
+        """The kind of the form."""
+        return Kind._of(_Forms.from_address(self._owner._forms.value).forms[self._found.form])
 
     @property
     def text(self) -> AnyStr:
@@ -1286,6 +1306,8 @@ class Literal(Generic[AnyStr]):
             return value.value
         if self._found.is_float:
             raise ValueError(f"{reprlib.repr(self._text)} is a float")
+        if _library.to_f64(self._found, c_double()) in (2, 3):
+            raise ValueError(f"{reprlib.repr(self._text)} is too large for its kind")
         sign, integer, *_ = self._written()
         return int(sign + integer, self.syntax._fields.mantissa_radix)
 
@@ -1389,7 +1411,7 @@ class Literal(Generic[AnyStr]):
         return hash(self._key())
 
     def _key(self) -> Tuple[Any, ...]:
-        return self.syntax.format, self._text, _ENDS(self._found)
+        return self.syntax.format, self._text, _ENDS(self._found), self.kind
 
     def __reduce__(self) -> Tuple[Any, ...]:
         """Returns what reads the text again."""
@@ -1509,6 +1531,74 @@ class _Reader:
         if (literal := self._read(_READ_PREFIX, text)) is None:
             raise self._refusal(text)
         return literal, text[len(literal.text) :]
+
+    def format_number(
+        self,
+        value: Union[SupportsIndex, SupportsFloat],
+        *,
+        group: Optional[int] = None,
+        fraction_group: Optional[int] = None,
+        without_base: bool = False,
+        lowercase: bool = False,
+        min_digits: int = 0,
+        keep_leading_zeros: bool = False,
+        exponent: Union[int, str, None] = None,
+        point: bool = False,
+        decimals: Optional[int] = None,
+    ) -> str:
+        """Returns a number as a literal, or as NaN or infinity of several forms. Reading the text returns the same value.
+
+            >>> prices = Syntax.of(digit_separator=".", internal_digit_separator=True, point=",")
+            >>> prices.format_number(Decimal("1234567.50"), group=3)
+            '1.234.567,50'
+            >>> languages.PYTHON.format_number(languages.C.read("0x1.8p1"))
+            '3'
+
+        Takes an int, a float, a Decimal, a `Literal`, or an object with `__index__` or `__float__`, as those of numpy,
+        but no bool. Of a float, the digits are those of `repr`; a Fraction is exact. A `Literal` keeps its exponent, and a Decimal has one
+        from 1E+401 on and below 1E-400. Where no exponent is allowed, the point moves, and the text has at most 800
+        bytes.
+
+        The other arguments are wishes: what the syntax forbids is not done, and what it requires is. `group` and
+        `fraction_group` are the numbers of digits in a group of the integer, counted from the right, and of the
+        fraction, counted from the left. If the syntax has a size, this replaces them, also None, for which there are no
+        groups otherwise, but not 0, for which there are none. `without_base` leaves out the base prefix and the base
+        suffix. `lowercase` writes digits in lowercase, and `min_digits` at least so many integer digits, with zeros
+        before the others. `keep_leading_zeros` keeps those of a `Literal` whose point does not move. `exponent` is
+        "never", for a point that moves in place of an exponent, "always", or a number from which on, and below minus
+        which, an exponent is kept, and otherwise moves the point. With `point`, a float has a point with a digit behind
+        it, also before an exponent. `decimals` rounds a float to so many digits behind the point, as `format(value,
+        ".2f")` does: to the nearest, or to the even one if two are as near.
+
+            >>> prices.format_number(1234.5, group=3, decimals=2)
+            '1.234,50'
+
+        Of several forms, as those of a Language, that is taken whose text all of them read as the same integer, or the same
+        float. Forms of the radix of a `Literal` are asked first, then decimal ones, and then the others. If there is none,
+        the error is that of the first.
+
+        Raises ValueError for NaN and infinity without a spelling, for a Fraction that no decimal number is equal to, for a sign `-` if no literal has one, for a number that is not whole if
+        literals are integers, for an int if each literal has an exponent, for an int of more than 4300 digits in radix
+        10, as `str` does, for another mantissa radix than that of the syntax, which is 10 for a float and a Decimal, if
+        the number is not whole or has more than 128 bits, and, of a float, for another exponent base.
+        """
+        sizes = ((group, "group"), (fraction_group, "fraction_group"))
+        groups = (0 if size is None else _number(name, size, 255, "a number from 0 to 254") or 255 for size, name in sizes)
+        flags = (("without_base", without_base), ("lowercase", lowercase), ("keep_leading_zeros", keep_leading_zeros))
+        if exponent is not None and exponent not in ("never", "always"):
+            wish = 3, _number("exponent", exponent, 1 << 32, '"never", "always" or a number from 0 to 4294967295')
+        else:
+            wish = (None, "never", "always").index(exponent), 0
+        flags_of, least = (_typed(name, flag, bool) for name, flag in flags), _number("min_digits", min_digits)
+        places = 0 if decimals is None else _number("decimals", decimals)
+        style = _Style(*groups, *flags_of, least, *wish, _typed("point", point, bool), decimals is not None, places)
+        if isinstance(self, _Several) and isinstance(value, float) and not math.isfinite(value):
+            spelling = Spelling.NAN if math.isnan(value) else Spelling.INF
+            return cast(str, self.specials.format(next(iter(self._named.values())), Special("-" if value < 0 else "", spelling)))
+        name, number, _literal = _writing(value, self._fields.mantissa_radix if isinstance(self, Syntax) else 10)
+        if isinstance(self, Syntax):
+            return _written(getattr(_library, name), self._by, number, style)
+        return _written(getattr(_library, f"forms_{name}"), self._forms, number, style)
 
     def parse(self, text: Union[str, bytes], type: Type[Number] = cast(Any, float)) -> Number:
         """Returns the value of a text as a `float` or an `int`, faster than `read` does. Raises LiteralError if the text is
@@ -1674,6 +1764,8 @@ class Syntax(_Reader):
     integer_group_size: Optional[int] = None
     higher_group_size: Optional[int] = None
     fraction_group_size: Optional[int] = None
+    required_leading_zero: bool = False
+    decimal_first_digit: bool = False
     # End
     # What calls read by: as a syntax, and as one form.
     _by: Any = field(init=False, repr=False, compare=False)
@@ -1771,6 +1863,8 @@ class Syntax(_Reader):
         integer_group_size: Optional[int] = _KEPT,
         higher_group_size: Optional[int] = _KEPT,
         fraction_group_size: Optional[int] = _KEPT,
+        required_leading_zero: bool = _KEPT,
+        decimal_first_digit: bool = _KEPT,
         # End
     ) -> Syntax:
         """Returns the syntax that settings make, such as the lines of a file, and then keyword arguments. Raises
@@ -1851,6 +1945,8 @@ class Syntax(_Reader):
         integer_group_size: Optional[int] = _KEPT,
         higher_group_size: Optional[int] = _KEPT,
         fraction_group_size: Optional[int] = _KEPT,
+        required_leading_zero: bool = _KEPT,
+        decimal_first_digit: bool = _KEPT,
         # End
     ) -> Tuple[Note, ...]:
         """Returns the notes on settings that later ones override, the first 32 alone, and on those that have no effect,
@@ -1903,56 +1999,6 @@ class Syntax(_Reader):
         """
         return _text(_library.regex, self._by, size=_SOURCE_SIZE)
 
-    def format_number(
-        self,
-        value: Union[SupportsIndex, SupportsFloat],
-        *,
-        group: Optional[int] = None,
-        fraction_group: Optional[int] = None,
-        without_base: bool = False,
-        lowercase: bool = False,
-        min_digits: int = 0,
-        keep_leading_zeros: bool = False,
-        exponent: Union[int, str, None] = None,
-    ) -> str:
-        """Returns a number as a literal. Reading the text returns the same value.
-
-            >>> prices = Syntax.of(digit_separator=".", internal_digit_separator=True, point=",")
-            >>> prices.format_number(Decimal("1234567.50"), group=3)
-            '1.234.567,50'
-
-        Takes an int, a float, a Decimal, a `Literal`, or an object with `__index__` or `__float__`, as those of numpy,
-        but no bool. Of a float, the digits are those of `repr`; a Fraction is written exactly. A `Literal` keeps its exponent, and a Decimal has one
-        from 1E+401 on and below 1E-400. Where no exponent is allowed, the point moves, and the text has at most 800
-        bytes.
-
-        The other arguments are wishes: what the syntax forbids is not done, and what it requires is. `group` and
-        `fraction_group` are the numbers of digits in a group of the integer, counted from the right, and of the
-        fraction, counted from the left. If the syntax has a size, this replaces them, also None, for which there are no
-        groups otherwise, but not 0, for which there are none. `without_base` leaves out the base prefix and the base
-        suffix. `lowercase` writes digits in lowercase, and `min_digits` at least so many integer digits, with zeros
-        before the others. `keep_leading_zeros` keeps those of a `Literal` whose point does not move. `exponent` is
-        "never", for a point that moves in place of an exponent, "always", or a number from which on, and below minus
-        which, an exponent is kept, and otherwise moves the point.
-
-        Raises ValueError for NaN and infinity, for a Fraction that no decimal number is equal to, for a sign `-` if no
-        literal has one, for a number that is not whole if literals are integers, for an int if each literal has an
-        exponent, for an int of more than 4300 digits in radix 10, as `str` does, for another mantissa radix than that of
-        the syntax, which is 10 for a float and a Decimal, if the number is not whole or has more than 128 bits, and, of a
-        float, for another exponent base.
-        """
-        sizes = ((group, "group"), (fraction_group, "fraction_group"))
-        groups = (0 if size is None else _number(name, size, 255, "a number from 0 to 254") or 255 for size, name in sizes)
-        flags = (("without_base", without_base), ("lowercase", lowercase), ("keep_leading_zeros", keep_leading_zeros))
-        if exponent is not None and exponent not in ("never", "always"):
-            wish = 3, _number("exponent", exponent, 1 << 32, '"never", "always" or a number from 0 to 4294967295')
-        else:
-            wish = (None, "never", "always").index(exponent), 0
-        flags_of, least = (_typed(name, flag, bool) for name, flag in flags), _number("min_digits", min_digits)
-        style = _Style(*groups, *flags_of, least, *wish)
-        call, number, _literal = _writing(value, self._fields.mantissa_radix)
-        return _written(call, self._by, number, style)
-
     @property
     def _named(self) -> Any:
         return {"": self}
@@ -1968,8 +2014,8 @@ def _written(call: Any, *arguments: Any) -> str:
     raise ValueError(_library.write_description(status).decode())
 
 
-def _writing(value: Any, radix: int) -> Tuple[Any, Any, Optional[Literal[Any]]]:
-    """Returns the call that writes a number, its argument, and the literal to which this points. A longer int than 128
+def _writing(value: Any, radix: int) -> Tuple[str, Any, Optional[Literal[Any]]]:
+    """Returns the name of the call that writes a number, its argument, and the literal to which this points. A longer int than 128
     bits is a literal of the radix."""
     kind = type(value)
     if kind is bool or not (hasattr(kind, "__float__") or hasattr(kind, "__index__")):
@@ -1981,15 +2027,15 @@ def _writing(value: Any, radix: int) -> Tuple[Any, Any, Optional[Literal[Any]]]:
     elif isinstance(value, Decimal) and value.is_finite():
         literal = _DECIMALS.read(str(value) if abs(value.adjusted()) > 400 else f"{value:f}")
     elif not hasattr(kind, "__index__"):
-        return _library.format_f64, float(value), None
+        return "format_f64", float(value), None
     elif -(1 << 127) <= (number := operator.index(value)) < 1 << 127:
-        return _library.format_i128, _I128(number & (1 << 64) - 1, number >> 64), None
+        return "format_i128", _I128(number & (1 << 64) - 1, number >> 64), None
     else:
         rest, digits = (0, format(abs(number), "d" if radix == 10 else "X")) if radix in (10, 16) else (abs(number), "")
         while rest:
             rest, digits = rest // radix, "0123456789ABCDEFGHIJKLMNOPQRSTUVWXYZ"[rest % radix] + digits
         literal = Syntax.integers(Format.of(radix=radix)).read(digits if number > 0 else f"-{digits}")
-    return _library.format_literal, literal._found, literal
+    return "format_literal", literal._found, literal
 
 
 def _decimal_of(value: Fraction) -> Decimal:
@@ -2109,6 +2155,39 @@ class _Several(_Reader):
         return number
 
 
+@dataclass(frozen=True)
+class Kind:
+    """What the literals of a form are worth. Without arguments, it is the number that they represent.
+
+    From 2^at_most on, an integer is too large. From 2^(wraps - 1) on, it is 2^wraps less, and too large from 2^wraps on or,
+    if `modulo` is true, its lowest bits count. A float is the nearest one of 32 bits if `single` is true. Raises ValueError
+    if both numbers are given, or if one is not from 1 to 64.
+
+        >>> forms = Forms([("number", Syntax(Format()))], kinds={"number": Kind(wraps=8, single=True)})
+        >>> forms.parse("200", int), forms.parse("0.1"), languages.JAVA.read("0xffffffff").value
+        (-56, 0.10000000149011612, -1)
+    """
+
+    at_most: Optional[int] = None
+    wraps: Optional[int] = None
+    modulo: bool = False
+    single: bool = False
+
+    def __post_init__(self) -> None:
+        bits = [it for it in (self.at_most, self.wraps) if it is not None]
+        if len(bits) > 1 or not all(1 <= _typed("a number of bits", it, int) <= 64 for it in bits) or self.modulo and self.wraps is None:
+            raise ValueError(f"a kind has one number of bits, from 1 to 64, and `modulo` only with `wraps`: {self}")
+
+    def _numbers(self) -> Tuple[int, int, int]:
+        number = 1 if self.at_most else 0 if not self.wraps else 3 if self.modulo else 2
+        return number, self.at_most or self.wraps or 0, int(self.single)
+
+    @classmethod
+    def _of(cls, form: _Form) -> Kind:
+        number, bits = form.integer_kind, form.integer_bits
+        return cls(bits if number == 1 else None, bits if number > 1 else None, number == 3, bool(form.float_kind))
+
+
 class Forms(_Several, Mapping[str, Syntax]):
     """Several forms of numbers, such as `10` and `0x1F`, and the spellings of NaN and infinity.
 
@@ -2122,8 +2201,9 @@ class Forms(_Several, Mapping[str, Syntax]):
 
     The first form of which a text is a literal decides its parts and its value, so the order matters. If it is a literal
     of none, a spelling may match, by the flags of the first form. A LiteralError is that of the form for which most of
-    the text is right. The syntaxes are had by their names, as in `forms["hexadecimal"]`. Raises ValueError if there are
-    no forms or more than 64, or if two have the same name.
+    the text is right. The syntaxes are had by their names, as in `forms["hexadecimal"]`. `kinds` has the kinds of forms,
+    by their names, and is that of `forms` if these are `Forms`. Raises ValueError if there are no forms or more than 64, if two have the same name, or if there is a
+    kind of no form.
     """
 
     def __init__(
@@ -2133,13 +2213,19 @@ class Forms(_Several, Mapping[str, Syntax]):
         nan: Optional[str] = None,
         inf: Optional[str] = None,
         infinity: Optional[str] = None,
+        kinds: Optional[Mapping[str, Kind]] = None,
     ) -> None:
         pairs = [*(forms.items() if isinstance(forms, Mapping) else forms)]
         self._named = {_typed("a name", name, str): _typed("a form", it, Syntax) for name, it in pairs}
         if not 0 < len(pairs) == len(self) <= _FORMS_MAX:
             raise ValueError(f"there are 1 to {_FORMS_MAX} forms, no two with the same name: {reprlib.repr([it for it, _ in pairs])}")
         self.specials = Specials(nan, inf, infinity)
-        listed = (_Form * len(self))(*(_Form(None, it._by) for it in self.values()))
+        given: Mapping[str, Kind] = forms.kinds if kinds is None and isinstance(forms, Forms) else kinds or {}
+        self.kinds: Dict[str, Kind] = {_typed("a name", name, str): _typed("a kind", it, Kind) for name, it in given.items()}
+        if unknown := [*(self.kinds.keys() - self.keys())]:
+            raise ValueError(f"there is no form with this name: {unknown[0]!r}")
+        of = [(it._by, *self.kinds.get(name, Kind())._numbers()) for name, it in self.items()]
+        listed = (_Form * len(self))(*(_Form(None, *it) for it in of))
         self._made = _Forms(listed, len(self), self.specials._spellings())
         self._forms = c_void_p(addressof(self._made))
 
@@ -2154,7 +2240,8 @@ class Forms(_Several, Mapping[str, Syntax]):
 
     def __repr__(self) -> str:
         spelled = "".join(f", {name}={it!r}" for name, it in vars(self.specials).items() if it)
-        return f"Forms({[*self.items()]}{spelled})"
+        kinds = f", kinds={self.kinds!r}" if self.kinds else ""
+        return f"Forms({[*self.items()]}{spelled}{kinds})"
 
     def __eq__(self, other: object) -> bool:
         return isinstance(other, Forms) and self._key() == other._key()
@@ -2163,10 +2250,10 @@ class Forms(_Several, Mapping[str, Syntax]):
         return hash(self._key())
 
     def _key(self) -> Tuple[Any, ...]:
-        return *self.items(), self.specials
+        return *self.items(), self.specials, *(self.kinds.get(it, Kind()) for it in self)
 
     def __reduce__(self) -> Tuple[Any, ...]:
-        return functools.partial(Forms, **vars(self.specials)), ([*self.items()],)
+        return functools.partial(Forms, **vars(self.specials), kinds=self.kinds), ([*self.items()],)
 
 
 class Language(_Several, _Named):
@@ -2178,13 +2265,15 @@ class Language(_Several, _Named):
     is none. `forms` has the same forms, with the syntax of each by its name, and the spellings of NaN and infinity.
 
     ADA: Ada's decimal literals (Reference Manual 2012, 2.4.1). A format cannot accept based literals, such as
-        `16#FF#`, or accept `1.0E-3` but reject `1E-3`. Forms: decimal.
+        `16#FF#`, or accept `1.0E-3` and `1E3` but reject `1E-3`, which the first form does not write. Forms: decimal;
+        integer with an exponent.
 
     C: C's integer and floating constants (C23, 6.4.4.1 and 6.4.4.2). A format cannot accept `1u`, `1L` and `1.0f`.
         Forms: decimal; octal; hexadecimal; binary; hexadecimal float.
 
     CSS: CSS's numbers, with signs (CSS Syntax Module Level 3, 4.3.12). A format cannot accept a unit, as in `10px` and
-        `5%`. Forms: decimal.
+        `5%`. A token has a word as its unit, but neither `%` nor what follows `-` behind a digit: of `1p2-x`, it is
+        `1p2`. Forms: decimal.
 
     CSV_DE: Numbers in CSV, as German spreadsheets write cells of the format `#.##0,00` (RFC 4180): `1.234,50`. The
         cause of `0.123` is its leading zero, since its groups are right. Forms: decimal.
@@ -2202,8 +2291,8 @@ class Language(_Several, _Named):
         Forms: decimal; hexadecimal; octal; binary.
 
     FORTRAN: Fortran's signed integers and reals (ISO/IEC 1539-1:2018, 7.4.3). A format cannot accept a kind, as in
-        `1.0_8`, or binary, octal and hexadecimal constants, such as `Z'FF'`. Fortran rounds `0.1`, but not `0.1d0`, to
-        single precision. Forms: decimal; double precision.
+        `1.0_8`, or binary, octal and hexadecimal constants, such as `Z'FF'`. Integers have at most 31 bits, and `0.1`,
+        but not `0.1d0`, is an `f32`. Forms: decimal; double precision.
 
     GO: Go's integer and floating-point literals (Language Specification). A format cannot accept `1i`. Forms: decimal;
         octal; hexadecimal; octal, 0o; binary; hexadecimal float.
@@ -2216,39 +2305,44 @@ class Language(_Several, _Named):
         also accepts `_0.1`, which the guide does not. Forms: decimal; hexadecimal; octal; binary.
 
     JAVA: Java's integer and floating-point literals (Language Specification 21, 3.10.1 and 3.10.2). A format cannot
-        accept `1L`, `1f` and `1d`. In Java, a hexadecimal, octal or binary integer from 2^31 on is negative:
-        `0xffffffff` is -1. Forms: decimal; octal; hexadecimal; binary; hexadecimal float.
+        accept `1L`, `1f` and `1d`. Values are those of `int` or, with `L`, of `long`: a hexadecimal, octal or binary
+        integer from 2^31 on is negative, as `0xffffffff`, which is -1. `2147483648`, which is lawful behind the
+        operator `-` alone, is too large. Forms: decimal; octal; hexadecimal; binary; hexadecimal float.
 
     JAVASCRIPT: JavaScript's numeric literals in strict code (ECMA-262, Numeric Literals). A format cannot accept `1n`.
-        JavaScript rounds integers to doubles: `9007199254740993` is 9007199254740992 there. Forms: decimal;
+        JavaScript makes integers doubles, which it rounds from 2^53 on: take their values as `f64`. Forms: decimal;
         hexadecimal; octal; binary.
 
     JSON: JSON's numbers (RFC 8259, 6. Numbers). Forms: decimal.
 
-    JULIA: Julia's integers and floats (Manual 1.11, Integers and Floating-Point Numbers). Julia rounds `0.1f0`, but
-        not `0.1`, to single precision. Forms: decimal; 32 bits; hexadecimal; octal; binary; hexadecimal float.
+    JULIA: Julia's integers and floats (Manual 1.11, Integers and Floating-Point Numbers). `0.1f0`, but not `0.1`, is
+        an `f32`. Forms: decimal; 32 bits; hexadecimal; octal; binary; hexadecimal float.
 
     KOTLIN: Kotlin's integer and real literals (Kotlin language specification 1.9, Literals). A format cannot accept
         `1L`, `1f` and `1u`. Forms: decimal; hexadecimal; binary.
 
-    LUA: Lua's integers and floats (Reference Manual 5.4, 3.1). In Lua, a decimal integer from 2^63 on is a float, and
-        a hexadecimal one keeps its last 64 bits: `0xffffffffffffffff` is -1. Forms: decimal; hexadecimal.
+    LUA: Lua's integers and floats (Reference Manual 5.4, 3.1). In Lua, a decimal integer from 2^63 on is a float: take
+        its value as an `f64`. A hexadecimal one keeps its last 64 bits: `0xffffffffffffffff` is -1. Forms: decimal;
+        hexadecimal.
 
     NASM: NASM's numeric constants (NASM manual, Numeric Constants and Floating-Point Constants). A format cannot
-        accept `$0c8`, `0x_`, `0._` and `1e_`, which have separators alone, or `0h.` and `0op7`, which have no digit;
-        or reject `ffh`, which is a name. NASM keeps the last 64 bits of an integer: `0x10000000000000000` is 0 there.
-        Forms: decimal; decimal, d; decimal, t; hexadecimal, h; hexadecimal, x; octal, o; octal, q; binary, b; binary,
-        y; decimal, 0d; decimal, 0t; hexadecimal, 0h; hexadecimal, 0x; octal, 0o; octal, 0q; binary, 0b; binary, 0y.
+        accept `$0c8`, `0x_`, `0._` and `1e_`, which have separators alone, or `0h.` and `0op7`, which have no digit.
+        NASM keeps the last 64 bits of an integer, with a sign: `0x10000000000000001` is 1, and `0xffffffffffffffff`
+        -1. Forms: decimal; decimal, d; decimal, t; hexadecimal, h; hexadecimal, x; octal, o; octal, q; binary, b;
+        binary, y; decimal, 0d; decimal, 0t; hexadecimal, 0h; hexadecimal, 0x; octal, 0o; octal, 0q; binary, 0b;
+        binary, 0y.
 
     OCAML: OCaml's integers and floats (Manual 5.2, 11.1 Lexical conventions). A format cannot accept `1._`, whose
-        fraction has a separator alone, or `1l`, `1L` and `1n`. In OCaml, an integer has 63 bits, and
-        `0x7fffffffffffffff` is -1. Forms: decimal; hexadecimal; octal; binary.
+        fraction has a separator alone, or `1l`, `1L` and `1n`. An integer has 63 bits, so `0x7fffffffffffffff` is -1.
+        `4611686018427387904`, which is lawful behind the operator `-` alone, is too large. Forms: decimal;
+        hexadecimal; octal; binary.
 
     PHP: PHP's integers and floats (Manual, 8.1 and later, Integers and Floating point numbers). In PHP, an integer
         from 2^63 on is a float. Forms: decimal; octal; hexadecimal; octal, 0o; binary.
 
     PYTHON: Python's integers and floats (Language Reference 3.12, 2.4.5 and 2.4.6). A format cannot accept `00` and
-        reject `01`, or accept `1j`. Forms: decimal; hexadecimal; octal; binary.
+        reject `01`, or accept `1j`. CPython takes the `0o` of `0or x` for a prefix, and refuses it: its token here is
+        `0`. Forms: decimal; hexadecimal; octal; binary.
 
     R: R's numeric constants (R Language Definition 4.2, 10.3.1). A format cannot accept `1L` and `1i`. In R, all are
         doubles: `9007199254740993` is 9007199254740992 there. Forms: decimal; hexadecimal; hexadecimal float.
@@ -2257,7 +2351,9 @@ class Language(_Several, _Named):
         Forms: decimal; octal; hexadecimal; octal, 0o; binary; decimal, 0d.
 
     RUST: Rust's integers and floats (Reference, Integer literals and Floating-point literals). A format cannot accept
-        the suffixes in `0x1F_u8` and `1f32`. Forms: decimal; with a point at the end; hexadecimal; octal; binary.
+        the suffixes in `0x1F_u8` and `1f32`. The token of `0b1.` is `0b1`, but rustc takes the point if neither a
+        second one nor a name follows, and refuses it. Forms: decimal; with a point at the end; hexadecimal; octal;
+        binary.
 
     SQL: SQL's signed numeric literals (ISO/IEC 9075-2:2016, 5.3 `<literal>`). Forms: decimal.
 
@@ -2319,7 +2415,9 @@ class Language(_Several, _Named):
         """The forms of literals, in the order of the documentation, with the spellings of NaN and infinity."""
         made = _Forms.from_address(self._forms.value)
         spelled = {name: it.decode() for name, _ in _Specials._fields_ if (it := getattr(made.specials, name))}
-        forms = Forms([(it.name.decode(), Syntax._of_numbers(it.syntax)) for it in made.forms[: made.count]], **spelled)
+        listed = [(it.name.decode(), Syntax._of_numbers(it.syntax), Kind._of(it)) for it in made.forms[: made.count]]
+        kinds = {name: kind for name, _, kind in listed if kind != Kind()}
+        forms = Forms([it[:2] for it in listed], **spelled, kinds=kinds)
         forms._forms = self._forms
         return forms
 

@@ -62,7 +62,7 @@ static void test_constants(void) {
     CHECK(sizeof(peltzivar_read_error) == 128 && sizeof(peltzivar_literal) == 320 && sizeof(peltzivar_span) == 16);
     CHECK(sizeof(peltzivar_syntax) == 32 && sizeof(peltzivar_explanation) == 48 && sizeof(peltzivar_i128) == 16);
     CHECK(sizeof(peltzivar_form) == 56 && sizeof(peltzivar_forms) == 72);
-    CHECK(sizeof(peltzivar_specials) == 24 && sizeof(peltzivar_special) == 2 && sizeof(peltzivar_style) == 12);
+    CHECK(sizeof(peltzivar_specials) == 24 && sizeof(peltzivar_special) == 2 && sizeof(peltzivar_style) == 16);
     CHECK(sizeof(peltzivar_separators) == 4);
 }
 
@@ -121,9 +121,9 @@ static void test_words(void) {
 }
 
 static void test_syntaxes(void) {
-    static const peltzivar_syntax integers = {PELTZIVAR_STANDARD_INIT, 0, 0, false, false, false, 0, 0, 0, {0}};
-    static const peltzivar_syntax wrong[] = {{{0, 0}, 0, 0, false, false, false, 0, 0, 0, {0}},
-        {PELTZIVAR_STANDARD_INIT, 'e', 0, false, false, false, 0, 0, 0, {0}}, {PELTZIVAR_STANDARD_INIT, 0, 0, true, false, false, 0, 0, 0, {0}}};
+    static const peltzivar_syntax integers = {PELTZIVAR_STANDARD_INIT, 0, 0, false, false, false, 0, 0, 0, false, false, {0}};
+    static const peltzivar_syntax wrong[] = {{{0, 0}, 0, 0, false, false, false, 0, 0, 0, false, false, {0}},
+        {PELTZIVAR_STANDARD_INIT, 'e', 0, false, false, false, 0, 0, 0, false, false, {0}}, {PELTZIVAR_STANDARD_INIT, 0, 0, true, false, false, 0, 0, 0, false, false, {0}}};
     static const peltzivar_error errors[] = {PELTZIVAR_INVALID_MANTISSA_RADIX, PELTZIVAR_INVALID_DECIMAL_POINT, PELTZIVAR_INVALID_BASE_PREFIX};
     static const peltzivar_specials specials = {"1", "1", "1"};
     peltzivar_literal literal;
@@ -161,29 +161,30 @@ static void test_syntaxes(void) {
 static void test_errors(void) {
     static const char *const refused[] = {".5", "1.", "1e", ".", "+1", "1", "1e5", "1e+5", "1e5", "1e5", NULL, NULL, "01", "01.5", "1", "1E5",
         "0X1", "1H", "1_1", "1.5_5", "1e5_5", "_1", "1._5", "1e_5", "1_.5", "1.5_e5", "1e5_h", "1__1", "1.5__5", "1e5__5",
-        "1h", "0x1", "-1", "1_1", "1.1_1", "", "1._", "1e_", "1x"};
+        "1h", "0x1", "-1", "1_1", "1.1_1", "17", ".5", "", "1._", "1e_", "1x"};
     static const char *const others[] = {"required_base_prefix=true", "required_base_suffix=true", "no_negative_mantissa_sign=true",
-        "integer_group_size=3", "fraction_group_size=3", "", "", "", ""};
+        "integer_group_size=3", "fraction_group_size=3", "required_leading_zero=true", "decimal_first_digit=true", "", "", "", ""};
     static const int conditions[] = {PELTZIVAR_CONDITION_REQUIRED_BASE_PREFIX, PELTZIVAR_CONDITION_REQUIRED_BASE_SUFFIX,
-        PELTZIVAR_CONDITION_NO_NEGATIVE_MANTISSA_SIGN, PELTZIVAR_CONDITION_INTEGER_GROUP_SIZE, PELTZIVAR_CONDITION_FRACTION_GROUP_SIZE};
-    char sentences[39][PELTZIVAR_TEXT_SIZE] = {""};
+        PELTZIVAR_CONDITION_NO_NEGATIVE_MANTISSA_SIGN, PELTZIVAR_CONDITION_INTEGER_GROUP_SIZE, PELTZIVAR_CONDITION_FRACTION_GROUP_SIZE,
+        PELTZIVAR_CONDITION_REQUIRED_LEADING_ZERO, PELTZIVAR_CONDITION_DECIMAL_FIRST_DIGIT};
+    char sentences[41][PELTZIVAR_TEXT_SIZE] = {""};
     peltzivar_syntax syntax;
     peltzivar_read_error error, copied;
     peltzivar_explanation why;
-    for (int i = 0; i < 39; i++) {
+    for (int i = 0; i < 41; i++) {
         const int flag = i < 18 ? i : i < 30 ? i + 14 : PELTZIVAR_NO_SETTER;
         const int kind = i < 15 ? PELTZIVAR_KIND_REQUIREMENT : i < 18 ? PELTZIVAR_KIND_CASE : i < 30 ? PELTZIVAR_KIND_SEPARATOR
-            : i < 35 ? PELTZIVAR_KIND_REQUIREMENT : i < 38 ? PELTZIVAR_KIND_MISSING : PELTZIVAR_KIND_BYTE;
+            : i < 37 ? PELTZIVAR_KIND_REQUIREMENT : i < 40 ? PELTZIVAR_KIND_MISSING : PELTZIVAR_KIND_BYTE;
         if (!refused[i]) continue;
         snprintf(text, sizeof text, "digit_separator='_'\ndigit_separator_flags=true\nbase_prefix='x'\nbase_suffix='h'\n%s%s",
             i < 30 ? peltzivar_setter_name((peltzivar_setter)flag) : others[i - 30], i < 18 ? "=true" : i < 30 ? "=false" : "");
         CHECK(make_syntax(text, &syntax) && !peltzivar_read(&syntax, refused[i], strlen(refused[i]), NULL, &error));
         CHECK(peltzivar_explain(&error, &why) && why.kind == kind && why.number == flag && !why.mask.low == (i >= 30));
-        CHECK(why.conditions == (30 <= i && i < 35 ? conditions[i - 30] : 0));
-        CHECK(why.part == (kind == PELTZIVAR_KIND_SEPARATOR ? i % 3 : kind == PELTZIVAR_KIND_MISSING ? i - 35 : PELTZIVAR_NO_PART));
+        CHECK(why.conditions == (30 <= i && i < 37 ? conditions[i - 30] : 0));
+        CHECK(why.part == (kind == PELTZIVAR_KIND_SEPARATOR ? i % 3 : kind == PELTZIVAR_KIND_MISSING ? i - 37 : PELTZIVAR_NO_PART));
         CHECK(peltzivar_read_error_full_text(&error, sentences[i], sizeof sentences[i]) < sizeof sentences[i]);
         const size_t len = peltzivar_read_error_text(&error, text, sizeof text);
-        CHECK(len && !strncmp(sentences[i], text, len) && !strncmp(sentences[i] + len, i < 35 ? ", which " : "", i < 35 ? 8 : 1));
+        CHECK(len && !strncmp(sentences[i], text, len) && !strncmp(sentences[i] + len, i < 37 ? ", which " : "", i < 37 ? 8 : 1));
         for (int j = 0; j < i; j++) CHECK(strcmp(sentences[i], sentences[j]));
     }
     memcpy(&copied, &error, sizeof error), memset(&error, 0, sizeof error);
@@ -293,8 +294,8 @@ static void test_columns(void) {
 
 /* Numbers are written as literals, and a buffer that is too short has the beginning. */
 static void test_writing(void) {
-    static const peltzivar_style styles[] = {{3, 0, false, false, false, 0, 0, 0}, {3, 0, true, false, false, 0, 0, 0}}, bare = {0, 0, true, false, false, 0, 0, 0};
-    static const peltzivar_style ones = {1, 1, false, false, false, 255, PELTZIVAR_STYLE_ALWAYS, 0};
+    static const peltzivar_style styles[] = {{3, 0, false, false, false, 0, 0, 0, false, false, 0}, {3, 0, true, false, false, 0, 0, 0, false, false, 0}}, bare = {0, 0, true, false, false, 0, 0, 0, false, false, 0};
+    static const peltzivar_style ones = {1, 1, false, false, false, 255, PELTZIVAR_STYLE_ALWAYS, 0, false, false, 0};
     static const peltzivar_i128 least = {0, INT64_MIN}, wide = {1234567, 0};
     const peltzivar_syntax json = first_form("JSON"), english = first_form("CSV_EN"), c = first_form("C");
     char integer[PELTZIVAR_INTEGER_SIZE], real[PELTZIVAR_FLOAT_SIZE];
@@ -340,40 +341,108 @@ static void test_writing(void) {
     CHECK(!strcmp(text, "-1234.5") && text[8] == '#');
 }
 
-/* A style is a wish, and a special value is the first of its spellings that is read back. */
+/* The rows of what is written, and the errors behind `!` in the order of their statuses. */
+static const char *rows = NULL;
+static const char *const write_errors[] = {"", "Radix", "Negative", "Fraction", "Exponent", "Float", "Special", "Buffer", "", "Long", "ReadBack"};
+
+/* Returns a cell of a row without spaces around it, and leaves the rest. */
+static char *cell(char **rest) {
+    char *const start = *rest + strspn(*rest, " "), *const end = start + strcspn(start, "|\n");
+    *rest = end + (*end != 0);
+    *end = 0;
+    for (char *last = end; last > start && last[-1] == ' ';) *--last = 0;
+    return start;
+}
+
+/* Writes the syntax with the settings of a cell, in which no digits are required unless they say so. */
+static bool syntax_of(const char *settings, peltzivar_syntax *syntax) {
+    char lines[256] = "required_digits=false\n";
+    strcat(lines, settings);
+    for (char *it = lines; *it; it++) *it = *it == ' ' ? '\n' : *it;
+    return make_syntax(lines, syntax);
+}
+
+/* Returns the style of wishes. */
+static peltzivar_style style_of(const char *wishes) {
+    peltzivar_style style = {0, 0, false, false, false, 0, 0, 0, false, false, 0};
+    const char *const group = strstr(wishes, "fraction_group="), *const least = strstr(wishes, "min_digits="), *const power = strstr(wishes, "exponent=");
+    if (!strncmp(wishes, "group=", 6)) style.group = wishes[6] == '0' ? PELTZIVAR_NO_GROUPS : (uint8_t)(wishes[6] - '0');
+    if (group) style.fraction_group = (uint8_t)(group[15] - '0');
+    if (least) style.min_digits = (uint8_t)(least[11] - '0');
+    style.without_base = strstr(wishes, "without_base=true") != NULL, style.lowercase = strstr(wishes, "lowercase=true") != NULL;
+    style.keep_leading_zeros = strstr(wishes, "keep_leading_zeros=true") != NULL;
+    if (power) style.exponent = power[9] == 'n' ? PELTZIVAR_STYLE_NEVER : power[9] == 'a' ? PELTZIVAR_STYLE_ALWAYS : PELTZIVAR_STYLE_FROM;
+    if (style.exponent == PELTZIVAR_STYLE_FROM) style.exponent_from = (uint32_t)(power[9] - '0');
+    return style;
+}
+
+/* Literals are written as the rows say, and a special value is the first of its spellings that is read back. */
 static void test_styles(void) {
-    static const struct {
-        const char *text, *settings, *wanted;
-        peltzivar_style style;
-    } rows[] = {
-        {"12345.6789", "digit_separator='_'\ninternal_digit_separator=true", "12_345.678_9", {3, 3, false, false, false, 0, 0, 0}},
-        {"12345.6789", "", "12345.6789", {3, 3, false, false, false, 0, 0, 0}},
-        {"1234567", "digit_separator='_'\ninternal_digit_separator=true\ninteger_group_size=3", "1_234_567", {0, 0, false, false, false, 0, 0, 0}},
-        {"1234567", "digit_separator='_'\ninternal_digit_separator=true\ninteger_group_size=3", "1234567", {PELTZIVAR_NO_GROUPS, 0, false, false, false, 0, 0, 0}},
-        {"171", "radix=16\nbase_prefix='x'\nexponent='p'", "0x0ab", {0, 0, false, true, false, 3, 0, 0}},
-        {"7", "no_integer_leading_zeros=true", "7", {0, 0, false, false, false, 3, 0, 0}},
-        {"007.5", "", "007.5", {0, 0, false, false, true, 0, 0, 0}},
-        {"1.2e3", "", "1200", {0, 0, false, false, false, 0, PELTZIVAR_STYLE_NEVER, 0}},
-        {"1e800", "", "1e800", {0, 0, false, false, false, 0, PELTZIVAR_STYLE_NEVER, 0}},
-        {"1200", "", "1200e0", {0, 0, false, false, false, 0, PELTZIVAR_STYLE_ALWAYS, 0}},
-        {"1.2e2", "", "120", {0, 0, false, false, false, 0, PELTZIVAR_STYLE_FROM, 3}},
-        {"1.2e3", "", "1.2e3", {0, 0, false, false, false, 0, PELTZIVAR_STYLE_FROM, 3}},
-    };
     static const peltzivar_specials specials = {"nan", "nan", "inf"};
     static const peltzivar_special minus = {PELTZIVAR_SPELLING_INF, '-'}, none = {0, 0};
+    static const struct {
+        double value;
+        const char *wanted;
+        peltzivar_style style;
+    } floats[] = {
+        {1234.005, "1234.01", {0, 0, false, false, false, 0, 0, 0, false, true, 2}},
+        {2.5, "2", {0, 0, false, false, false, 0, 0, 0, false, true, 0}},
+        {-0.004, "-0.00", {0, 0, false, false, false, 0, 0, 0, false, true, 2}},
+        {99999, "1.00e5", {0, 0, false, false, false, 0, PELTZIVAR_STYLE_ALWAYS, 0, false, true, 2}},
+        {1e16, "1.0e16", {0, 0, false, false, false, 0, 0, 0, true, false, 0}},
+    };
+    FILE *const file = rows ? fopen(rows, "r") : NULL;
     peltzivar_syntax source, target;
     peltzivar_literal literal;
     size_t needed = 7;
-    CHECK(make_syntax("", &source));
-    for (size_t i = 0; i < sizeof rows / sizeof *rows; i++) {
-        CHECK(make_syntax(rows[i].settings, &target) && peltzivar_read(&source, rows[i].text, strlen(rows[i].text), &literal, NULL));
-        CHECK(!peltzivar_format_literal(&target, &literal, &rows[i].style, text, sizeof text, NULL) && !strcmp(text, rows[i].wanted));
+    char line[256];
+    CHECK(!rows == !file);
+    while (file && fgets(line, sizeof line, file)) {
+        char *rest = line, *const given = *line == '#' || *line == '\n' ? NULL : cell(&rest);
+        if (!given) continue;
+        CHECK(syntax_of(cell(&rest), &source) && syntax_of(cell(&rest), &target) && peltzivar_read(&source, given, strlen(given), &literal, NULL));
+        const peltzivar_style style = style_of(cell(&rest));
+        const char *const wanted = cell(&rest);
+        const int status = peltzivar_format_literal(&target, &literal, &style, text, sizeof text, NULL);
+        CHECK(*wanted == '!' ? status && !strcmp(write_errors[status], wanted + 1) : !status && !strcmp(text, wanted));
     }
+    if (file) fclose(file);
+    CHECK(make_syntax("", &source));
+    for (size_t i = 0; i < sizeof floats / sizeof *floats; i++)
+        CHECK(!peltzivar_format_f64(&source, floats[i].value, &floats[i].style, text, sizeof text, NULL) && !strcmp(text, floats[i].wanted));
     CHECK(!peltzivar_format_special(&source, &specials, minus, text, sizeof text, &needed) && !strcmp(text, "-inf") && needed == 5);
     CHECK(peltzivar_format_special(&source, &specials, none, text, sizeof text, &needed) == PELTZIVAR_WRITE_SPECIAL && needed == 5);
     CHECK(make_syntax("no_special=true", &target));
     CHECK(peltzivar_format_special(&target, &specials, minus, text, sizeof text, NULL) == PELTZIVAR_WRITE_SPECIAL);
 }
+
+/* Forms write what they read as the same number. */
+static void test_choice(void) {
+    static const peltzivar_i128 wide = {0, 1};
+    const peltzivar_forms *const c = language("C"), *const python = language("PYTHON");
+    peltzivar_form own[2] = {python->forms[0], python->forms[0]};
+    peltzivar_literal literal;
+    size_t needed = 7;
+    CHECK(make_syntax("radix=16\nexponent=none\npoint=none", &own[0].syntax));
+    const peltzivar_forms forms = forms_of(own, 2);
+    CHECK(peltzivar_forms_read(c, "0x1.8p1", 7, &literal, NULL));
+    CHECK(!peltzivar_forms_format_literal(python, &literal, NULL, text, 2, &needed) && !strcmp(text, "3") && needed == 2);
+    CHECK(!peltzivar_forms_format_literal(c, &literal, NULL, text, sizeof text, NULL) && !strcmp(text, "0x1.8p1"));
+    CHECK(peltzivar_forms_format_literal(python, &literal, NULL, text, 1, &needed) == PELTZIVAR_WRITE_BUFFER && needed == 2 && !*text);
+    /* Decimal digits are hexadecimal ones. */
+    CHECK(!peltzivar_forms_format_i64(&forms, 300, NULL, text, sizeof text, NULL) && !strcmp(text, "12C"));
+    CHECK(!peltzivar_forms_format_u64(&forms, 7, NULL, text, sizeof text, NULL) && !strcmp(text, "7"));
+    CHECK(!peltzivar_forms_format_i128(&forms, wide, NULL, text, sizeof text, NULL) && !strcmp(text, "10000000000000000"));
+    CHECK(!peltzivar_forms_format_f64(&forms, 0.1, NULL, text, sizeof text, NULL) && !strcmp(text, "0.1"));
+    CHECK(peltzivar_forms_read(python, "340282366920938463463374607431768211456", 39, &literal, NULL));
+    CHECK(peltzivar_forms_format_literal(&forms, &literal, NULL, text, sizeof text, NULL) == PELTZIVAR_WRITE_READ_BACK);
+    CHECK(peltzivar_forms_format_i64(c, -1, NULL, text, sizeof text, NULL) == PELTZIVAR_WRITE_NEGATIVE);
+    CHECK(peltzivar_forms_format_f64(c, HUGE_VAL, NULL, text, sizeof text, NULL) == PELTZIVAR_WRITE_SPECIAL);
+    CHECK(peltzivar_forms_format_i64(NULL, 1, NULL, text, sizeof text, NULL) == PELTZIVAR_WRITE_ARGUMENT);
+    memset(&literal, 0, sizeof literal);
+    CHECK(peltzivar_forms_format_literal(c, &literal, NULL, text, sizeof text, NULL) == PELTZIVAR_WRITE_ARGUMENT);
+}
+
 /* Returns whether two errors are the same. */
 static bool is_same_error(const peltzivar_read_error *error, const peltzivar_read_error *other) {
     peltzivar_explanation whys[2];
@@ -462,29 +531,50 @@ static void test_forms(void) {
         peltzivar_forms refused = most;
         if (i < sizeof most.reserved) ((uint8_t *)refused.reserved)[i] = 1;
         else if (of_form < sizeof list->reserved) ((uint8_t *)list[63].reserved)[of_form] = 1;
-        else if (of_syntax < sizeof names.reserved) list[63].syntax.reserved[of_syntax] = 1;
-        else if (of_syntax == sizeof names.reserved) refused.count = 0;
-        else if (of_syntax == sizeof names.reserved + 1) refused.count = 65;
-        else if (of_syntax == sizeof names.reserved + 2) refused.forms = NULL;
-        const peltzivar_forms *const by = of_syntax == sizeof names.reserved + 3 ? NULL : &refused;
+        else if (of_syntax < sizeof list->syntax.reserved) list[63].syntax.reserved[of_syntax] = 1;
+        else if (of_syntax == sizeof list->syntax.reserved) refused.count = 0;
+        else if (of_syntax == sizeof list->syntax.reserved + 1) refused.count = 65;
+        else if (of_syntax == sizeof list->syntax.reserved + 2) refused.forms = NULL;
+        const peltzivar_forms *const by = of_syntax == sizeof list->syntax.reserved + 3 ? NULL : &refused;
         const int64_t offsets[] = {0, 1};
         uint8_t status = 7;
-        CHECK(peltzivar_forms_read(&most, "1", 1, &literal, NULL) == (i < sizeof most.reserved || i >= sizeof most.reserved + sizeof list->reserved + sizeof names.reserved));
+        CHECK(peltzivar_forms_read(&most, "1", 1, &literal, NULL) == (i < sizeof most.reserved || i >= sizeof most.reserved + sizeof list->reserved + sizeof list->syntax.reserved));
         CHECK(!peltzivar_forms_read(by, "1", 1, &literal, NULL) && !peltzivar_forms_read_special(by, "nan", 3, &special));
         CHECK(!peltzivar_forms_read_prefix(by, "1", 1, &literal, &error) && error.valid_up_to == 0 && !peltzivar_explain(&error, NULL));
-        CHECK(WRITES("the forms are null, not 1 to 64, or have reserved members", peltzivar_read_error_text(&error, text, sizeof text)));
+        CHECK(WRITES("the forms are null, not 1 to 64, or have an unknown kind or reserved members", peltzivar_read_error_text(&error, text, sizeof text)));
         CHECK(peltzivar_parse_f64(by, "1", 1, &real, &error) == PELTZIVAR_VALUE_REFUSED && !peltzivar_explain(&error, NULL));
         CHECK(peltzivar_parse_i64_column(by, "1", offsets, 1, &value, &status) == 1 && status == PELTZIVAR_VALUE_REFUSED);
         list[63] = kept;
     }
     CHECK(value == 1105034 && real == -HUGE_VAL && peltzivar_forms_read(&most, "1", 1, &literal, NULL));
+    /* A form has the value of its kind, and is refused if there is none with these numbers. */
+    for (uint8_t kind = 0; kind < 5; kind++) {
+        for (uint8_t bits = 0; bits < 66; bits++) {
+            const peltzivar_forms one = forms_of(list, 1);
+            list[0].integer_kind = kind, list[0].integer_bits = bits;
+            const bool is_kind = kind == 0 ? bits == 0 : kind < 4 && bits >= 1 && bits <= 64;
+            CHECK(peltzivar_forms_read(&one, "200", 3, &literal, NULL) == is_kind);
+            if (bits != 8 || !is_kind) continue;
+            CHECK(!peltzivar_to_i64(&literal, &value) && value == (kind == 1 ? 200 : -56) && !peltzivar_to_f64(&literal, &real) && real == (double)value);
+            CHECK(peltzivar_parse_i64(&one, "300", 3, &value, NULL) == (kind == 3 ? PELTZIVAR_VALUE_OK : PELTZIVAR_VALUE_TOO_LARGE));
+            CHECK(peltzivar_parse_f64(&one, "-300", 4, &real, NULL) == (kind == 3 ? PELTZIVAR_VALUE_OK : PELTZIVAR_VALUE_TOO_SMALL));
+        }
+    }
+    list[0].integer_kind = 0, list[0].integer_bits = 0, list[0].float_kind = 2;
+    const peltzivar_forms one = forms_of(list, 1);
+    CHECK(!peltzivar_forms_read(&one, "1", 1, &literal, NULL));
+    list[0].float_kind = PELTZIVAR_FLOATS_SINGLE;
+    CHECK(!peltzivar_parse_f64(&one, "0.1", 3, &real, NULL) && real == (double)0.1f);
+    CHECK(!peltzivar_parse_f64(language("FORTRAN"), "0.1", 3, &real, NULL) && real == (double)0.1f);
+    CHECK(!peltzivar_parse_i64(language("JAVA"), "0xffffffff", 10, &value, NULL) && value == -1);
+    CHECK(language("JAVA")->forms[0].integer_kind == PELTZIVAR_INTEGERS_AT_MOST && language("JAVA")->forms[0].integer_bits == 31);
 }
 
 /* A null pointer with a length of 0 is accepted as an empty array, and a null pointer to output is not written to. Input
  * that is longer than an object can be is not read. */
 static void test_null(void) {
     peltzivar_fields fields = PELTZIVAR_NEW_FIELDS;
-    peltzivar_syntax syntax = {{1, 2}, 3, 4, true, true, true, 7, 0, 0, {0}};
+    peltzivar_syntax syntax = {{1, 2}, 3, 4, true, true, true, 7, 0, 0, true, true, {0}};
     peltzivar_word word = {1, 2};
     peltzivar_edit edit = {104, 16};
     size_t to[] = {7, 7};
@@ -546,6 +636,8 @@ static void test_misuse(void) {
                 + peltzivar_read_prefix(by, bytes, len, to, stopped));
             sum += peltzivar_read_special(by, &specials, bytes, len, (peltzivar_special *)(out + shift));
             sum += peltzivar_format_i64(by, INT64_MIN, style, text, sizeof text, (size_t *)(out + shift)) + peltzivar_format_f64(by, 1.5, style, text, 0, NULL);
+            sum += (size_t)(peltzivar_forms_format_i64(forms, 1, style, text, 9, NULL) + peltzivar_forms_format_f64(forms, 0.5, style, text, 9, NULL)
+                + peltzivar_forms_format_literal(forms, literal, style, text, 9, NULL));
             sum += peltzivar_format_u64(by, 7, style, text, 9, NULL) + peltzivar_format_literal(by, literal, style, text, sizeof text, NULL);
         }
         sum += (size_t)(peltzivar_to_i64(literal, (int64_t *)out) + peltzivar_to_u64(literal, NULL)
@@ -571,14 +663,15 @@ static void test_misuse(void) {
 static void *test_all(void *unused) {
     for (int i = 0; i < 5; i++) {
         test_constants(), test_setters(), test_words(), test_syntaxes(), test_errors(), test_groups(), test_values(), test_columns();
-        test_writing(), test_styles(), test_languages(), test_forms(), test_null(), test_misuse();
+        test_writing(), test_styles(), test_choice(), test_languages(), test_forms(), test_null(), test_misuse();
     }
     return unused;
 }
 
-/* Four threads call the functions at the same time. */
-int main(void) {
+/* Four threads call the functions at the same time. The argument is the file of rows. */
+int main(int count, char **arguments) {
     pthread_t threads[4];
+    if (count > 1) rows = arguments[1];
     for (int i = 0; i < 4; i++) CHECK(!pthread_create(&threads[i], NULL, test_all, NULL));
     for (int i = 0; i < 4; i++) CHECK(!pthread_join(threads[i], NULL));
     return failed;

@@ -111,7 +111,7 @@ static bool draw_syntax(peltzivar_word word, peltzivar_syntax *syntax) {
     while (peltzivar_check(word) && draw() % 9) word = draw_word();
     const uint8_t *const drawn = options[draw() % 8];
     const peltzivar_syntax of = {word, drawn[0], drawn[1], draw() % 8 == 0, draw() % 8 == 0, draw() % 8 == 0,
-        draw_size(), draw_size(), draw_size(), {0}};
+        draw_size(), draw_size(), draw_size(), draw() % 8 == 0, draw() % 8 == 0, {0}};
     *syntax = of;
     /* Other bytes, of which several may be the same. Most have the radixes as before. */
     for (uint64_t count = draw() % 2 ? 0 : draw() % 48, all = draw(); count > 0; count--) {
@@ -207,7 +207,7 @@ static void test_literals(peltzivar_word word) {
     if (is_read) CHECK_LAWFUL(!memcmp(&literal.sign, &literal_before.sign, offsetof(peltzivar_literal, is_float) - offsetof(peltzivar_literal, sign)));
     if (is_explained) CHECK_LAWFUL(peltzivar_explain(&error_before, &why_normal) && !memcmp(&why, &why_normal, sizeof why));
     /* A lawful syntax as a form reads the same, and a column has the values of its texts. */
-    const peltzivar_form form = {"it", syntax, {0}};
+    const peltzivar_form form = {"it", syntax, 0, 0, 0, {0}};
     const peltzivar_forms forms = {&form, 1, {NULL, NULL, NULL}, NULL, {0}};
     const int64_t offsets[] = {0, (int64_t)len, (int64_t)len};
     double values[3] = {7, 7, 7};
@@ -260,7 +260,7 @@ static void test_lines(void) {
     }
     if (len && draw() % 4 == 0) text[draw() % len] = (char)draw();
     char *const from = copy(len);
-    peltzivar_syntax syntax = {{1, 2}, 3, 4, true, true, true, 7, 0, 0, {0}};
+    peltzivar_syntax syntax = {{1, 2}, 3, 4, true, true, true, 7, 0, 0, true, true, {0}};
     const size_t problems = peltzivar_read_settings(from, len, &syntax);
     CHECK(problems ? syntax.format.low == 1 && syntax.integer_group_size == 7 : !peltzivar_check_syntax(&syntax));
     for (size_t index = 0; index == 0 || *text; index++) {

@@ -12,6 +12,7 @@ TESTS = pathlib.Path(__file__).resolve().parent
 C, TOP = TESTS.parent, TESTS.parent.parent
 SHARED = pathlib.Path(os.environ["PELTZIVAR_LIBRARY"]).absolute()
 ARCHIVE = SHARED.with_suffix(".a")
+ROWS = TESTS.parents[1] / "rust/tests/writing.txt"
 HEADER = (C / "peltzivar.h").read_text()
 STRICT = ["-Wall", "-Wextra", "-Wpedantic", "-Wconversion", "-Wshadow", "-Werror", "-pthread", "-I", C]
 SANITIZERS = ["-g", "-fsanitize=address,undefined", "-fno-sanitize-recover=all"]
@@ -58,7 +59,7 @@ class Programs(unittest.TestCase):
                         self.skipTest(compiler)
                     language = ["-x", "c++"] if "++" in compiler else []
                     self.made(compiler, f"-std={standard}", *STRICT, *language, "-c", TESTS / "calls.c", name="calls.o")
-                    self.assertEqual(run(self.made(compiler, "-pthread", self.folder / "calls.o", ARCHIVE)), ("", 0))
+                    self.assertEqual(run(self.made(compiler, "-pthread", self.folder / "calls.o", ARCHIVE), ROWS), ("", 0))
 
     def test_the_calls_are_sound_with_the_checks_of_rust(self):
         build = self.folder / "checked"
@@ -67,7 +68,7 @@ class Programs(unittest.TestCase):
         on["CARGO_BUILD_TARGET"] = target
         command = ["make", "-s", "--no-print-directory", "-C", C, f"BUILD={build}", "build"]
         self.assertEqual(run(*command, env={**os.environ, **on}), ("", 0))
-        for name, *arguments in (["calls"], ["fuzz", "20000"]):
+        for name, *arguments in (["calls", ROWS], ["fuzz", "20000"]):
             program = self.made("cc", *STRICT, *SANITIZERS, TESTS / f"{name}.c", build / target / "release" / ARCHIVE.name)
             self.assertEqual(run(program, *arguments), ("", 0))
 
@@ -78,7 +79,7 @@ class Programs(unittest.TestCase):
         self.assertEqual(run("nm", "-gD", "--defined-only", library), ("", 0))
 
     def test_the_library_is_small_and_a_program_has_the_language_that_it_names(self):
-        self.assertLessEqual(SHARED.stat().st_size, 300_000)
+        self.assertLessEqual(SHARED.stat().st_size, 316_000)
         sizes = []
         for forms in ("language_c()", 'language("C", 1)'):
             code = f'double it; return peltzivar_parse_f64(peltzivar_{forms}, "0x1.8p3", 7, &it, NULL) || it != 12;'

@@ -80,6 +80,8 @@ PHRASES = {
     "base_prefix='b' required_base_prefix=true no_integer_leading_zeros=true": ["prefix `0b`"],
     "base_suffix='h' required_base_suffix=true": ["suffix `h`"],
     "no_negative_mantissa_sign=true": ["no `-`"],
+    "required_leading_zero=true": ["leading zero required"],
+    "decimal_first_digit=true": ["first digit decimal"],
     "internal_digit_separator=true integer_group_size=4": ["`_` between groups of four", "`_` between digits in the fraction and the exponent"],
     "integer_internal_digit_separator=true integer_group_size=3 higher_group_size=2": ["`_` between groups of two and a last one of three"],
     "fraction_internal_digit_separator=true fraction_group_size=5": ["`_` between groups of five in the fraction"],

@@ -28,7 +28,7 @@ TESTS = pathlib.Path(__file__).resolve().parent
 TOP = TESTS.parent.parent
 sys.path.insert(0, str(TESTS.parent))
 import peltzivar
-from peltzivar import Edit, Error, Format, FormatError, FormatView, Forms, Language, LiteralError, OptionsError, Part, ReadErrorKind
+from peltzivar import Edit, Error, Format, FormatError, FormatView, Forms, Kind, Language, LiteralError, OptionsError, Part, ReadErrorKind
 from peltzivar import Role, Rule, Setter, SettingsError, Special, Specials, Spelling, Syntax, languages, notes_of
 
 PAGE = (TOP / "docs/FORMAT.md").read_text()
@@ -266,12 +266,13 @@ class Literals(unittest.TestCase):
     def test_conditions(self):
         fields = {"base_prefix": "x", "base_suffix": "h", "digit_separator": ",", "internal_digit_separator": True}
         conditions = {"required_base_prefix": "1h", "required_base_suffix": "0x1", "no_negative_mantissa_sign": "-0x1h", "integer_group_size": "0x12,34h", "fraction_group_size": "0x1.2,3h"}
-        settings = {name: 3 if "group" in name else True for name in peltzivar._CONDITIONS}
+        first = {"required_leading_zero": "17", "decimal_first_digit": ".5"}
+        settings = {name: 3 if "group" in name else True for name in peltzivar._CONDITIONS if name not in first}
         syntax = Syntax.of(**fields, **settings)
         for it in (syntax, eval(repr(syntax)), pickle.loads(pickle.dumps(syntax)), Syntax(Format.of(**fields), **settings)):
             self.assertEqual((it, it.read("0x1,234.5e-1h").value), (syntax, 123.45))
             self.assertNotEqual(it, Syntax.of(**fields))
-        for name, text in conditions.items():
+        for name, text, syntax in [*((*it, syntax) for it in conditions.items()), *((*it, Syntax.of(**{it[0]: True})) for it in first.items())]:
             with self.assertRaises(LiteralError) as caught:
                 syntax.read(text)
             error = pickle.loads(pickle.dumps(caught.exception))
@@ -290,18 +291,15 @@ class Literals(unittest.TestCase):
             self.assertEqual(german.format_number(value, group=3), text)
             if not isinstance(value, (peltzivar.Literal, FormatView)):
                 self.assertEqual(german.read(text).decimal(), Decimal(repr(value)) if isinstance(value, float) else value)
-        for text, value in [("1.2E3", "1,200"), ("12.50E1", "125"), ("0E5", "0"), ("1.50", "1.50"), ("1E-7", "0.0000001")]:
-            self.assertEqual(Language.CSV_EN.forms["decimal"].format_number(Language.JSON.read(text)), value)
         grouped = Syntax.of(digit_separator="_", internal_digit_separator=True, integer_group_size=3)
         for number, style, text in (
             (Decimal("1234567.6789"), {"fraction_group": 3}, "1_234_567.678_9"),
             (1234567, {"group": 0}, "1234567"),
             (7, {"min_digits": 3}, "007"),
-            (grouped.read("007"), {"keep_leading_zeros": True}, "007"),
-            (grouped.read("1.2e3"), {"exponent": "never"}, "1_200"),
-            (grouped.read("1.2e3"), {"exponent": 3}, "1.2e3"),
-            (grouped.read("1.2e3"), {"exponent": 4}, "1_200"),
             (1200, {"exponent": "always"}, "1_200e0"),
+            (1234.005, {"decimals": 2}, "1_234.01"),
+            (-0.004, {"decimals": 2}, "-0.00"),
+            (1e16, {"point": True}, "1.0e16"),
         ):
             self.assertEqual(grouped.format_number(number, **style), text)
         self.assertEqual(hexadecimal.format_number(171, lowercase=True), "0xab")
@@ -315,6 +313,37 @@ class Literals(unittest.TestCase):
         wrong = [(german, math.inf, "NaN or infinity"), (german, Decimal("NaN"), "NaN or infinity"), (hexadecimal, Decimal("1.5"), "radix")]
         for syntax, value, sentence in [*wrong, (Syntax.integers(Format()), 1.5, "not whole"), (Language.C.forms["octal"], -1, "'-'")]:
             self.assertRaisesRegex(ValueError, sentence, syntax.format_number, value)
+
+    def test_literals_are_written_as_the_rows_say(self):
+        errors = {"Radix": "radix", "Negative": "sign '-'", "Fraction": "not whole", "Exponent": "no literal has an exponent", "Long": "800 bytes"}
+        known = {"true": True, "never": "never", "always": "always"}
+        lines = (TOP / "rust/tests/writing.txt").read_text().splitlines()
+        for line in [line for line in lines if line and not line.startswith("#")]:
+            text, source, target, wishes, wanted = (cell.strip() for cell in line.split("|"))
+            literal = Syntax.of("required_digits=false", *source.split()).read(text)
+            target = Syntax.of("required_digits=false", *target.split())
+            style = {name: known.get(value) or int(value) for name, value in (it.split("=") for it in wishes.split())}
+            with self.subTest(line):
+                if wanted.startswith("!"):
+                    self.assertRaisesRegex(ValueError, errors[wanted[1:]], target.format_number, literal, **style)
+                else:
+                    self.assertEqual(target.format_number(literal, **style), wanted)
+
+    def test_forms_write_what_they_read_as_the_same_number(self):
+        hexadecimal = Syntax.of("radix=16", "exponent=none", "point=none")
+        forms = Forms({"hexadecimal": hexadecimal, "decimal": Syntax(Format())}, nan="nan", inf="inf")
+        # Decimal digits are hexadecimal ones.
+        for number, text in ((300, "12C"), (7, "7"), (-0.1, "-0.1"), (math.nan, "nan"), (-math.inf, "-inf"), (Decimal("1.50"), "1.50"), (2**200, None)):
+            with self.subTest(number):
+                if text is None:
+                    self.assertRaisesRegex(ValueError, "read as another number", forms.format_number, number)
+                else:
+                    self.assertEqual(forms.format_number(number), text)
+        for source, text, target, wanted in (("C", "0x1p3", "PYTHON", "8"), ("C", "0x1.8p1", "JAVA", "0x1.8p1"), ("PYTHON", "0o17", "C", "017")):
+            self.assertEqual(Language[target].format_number(Language[source].read(text)), wanted)
+        self.assertEqual(Language.C.format_number(1234567, group=3), "1'234'567")
+        for language, number, sentence in ((Language.C, -1, "sign '-'"), (Language.C, math.inf, "NaN or infinity"), (Language.JSON, Language.C.read("0x1p-3"), "radix")):
+            self.assertRaisesRegex(ValueError, sentence, language.format_number, number)
 
     def test_a_locale_plays_no_role(self):
         """Tests C, too, which is in the same process."""
@@ -420,6 +449,26 @@ class Literals(unittest.TestCase):
         for language in Language:
             copied = Forms(language.forms, **vars(language.specials))
             self.assertEqual((copied, copied.specials), (language.forms, language.specials))
+
+    def test_a_literal_has_the_value_of_its_kind(self):
+        java, syntax = languages.JAVA, Syntax(Format())
+        rows = {"0xffffffff": -1, "0x7fffffff": 2147483647, "037777777777": -1, "2147483647": 2147483647}
+        for text, value in rows.items():
+            literal = java.read(text)
+            self.assertEqual([literal.value, int(literal), float(literal), java.parse(text, int), java.parse(text)], [value] * 5)
+        literal = java.read("0xffffffff")
+        self.assertEqual((literal.digits(Part.INTEGER), literal.decimal(), literal.fraction()), ("ffffffff", 2**32 - 1, 2**32 - 1))
+        self.assertEqual(languages.RUBY.forms["decimal"].format_number(literal), "-1")
+        for call in (int, float, lambda it: java.parse(it.text, int), lambda it: it.value, languages.RUBY.forms["decimal"].format_number):
+            self.assertRaisesRegex(ValueError, "too large|above", call, java.read("3000000000"))
+        self.assertEqual(languages.FORTRAN.read("0.1").value, 0.10000000149011612)
+        of = lambda *bits, **kind: Forms({"": syntax}, kinds={"": Kind(*bits, **kind)})
+        self.assertEqual([of(wraps=8).parse("200", int), of(wraps=8, modulo=True).parse("456", int), of(64).parse(str(2**64 - 1), int)], [-56, -56, 2**64 - 1])
+        self.assertNotEqual(of(8).read("1"), syntax.read("1"))
+        self.assertEqual(pickle.loads(pickle.dumps(of(wraps=8))), of(wraps=8))
+        for wrong in ({"at_most": 0}, {"wraps": 65}, {"at_most": 8, "wraps": 8}, {"modulo": True}):
+            self.assertRaises(ValueError, Kind, **wrong)
+        self.assertRaises(ValueError, Forms, {"": syntax}, kinds={"x": Kind(8)})
 
     def test_special_values(self):
         for text, wanted in (("+inf", "+INF"), (b"-nan", "-NAN"), ("inf", "INF")):

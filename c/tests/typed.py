@@ -3,9 +3,9 @@ with values."""
 from array import array
 from decimal import Decimal
 from fractions import Fraction
-from typing import Optional, Sequence, Tuple, Union
+from typing import Dict, Optional, Sequence, Tuple, Union
 
-from peltzivar import Column, ColumnError, Edit, Error, Format, FormatError, FormatView, Forms, Literal, LiteralError, Note
+from peltzivar import Column, ColumnError, Edit, Error, Format, FormatError, FormatView, Forms, Kind, Literal, LiteralError, Note
 from peltzivar import OptionsError, Part, Parts, ReadErrorKind, Reason, ReasonsError, Role, Rule, Separators, Setter
 from peltzivar import SettingsError, Special, Specials, Spelling, Syntax, WrongCell, languages, notes_of
 
@@ -31,6 +31,7 @@ syntax: Syntax = Syntax.of("radix = 10", digit_separator="_", internal_digit_sep
 integers: Syntax = Syntax.integers(format)
 others: Tuple[Union[int, str, bytes, None], Union[int, str, bytes, None], Format] = syntax.exponent, syntax.point, syntax.format
 conditions: Tuple[bool, bool, bool] = syntax.required_base_prefix, syntax.required_base_suffix, syntax.no_negative_mantissa_sign
+first: Tuple[bool, bool] = syntax.required_leading_zero, syntax.decimal_first_digit
 sizes: Tuple[Optional[int], ...] = syntax.integer_group_size, syntax.higher_group_size, syntax.fraction_group_size
 texts: Tuple[str, str, str, Optional[Role]] = syntax.sentence(), syntax.grammar(), syntax.regex(), syntax.role_of("_")
 literal: Literal[str] = syntax.read("-1_234,50")
@@ -49,7 +50,10 @@ special: Optional[Special] = Specials(nan="NaN", inf=None, infinity="Infinity").
 specials: Tuple[Optional[str], Optional[str], Optional[str]] = languages.TOML.specials.nan, Specials().inf, Specials("").infinity
 if special:
     of_special: Tuple[str, Spelling, float, Decimal] = special.sign, special.spelling, special.value, special.decimal()
-forms: Forms = Forms([("", syntax)], nan="NaN", inf=None, infinity="Infinity")
+forms: Forms = Forms([("", syntax)], nan="NaN", inf=None, infinity="Infinity", kinds={"": Kind(wraps=8, modulo=True)})
+kind: Kind = Kind(at_most=7, single=True)
+of_kind: Tuple[Optional[int], Optional[int], bool, bool] = kind.at_most, literal.kind.wraps, kind.modulo, kind.single
+kinds: Dict[str, Kind] = forms.kinds
 again: Forms = Forms({**languages.C.forms, "own": forms[""]})
 of_forms: Tuple[Union[Literal[bytes], Special], int, Literal[str]] = forms.read(b"1"), again.parse("1", int), again.read_prefix("1")[0]
 column: Column = languages.CSV_DE.column(["1,5", None, "x"], float, errors="coerce", fill=0.5, out=array("d", [7, 7, 7]))

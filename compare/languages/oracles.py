@@ -66,15 +66,6 @@ def out_of_range(most, single=None, pattern=".*"):
     return Cause("-", pattern, "a number that the tool has no type for", test)
 
 
-def wraps(bits, is_signed, pattern=".*"):
-    """The tool keeps the last bits of an integer."""
-    def test(ours, theirs):
-        is_wrapped = ours.exact is None or ours.exact >= 2**bits >> is_signed and (ours.exact - theirs) % 2**bits == 0
-        return not ours.is_float and isinstance(theirs, int) and is_wrapped
-
-    return Cause("=", pattern, f"an integer of more than {bits - is_signed} bits", test)
-
-
 ZERO = Cause("=", r"-[0.,]+([eE].*)?", "a negative zero, which the tool does not have", lambda _, theirs: theirs == 0)
 ROUNDED = Cause("=", ".*", "a fault of the tool, which rounds to the next float",
                 lambda ours, theirs: theirs in [math.nextafter(ours.double, to) for to in (-math.inf, math.inf)])
@@ -111,8 +102,8 @@ LANGUAGES = [
         suffix("[uUlL]+|[fFdDmM]"), out_of_range(2**64), ROUNDED]),
     Language("ELIXIR", "elixir", "018._exo-+", "_", "1.0e10 1.5e-3", [out_of_range(math.inf)]),
     Language("FORTRAN", "gfortran", "019.edD-+_", "_", "1.0_8 1d3 1.5d300", [
-        out_of_range(2**31, single="0"), Cause("=", ".*", "a subnormal number, which the tool rounds to zero",
-                                               lambda ours, theirs: theirs == (0.0,) and abs(ours.single) < 2**-126)]),
+        out_of_range(math.inf, single="0"), Cause("=", ".*", "a subnormal number, which the tool rounds to zero",
+                                               lambda ours, theirs: theirs == (0.0,) and abs(ours.single) < 2**-126), ROUNDED]),
     Language("GO", "go", "018._exp-+b", "_", "1i 0x1p3i", [
         suffix("i"), Cause("+", "0[oObB]?[0-9_]+i", "digits of an imaginary number")]),
     Language("HASKELL", "ghc", "018._exo-+", "_", "0o17 0xFF 1e5", []),
@@ -121,23 +112,23 @@ LANGUAGES = [
         Cause("+", r"_+(?P<number>\d.*)", "a separator before a float, beside the guide")]),
     Language("JAVA", "javac", "018._exp-+b", "_", "1L 1f 08f 0x1p3d", [
         suffix("[lLfFdD]"), Cause("+", r"[0-9_]*[fFdD]", "a float by its suffix alone"),
-        out_of_range(2**31, pattern="[1-9].*"), out_of_range(2**32), wraps(32, True, "0.+")]),
+        out_of_range(math.inf)]),
     Language("JAVASCRIPT", "v8", "018._exn-+b", "_", "1n 0b1n", [suffix("n"), Cause("+", "NaN|Infinity", "a name")]),
     Language("JSON", "json", "012.eE+-x_", "_", "", []),
     Language("KOTLIN", "kotlinc", "01._exL-", "_", "1L 1f 1u 1uL", [
         suffix("[uU]?L|[uU]|[fF]"), Cause("+", r"\d[\d_]*[fF]", "a float by its suffix alone"), out_of_range(2**63),
         Cause("+", r"[\da-fA-FxXbB_]+_[uU]L?", "a separator before a suffix, beside the specification")]),
-    Language("LUA", "lua", "018.aexp-+", "_", "0x.8 0x1.8 0x1p3", [wraps(64, True)]),
+    Language("LUA", "lua", "018.aexp-+", "_", "0x.8 0x1.8 0x1p3", []),
     Language("NASM", "nasm", "01a._hxebd", "_", "0c8h 0c8x 17q 17o 10d 10t 101b 101y 0h1F 0y1 0q7 0t9 $0c8 1h. 1x. 7q. 7o. 9d. 9t. 1b. 1y.", [
-        Cause("+", r"\$[\w$.]*", "the prefix $, or an address"), Cause("-", r"[a-fA-F][\da-fA-F_]*[hHxX]", "a name, which a letter begins"),
+        Cause("+", r"\$[\w$.]*", "the prefix $, or an address"),
         Cause("+", r"0[a-zA-Z][_.]*([eEpP][+-]?[0-9_]*)?", "no digits behind a prefix"),
         Cause("+", r"0[a-zA-Z][\w.]*[pP][+-]_*", "a sign without an exponent"),
-        Cause("+", r"[\w.]+(\._+([eEpP][+-]?[\d_]*)?|[eEpP][+-]?_+)|0[a-zA-Z]_+\.[\w.]*([pP][+-]?[\d_]*)?", "a part of separators alone"), wraps(64, False),
+        Cause("+", r"[\w.]+(\._+([eEpP][+-]?[\d_]*)?|[eEpP][+-]?_+)|0[a-zA-Z]_+\.[\w.]*([pP][+-]?[\d_]*)?", "a part of separators alone"),
         ROUNDED, Cause("=", ".*", "an infinite value, which the tool makes NaN",
                        lambda ours, theirs: ours.double == math.inf and math.isnan(theirs))]),
     Language("OCAML", "ocaml", "018._exp-+b", "_", "1l 1n 1L 1z", [
         suffix("[g-zG-Z]"), Cause("+", r"\w+\._+([eEpP][+-]?\d[\d_]*)?[g-zG-Z]?", "a fraction of separators alone"),
-        out_of_range(2**62 + 1, pattern="[0-9_]+"), out_of_range(2**63), wraps(63, True)]),
+        Cause("+", r"[\d_]+", "the least integer without its sign", lambda _, theirs: theirs == -2**62)]),
     Language("PHP", "php", "018._exo-b", "_", "0o17 0O17 0b1", []),
     Language("PYTHON", "ast", "018._exj-+b", "_", "1j 0j", [
         suffix("[jJ]"), Cause("+", "0[0_]*", "an integer of zeros alone"), Cause("+", "[0-9_]+[jJ]", "digits of an imaginary number")]),

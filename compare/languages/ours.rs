@@ -1,5 +1,5 @@
-//! The judge of the library. Reads texts of a language on standard input, and prints `-` and the form of the error; or `+`, the
-//! form, `i` or `f` for an integer or a float, the exact value or `none` if no type has it, and the bits of `f64` and `f32`.
+//! The judge of the library. Reads texts of a language on standard input, and prints `-` and the form of the error, with
+//! `large` for a number that is too large for the form; or `+`, the form, `i` or `f` for an integer or a float, the exact value or `none` if no type has it, and the bits of `f64` and `f32`.
 
 use peltzivar::literal::Language;
 use std::io::{self, BufRead, Write};
@@ -10,6 +10,7 @@ fn main() -> io::Result<()> {
     let mut out = io::BufWriter::new(io::stdout().lock());
     for text in io::stdin().lock().lines() {
         match language.read(&text?) {
+            Ok(number) if f64::try_from(number).is_err() => writeln!(out, "- {} large", number.form().unwrap_or(0))?,
             Ok(number) => {
                 let kind = if number.literal().is_some_and(|it| !it.is_float()) { 'i' } else { 'f' };
                 let exact = i128::try_from(number).map(|it| it.to_string());

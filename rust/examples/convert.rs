@@ -4,25 +4,14 @@
 use peltzivar::literal::{Language, Number, Style, WriteError};
 use std::io::{self, BufRead, Write};
 
-/// Returns a number as the first form of a language that can have it. Without such a form, returns the last error. A text
-/// that another form of the language reads is not used: 15 as `17`, of C's octal form, is seventeen.
+/// Returns a number as the first form of a language that can have it, or as one of the spellings of NaN and infinity.
 fn convert(number: Number<'_>, target: Language) -> Result<String, WriteError> {
-    let literal = match number {
-        Number::Literal { literal, .. } => literal,
-        Number::Special(special) => {
-            let text = target.forms().specials().format(&target.forms()[0].syntax(), special)?;
-            return Ok(text.to_string());
-        }
+    let forms = target.forms();
+    let text = match number {
+        Number::Literal { literal, .. } => forms.format_literal(&literal, Style::PLAIN)?,
+        Number::Special(special) => forms.specials().format(&forms[0].syntax(), special)?,
     };
-    let mut result = Err(WriteError::Radix);
-    for (index, form) in target.forms().as_slice().iter().enumerate() {
-        match form.syntax().format_literal(&literal, Style::PLAIN).map(|text| text.to_string()) {
-            Ok(text) if target.read(&text).is_ok_and(|it| it.form() == Some(index)) => return Ok(text),
-            Ok(_) => (),
-            Err(error) => result = Err(error),
-        }
-    }
-    result
+    Ok(text.to_string())
 }
 
 fn main() -> io::Result<()> {

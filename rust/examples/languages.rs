@@ -2,10 +2,10 @@
 //!
 //!     cargo run --example languages -- 0x1F
 //!
-//! Without a text, prints the forms of all languages: the language, the form, a sentence on its numbers, its syntax and the
-//! settings of its format, with tabs between them.
+//! Without a text, prints the forms of all languages: the language, the form, a sentence on its numbers, its kind, its syntax
+//! and the settings of its format, with tabs between them.
 
-use peltzivar::literal::{Language, Number};
+use peltzivar::literal::{FloatKind, IntegerKind, Kind, Language, Number};
 
 fn answer(language: Language, text: &[u8]) -> String {
     let form = |index: usize| language.forms()[index].name();
@@ -16,6 +16,21 @@ fn answer(language: Language, text: &[u8]) -> String {
         },
         Ok(special) => format!("{:?}", special.to_f64()),
         Err(error) => format!("none: {error}, {}", error.name),
+    }
+}
+
+/// Returns what the values of a kind are, if they are not the numbers that digits represent.
+fn words(kind: Kind) -> String {
+    let integers = match kind.integers() {
+        IntegerKind::AtMost(bits) => format!("integers of at most {bits} bits"),
+        IntegerKind::Wraps(bits) => format!("integers of {bits} bits, with a sign"),
+        IntegerKind::WrapsModulo(bits) => format!("the last {bits} bits of integers, with a sign"),
+        _ => String::new(),
+    };
+    match (integers.is_empty(), kind.floats()) {
+        (true, FloatKind::Single) => String::from("singles"),
+        (false, FloatKind::Single) => integers + "; singles",
+        _ => integers,
     }
 }
 
@@ -30,7 +45,8 @@ fn main() {
         for form in language.forms() {
             let syntax = form.syntax();
             let settings = Vec::from_iter(syntax.format().edits().map(|edit| edit.to_string()));
-            println!("{language}\t{}\t{}\t{syntax}\t{}", form.name(), syntax.sentence(), settings.join(" "));
+            let (name, sentence, kind) = (form.name(), syntax.sentence(), words(form.kind()));
+            println!("{language}\t{name}\t{sentence}\t{kind}\t{syntax}\t{}", settings.join(" "));
         }
     }
 }

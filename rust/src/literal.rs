@@ -53,6 +53,7 @@ mod cause;
 mod conditions;
 mod forms;
 mod groups;
+mod kind;
 mod language;
 #[allow(
     clippy::len_zero,
@@ -79,7 +80,7 @@ mod span;
 mod specials;
 #[allow(clippy::redundant_pattern_matching, reason = "as it is proved")]
 mod steps;
-#[allow(clippy::len_zero, reason = "as it is proved")]
+#[allow(clippy::collapsible_match, clippy::len_zero, reason = "as it is proved")]
 mod suffix;
 #[allow(clippy::redundant_pattern_matching, reason = "as it is proved")]
 mod syntax;
@@ -91,6 +92,7 @@ mod value;
 mod writer;
 
 pub use cause::{Place, ReadError, ReadErrorKind};
+pub use kind::{FloatKind, IntegerKind, Kind};
 pub use language::{Language, LanguageError};
 /// A text is a number if it is a literal of one of the forms, or a special value. The first such form gives its parts and its
 /// value, so the order matters where forms overlap, as here in `10`:
@@ -141,3 +143,5 @@ pub use syntax::{Condition, Conditions, ConditionsError, ConditionsErrorKind, Sy
 pub use token::{Token, TokenError};
 pub use value::{FromLiteral, ParseError, Plain, Target, ValueError, ValueErrorKind};
 pub use writer::{ExponentStyle, Grouping, Style, WriteError, WriteFloat, WriteInteger, Written};
+#[doc(hidden)]
+pub use writer::{Real, Whole, Writable};

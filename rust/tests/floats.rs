@@ -1,6 +1,6 @@
 //! Floats that are written: they are read back as the same bits, by as few digits as std's.
 
-use peltzivar::format::FLAG_MASK;
+use peltzivar::format::{FLAG_MASK, STANDARD};
 use peltzivar::literal::{
     Condition, Conditions, ExponentStyle, FromLiteral, Language, Style, Syntax, WriteError, WriteFloat,
 };
@@ -90,7 +90,6 @@ fn is_reason<F: Bits>(error: WriteError, value: F, syntax: &Syntax) -> bool {
             syntax.conditions().has(Condition::NegativeSign) && format!("{value:e}").starts_with('-')
         }
         WriteError::Fraction => syntax.point().is_none(),
-        WriteError::Exponent => moves && format.exponent_base() != format.mantissa_radix(),
         WriteError::Long => moves,
         _ => false,
     }
@@ -165,6 +164,9 @@ fn a_style_decides_on_the_exponent() {
     let json = Language::JSON.forms()[0].syntax();
     let swift =
         Language::SWIFT.forms().as_slice().iter().find(|form| form.name() == "hexadecimal float").unwrap().syntax();
+    // The point moves by digits of 3 bits, though the exponent base has 2.
+    let odd = Format::new(0xC | 8 << 104 | 4 << 112 | 10 << 120).unwrap();
+    let odd = Syntax::new(odd, b'e', b'.').unwrap();
     let [always, never, from] = [ExponentStyle::Always, ExponentStyle::Never, ExponentStyle::From(21)];
     for (value, syntax, wish, wanted) in [
         (1234.5, json, always, "1.2345e3"),
@@ -176,10 +178,82 @@ fn a_style_decides_on_the_exponent() {
         (1e20, json, from, "100000000000000000000"),
         (1.5e21, json, from, "1.5e21"),
         (12.0, swift, always, "0x1.8p3"),
+        (12.0, swift, never, "0x1.8p3"),
+        (12.0, odd, never, "14.0"),
+        (0.5, odd, never, "0.4"),
     ] {
         let text = syntax.format_float(value, Style::PLAIN.exponent(wish)).unwrap();
         assert_eq!(text.to_string(), wanted);
     }
+}
+
+#[test]
+fn floats_are_rounded_as_std_rounds_them() {
+    let json = Language::JSON.forms()[0].syntax();
+    let state = &mut 20_261_130;
+    for _ in 0..20 * count() {
+        let (value, places) = (float::<f64>(state), (next(state) % 24) as u8);
+        let style = Style::PLAIN.decimals(places);
+        let always = style.exponent(ExponentStyle::Always);
+        let [plain, scientific] = [format!("{value:.*}", places.into()), format!("{value:.*e}", places.into())];
+        for (style, wanted) in [(style, plain), (always, scientific)] {
+            match json.format_float(value, style) {
+                Ok(text) => assert_eq!(text.to_string(), wanted, "{value:e}"),
+                Err(WriteError::Special) => assert!(!value.is_finite()),
+                // Units of the last digit have fewer than 127 bits, which are 38 digits.
+                Err(error) => {
+                    let small = value.abs() < 1e38 / 10_f64.powi(places.into()) && places < 22;
+                    assert!(
+                        error == WriteError::Radix && !(small && style.exponent == ExponentStyle::AsNumber),
+                        "{value:e}"
+                    );
+                }
+            }
+        }
+    }
+}
+
+#[test]
+fn floats_are_rounded_where_a_style_wishes() {
+    let form = |language: Language, name| {
+        language.forms().as_slice().iter().find(|form| form.name() == name).unwrap().syntax()
+    };
+    let (json, german) = (Language::JSON.forms()[0].syntax(), Language::CSV_DE.forms()[0].syntax());
+    let (c, whole) = (form(Language::C, "hexadecimal float"), Syntax::integers(Format::of::<STANDARD>()));
+    let [two, none] = [Style::PLAIN.decimals(2), Style::PLAIN.decimals(0)];
+    for (value, syntax, style, wanted) in [
+        (1234.5, german, two, "1.234,50"),
+        (-0.004, json, two, "-0.00"),
+        (-0.0, json, two, "-0.00"),
+        (0.125, json, two, "0.12"),
+        (0.375, json, two, "0.38"),
+        (2.5, json, none, "2"),
+        (3.5, whole, two, "4"),
+        (1e-300, json, two, "0.00"),
+        (12.0, c, two, "0x1.80p3"),
+        (99999.0, json, two.exponent(ExponentStyle::From(5)), "99999.00"),
+        (99999.0, json, two.exponent(ExponentStyle::From(4)), "1.00e5"),
+        (9.9951e22, json, two.exponent(ExponentStyle::Always), "1.00e23"),
+    ] {
+        assert_eq!(syntax.format_float(value, style).unwrap().to_string(), wanted);
+    }
+}
+
+#[test]
+fn each_float_form_of_ada_reads_floats_with_a_point() {
+    let state = &mut 20_261_131;
+    let forms = Language::ADA.forms();
+    for form in forms.as_slice().iter().filter(|form| form.syntax().point().is_some()) {
+        for value in [1e16, 1e-7, 1e300, 5e-324, 0.5, 12.0] {
+            is_read_back::<f64>(value, &form.syntax(), Style::PLAIN.point());
+        }
+        for _ in 0..count() {
+            is_read_back::<f64>(float(state), &form.syntax(), Style::PLAIN.point());
+        }
+    }
+    let decimal = forms[0].syntax();
+    let texts = [1e16, 1e-7].map(|value| decimal.format_float(value, Style::PLAIN.point()).unwrap().to_string());
+    assert_eq!(texts, ["1.0e16", "1.0e-7"]);
 }
 
 /// Returns a pseudo-random syntax whose radix and exponent base are 10 or powers of two.

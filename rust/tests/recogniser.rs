@@ -27,10 +27,10 @@ type Pieces = [Range<usize>; 9];
 type Failure = (usize, ReadErrorKind, u128, Conditions, Range<usize>, Error, Option<u8>);
 
 /// The numbers that the conditions have in a word of this file, as if they were flags. A size has four bits.
-const CONDITIONS: [u32; 6] = [45, 46, 47, GROUPS, HIGHER, FRACTION_GROUPS];
-const GROUPS: u32 = 48;
-const HIGHER: u32 = 52;
-const FRACTION_GROUPS: u32 = 56;
+const CONDITIONS: [u32; 8] = [45, 46, 47, GROUPS, HIGHER, FRACTION_GROUPS, 48, 49];
+const GROUPS: u32 = 50;
+const HIGHER: u32 = 54;
+const FRACTION_GROUPS: u32 = 58;
 
 /// Returns the conditions in a mask.
 fn conditions(word: u128) -> Conditions {
@@ -202,7 +202,7 @@ impl Syntax {
         text: &[u8],
         pieces: &Pieces,
         end: usize,
-    ) -> [(u32, bool, Range<usize>, Error); 18] {
+    ) -> [(u32, bool, Range<usize>, Error); 20] {
         let [sign, prefix, integer, point, fraction, character, exponent_sign, exponent, suffix] = pieces;
         let (is_plus, here) = (|sign: &Range<usize>| &text[sign.clone()] == b"+", || end..end);
         let [has_point, has_exponent] = [!point.is_empty(), !character.is_empty()];
@@ -213,6 +213,7 @@ impl Syntax {
         let zeros = || first..digits.iter().rfind(|&&at| at <= end).map_or(first, |last| last + 1);
         let positive = if self.is_integers { InvalidPositiveSign } else { InvalidPositiveMantissaSign };
         let missing = if self.is_integers { MissingSign } else { MissingMantissaSign };
+        let begins = |most| text.get(sign.end).is_some_and(|&byte| byte <= most && is_digit(self.word, byte, Integer));
         let groups = |number, run: &Range<usize>| {
             let is_grouped = !is_set(word, number) || self.is_grouped(word, &text[run.clone()], number);
             let group = if is_grouped { here() } else { self.group(text, run, end) };
@@ -237,6 +238,8 @@ impl Syntax {
             (47, &text[sign.clone()] != b"-", sign.clone(), InvalidNegativeSign(sign.start)),
             groups(GROUPS, integer),
             groups(FRACTION_GROUPS, fraction),
+            (48, begins(b'0'), sign.end..sign.end + 1, InvalidDigit(sign.end)),
+            (49, begins(b'9'), sign.end..sign.end + 1, InvalidDigit(sign.end)),
         ]
     }
 
@@ -389,8 +392,9 @@ fn compare(word: u128, options: Option<(u8, u8)>, required: u128, bytes: &[u8], 
 fn possible(word: u128, required: u128) -> u128 {
     let has_byte = |bit: u32| word >> bit & 0xFF != 0;
     let separates = |flag| is_set(word, flag) && has_byte(64);
-    let fits =
-        [has_byte(88), has_byte(96), true, separates(32), separates(32) && is_set(required, GROUPS), separates(33)];
+    let (has_groups, may_lead) = (is_set(required, GROUPS), !is_set(word, 12) && !is_set(word, 13));
+    let (prefix, suffix, higher) = (has_byte(88), has_byte(96), separates(32) && has_groups);
+    let fits = [prefix, suffix, true, separates(32), higher, separates(33), may_lead, may_lead];
     required & mask(iter::zip(CONDITIONS, fits).filter(|it| it.1).map(|it| it.0), |_| true)
 }
 
@@ -407,8 +411,8 @@ fn compare_all(longest: usize, words: usize, eighths: u64) {
     for syntax in syntaxes {
         let (word, options) = (syntax.format().word(), syntax.exponent().zip(syntax.point()));
         let own =
-            (0..1 << 7).map(|set| set << CONDITIONS[0]).find(|&set| conditions(set) == syntax.conditions()).unwrap();
-        for (required, longest) in [(own, longest), (possible(word, sized(7, [2, 3, 2])), longest - 1)] {
+            (0..1 << 9).map(|set| set << CONDITIONS[0]).find(|&set| conditions(set) == syntax.conditions()).unwrap();
+        for (required, longest) in [(own, longest), (possible(word, sized(31, [2, 3, 2])), longest - 1)] {
             compare(word, options, required, &hostile_bytes(word, options)[..10], longest, eighths);
         }
     }
@@ -421,7 +425,7 @@ fn compare_all(longest: usize, words: usize, eighths: u64) {
         let options = iter::repeat_with(some_options).find(fits);
         for options in [options, None] {
             let sizes = [(); 3].map(|()| [0, 2, 3][below(&mut random, 3) as usize]);
-            let required = possible(word, sized(below(&mut random, 8), sizes));
+            let required = possible(word, sized(below(&mut random, 32), sizes));
             let mut pool = hostile_bytes(word, options);
             let bytes: [u8; 10] = array::from_fn(|_| pool.swap_remove(below(&mut random, pool.len() as u64) as usize));
             compare(word, options, required, &bytes, 4, eighths);

@@ -5,7 +5,7 @@ use peltzivar::literal::{Form, Forms, Language, Stop, Suffixes, Syntax, TokenErr
 use peltzivar::NumberFormatBuilder;
 
 /// Languages in which a point at the end of a number may belong to what follows, and those in which it does not.
-const BACK: &str = "RUST KOTLIN SWIFT HASKELL RUBY";
+const BACK: &str = "RUST KOTLIN SWIFT HASKELL HASKELL_GHC2021 ELIXIR RUBY";
 
 /// Rows: a text, languages, and the token with `|` before its suffix, or the span and the sentence of the error.
 #[rustfmt::skip]
@@ -76,6 +76,26 @@ const ROWS: &[(&str, &str, &str)] = &[
     ("1\u{e9}", "RUST C JAVA GO PYTHON JAVASCRIPT", "1..3 unknown suffix"),
     ("10L;", "C JAVA KOTLIN C_SHARP", "10|L"),
     ("10L", "C JAVA KOTLIN C_SHARP", "10|L"),
+    ("1..2", "PHP R", "1.|"),
+    ("1..2", "LUA", "2..4 unknown suffix"),
+    ("1.5.3", "PHP R", "1.5|"),
+    ("1.5.3", "LUA", "3..5 unknown suffix"),
+    ("1max", "LUA PHP R ELIXIR HASKELL_GHC2021", "1..4 unknown suffix"),
+    ("1e", "LUA PHP R", "2..2 expected a digit after the exponent character"),
+    ("0x1p-3+1", "LUA R HASKELL_GHC2021", "0x1p-3|"),
+    ("1L", "R", "1|L"),
+    ("0x1FL", "R", "0x1F|L"),
+    ("1.5i", "R", "1.5|i"),
+    ("1Li", "R", "1..3 unknown suffix"),
+    ("10px;", "CSS", "10|px"),
+    ("1.5em", "CSS", "1.5|em"),
+    ("1e3px", "CSS", "1e3|px"),
+    ("1e", "CSS", "1|e"),
+    ("1-2", "CSS", "1|"),
+    ("1-x", "CSS", "1..3 unknown suffix"),
+    ("1px-x", "CSS", "1..5 unknown suffix"),
+    ("5%", "CSS", "5|"),
+    ("1.px", "CSS", "2..3 unexpected character 'p'"),
     ("x", "RUST GO", "0..1 unexpected character 'x'"),
 ];
 
@@ -108,28 +128,23 @@ fn each_language_ends_its_numbers_as_its_scanner_does() {
     }
 }
 
+/// Lengths of tokens by the scanners of the languages' own tools, as `compare/languages/tokens` records them.
+#[test]
+fn tokens_end_where_scanners_end_them() {
+    let rows = include_str!("known/tokens.txt").lines().filter(|it| !it.starts_with('#'));
+    let mut count = 0;
+    for row in rows {
+        let &[name, text, size] = &*row.split(' ').collect::<Vec<_>>() else { panic!("{row}") };
+        let token = Language::from_name(name).expect(name).token(text).expect(row);
+        assert_eq!((text.len() - token.rest.len()).to_string(), size, "{row}");
+        count += 1;
+    }
+    assert!(count >= 600, "{count}");
+}
+
 #[test]
 fn languages_of_data_have_no_tokens() {
-    // The last line has languages whose suffixes are not in the tables.
-    let none = [
-        "ADA",
-        "CSV_DE",
-        "CSV_EN",
-        "FORTRAN",
-        "JSON",
-        "NASM",
-        "SQL",
-        "TOML",
-        "XML_SCHEMA",
-        "YAML",
-        "YAML_1_1",
-        "CSS",
-        "ELIXIR",
-        "HASKELL_GHC2021",
-        "LUA",
-        "PHP",
-        "R",
-    ];
+    let none = ["ADA", "CSV_DE", "CSV_EN", "FORTRAN", "JSON", "NASM", "SQL", "TOML", "XML_SCHEMA", "YAML", "YAML_1_1"];
     for language in Language::ALL {
         let error = language.token("1").err();
         assert_eq!(error, none.contains(&language.name()).then_some(TokenError::NoTokens), "{language}");
@@ -163,7 +178,8 @@ fn a_whole_token_without_a_suffix_is_read() {
 
 #[test]
 fn rules_are_those_of_the_list() {
-    const WORDS: Suffixes = Suffixes::new(&[b"u", b"uu"], &[b"f"], &[Stop::new(b"f", b"-", b"-")]).either_case(true);
+    const WORDS: Suffixes =
+        Suffixes::new(&[b"u", b"uu", b"%"], &[b"f"], &[Stop::new(b"f", b"-", b"-")]).either_case(true);
     const POINT: Syntax = Syntax::new_or_panic(
         NumberFormatBuilder::new().required_integer_digits(true).build_format_or_panic(),
         b'e',
@@ -183,6 +199,7 @@ fn rules_are_those_of_the_list() {
         ("1.5f--", "3..5 unknown suffix", "3..5 unknown suffix"),
         ("1.5f-", "1.5|f", "1.5|f"),
         ("1uis", "1|u", "1..4 unknown suffix"),
+        ("1%", "1|", "1|"),
     ] {
         assert_eq!((stated(&plain, text), stated(&back, text)), (without.into(), with.into()), "{text}");
         assert_eq!(none.token(text), Err(TokenError::NoTokens));

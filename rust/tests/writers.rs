@@ -2,10 +2,10 @@
 
 use peltzivar::format::FLAG_MASK;
 use peltzivar::literal::{
-    Condition, Conditions, ExponentStyle, Form, FromLiteral, Language, Literal, Sign, Special, Specials, Spelling,
-    Style, Syntax, WriteError, WriteInteger,
+    Condition, Conditions, ExponentStyle, Form, Forms, FromLiteral, Kind, Language, Literal, Sign, Special, Specials,
+    Spelling, Style, Syntax, WriteError, WriteInteger,
 };
-use peltzivar::{Format, NumberFormatBuilder, Part};
+use peltzivar::{Format, NumberFormatBuilder, Part, Settings};
 use std::collections::{BTreeMap, HashSet};
 use std::{fmt::Debug, num::NonZeroU8};
 
@@ -103,16 +103,38 @@ fn is_whole(value: &Value) -> bool {
     value.1.values().all(|count| *count > 0)
 }
 
-/// Returns whether an error is why a literal of `source` cannot be written in `target`.
+/// Returns whether a value has at most 128 bits.
+fn is_short(value: &Value) -> bool {
+    let top = value.0.last().map_or(0.0, |word| f64::from(*word).log2() + 32.0 * (value.0.len() - 1) as f64);
+    top + value.1.iter().map(|(prime, count)| f64::from(*prime).log2() * *count as f64).sum::<f64>() < 127.9
+}
+
+/// Returns whether a literal that was written has the value of one of another kind: the same integer, or the same bits.
+fn is_worth(literal: &Literal, written: &Literal) -> bool {
+    let bits = |it: &Literal| it.to_f64().map(f64::to_bits).ok();
+    bits(literal) == bits(written)
+        && (literal.is_float() || written.is_float() || literal.to_i128() == written.to_i128())
+}
+
+/// Returns whether an error is why a literal of `source` cannot be written in `target`, and the first such one.
 fn is_reason(error: WriteError, literal: &Literal, exact: &Value, source: &Syntax, target: &Syntax) -> bool {
     let (from, to) = (source.format(), target.format());
     let has_exponent = !literal.exponent_character().is_empty();
+    // The radix is a power of the base, so that it can be found out what the value is.
+    let is_known = !has_exponent || (1..6).any(|power| from.exponent_base().checked_pow(power) == Some(from.radix()));
+    let is_fraction = target.point().is_none() && !is_whole(exact);
     match error {
-        // The numbers of the tests have fewer than 128 bits, unless they have an exponent.
-        WriteError::Radix => from.radix() != to.radix() && (has_exponent || !is_whole(exact)),
-        WriteError::Negative => literal.is_negative() && target.conditions().has(Condition::NegativeSign),
-        WriteError::Fraction => target.point().is_none() && !is_whole(exact),
-        WriteError::Exponent => has_exponent && from.exponent_base() != from.radix(),
+        WriteError::Radix => {
+            from.radix() != to.radix() && !(is_known && (is_fraction || is_whole(exact) && is_short(exact)))
+        }
+        WriteError::Negative => {
+            let is_negative = literal.is_negative() || literal.to_f64().is_ok_and(f64::is_sign_negative);
+            is_negative && target.conditions().has(Condition::NegativeSign)
+        }
+        WriteError::TooLarge => literal.to_f64().is_err(),
+        WriteError::Special => literal.to_f64().is_ok_and(f64::is_infinite),
+        WriteError::Fraction => is_fraction,
+        WriteError::Exponent => has_exponent && from.exponent_base() != from.radix() && !(is_known && is_fraction),
         _ => false,
     }
 }
@@ -134,7 +156,11 @@ fn literals_are_written_in_other_languages() {
                         let read = form.syntax().read(&back).unwrap_or_else(|error| {
                             panic!("{language} {text:?} in {target} {}: {back:?}: {error}", form.name())
                         });
-                        let same = value(&read, &form.syntax()) == exact;
+                        let same = if literal.kind() == Kind::EXACT {
+                            value(&read, &form.syntax()) == exact
+                        } else {
+                            is_worth(&literal, &read)
+                        };
                         assert!(same, "{language} {text:?} in {target}: {back:?}");
                         "written".to_string()
                     }
@@ -153,99 +179,165 @@ fn literals_are_written_in_other_languages() {
     println!("{counts:?}");
 }
 
-/// Converts a text of a format that requires no digits to one with `.` and `e`.
-fn convert(text: &str, target: NumberFormatBuilder) -> Result<String, WriteError> {
-    let source = NumberFormatBuilder::new().required_digits(false).build_format_or_panic();
-    let literal = Syntax::new_or_panic(source, b'e', b'.').read(text).unwrap();
-    let target = Syntax::new_or_panic(target.build_format_or_panic(), b'e', b'.');
-    target.format_literal(&literal, Style::PLAIN).map(|text| text.to_string())
+/// Returns the syntax with these settings, in which no digits are required unless they say so.
+fn syntax_of(settings: &str) -> Syntax {
+    let all = ["required_digits=false"].into_iter().chain(settings.split_whitespace());
+    Settings::read(all).unwrap().build_syntax().expect(settings)
 }
 
-#[test]
-fn flags_add_what_they_require() {
-    let none = NumberFormatBuilder::new().required_digits(false);
-    let signs = none.required_mantissa_sign(true).required_exponent_sign(true);
-    let binary = NonZeroU8::new(2);
-    let long = format!("5e{}", "9".repeat(40));
-    for (text, target, wanted) in [
-        (".5", none, Ok(".5")),
-        (".5", none.required_integer_digits(true), Ok("0.5")),
-        ("007.500", none.no_float_leading_zeros(true), Ok("7.500")),
-        ("1e5", none.no_exponent_without_fraction(true), Ok("1.e5")),
-        ("1e5", none.no_exponent_without_fraction(true).required_fraction_digits(true), Ok("1.0e5")),
-        ("1.", none.required_fraction_digits(true), Ok("1.0")),
-        ("5", none.required_exponent_notation(true), Ok("5e0")),
-        ("5", signs.required_exponent_notation(true), Ok("+5e+0")),
-        (
-            "5",
-            none.required_digits(true).required_exponent_notation(true).no_exponent_without_fraction(true),
-            Ok("5.0e0"),
-        ),
-        (".", none, Ok("0.")),
-        ("5.", none, Ok("5.")),
-        ("1e", none, Ok("1e0")),
-        ("007", none, Ok("7")),
-        ("1.50", none, Ok("1.50")),
-        ("+5e+06", none.required_mantissa_sign(true), Ok("+5e6")),
-        ("-0e-6", none.required_exponent_sign(true), Ok("-0e-6")),
-        ("5e6", none.required_exponent_sign(true), Ok("5e+6")),
-        ("1.50", none.no_exponent_notation(true), Ok("1.50")),
-        ("15", none.mantissa_radix(8), Ok("17")),
-        ("1.5", none.mantissa_radix(8), Err(WriteError::Radix)),
-        ("5e6", none.exponent_radix(binary), Ok("5e110")),
-        ("5e6", none.exponent_base(binary), Ok("5000000")),
-        (&long, none, Ok(&long)),
-        (&long, none.exponent_radix(binary), Err(WriteError::Radix)),
-    ] {
-        assert_eq!(convert(text, target), wanted.map(String::from), "{text}");
+/// Returns the style of wishes such as `group=3 lowercase=true`.
+fn style_of(wishes: &str) -> Style {
+    wishes.split_whitespace().fold(Style::PLAIN, |style, wish| {
+        let (name, value) = wish.split_once('=').unwrap();
+        let number = value.parse::<u8>();
+        match (name, value) {
+            ("group", _) => style.group(number.unwrap().into()),
+            ("fraction_group", _) => style.fraction_group(number.unwrap().into()),
+            ("min_digits", _) => style.min_digits(number.unwrap()),
+            ("lowercase", "true") => style.lowercase(),
+            ("without_base", "true") => style.without_base(),
+            ("keep_leading_zeros", "true") => style.keep_leading_zeros(),
+            ("exponent", "never") => style.exponent(ExponentStyle::Never),
+            ("exponent", "always") => style.exponent(ExponentStyle::Always),
+            ("exponent", _) => style.exponent(ExponentStyle::From(number.unwrap().into())),
+            _ => panic!("{wish}"),
+        }
+    })
+}
+
+/// Writes a literal of a syntax in another one, and returns the text, or the error behind `!`.
+fn convert(text: &str, source: &str, target: &str, style: &str) -> String {
+    let source = syntax_of(source);
+    let literal = source.read(text).unwrap();
+    match syntax_of(target).format_literal(&literal, style_of(style)) {
+        Ok(written) => written.to_string(),
+        Err(error) => format!("!{error:?}"),
     }
 }
 
 #[test]
-fn the_point_moves_where_no_exponent_is_allowed() {
-    let builder = NumberFormatBuilder::new().required_digits(false);
-    let source = Syntax::new_or_panic(builder.build_format_or_panic(), b'e', b'.');
-    let target = Syntax::new_or_panic(builder.no_exponent_notation(true).build_format_or_panic(), b'e', b'.');
-    let integers = Syntax::integers(target.format());
+fn literals_are_written_as_the_rows_say() {
+    let lines = include_str!("writing.txt").lines().filter(|line| !line.is_empty() && !line.starts_with('#'));
+    let mut count = 0;
+    for line in lines {
+        let [text, source, target, style, wanted] = Vec::from_iter(line.split('|').map(str::trim))[..] else {
+            panic!("{line}")
+        };
+        assert_eq!(convert(text, source, target, style), wanted, "{line}");
+        count += 1;
+    }
+    assert!(count > 80);
+}
+
+#[test]
+fn numbers_are_as_long_as_the_limits() {
     let (large, small) = (format!("1{}", "0".repeat(799)), format!("0.{}1", "0".repeat(797)));
-    let tiny = format!("1e-{}", "9".repeat(40));
-    let (far, near) = (format!("1e{}", "9".repeat(40)), format!("0.{}1e1000", "0".repeat(999)));
-    let (fraction, long) = (Err(WriteError::Fraction), Err(WriteError::Long));
+    let long = format!("5e{}", "9".repeat(40));
+    let (far, tiny) = (format!("1e{}", "9".repeat(40)), format!("1e-{}", "9".repeat(40)));
+    let near = format!("0.{}1e1000", "0".repeat(999));
     for (text, wanted, whole) in [
-        ("1.2e3", Ok("1200"), Ok("1200")),
-        ("12.50e1", Ok("125"), Ok("125")),
-        ("12.50e+0", Ok("12.5"), fraction),
-        ("1e-7", Ok("0.0000001"), fraction),
-        ("-12345e-2", Ok("-123.45"), fraction),
-        (".5e0", Ok("0.5"), fraction),
-        ("1.50", Ok("1.50"), fraction),
-        ("1.0", Ok("1.0"), Ok("1")),
-        ("-.", Ok("-0."), Ok("-0")),
-        ("0e5", Ok("0"), Ok("0")),
-        ("0.00e-5", Ok("0"), Ok("0")),
-        ("1e799", Ok(&*large), Ok(&*large)),
-        ("1e800", long, long),
-        ("1e-798", Ok(&*small), fraction),
-        ("1e-799", long, fraction),
-        (&*near, Ok("1"), Ok("1")),
-        (&*far, long, long),
-        (&*tiny, long, fraction),
+        ("1e799", &*large, &*large),
+        ("1e800", "!Long", "!Long"),
+        ("1e-798", &*small, "!Fraction"),
+        ("1e-799", "!Long", "!Fraction"),
+        (&*near, "1", "1"),
+        (&*far, "!Long", "!Long"),
+        (&*tiny, "!Long", "!Fraction"),
     ] {
-        let literal = source.read(text).unwrap();
-        let written = |syntax: Syntax| syntax.format_literal(&literal, Style::PLAIN).map(|text| text.to_string());
-        assert_eq!(written(target), wanted.map(String::from), "{text}");
-        assert_eq!(written(integers), whole.map(String::from), "{text}");
+        assert_eq!(convert(text, "", "no_exponent_notation=true", ""), wanted, "{text}");
+        assert_eq!(convert(text, "", "exponent=none point=none", ""), whole, "{text}");
     }
-    // A radix that is a power of the exponent base: the point moves by whole digits.
-    let hexadecimal = builder.mantissa_radix(16).exponent_base(NonZeroU8::new(2)).exponent_radix(NonZeroU8::new(10));
-    let source = Syntax::new_or_panic(hexadecimal.build_format_or_panic(), b'p', b'.');
-    let integers = Syntax::integers(source.format());
-    for (text, wanted) in
-        [("1.8p4", Ok("18")), ("1.8p8", Ok("180")), ("8p-4", fraction), ("1p3", Err(WriteError::Exponent))]
-    {
-        let literal = source.read(text).unwrap();
-        let written = integers.format_literal(&literal, Style::PLAIN).map(|text| text.to_string());
-        assert_eq!(written, wanted.map(String::from), "{text}");
+    assert_eq!(convert(&long, "", "", ""), long);
+    assert_eq!(convert(&long, "", "exponent_radix=2", ""), "!Radix");
+    let integers = Syntax::integers(Format::default());
+    assert_eq!(integers.format_integer(-12, style_of("min_digits=3")).unwrap().to_string(), "-012");
+    assert_eq!(syntax_of("").format_integer(-12, style_of("exponent=always")).unwrap().to_string(), "-12e0");
+}
+
+/// Returns what a language, or the forms of some settings, write for a literal of a language.
+fn chosen(source: Language, text: &str, target: &Forms<'_>) -> String {
+    let literal = source.read(text).unwrap().literal().unwrap();
+    match target.format_literal(&literal, Style::PLAIN) {
+        Ok(written) => written.to_string(),
+        Err(error) => format!("!{error:?}"),
+    }
+}
+
+#[test]
+fn forms_write_what_they_read_as_the_same_number() {
+    for (source, text, target, wanted) in [
+        (Language::C, "0x1p3", Language::PYTHON, "8"),
+        (Language::C, "0x1.8p1", Language::JAVA, "0x1.8p1"),
+        (Language::C, "0x1p-3", Language::JSON, "!Radix"),
+        (Language::C, "017", Language::PYTHON, "0o17"),
+        (Language::C, "017", Language::JSON, "15"),
+        (Language::PYTHON, "0o17", Language::C, "017"),
+        // What a literal is worth by its kind, and a form whose floats are single.
+        (Language::JAVA, "0xffffffff", Language::PYTHON, "!Negative"),
+        (Language::JAVA, "0xffffffff", Language::JSON, "-1"),
+        (Language::C, "4294967295", Language::JAVA, "0xFFFFFFFFp0"),
+        (Language::PYTHON, "0.1", Language::FORTRAN, "0.1d0"),
+        (Language::JAVA, "0x80000000", Language::FORTRAN, "-2147483648d0"),
+        (Language::FORTRAN, "0.1", Language::PYTHON, "0.10000000149011612"),
+        (Language::PYTHON, "1_000", Language::TOML, "1000"),
+        (Language::PYTHON, "0xFF", Language::JSON, "255"),
+        (Language::RUBY, "-1", Language::C, "!Negative"),
+        (Language::TOML, "-0", Language::JSON, "-0"),
+        (Language::JSON, "1e400", Language::JSON, "1e400"),
+    ] {
+        assert_eq!(chosen(source, text, target.forms()), wanted, "{source} {text} in {target}");
+    }
+    let (hexadecimal, decimal) = (syntax_of("radix=16 exponent=none point=none"), syntax_of(""));
+    let forms = [Form::new("hexadecimal", hexadecimal), Form::new("decimal", decimal)];
+    let forms = Forms::new_or_panic(&forms);
+    // Decimal digits are hexadecimal ones.
+    for (text, wanted) in [("300", "12C"), ("7", "7"), ("1.5", "1.5"), ("3e2", "12C"), ("0.0", "0.0")] {
+        assert_eq!(chosen(Language::JSON, text, &forms), wanted);
+    }
+    assert_eq!(chosen(Language::JSON, &(1_u128 << 127).to_string(), &forms), format!("{:X}", 1_u128 << 127));
+    assert_eq!(chosen(Language::JSON, "340282366920938463463374607431768211456", &forms), "!ReadBack");
+    assert_eq!(
+        chosen(Language::JSON, &"9.".to_string().replace('.', &"0".repeat(5000)), Language::JSON.forms()),
+        "!Buffer(5001)"
+    );
+    assert_eq!(forms.format_integer(-300, Style::PLAIN).unwrap().to_string(), "-12C");
+    assert_eq!(forms.format_integer(5_u8, Style::PLAIN).unwrap().to_string(), "5");
+    assert_eq!(forms.format_float(0.1_f32, Style::PLAIN).unwrap().to_string(), "0.1");
+    assert_eq!(forms.format_float(f64::NAN, Style::PLAIN).unwrap_err(), WriteError::Special);
+    let special = |value: f64| Language::YAML.forms().format_float(value, Style::PLAIN).unwrap().to_string();
+    assert_eq!([f64::NAN, f64::INFINITY, f64::NEG_INFINITY].map(special), [".nan", ".inf", "-.inf"]);
+}
+
+/// Each literal of the rows is read back by each language as the same number, and each error is that of the form that is asked
+/// first.
+#[test]
+fn languages_read_what_they_write() {
+    for (language, text) in rows() {
+        let literal = language.read(text).unwrap().literal().unwrap();
+        for target in Language::ALL {
+            let radix = literal.radix(Part::Integer);
+            let radixes = [Some(radix), Some(10).filter(|it| *it != radix), None];
+            let turn = |form: &Form| {
+                let own = form.syntax().format().mantissa_radix();
+                radixes.iter().position(|it| it.is_none_or(|it| it == own))
+            };
+            match target.forms().format_literal(&literal, Style::PLAIN) {
+                Ok(written) => {
+                    let written = written.to_string();
+                    let back = target.read(&written).unwrap().literal().unwrap();
+                    let is_same = match (i128::try_from(literal), i128::try_from(back)) {
+                        (Ok(value), Ok(read)) => value == read,
+                        _ => literal.to_f64().unwrap().to_bits() == back.to_f64().unwrap().to_bits(),
+                    };
+                    assert!(is_same, "{language} {text:?} in {target}: {written:?}");
+                }
+                Err(error) => {
+                    let first = target.forms().into_iter().min_by_key(|form| turn(form)).unwrap();
+                    let wanted = first.syntax().format_literal(&literal, Style::PLAIN).err();
+                    assert_eq!(error, wanted.unwrap_or(WriteError::ReadBack), "{language} {text:?} in {target}");
+                }
+            }
+        }
     }
 }
 
@@ -290,57 +382,6 @@ fn texts_of_each_length_are_printed_and_written() {
             assert_eq!(text.write_into(&mut [0; 256][..length - 1]), Err(WriteError::Buffer(length)));
         }
     }
-}
-
-#[test]
-fn a_style_is_a_wish() {
-    let none = NumberFormatBuilder::new().required_digits(false);
-    let zeros = none.no_integer_leading_zeros(true).no_float_leading_zeros(true);
-    let (forbidden, required) = (none.no_exponent_notation(true), none.required_exponent_notation(true));
-    let grouped = none.digit_separator(NonZeroU8::new(b'_')).internal_digit_separator(true);
-    let hexadecimal = none.mantissa_radix(16).base_prefix(NonZeroU8::new(b'x')).no_integer_leading_zeros(true);
-    let (plain, never) = (Style::PLAIN, Style::PLAIN.exponent(ExponentStyle::Never));
-    let (always, from) = (plain.exponent(ExponentStyle::Always), plain.exponent(ExponentStyle::From(3)));
-    let (least, kept, groups) = (plain.min_digits(3), plain.keep_leading_zeros(), plain.group(3).fraction_group(3));
-    for (text, target, style, wanted) in [
-        ("12345.6789", grouped, groups, "12_345.678_9"),
-        ("12345.6789", none, groups, "12345.6789"),
-        ("0.123456", grouped, groups, "0.123_456"),
-        ("12", grouped, groups.min_digits(5), "00_012"),
-        ("7", none, least, "007"),
-        (".5", none, least, "000.5"),
-        ("1234", none, least, "1234"),
-        ("7", zeros, least, "7"),
-        ("7.5", zeros, least, "7.5"),
-        ("007.5", none, kept, "007.5"),
-        ("007.5", none, plain, "7.5"),
-        ("007.5", zeros, kept, "7.5"),
-        ("007.5^1", forbidden, kept, "75"),
-        ("171", hexadecimal, plain.lowercase(), "0xab"),
-        ("171", hexadecimal, least, "0x0AB"),
-        ("171", hexadecimal, least.without_base(), "AB"),
-        ("1200", none, always, "1200^0"),
-        ("1.5^3", none, always, "1.5^3"),
-        ("1200", forbidden, always, "1200"),
-        ("5", none.required_exponent_sign(true).no_exponent_without_fraction(true), always, "5.^+0"),
-        ("1.2^3", none, never, "1200"),
-        ("1.2^3", required, never, "1.2^3"),
-        ("5", required, never, "5^0"),
-        ("1^800", none, never, "1^800"),
-        ("1.2^2", none, from, "120"),
-        ("1.2^3", none, from, "1.2^3"),
-        ("1.2^-2", none, from, "0.012"),
-        ("1.2^-3", none, from, "1.2^-3"),
-        ("1200000", none, from, "1200000"),
-    ] {
-        let source = Syntax::new_or_panic(none.build_format_or_panic(), b'^', b'.');
-        let target = Syntax::new_or_panic(target.build_format_or_panic(), b'^', b'.');
-        let literal = source.read(text).unwrap();
-        assert_eq!(target.format_literal(&literal, style).unwrap().to_string(), wanted, "{text} {style:?}");
-    }
-    let floats = Syntax::new_or_panic(none.build_format_or_panic(), b'^', b'.');
-    let texts = [always, never.min_digits(3)].map(|style| floats.format_integer(-12, style).unwrap().to_string());
-    assert_eq!(texts, ["-12^0", "-012"]);
 }
 
 #[test]
@@ -396,6 +437,48 @@ fn the_style_and_conditions_decide_on_prefix_suffix_and_groups() {
     let texts =
         [0xFFF, 0xFFFF, 0xF_FFFF, 0xFFF_FFFF].map(|it| indian.format_integer(it, bare.group(4)).unwrap().to_string());
     assert_eq!(texts, ["FFF", "F,FFF", "FF,FFF", "FF,FF,FFF"]);
+}
+
+/// The expected texts are those of C and NASM, and for the last rows, of docs/FORMAT.md.
+#[test]
+fn a_zero_is_written_where_a_number_may_not_begin_with_another_digit() {
+    let plain = Style::PLAIN;
+    let form =
+        |language: Language, name| language.forms().as_slice().iter().find(|it| it.name() == name).unwrap().syntax();
+    let (octal, nasm) = (form(Language::C, "octal"), form(Language::NASM, "hexadecimal, h"));
+    let binary = NonZeroU8::new(2);
+    let none = NumberFormatBuilder::new().mantissa_radix(16).exponent_base(binary).exponent_radix(NonZeroU8::new(10));
+    let floats = Syntax::new_or_panic(none.required_digits(false).build_format_or_panic(), b'p', b'.');
+    let zeros = floats.with_conditions(Conditions::NONE.required_leading_zero(true)).unwrap();
+    let decimal = floats.with_conditions(Conditions::NONE.decimal_first_digit(true)).unwrap();
+    let prefix = none.base_prefix(NonZeroU8::new(b'x')).build_format_or_panic();
+    let prefixed = Syntax::integers(prefix).with_conditions(Conditions::NONE.decimal_first_digit(true)).unwrap();
+    let long = format!("AB{}", "0".repeat(40));
+    for (text, target, style, wanted) in [
+        ("F", octal, plain, "017".into()),
+        ("0", octal, plain, "0".into()),
+        ("53977", octal, plain.group(3), "01'234'567".into()),
+        ("F", octal, plain.min_digits(2), "017".into()),
+        ("F", octal, plain.min_digits(4), "0017".into()),
+        ("AB", nasm, plain.lowercase(), "0abh".into()),
+        ("00AB", nasm, plain, "0ABh".into()),
+        ("12", nasm, plain, "12h".into()),
+        ("0", nasm, plain, "0h".into()),
+        ("Ap8", nasm, plain, "0A00h".into()),
+        (&long, nasm, plain, format!("0{long}h")),
+        ("AB", prefixed, plain, "0xAB".into()),
+        ("AB", prefixed, plain.without_base(), "0AB".into()),
+        (".8", zeros, plain, "0.8".into()),
+        ("12.8", zeros, plain, "012.8".into()),
+        (".8", decimal, plain, "0.8".into()),
+        ("A.8", decimal, plain, "0A.8".into()),
+        ("-1.8", decimal, plain, "-1.8".into()),
+    ] {
+        let literal = floats.read(text).unwrap();
+        let written = target.format_literal(&literal, style).unwrap().to_string();
+        assert!(target.read(&written).is_ok());
+        assert_eq!(written, wanted, "{text}");
+    }
 }
 
 /// Returns the next pseudo-random number below `bound`.

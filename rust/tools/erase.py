@@ -109,7 +109,7 @@ EVERYWHERE = [
 
 # Types that may grow. In plain Rust, a match outside the crate has to have an arm for what they lack today.
 GROWS = {
-    "enum": "ArgumentKind Byte Cause Class Condition ConditionsErrorKind Edit EditErrorKind Error ExponentStyle FlagSetter Grouping Note Part Place Radixes ReadErrorKind Role Rule "
+    "enum": "ArgumentKind Byte Cause Class Condition ConditionsErrorKind Edit EditErrorKind Error ExponentStyle FlagSetter FloatKind Grouping IntegerKind Note Part Place Radixes ReadErrorKind Role Rule "
     "Setter TokenError ValueErrorKind WriteError",
     "struct": "ConditionsError FormError NamedByte Separators Style",
 }
@@ -164,18 +164,27 @@ REPLACED += [
     # A syntax that is not lawful can have any radix.
     ("lexical_number/src/word.rt", "MOST[radix as usize] as usize", "if radix <= 36 { MOST[radix as usize] as usize } else { 0 }"),
     # Programs have one copy of these.
-    ("lexical_literal/src/list.rt", "syntax.begin(false, text, false)", "syntax.begin_any(text, false)"),
+    ("lexical_literal/src/list.rt", "syntax.begin(false, text, false);\n                if syntax.is_whole(text, counted) {\n                    return Some", "syntax.begin_any(text, false);\n                if syntax.is_whole(text, counted) {\n                    return Some"),
     ("lexical_literal/src/list.rt", "self.begin(false, text, false)", "self.begin_any(text, false)"),
     ("lexical_literal/src/read.rt", "self.begin(false, text, true)", "self.begin_any(text, true)"),
+    # Texts that are refused need it alone, and one copy is enough for all calls.
+    ("lexical_literal/src/read.rt", "#[inline(always)]\n    pub(crate) const fn stop(", "#[inline(never)]\n    pub(crate) const fn stop("),
     # A decimal literal need not be in memory where another one would be.
     ("lexical_value/src/float.rt", "binary_size(F::DOUBLE, literal)", "binary_size(F::DOUBLE, &{ *literal })"),
+    ("lexical_value/src/float.rt", "match nearest_single(literal)", "match nearest_single(&{ *literal })"),
+    ("lexical_value/src/float.rt", "        whole_float(literal)\n", "        whole_float(&{ *literal })\n"),
+    ("lexical_value/src/kind.rt", "fewer(kind, &numeral)", "fewer(kind, &{ numeral })"),
     # Calls for constants.
-    ("lexical_value/src/integer.rt", "pub(crate) fn integer_numeral", "pub(crate) const fn integer_numeral"),
+    ("lexical_value/src/integer.rt", "pub fn own_numeral", "pub(crate) const fn own_numeral"),
+    ("lexical_value/src/integer.rt", "pub fn integer_numeral", "pub(crate) const fn integer_numeral"),
     ("lexical_value/src/integer.rt", "\nfn magnitude", "\nconst fn magnitude"),
     ("lexical_value/src/float.rt", "pub(crate) fn binary_size", "pub(crate) const fn binary_size"),
     ("lexical_value/src/float.rt", "\nfn leading_of", "\nconst fn leading_of"),
-    ("lexical_value/src/float.rt", "\nfn exponent_of", "\nconst fn exponent_of"),
+    ("lexical_value/src/float.rt", "\nfn exponent_of", "\npub(crate) const fn exponent_of"),
     ("sink.rt", "#[derive(Drop)]", "#[derive(Debug)]"),
+    # Programs have one copy of these, for any kind of number.
+    ("choice.rt", "fn choose<N: Writable>(", "fn choose<N: Writable + ?Sized>("),
+    ("choice.rt", "fn write_by<N: Writable>(", "fn write_by<N: Writable + ?Sized>("),
     # `Debug` prints the answers.
     ("cause.rt", "#[derive(Debug, Clone, Copy, PartialEq, Eq, Hash)]\npub struct ReadError {", "#[derive(Clone, Copy, PartialEq, Eq, Hash)]\npub struct ReadError {"),
     ("lawful.rt", "Eq)]\npub struct FormatError", "Eq, Hash)]\npub struct FormatError"),

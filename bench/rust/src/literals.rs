@@ -128,6 +128,9 @@ pub(crate) use calls;
 calls! {
     parse: |_group| |text| black_box(text.parse::<f64>()).is_ok();
     parse_integer: |_group| |text| black_box(text.parse::<i64>()).is_ok();
+    token: |group| { let it = group.language; move |text| black_box(it.token(text)).is_ok() };
+    list_integer: |group| { let it = group.language; move |text| black_box(it.parse::<i64>(text)).is_ok() };
+    list_float: |group| { let it = group.language; move |text| black_box(it.parse::<f64>(text)).is_ok() };
 }
 
 #[cfg(peers)]
@@ -189,6 +192,9 @@ pub fn rows() -> Vec<Row> {
     let hexadecimal = of_form(Language::C, 4, || format!("0x1.{}p{}", fixed(random, 13), random.below(100)));
     let form = |form| Group::new((Language::C, form), 20_000, || of_c(random, form), |_, _| true);
     let forms = Vec::from([0, 1, 2, 3, 4].map(form)).leak();
+    let ended_form = |form| Group::new((Language::C, form), 20_000, || of_c(random, form) + random.pick(&[";", " ", ")"]), |_, _| true);
+    let ended_forms = Vec::from([0, 1, 2, 3, 4].map(ended_form)).leak();
+    let ended = of_form(Language::RUST, 2, || format!("0x{:X},", random.below(1 << 36)));
     let wrong_form = |form| {
         let is_refused = |group: &Group, text: &str| list_refuses(group)(text);
         Group::new((Language::C, form), 20_000, || of_c(random, form) + random.pick(&[";", " ", "x"]), is_refused)
@@ -224,6 +230,8 @@ pub fn rows() -> Vec<Row> {
         "Forms::read, 5 forms of C, over Syntax::read", forms.listed, forms.reader;
         "Forms::read, refused, over Syntax::read", wrong_forms.list_refuses, wrong_forms.refuses;
         "Forms::parse, prefixed, over Syntax::parse", prefixed.list_value, prefixed.value;
+        "Forms::token, 5 forms of C, over Forms::parse", ended_forms.token, forms.list_float;
+        "Forms::token, prefixed, over Forms::parse", ended.token, prefixed.list_integer;
         "Syntax::read, byte inserted, over accepted", inserted.refuses, accepted.reader;
         "Syntax::read, byte appended, over accepted", appended.refuses, accepted.reader;
         "Syntax::read and text, inserted, over accepted", inserted.prints, accepted.reader;

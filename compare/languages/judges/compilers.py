@@ -50,7 +50,7 @@ COMPILERS = {
     "g++": [Compiler(f"g++ -std=c++17 -D_Static_assert=static_assert {GCC}", "a.cc", *C, PRINT_CC)],
     "gnat": [Compiler("gnatmake -f -q -o out -gnatf -gnatm999999 -gnatws", "a.adb", *ADA, PRINT_ADA)],
     "gfortran": [Compiler(f"gfortran -std=f2018 {GCC}", "a.f90", *FORTRAN, PRINT_FORTRAN, signed=True)],
-    "nasm": [Compiler("nasm -f bin -o out", "a.asm", "bits 64\n", "mov rax, {text}\n\n\n", "", "Q"),
+    "nasm": [Compiler("nasm -f bin -o out", "a.asm", "bits 64\n", "mov rax, {text}\n\n\n", "", "q"),
              Compiler("nasm -f bin -o out", "a.asm", "bits 64\n", "mov rax, __float64__({text})\n\n\n", "", "d")],
     "rustc": [Compiler("rustc --error-format=short -o out", "a.rs", *RUST, PRINT_RUST)],
     "kotlinc": [Compiler("kotlinc -d out", "a.kt", "", "const val number{i} =\n{text}\n\n", "", "javap -constants out/AKt.class",
@@ -82,7 +82,7 @@ def accepted(it, folder, texts, program=None):
 
 def values(it, folder, texts):
     """Returns the values of the texts that the compiler has a type for."""
-    if it.printing in ("Q", "d"):
+    if it.printing in ("q", "d"):
         compile(it, folder, "".join(f"dq {text}\n" for text in texts))
         return [value for value, in struct.iter_unpack(it.printing, (folder / "out").read_bytes())]
     if isinstance(it.printing, str):

@@ -1,7 +1,8 @@
 -- Each byte of a literal plays a role, and a literal with a required prefix begins with it.
-use Rattle.std.proofs.Common.{ℕ, ◌≡◌, ◌+◌, ◌<◌, true, false, None, List, [], ◌∷◌, ◌++◌, length, get_or, IsTrue, sym, subst, ◌∙◌, arith}
+use Rattle.std.proofs.Common.{ℕ, ◌≡◌, ◌+◌, ◌<◌, ◌≤◌, ◌⊎◌, inl, inr, true, false, None, List, [], ◌∷◌, ◌++◌, length, length-append, take, get_or, IsTrue, ap, refl, sym, subst, ◌∙◌, arith}
 use Rattle.std.specs.List.{AllByRecursion}
-use Rattle.std.proofs.lemmas.Bool.{false≢true}
+use Rattle.std.proofs.lemmas.Bool.{cases_lt, false≢true}
+use Rattle.std.proofs.lemmas.List.{get_or-take, get_or_append_left, length-take-le}
 use Rattle.std.proofs.lemmas.Bool.Decides.{nat_tests}
 use Rattle.lexical_util.specs.Ascii.{ByteSet}
 use Rattle.lexical_util.specs.Roles.{signs}
@@ -11,7 +12,7 @@ use Rattle.lexical_util.specs.declared.format_flags.Part.{Part}
 use Rattle.lexical_util.specs.declared.format_flags.Part.TheVariants as parts
 use Rattle.lexical_literal.specs.Additions.Forms.{PlaysNoRole, sign_size}
 use Rattle.lexical_literal.specs.Literal.{Literal, Reads, is_none_or_one, is_none_or_prefix, is_present, text_of}
-use Rattle.lexical_literal.specs.Front.{NoLiteral}
+use Rattle.lexical_literal.specs.Front.{IsValidUpTo, NoLiteral}
 use Rattle.lexical_literal.specs.Additions.Summary.{role_at}
 use Rattle.lexical_literal.specs.Notation.{Notation, notation_of, set_of_role}
 use Rattle.lexical_literal.specs.declared.syntax.Grammar.{Grammar}
@@ -83,6 +84,47 @@ module _ (m : Notation) where
   pub prefix_begins : (l : Literal) (text : List ℕ) → Reads m l text → IsTrue (m.condition conditions.BasePrefix) → BeginsPrefixed text
   prefix_begins l text reads required = subst BeginsPrefixed (sym reads.whole)
       (begins l.sign l.prefix _ reads.literal.spelled.sign reads.literal.spelled.prefix (reads.literal.conditions conditions.BasePrefix required))
+
+-- Some literal begins with the first `n` bytes of `text`.
+module _ (m : Notation) (text : List ℕ) (n : ℕ) (is : IsValidUpTo m text n) where
+  abbrev whole : List ℕ
+  whole = take n text ++ is.front.more
+
+  same_byte : (i : ℕ) → i < n → get_or whole i 0 ≡ get_or text i 0
+  same_byte i below = get_or_append_left (take n text) is.front.more 0 i (rw (length-take-le n text is.within) below) ∙ get_or-take n text i 0 below
+
+  longer : n ≤ length whole
+  longer = let size = length-take-le n text is.within in let both = length-append (take n text) is.front.more in omega (arith, size, both)
+
+  -- It ends before a byte that plays no role.
+  pub near_no_role : (i : ℕ) → PlaysNoRole m (get_or text i 0) → n ≤ i
+  near_no_role i none = elim (cases_lt i n) [
+    | inl below ↦ absurd (no_role_excludes m whole i (omega (arith, below, longer)) (subst (PlaysNoRole m) (sym (same_byte i below)) none)
+        is.front.literal is.front.reads)
+    | inr near ↦ near
+  ]
+
+  same_sign : (text rest : List ℕ) (n : ℕ) → 0 < n → sign_size (take n text ++ rest) ≡ sign_size text ⊎ (text ≡ [])
+  same_sign [] rest n some = inr refl
+  same_sign (b ∷ text) rest ℕ.zero some = absurd (omega (arith, some))
+  same_sign (b ∷ text) rest (ℕ.suc n) some = inl refl
+
+  -- It ends behind the first byte that a required prefix is not.
+  pub near_prefix : IsTrue (m.condition conditions.BasePrefix) → (BeginsPrefixed m text → ⊥) → n ≤ sign_size text + 1
+  near_prefix required none = elim (cases_lt (sign_size text + 1) n) [
+    | inl below ↦
+        let begins = prefix_begins m is.front.literal whole is.front.reads required in
+        let same : sign_size whole ≡ sign_size text = elim (same_sign text is.front.more n (omega (arith, below))) [
+          | inl same ↦ same
+          | inr empty ↦ absurd (let within = is.within in let no : length text ≡ 0 = ap length empty in omega (arith, no, within, below))
+        ] in
+        absurd (none (record {
+          inside = omega (arith, below, is.within);
+          zero = sym (same_byte (sign_size text) (omega (arith, below))) ∙ ap (λ i. get_or whole i 0) (sym same) ∙ begins.zero;
+          prefix = ap m.prefix (sym (same_byte (sign_size text + 1) below) ∙ ap (λ i. get_or whole (i + 1) 0) (sym same)) ∙ begins.prefix;
+        }))
+    | inr near ↦ near
+  ]
 
 -- A byte that has no role behind the beginning of the integer, and is no digit of an exponent.
 module _ (g : Grammar) (b : ℕ) where

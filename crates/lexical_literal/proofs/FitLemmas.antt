@@ -23,6 +23,7 @@ use Rattle.lexical_literal.specs.declared.syntax.Condition.TheVariants as condit
 use Rattle.lexical_literal.specs.declared.steps.Stage.{Stage}
 use Rattle.lexical_literal.specs.declared.steps.Summary.{Summary}
 use Rattle.lexical_literal.proofs.FrontLemmas.{begins, completed_there, ended_there, front_is_read, goes_on_there, literal_there}
+use Rattle.lexical_literal.proofs.PlainLemmas.{admits_settled}
 use Rattle.lexical_literal.proofs.GroupLemmas.{not_empty}
 use Rattle.lexical_literal.proofs.RefusalLemmas.{other_roles}
 use Rattle.lexical_literal.proofs.PartOfLemmas.{none_after}
@@ -167,7 +168,7 @@ module _ (m : Notation) where
       opened = linked.sized (and_from _ _ is.separated is.sized)
 
       -- One more byte that is taken and fits.
-      one_more : (b : ℕ) (r : Role) → role_at m g.part b ≡ Some r → takes u s (b == 43) r ≡ true → admits u.condition s (b == 43) (b == 48) r ≡ true
+      one_more : (b : ℕ) (r : Role) → role_at m g.part b ≡ Some r → takes u s (b == 43) r ≡ true → admits u.condition s b r ≡ true
           → follows m g (Some r) ≡ true → (grown g (Some r)).separated ≡ true → (grown g (Some r)).part ≡ g.part
           → Filling (text ++ b ∷ []) (after s (b == 48) r) (grown g (Some r))
       one_more b r role taken admitted follow separated part = grind (arith, scan_append, linked, group_append)
@@ -194,13 +195,13 @@ module _ (m : Notation) where
         next true false seen none is = absurd (grind arith)
         next false more seen none is = absurd (false≢true seen)
 
-      admitted : (plus naught : Bool) (r : Role) → (roles.Sign ≡ r → ⊥) → admits u.condition s plus naught r ≡ true
-      admitted plus naught r other = grind (arith, opened)
+      admitted : (b : ℕ) (r : Role) → (roles.Sign ≡ r → ⊥) → admits u.condition s b r ≡ true
+      admitted b r other = admits_settled u s b r opened.settled other
 
       zero_more : nat_lt g.digits (most m g.part) ≡ true → Filling (text ++ 48 ∷ []) (after s true roles.Digit) (grown g (Some roles.Digit))
       zero_more small = one_more 48 roles.Digit (digit_role m g.part 48 (h.zero_is_digit g.part))
           (and_from _ _ signed (and_from _ _ (place (has_digit s.stage) s.gap opened.digit) follow))
-          (admitted false true roles.Digit (λ e. cc)) (or_right _ _ small) is.separated refl where
+          (admitted 48 roles.Digit (λ e. cc)) (or_right _ _ small) is.separated refl where
             place : (digit gap : Bool) → digit ≡ true → gap_fits u (part_of s.stage) digit gap true ≡ true
             place digit false seen = refl
             place true true seen = internal
@@ -211,7 +212,7 @@ module _ (m : Notation) where
       separator_more closed fit = one_more sizes.separator roles.Separator
           (is_role m g.part sizes.separator h roles.Separator (λ e. cc) (sizes.has_separator (some_size g.part is.sized)))
           (and_from _ _ signed (and_from _ _ (or_left _ _ (ap not closed)) (or_left _ _ (place (has_digit s.stage) opened.digit))))
-          (admitted _ _ roles.Separator (λ e. cc)) (rw (is.separated) fit) refl refl where
+          (admitted _ roles.Separator (λ e. cc)) (rw (is.separated) fit) refl refl where
             place : (digit : Bool) → digit ≡ true → (is_place u (part_of s.stage) digit true && may_follow u s.stage) ≡ true
             place true seen = and_from _ _ internal follow
             place false seen = absurd (false≢true seen)

@@ -1,17 +1,19 @@
 -- Several forms: what has been found in the first of them, and what one form more adds.
-use Rattle.std.proofs.Common.{ℕ, ◌≡◌, ◌*◌, Bool, true, false, if◌then◌else◌, ◌<◌, ◌≤◌, ◌+◌, List, Ok, Option, Some, None, All, IsSomeAnd}
-use Rattle.std.proofs.Common.{[], ◌∷◌, length, take, get_or, slice_get, IsNone, refl, sym, subst, arith}
+use Rattle.std.proofs.Common.{ℕ, ◌≡◌, ◌*◌, ◌⊎◌, inl, inr, nat_lt, Bool, true, false, if◌then◌else◌, ◌<◌, ◌≤◌, ◌+◌, List, Ok, Option, Some, None, All, IsSomeAnd}
+use Rattle.std.proofs.Common.{[], ◌∷◌, length, take, get_or, slice_get, IfSome, IsNone, refl, sym, subst, arith}
 use Rattle.std.specs.Option.{ForSome}
+use Rattle.std.proofs.Math.Nat.{le_antisymm}
 use Rattle.std.proofs.lemmas.Bool.Decides.{nat_tests}
-use Rattle.std.proofs.lemmas.Bool.{false≢true}
+use Rattle.std.proofs.lemmas.Bool.{cases_lt, false≢true}
 use Rattle.std.proofs.lemmas.List.{take_all}
 use Rattle.std.proofs.lemmas.List.Elements.{All-more}
 use Rattle.std.proofs.lemmas.Option.{slice_get-get_or, slice_get_within}
-use Rattle.lexical_literal.specs.Additions.Forms.{GoesTo, IsFoundForm, IsFoundFrontForm, IsFurthestForm, greater, longer}
+use Rattle.lexical_literal.specs.Additions.Forms.{GoesTo, IsFoundForm, IsFoundFrontForm, IsFurthestForm, further, further_on, greater, longer, sign_size}
 use Rattle.lexical_literal.specs.Additions.Longest.{IsCountedFront, IsStopped}
 use Rattle.lexical_literal.specs.Cause.{IsRefusal}
 use Rattle.lexical_literal.specs.declared.cause.Refusal.{Refusal}
-use Rattle.lexical_literal.specs.Forms.{HasFront, IsErrorOfForm, IsFormError, IsGreatest, NoForm, Reaches, ReadsForm, is_byte, reach}
+use Rattle.lexical_literal.specs.FormList.{FormList}
+use Rattle.lexical_literal.specs.Forms.{HasFront, HasKind, IsErrorOfForm, IsFirst, IsFormError, IsGreatest, IsReadByForms, NoForm, Reaches, ReadsForm, is_byte, reach}
 use Rattle.lexical_literal.specs.Front.{IsValidUpTo, NoFront, NoLiteral, ReadsFront}
 use Rattle.lexical_literal.specs.Literal.{Literal, Reads}
 use Rattle.lexical_literal.specs.Notation.{Notation, notation_of}
@@ -20,12 +22,17 @@ use Rattle.lexical_literal.specs.declared.read.Found.{Found}
 use Rattle.lexical_literal.specs.declared.plain.At.{At}
 use Rattle.lexical_literal.specs.declared.list.Form.{Form}
 use Rattle.lexical_literal.specs.declared.list.FormError.{FormError}
+use Rattle.lexical_literal.specs.declared.list.Number.TheVariants as numbers
 use Rattle.lexical_literal.proofs.OneCauseLemmas.{one_refusal}
 use Rattle.std.proofs.lemmas.Grind.{common_steps}
 
 -- What holds of some value of an option holds of the value that it is.
 some_of : {X : Type 0} (P : X → Type 0) (o : Option X) → IsSomeAnd o P → (x : X) × (o ≡ Some x) × P x
 some_of P x1 holds = grind arith
+
+-- An index at which there is a form is one of the list.
+pub inside_of : (P : Form → Type 0) (forms : List Form) (i : ℕ) → IsSomeAnd (slice_get forms i) P → i < length forms
+inside_of P forms i holds = let some = some_of P (slice_get forms i) holds in slice_get_within forms i some.0 some.1
 
 -- The form at an index, of a list that is the same.
 pub form_at : (P : Form → Type 0) (forms list : List Form) (g : Form) (i : ℕ) → list ≡ forms
@@ -143,6 +150,28 @@ fronts text = record {
   none = λ g a none is. none a is.1.within is.0 is.1.reads;
 }
 
+-- How far each form goes that goes beyond the first byte behind the sign.
+abbrev pub beyond : List ℕ → Measure At
+beyond text = record {
+  size = λ stop. stop.size;
+  IsSize = λ g n. GoesTo text g n × (sign_size text + 1 < n);
+  IsValue = λ g stop. IsStopped (notation_of g.syntax) text stop × (sign_size text + 1 < stop.size);
+  IsNot = λ g. (n : ℕ) → GoesTo text g n → n ≤ sign_size text + 1;
+  one = λ g a b is other. one_size (notation_of g.syntax) text a b is.0 other.0;
+  sized = λ g stop is. (is.0.valid, is.1);
+  none = λ g a none is. let near = none a is.0 in omega (arith, near, is.1);
+}
+
+-- One form more, which stops at `stop`.
+pub beyond_more : (text : List ℕ) (forms : List Form) (i : ℕ) (d : Form) → i < length forms
+    → (furthest : Option (ℕ × At)) → IsBest (beyond text) forms i furthest → (stop : At) → IsStopped (notation_of (get_or forms i d).syntax) text stop
+    → IsBest (beyond text) forms (i + 1) (further_on (sign_size text) furthest i stop)
+beyond_more text forms i d inside furthest old stop is = go (nat_lt (sign_size text + 1) stop.size) refl where
+  go : (b : Bool) → nat_lt (sign_size text + 1) stop.size ≡ b → IsBest (beyond text) forms (i + 1) (if b then further furthest i stop else furthest)
+  go true far = best_more (beyond text) forms i d inside stop (is, grind (arith, nat_tests)) furthest old
+  go false near = best_stays (beyond text) forms i d inside
+      (λ n goes. let most = one_size (notation_of (get_or forms i d).syntax) text n stop.size goes is.valid in grind (arith, nat_tests)) furthest old
+
 -- One form more, with its longest front, or none.
 pub fronts_more : (text : List ℕ) (forms : List Form) (i : ℕ) (d : Form) → i < length forms
     → (longest : Option (ℕ × Found)) → IsBest (fronts text) forms i longest → (found : Option Found)
@@ -156,6 +185,29 @@ pub found_is : (forms : List Form) (text : List ℕ) (i : ℕ) (d : Form) (read 
     → ReadsForm text read (get_or forms i d) → NoForm (take i forms) text → IsFoundForm forms text (Some (i, read))
 found_is forms text i d read inside is before = grind (arith, slice_get-get_or)
 
+-- A literal of another kind is the same literal.
+pub first_of : (forms : List Form) (text : List ℕ) (i : ℕ) (read own : Read) → own.format ≡ read.format → own.literal ≡ read.literal
+    → IsFirst forms text i read → IsFirst forms text i own
+first_of forms text i read own format same is = record {
+  reads = subst (λ l. IsSomeAnd (slice_get forms i) (λ form. (own.format ≡ form.syntax.word) × Reads (notation_of form.syntax) l text)) (sym same)
+      (subst (λ f. IsSomeAnd (slice_get forms i) (λ form. (f ≡ form.syntax.word) × Reads (notation_of form.syntax) read.literal text)) (sym format) is.reads);
+  before = is.before;
+}
+
+kind_at : (forms : List Form) (i : ℕ) (d : Form) (own : Read) → i < length forms → own.kind ≡ (get_or forms i d).kind → HasKind forms i own
+kind_at forms i d own inside kind = grind (arith, slice_get-get_or)
+
+-- The number that has been found, with the kind of its form.
+pub number_is : (list : FormList) (text : List ℕ) (i : ℕ) (d : Form) (read own : Read) → i < length list.forms → IsFoundForm list.forms text (Some (i, read))
+    → own.format ≡ read.format → own.literal ≡ read.literal → own.kind ≡ (get_or list.forms i d).kind
+    → IsReadByForms list text (Ok (numbers.Literal own i))
+number_is list text i d read own inside is format same kind = record {
+  found = (first_of list.forms text i read own format same is.found, kind_at list.forms i d own inside kind);
+  no_literal = λ err. absurd (false≢true err);
+  no_special = λ err. absurd (false≢true err);
+  error = tt;
+}
+
 -- All forms have been tried.
 module _ (forms : List Form) (text : List ℕ) (i : ℕ) (end : length forms ≤ i) where
   pub furthest_is : 0 < length forms → (furthest : Option (ℕ × At)) → IsBest (goes text) forms i furthest → IsFurthestForm forms text furthest
@@ -164,6 +216,29 @@ module _ (forms : List Form) (text : List ℕ) (i : ℕ) (end : length forms ≤
     none_of [] some all = omega (arith, some)
     none_of (form ∷ forms) some all = all 0 form some
   furthest_is some (Some best) is = (greatest (goes text) forms i end best.0 best.1 is, is.here)
+
+  -- A form that goes beyond that byte goes furthest of all, if it does of those that go beyond it.
+  beyond_is : (best : ℕ × At) → IsBest (beyond text) forms i (Some best) → IsFurthestForm forms text (Some best)
+  beyond_is best is =
+      let here = some_of (λ g. IsStopped (notation_of g.syntax) text best.1 × (sign_size text + 1 < best.1.size)) (slice_get forms best.0) is.here in
+      let all = greatest (beyond text) forms i end best.0 best.1 is in (
+        record {
+          here = subst (λ o. IsSomeAnd o (λ g. GoesTo text g best.1.size)) (sym here.1) here.2.0.valid;
+          before = λ k e below n goes. elim (cases_lt (sign_size text + 1) n) [
+            | inl far ↦ all.before k e below n (goes, far)
+            | inr near ↦ omega (arith, near, here.2.1)
+          ];
+          others = λ k e below n goes. elim (cases_lt (sign_size text + 1) n) [
+            | inl far ↦ all.others k e below n (goes, far)
+            | inr near ↦ omega (arith, near, here.2.1)
+          ];
+        },
+        subst (λ o. IsSomeAnd o (λ g. IsStopped (notation_of g.syntax) text best.1)) (sym here.1) here.2.0,
+      )
+
+  pub beyond_if : (furthest : Option (ℕ × At)) → IsBest (beyond text) forms i furthest → IfSome furthest (λ best. IsFurthestForm forms text (Some best))
+  beyond_if None is = tt
+  beyond_if (Some best) is = beyond_is best is
 
   pub longest_is : (form : ℕ) (found : Found) → IsBest (fronts text) forms i (Some (form, found)) → IsFoundFrontForm forms text (Ok (form, found))
   longest_is form found is =
@@ -185,16 +260,18 @@ module _ (forms : List Form) (text : List ℕ) (first size : ℕ) (furthest : Is
   one_more form is before = let here = some_of IsNoBetter (slice_get forms form) is in
       All-more IsNoBetter forms form here.0 (slice_get_within forms form here.0 here.1) before (here_at IsNoBetter forms form here.0 is)
 
-  -- A form that goes elsewhere.
-  pub elsewhere : (form other : ℕ) → IsSomeAnd (slice_get forms form) (λ g. GoesTo text g other) → (other ≡ size → ⊥) → All IsNoBetter (take form forms)
+  -- A form that does not go up to `size`.
+  pub elsewhere : (form : ℕ) → IsSomeAnd (slice_get forms form) (λ g. GoesTo text g size → ⊥) → All IsNoBetter (take form forms)
       → All IsNoBetter (take (form + 1) forms)
-  elsewhere form other valid apart = one_more form (go (slice_get forms form) refl valid) where
-    go : (o : Option Form) → slice_get forms form ≡ o → IsSomeAnd o (λ g. GoesTo text g other) → IsSomeAnd o IsNoBetter
-    go None at valid = valid
-    go (Some g) at valid = λ n reaches.
-        let up = all_at (λ g. (other : ℕ) → GoesTo text g other → other ≤ size) forms form g at furthest.others other valid in
-        let other_is : other < size = grind (arith, nat_tests) in
-        let less = reach_below g text size (λ k goes. let most = one_size (notation_of g.syntax) text k other goes valid in omega (arith, most, other_is)) n reaches in
+  elsewhere form apart = one_more form (go (slice_get forms form) refl apart) where
+    go : (o : Option Form) → slice_get forms form ≡ o → IsSomeAnd o (λ g. GoesTo text g size → ⊥) → IsSomeAnd o IsNoBetter
+    go None at apart = apart
+    go (Some g) at apart = λ n reaches.
+        let up = all_at (λ g. (other : ℕ) → GoesTo text g other → other ≤ size) forms form g at furthest.others in
+        let less = reach_below g text size (λ k goes. elim (cases_lt k size) [
+          | inl below ↦ below
+          | inr past ↦ absurd (apart (subst (λ k. GoesTo text g k) (le_antisymm (up k goes) past) goes))
+        ]) n reaches in
         omega (arith, less)
 
   -- The error of a form that goes up to `size`.

@@ -14,7 +14,7 @@ use Rattle.lexical_literal.specs.Notation.{Notation, set_of_role}
 use Rattle.lexical_literal.specs.Front.{IsFront}
 use Rattle.lexical_literal.specs.Literal.{Literal, Reads}
 use Rattle.lexical_literal.specs.Additions.Summary.{admits, continues, implies, has_digit, is_fresh, is_led, after_digit, after_mark, after_point, may_lead}
-use Rattle.lexical_literal.specs.Additions.Summary.{is_negative, lacks_prefix, needs_exponent, may_follow, gap_fits, ends, is_open, is_signed, takes, after}
+use Rattle.lexical_literal.specs.Additions.Summary.{is_negative, lacks_prefix, leads_to_prefix, needs_exponent, may_follow, gap_fits, ends, is_open, is_signed, takes, after}
 use Rattle.lexical_literal.specs.Additions.Summary.{scan, is_accepted, start, no_cuts, role_at, part_of, awaits_integer, digits_suffice, takes_in}
 use Rattle.lexical_literal.specs.Additions.Summary.{forbids_plus, is_run}
 use Rattle.lexical_literal.specs.declared.steps.Stage.{Stage}
@@ -42,14 +42,15 @@ module _ (m : Notation) where
   closed part digit gap next is = grind arith
 
   -- What can go on does so after each byte that is taken.
-  goes_on : (s : Summary) (plus zero : Bool) (r : Role) → CanGoOn m s → takes m s plus r ≡ true → admits C s plus zero r ≡ true → CanGoOn m (after s zero r)
+  goes_on : (s : Summary) (plus zero : Bool) (r : Role) → CanGoOn m s → takes m s plus r ≡ true
+      → implies (C conditions.BasePrefix && lacks_prefix s.stage) (leads_to_prefix s.stage zero r) ≡ true → CanGoOn m (after s zero r)
   goes_on s plus x2 x3 can is admitted = grind arith
 
   all_go_on : HasRoles m → (s : Summary) (text : List ℕ) (last : Summary) → CanGoOn m s → scan m (Some s) text ≡ Some last → CanGoOn m last
   all_go_on h s [] last can is = let same : s ≡ last = cc in subst (CanGoOn m) same can
   all_go_on h s (b ∷ text) last can is =
       let t = took C m s b (λ o. scan m o text ≡ Some last) (λ is. let none = sym (scan_none C m text) ∙ is in cc) is in
-      all_go_on h (after s (b == 48) t.role) text last (goes_on s (b == 43) (b == 48) t.role can t.taken t.admitted) t.rest
+      all_go_on h (after s (b == 48) t.role) text last (goes_on s (b == 43) (b == 48) t.role can t.taken (and_parts _ _ t.admitted).0) t.rest
 
   -- WAYS TO GO ON
 
@@ -81,7 +82,7 @@ module _ (m : Notation) where
     not_in other s b r role apart = false_from_ne_true _ (λ is. apart (ready.roles.one other r b is (as_role m (part_of s.stage) b r role)))
 
     abbrev then_byte : (s : Summary) (b : ℕ) (r : Role) → s.ended ≡ false → role_at m (part_of s.stage) b ≡ Some r → (roles.Separator ≡ r → ⊥)
-        → takes m s (b == 43) r ≡ true → admits C s (b == 43) (b == 48) r ≡ true → Completed (after s (b == 48) r) → Completed s
+        → takes m s (b == 43) r ≡ true → admits C s b r ≡ true → Completed (after s (b == 48) r) → Completed s
     then_byte s b r going role apart is admitted more = record {
       more = b ∷ more.more;
       accepts = (arrives_byte C m s b r no_cuts more.more _ going role is admitted (more.accepts, refl)).0;
@@ -90,7 +91,7 @@ module _ (m : Notation) where
 
     -- One that is no digit ends a part.
     then_end : (s : Summary) (b : ℕ) (r : Role) → s.ended ≡ false → role_at m (part_of s.stage) b ≡ Some r → (roles.Separator ≡ r → ⊥)
-        → (roles.Digit ≡ r → ⊥) → takes m s (b == 43) r ≡ true → admits C s (b == 43) (b == 48) r ≡ true → Completed (after s (b == 48) r) → Ended s
+        → (roles.Digit ≡ r → ⊥) → takes m s (b == 43) r ≡ true → admits C s b r ≡ true → Completed (after s (b == 48) r) → Ended s
     then_end s b r going role apart other is admitted more = (
       then_byte s b r going role apart is admitted more,
       false_from_ne_true _ (λ digit. let same = sym role ∙ digit_role m (part_of s.stage) b digit in other (let is : r ≡ roles.Digit = cc in sym is)),

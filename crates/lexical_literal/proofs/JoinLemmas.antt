@@ -3,7 +3,7 @@ use Rattle.std.proofs.Common.{ℕ, ◌≡◌, ◌<◌, ◌+◌, ◌-◌, true, f
 use Rattle.lexical_util.specs.declared.feature_format.roles.Role.TheVariants as roles
 use Rattle.lexical_util.specs.declared.format_flags.Part.TheVariants as parts
 use Rattle.lexical_literal.specs.Notation.{Notation}
-use Rattle.lexical_literal.specs.Additions.Plain.{HasRoles, IsAt, IsBegun, IsOpened, IsReadOn, IsSign, behind_sign, counts_of, integer_sizes, is_free, at_stage}
+use Rattle.lexical_literal.specs.Additions.Plain.{HasRoles, IsAt, IsBegun, IsOpened, IsReadOn, IsSign, behind_sign, counts_of, has_first, integer_sizes, is_free, at_stage}
 use Rattle.lexical_literal.specs.Additions.Summary.{Cuts, after_point, cuts_of, has_digit, awaits_integer, is_signed, takes, part_of, piece_number, with_prefix}
 use Rattle.lexical_literal.specs.declared.plain.At.{At}
 use Rattle.lexical_literal.specs.declared.plain.Opening.{Opening}
@@ -36,9 +36,9 @@ module _ (m : Notation) (text : List ℕ) where
   sign_at sign is = grind arith
 
   -- Without a base prefix.
-  pub opened : (sign : ℕ) → IsSign m text parts.Integer 0 sign → m.condition conditions.BasePrefix ≡ false
+  pub opened : (sign : ℕ) → IsSign m text parts.Integer 0 sign → m.condition conditions.BasePrefix ≡ false → has_first m text sign ≡ true
       → IsOpened m text (record { sign = sign; prefix = 0; size = sign; stage = behind_sign parts.Integer sign })
-  opened sign is free = grind arith
+  opened sign is free first = grind arith
 
   -- Behind a base prefix.
   pub opened_prefix : HasRoles m → (sign : ℕ) → IsSign m text parts.Integer 0 sign
@@ -51,7 +51,7 @@ module _ (m : Notation) (text : List ℕ) where
         (λ j other. count_prefix sign other j)
         (prefix (behind_sign parts.Integer sign) _ (begun_behind sign) is.signed (sign_at sign is));
     signed = refl;
-    free = grind arith;
+    first = grind arith;
     none = refl;
     inside = refl;
   }

@@ -1,6 +1,6 @@
 -- Which flags refuse what is allowed without requirements: flags that refuse alone, or those on leading zeros.
 use Rattle.std.proofs.Common.{ℕ, ◌≡◌, ◌==◌, Bool, true, false, not, ◌&&◌, ◌||◌, if◌then◌else◌, Option, Some, None, refl, sym, ap, subst, ◌∙◌, arith}
-use Rattle.std.proofs.lemmas.Bool.{false≢true, and_parts}
+use Rattle.std.proofs.lemmas.Bool.{false≢true, and_from, and_parts}
 use Rattle.std.specs.Prelude.{is_some}
 use Rattle.lexical_util.specs.Layout as layout
 use Rattle.lexical_util.specs.Layout.{Flag}
@@ -29,21 +29,21 @@ abbrev taken : Notation → Part → Stage → Bool → Bool → Option Role →
 taken n part stage gap plus None = false
 taken n part stage gap plus (Some role) = takes_in n part stage gap plus role
 
-abbrev passes_role : (Condition → Bool) → Summary → Bool → Bool → Option Role → Bool
-passes_role C s plus zero None = true
-passes_role C s plus zero (Some role) = admits C s plus zero role
+abbrev passes_role : (Condition → Bool) → Summary → ℕ → Option Role → Bool
+passes_role C s byte None = true
+passes_role C s byte (Some role) = admits C s byte role
 
-split_role : (n : Notation) (s : Summary) (plus zero : Bool) (o : Option Role)
-    → is_some (move_by n.condition n s plus zero o) ≡ (is_some (move_by no_condition n s plus zero o) && passes_role n.condition s plus zero o)
-split_role n s plus zero None = refl
-split_role n s plus zero (Some role) = gate s.ended (takes n s plus role) (admits n.condition s plus zero role) (after s zero role) where
+split_role : (n : Notation) (s : Summary) (b : ℕ) (o : Option Role)
+    → is_some (move_by n.condition n s b o) ≡ (is_some (move_by no_condition n s b o) && passes_role n.condition s b o)
+split_role n s b None = refl
+split_role n s b (Some role) = gate s.ended (takes n s (b == 43) role) (admits n.condition s b role) (after s (b == 48) role) where
   gate : (e t a : Bool) (x : Summary)
       → is_some (if not e && (t && a) then Some x else None) ≡ (is_some (if not e && (t && true) then Some x else None) && a)
   gate e t a x = grind arith
 
-moved : (n : Notation) (s : Summary) (ended plus zero : Bool) (o : Option Role)
-    → is_some (move_by no_condition n (record s { ended = ended }) plus zero o) ≡ (not ended && taken n (part_of s.stage) s.stage s.gap plus o)
-moved n s ended plus x4 x5 = grind arith
+moved : (n : Notation) (s : Summary) (ended : Bool) (b : ℕ) (o : Option Role)
+    → is_some (move_by no_condition n (record s { ended = ended }) b o) ≡ (not ended && taken n (part_of s.stage) s.stage s.gap (b == 43) o)
+moved n s ended b x4 = grind arith
 
 module _ (m : Notation) where
   -- `role_of_next s next` is the role of the byte `next` after `s`, or that of a suffix, where `next` is `None`.
@@ -59,11 +59,11 @@ module _ (m : Notation) where
   -- The notation `n` has the roles of `m`.
   abbrev pub free_allows : Notation → Summary → Option ℕ → Bool
   free_allows n s None = complete_by no_condition n s
-  free_allows n s (Some byte) = is_some (move_by no_condition n s (byte == 43) (byte == 48) (role_at m (part_of s.stage) byte))
+  free_allows n s (Some byte) = is_some (move_by no_condition n s byte (role_at m (part_of s.stage) byte))
 
   abbrev pub passes : (Condition → Bool) → Summary → Option ℕ → Bool
   passes C s None = finishes C s
-  passes C s (Some byte) = passes_role C s (byte == 43) (byte == 48) (role_at m (part_of s.stage) byte)
+  passes C s (Some byte) = passes_role C s byte (role_at m (part_of s.stage) byte)
 
   -- What is allowed is what the flags and the conditions let.
   pub split : (A : Flag → Bool) (D : Condition → Bool) (s : Summary) (next : Option ℕ)
@@ -73,7 +73,7 @@ module _ (m : Notation) where
       (finishes D s) where
         both : (x f : Bool) → (x && f) ≡ ((x && true) && f)
         both x f = grind arith
-  split A D s (Some byte) = split_role (with_rules m A D) s (byte == 43) (byte == 48) (role_at m (part_of s.stage) byte)
+  split A D s (Some byte) = split_role (with_rules m A D) s byte (role_at m (part_of s.stage) byte)
 
   passes_free : (s : Summary) (next : Option ℕ) → passes no_condition s next ≡ true
   passes_free s x1 = grind arith
@@ -81,21 +81,32 @@ module _ (m : Notation) where
   pub free_is : (A : Flag → Bool) (s : Summary) (next : Option ℕ) → lets (with_rules m A no_condition) s next ≡ free_allows (with_rules m A no_condition) s next
   free_is A s next = split A no_condition s next ∙ (let pass = passes_free s next in grind arith)
 
+  implied : (c x y : Bool) → (c ≡ true → implies x y ≡ true) → implies (c && x) y ≡ true
+  implied false x y each = refl
+  implied true x y each = each refl
+
+  denied : (c x : Bool) → (c ≡ true → not x ≡ true) → not (c && x) ≡ true
+  denied false x each = refl
+  denied true x each = each refl
+
   -- What one condition refuses, with others it is refused too.
   pub each_passes : (C : Condition → Bool) (s : Summary) (next : Option ℕ)
       → ((c : Condition) → C c ≡ true → passes (λ d. is_same c d || false) s next ≡ true) → passes C s next ≡ true
   each_passes C s None each = grind arith
   each_passes C s (Some byte) each = go (role_at m (part_of s.stage) byte) (λ c. each c) where
-    go : (o : Option Role) → ((c : Condition) → C c ≡ true → passes_role (λ d. is_same c d || false) s (byte == 43) (byte == 48) o ≡ true)
-        → passes_role C s (byte == 43) (byte == 48) o ≡ true
+    go : (o : Option Role) → ((c : Condition) → C c ≡ true → passes_role (λ d. is_same c d || false) s byte o ≡ true)
+        → passes_role C s byte o ≡ true
     go None each = refl
-    go (Some role) each = let prefix = each conditions.BasePrefix in let sign = each conditions.NegativeSign in grind arith
+    go (Some role) each = and_from _ _ (implied (C conditions.BasePrefix) _ _ (λ set. (and_parts _ _ (each conditions.BasePrefix set)).0))
+        (and_from _ _ (denied (C conditions.NegativeSign) _ (λ set. (and_parts _ _ (each conditions.NegativeSign set)).0))
+        (and_from _ _ (implied (C conditions.LeadingZero) _ _ (λ set. (and_parts _ true (each conditions.LeadingZero set)).0))
+        (implied (C conditions.DecimalFirstDigit) _ _ (λ set. each conditions.DecimalFirstDigit set))))
 
   -- What is allowed without conditions is a question of roles, before a suffix.
   allows_is : (n : Notation) (s : Summary) (next : Option ℕ) → s.ended ≡ false
       → free_allows n s next ≡ taken n (part_of s.stage) s.stage s.gap (is_plus_next next) (role_of_next s next)
   allows_is n s None going = grind arith
-  allows_is n s (Some byte) going = moved n s s.ended (byte == 43) (byte == 48) (role_at m (part_of s.stage) byte)
+  allows_is n s (Some byte) going = moved n s s.ended byte (role_at m (part_of s.stage) byte)
       ∙ ap (λ e. not e && taken n (part_of s.stage) s.stage s.gap (byte == 43) (role_at m (part_of s.stage) byte)) going
 
   -- FLAGS THAT REFUSE TOGETHER
@@ -207,6 +218,6 @@ module _ (m : Notation) where
       subst (λ (P : Notation → Bool). P (bare m) ≡ false → P (adding f (bare m)) ≡ true
       → ((s.gap || is_separator (role_at m (part_of s.stage) byte)) && is_at (place_of m (part_of s.stage) s.stage s.gap (role_at m (part_of s.stage) byte))
       (part_of s.stage) f) ≡ true)
-      (same s (Some byte) (let is = sym (moved (adding f (bare m)) s s.ended (byte == 43) (byte == 48) (role_at m (part_of s.stage) byte))
+      (same s (Some byte) (let is = sym (moved (adding f (bare m)) s s.ended byte (role_at m (part_of s.stage) byte))
       ∙ allowed in grind arith))
       (at_role f (part_of s.stage) s.stage s.gap (byte == 43) (role_at m (part_of s.stage) byte) is) refused allowed

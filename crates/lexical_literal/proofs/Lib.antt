@@ -31,6 +31,7 @@ mod OneCauseLemmas
 mod ExcludeLemmas
 mod FormLemmas
 mod TokenLemmas
+mod LeadingLemmas
 mod GroupLemmas
 mod SizeLemmas
 mod FitLemmas

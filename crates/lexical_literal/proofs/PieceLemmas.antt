@@ -7,6 +7,7 @@ use Rattle.lexical_literal.specs.Literal.{Literal, Reads, text_of}
 use Rattle.lexical_literal.specs.Notation.{Notation, notation_of}
 use Rattle.lexical_literal.specs.Front.{ReadsFront}
 use Rattle.lexical_literal.specs.Parts.{IsRead}
+use Rattle.lexical_literal.specs.Kind.{exact}
 use Rattle.lexical_literal.specs.Read.{Read}
 use Rattle.lexical_literal.specs.Additions.Longest.{IsCountedFront, IsMeasured}
 use Rattle.lexical_literal.specs.declared.syntax.Grammar.{Grammar}
@@ -57,7 +58,7 @@ is_cut m text c l reads has = let same = sym (cut_is text c l reads.whole has) i
 
 -- `read_as g text c` is `text` as a literal of `g` whose parts have the lengths `c`.
 abbrev pub read_as : Grammar → List ℕ → List ℕ → Read
-read_as g text counts = record { format = g.word; literal = cut text (cuts_of counts) }
+read_as g text counts = record { format = g.word; literal = cut text (cuts_of counts); kind = exact }
 
 module _ (g : Grammar) (text counts : List ℕ) (is : IsMeasured (notation_of g) text counts) where
   pub measured_cut : IsCut (notation_of g) text (cuts_of counts)
@@ -72,6 +73,7 @@ module _ (g : Grammar) (text counts : List ℕ) (is : IsMeasured (notation_of g)
   pub is_read : (read : Read) → read ≡ read_as g text counts → IsRead g text (Ok read)
   is_read read same = record {
     found = whole_read read same;
+    kind = ap (λ (r : Read). r.kind) same;
     only = λ l reads. ap (λ (r : Read). r.literal) same ∙ cut_is text (cuts_of counts) l reads.whole (is.counted l reads);
     error = tt;
   }

@@ -2,7 +2,8 @@
 use Rattle.lexical_literal.proofs.StepLemmas.{awaited_part}
 use Rattle.std.proofs.Common.{ℕ, ◌≡◌, ◌<◌, ◌≤◌, ◌+◌, ◌-◌, ◌==◌, ◌&&◌, ◌||◌, Bool, true, false, not, IsTrue, if◌then◌else◌, List, Some, get_or, length}
 use Rattle.std.proofs.Common.{refl, sym, ap, subst, ◌∙◌, arith}
-use Rattle.std.proofs.lemmas.Bool.{false≢true, and_from}
+use Rattle.std.proofs.lemmas.Bool.{false≢true, and_from, and_parts, or_left}
+use Rattle.std.proofs.lemmas.Bool.Decides.{nat_tests}
 use Rattle.std.proofs.lemmas.List.{take_more}
 use Rattle.lexical_util.specs.Layout.{separators_in}
 use Rattle.lexical_util.specs.declared.feature_format.roles.Role.{Role}
@@ -10,9 +11,9 @@ use Rattle.lexical_util.specs.declared.feature_format.roles.Role.TheVariants as 
 use Rattle.lexical_util.specs.declared.format_flags.Part.{Part}
 use Rattle.lexical_util.specs.declared.format_flags.Part.TheVariants as parts
 use Rattle.lexical_literal.specs.Notation.{Notation}
-use Rattle.lexical_literal.specs.Additions.Plain.{HasRoles, IsAt, IsReadOn, fresh, is_free, at_stage}
+use Rattle.lexical_literal.specs.Additions.Plain.{HasRoles, IsAt, IsReadOn, fresh, is_free, at_stage, may_read}
 use Rattle.lexical_literal.specs.Additions.Summary.{Cuts, add, add_more, admits, after, after_digit, after_mark, digits_piece, forbids_plus}
-use Rattle.lexical_literal.specs.Additions.Summary.{has_digit, awaits_integer, is_negative, is_run, is_signed, may_follow, piece_of}
+use Rattle.lexical_literal.specs.Additions.Summary.{has_digit, awaits_integer, is_negative, is_run, is_signed, lacks_prefix, may_follow, piece_of}
 use Rattle.lexical_literal.specs.Additions.Summary.{takes, role_at, part_of, takes_in, digits_of, count, with_prefix}
 use Rattle.lexical_literal.specs.declared.plain.At.{At}
 use Rattle.lexical_literal.specs.declared.steps.Piece.{Piece}
@@ -39,9 +40,40 @@ after_first : (stage : Stage) (zero : Bool) → has_digit stage ≡ false
     → after_digit stage false zero ≡ (if zero && awaits_integer stage then stages.Bare else digits_of (part_of stage))
 after_first stage zero none = grind arith
 
-pub admits_free : (m : Notation) (s : Summary) (plus zero : Bool) (r : Role) → (roles.Sign ≡ r → ⊥) → is_free m s.stage ≡ true
-    → admits m.condition s plus zero r ≡ true
-admits_free m s plus zero r other free = grind arith
+no_minus : (part : Part) (c plus : Bool) (r : Role) → (roles.Sign ≡ r → ⊥) → not (c && is_negative part plus r) ≡ true
+no_minus part c plus r other = grind arith
+
+neither : (x y a : Bool) → not ((x || y) && a) ≡ true → (not (x && a) ≡ true) × (not (y && a) ≡ true)
+neither x y a none = (grind arith, grind arith)
+
+pub admits_free : (m : Notation) (s : Summary) (b : ℕ) (r : Role) → (roles.Sign ≡ r → ⊥) → is_free m s.stage ≡ true
+    → admits m.condition s b r ≡ true
+admits_free m s b r other free =
+    let both = and_parts (not (m.condition conditions.BasePrefix && lacks_prefix s.stage)) _ free in
+    let first = neither (m.condition conditions.LeadingZero) (m.condition conditions.DecimalFirstDigit) (awaits_integer s.stage) both.1 in
+    and_from _ _ (or_left _ _ both.0) (and_from _ _ (no_minus (part_of s.stage) (m.condition conditions.NegativeSign) (b == 43) r other)
+    (and_from _ _ (or_left _ _ first.0) (or_left _ _ first.1)))
+
+-- Behind the first digit and the prefix, nothing is missing.
+settled_free : (m : Notation) (stage : Stage) → lacks_prefix stage ≡ false → is_free m stage ≡ true
+settled_free m stage settled = grind arith
+
+pub admits_settled : (m : Notation) (s : Summary) (b : ℕ) (r : Role) → lacks_prefix s.stage ≡ false → (roles.Sign ≡ r → ⊥)
+    → admits m.condition s b r ≡ true
+admits_settled m s b r settled other = admits_free m s b r other (settled_free m s.stage settled)
+
+-- What the conditions let begin is admitted, and nothing is missing behind it.
+pub admits_first : (m : Notation) (text : List ℕ) (size : ℕ) (stage : Stage) → may_read m text size stage ≡ true
+    → admits m.condition (at_stage size stage).read (get_or text size 0) roles.Digit ≡ true
+admits_first m text size stage first = grind arith
+
+pub free_behind_zero : (m : Notation) (text : List ℕ) (size : ℕ) (stage : Stage) → may_read m text size stage ≡ true → awaits_integer stage ≡ true
+    → is_free m stages.Bare ≡ true
+free_behind_zero m text size stage first begun = grind arith
+
+pub free_without : (m : Notation) (text : List ℕ) (size : ℕ) (stage : Stage) → may_read m text size stage ≡ true
+    → (size < length text → m.digit (part_of stage) (get_or text size 0) ≡ false) → is_free m stage ≡ true
+free_without m text size stage first none = grind (arith, nat_tests)
 
 -- A stage that another digit does not change.
 module _ (m : Notation) (stage : Stage) (run : is_run stage ≡ true) where
@@ -81,31 +113,40 @@ module _ (m : Notation) (text : List ℕ) where
     -- One byte is read.
     pub read_one : (at : At) (r : Role) → at.size < length text → role_at m (part_of at.read.stage) (get_or text at.size 0) ≡ Some r → at.read.ended ≡ false
         → takes m at.read (get_or text at.size 0 == 43) r ≡ true
-        → admits m.condition at.read (get_or text at.size 0 == 43) (get_or text at.size 0 == 48) r ≡ true → (c : Cuts) → IsAt m text at c
+        → admits m.condition at.read (get_or text at.size 0) r ≡ true → (c : Cuts) → IsAt m text at c
         → IsAt m text (record { size = at.size + 1; read = after at.read (get_or text at.size 0 == 48) r }) (count (part_of at.read.stage) (Some r) c)
     read_one at r inside plays going taken admitted c is = grind (arith, common_steps, take_more, scan_append, moved, tally_append)
 
-    -- One byte that is no sign is read, where no base prefix is missing.
-    pub read_free : (part : Part) (at : At) (r : Role) → part_of at.read.stage ≡ part → (roles.Sign ≡ r → ⊥) → at.size < length text
+    -- One byte of a part is read, and one that is no sign where nothing is missing.
+    read_in : (part : Part) (at : At) (r : Role) → part_of at.read.stage ≡ part → at.size < length text
         → role_at m part (get_or text at.size 0) ≡ Some r → at.read.ended ≡ false
-        → takes_in m part at.read.stage at.read.gap (get_or text at.size 0 == 43) r ≡ true → is_free m at.read.stage ≡ true → (c : Cuts) → IsAt m text at c
+        → takes_in m part at.read.stage at.read.gap (get_or text at.size 0 == 43) r ≡ true
+        → admits m.condition at.read (get_or text at.size 0) r ≡ true → (c : Cuts) → IsAt m text at c
         → IsAt m text (record { size = at.size + 1; read = after at.read (get_or text at.size 0 == 48) r }) (count part (Some r) c)
-    read_free part at r in_part other inside plays going taken free = let b = get_or text at.size 0 in
+    read_in part at r in_part inside plays going taken admitted = let b = get_or text at.size 0 in
         let next : At = record { size = at.size + 1; read = after at.read (b == 48) r } in
         subst (λ part. (c : Cuts) → IsAt m text at c → IsAt m text next (count part (Some r) c)) in_part
         (read_one at r inside (subst (λ part. role_at m part b ≡ Some r) (sym in_part) plays) going
         (subst (λ part. takes_in m part at.read.stage at.read.gap (b == 43) r ≡ true) (sym in_part) taken)
-        (admits_free m at.read (b == 43) (b == 48) r other free))
+        admitted)
+
+    pub read_free : (part : Part) (at : At) (r : Role) → part_of at.read.stage ≡ part → (roles.Sign ≡ r → ⊥) → at.size < length text
+        → role_at m part (get_or text at.size 0) ≡ Some r → at.read.ended ≡ false
+        → takes_in m part at.read.stage at.read.gap (get_or text at.size 0 == 43) r ≡ true → is_free m at.read.stage ≡ true → (c : Cuts) → IsAt m text at c
+        → IsAt m text (record { size = at.size + 1; read = after at.read (get_or text at.size 0 == 48) r }) (count part (Some r) c)
+    read_free part at r in_part other inside plays going taken free =
+        read_in part at r in_part inside plays going taken (admits_free m at.read (get_or text at.size 0) r other free)
 
     -- The first digit of a part.
     pub read_first : (part : Part) (size : ℕ) (stage : Stage) → part_of stage ≡ part → size < length text → m.digit part (get_or text size 0) ≡ true
-        → has_digit stage ≡ false → is_signed m part stage ≡ true → is_free m stage ≡ true → IsReadOn m text (at_stage size stage) (digits_piece part)
+        → has_digit stage ≡ false → is_signed m part stage ≡ true → may_read m text size stage ≡ true
+        → IsReadOn m text (at_stage size stage) (digits_piece part)
         (at_stage (size + 1) (if (get_or text size 0 == 48) && awaits_integer stage then stages.Bare else digits_of part))
-    read_first part size stage in_part inside digit none signed free = let b = get_or text size 0 in
+    read_first part size stage in_part inside digit none signed first = let b = get_or text size 0 in
         subst (λ after. IsReadOn m text (at_stage size stage) (digits_piece part) (at_stage (size + 1) after))
         (after_first stage (b == 48) none ∙ ap (λ part. if (b == 48) && awaits_integer stage then stages.Bare else digits_of part) in_part)
-        (one_on _ _ (digits_piece part) refl (read_free part (at_stage size stage) roles.Digit in_part (λ same. cc) inside (digit_role m part b digit) refl
-        (and_from _ _ signed (and_from _ _ refl (first_follows m stage none))) free))
+        (one_on _ _ (digits_piece part) refl (read_in part (at_stage size stage) roles.Digit in_part inside (digit_role m part b digit) refl
+        (and_from _ _ signed (and_from _ _ refl (first_follows m stage none))) (admits_first m text size stage first)))
 
     -- A digit that changes no stage.
     pub read_digit : (part : Part) (size : ℕ) (stage : Stage) → part_of stage ≡ part → is_run stage ≡ true → size < length text
@@ -143,7 +184,7 @@ module _ (m : Notation) (text : List ℕ) where
     read_sign part size inside allowed = let b = get_or text size 0 in
         subst (λ piece. IsReadOn m text (at_stage size (fresh part)) piece (at_stage (size + 1) (after_mark (fresh part)))) (sign_piece part)
         (one_on _ _ (piece_of (part_of (fresh part)) roles.Sign) refl (read_one (at_stage size (fresh part)) roles.Sign inside
-        (is_role m _ b h roles.Sign (λ same. cc) (some_sign part b allowed)) refl (sign_taken part b allowed) (sign_admitted part b (b == 48) allowed))) where
+        (is_role m _ b h roles.Sign (λ same. cc) (some_sign part b allowed)) refl (sign_taken part b allowed) (sign_admitted part b allowed))) where
           allows : Part → ℕ → Bool
           allows part b = ((b == 43) && not (forbids_plus m part)) || ((b == 45) && not (m.condition conditions.NegativeSign && is_negative part false
               roles.Sign))
@@ -159,10 +200,9 @@ module _ (m : Notation) (text : List ℕ) where
           sign_taken parts.Exponent b is = grind arith
           sign_taken _ b is = grind arith
 
-          sign_admitted : (part : Part) (b : ℕ) (z : Bool) → allows part b ≡ true → admits m.condition (at_stage 0 (fresh part)).read (b == 43) z
-              roles.Sign ≡ true
-          sign_admitted parts.Exponent b z is = grind arith
-          sign_admitted _ b z is = grind arith
+          sign_admitted : (part : Part) (b : ℕ) → allows part b ≡ true → admits m.condition (at_stage 0 (fresh part)).read b roles.Sign ≡ true
+          sign_admitted parts.Exponent b is = grind arith
+          sign_admitted _ b is = grind arith
 
     -- The digit behind a zero that begins the integer.
     pub read_led : (size : ℕ) → size < length text → m.digit parts.Integer (get_or text size 0) ≡ true → may_follow m stages.Bare ≡ true
@@ -186,16 +226,16 @@ module _ (m : Notation) (text : List ℕ) where
         (digit_role m (part_of stage) b (ap (m.digit (part_of stage)) naught ∙ h.zero_is_digit (part_of stage))) refl
         (subst (λ part. takes_in m part stage false (b == 43) roles.Digit ≡ true) (sym in_part)
         (and_from _ _ signed (and_from _ _ refl (first_follows m stage (none_begun stage begun)))))
-        (ap (λ z. admits m.condition (at_stage size stage).read (b == 43) z roles.Digit) is_zero ∙ admitted stage (b == 43) begun)))) where
+        (ap (λ b. admits m.condition (at_stage size stage).read b roles.Digit) naught ∙ admitted stage begun)))) where
           bare : (stage : Stage) → awaits_integer stage ≡ true → after_digit stage false true ≡ stages.Bare
           bare stages.Start is = refl
           bare stages.Empty is = refl
           bare _ is = absurd (false≢true is)
 
-          admitted : (stage : Stage) (plus : Bool) → awaits_integer stage ≡ true → admits m.condition (at_stage 0 stage).read plus true roles.Digit ≡ true
-          admitted stages.Start plus is = grind arith
-          admitted stages.Empty plus is = grind arith
-          admitted _ plus is = absurd (false≢true is)
+          admitted : (stage : Stage) → awaits_integer stage ≡ true → admits m.condition (at_stage 0 stage).read 48 roles.Digit ≡ true
+          admitted stages.Start is = grind arith
+          admitted stages.Empty is = grind arith
+          admitted _ is = absurd (false≢true is)
 
     -- The base prefix, with its zero.
     pub read_prefix : (size : ℕ) (stage : Stage) → size + 1 < length text → get_or text size 0 ≡ 48 → m.prefix (get_or text (size + 1) 0) ≡ true
@@ -207,10 +247,10 @@ module _ (m : Notation) (text : List ℕ) where
         subst (λ c. IsAt m text (at_stage (size + 2) stages.Prefixed) c) (λ j other. same_prefix c (size + 1 - size) other j)
         (subst (λ n. IsAt m text (at_stage n stages.Prefixed) (with_prefix (add_more c pieces.Integer (size + 1 - size)))) two
         (read_one (at_stage (size + 1) stages.Bare) roles.Prefix inside (is_role m parts.Integer b h roles.Prefix (λ same. cc) prefix) refl refl
-        (prefix_admitted (b == 43) (b == 48)) _ ((read_zero size stage (omega (arith, inside)) naught first signed).reads c begun))) where
+        (prefix_admitted b) _ ((read_zero size stage (omega (arith, inside)) naught first signed).reads c begun))) where
           same_prefix : (c : Cuts) (n : ℕ) (other : Piece) → with_prefix (add_more c pieces.Integer n) other ≡ with_prefix c other
           same_prefix c n pieces.Integer = refl
           same_prefix c n _ = refl
 
-          prefix_admitted : (plus z : Bool) → admits m.condition (at_stage 0 stages.Bare).read plus z roles.Prefix ≡ true
-          prefix_admitted plus z = grind arith
+          prefix_admitted : (b : ℕ) → admits m.condition (at_stage 0 stages.Bare).read b roles.Prefix ≡ true
+          prefix_admitted b = grind arith

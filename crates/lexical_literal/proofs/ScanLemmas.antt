@@ -58,7 +58,7 @@ pub record Took (C : Condition → Bool) (m : Notation) (s : Summary) (b : ℕ) 
   pub plays : role_at m (part_of s.stage) b ≡ Some role
   pub going : s.ended ≡ false
   pub taken : takes m s (b == 43) role ≡ true
-  pub admitted : admits C s (b == 43) (b == 48) role ≡ true
+  pub admitted : admits C s b role ≡ true
   pub rest : P (Some (after s (b == 48) role))
 
 -- What a role says of a byte.
@@ -88,10 +88,10 @@ module _ (m : Notation) (part : Part) (b : ℕ) where
 module _ (C : Condition → Bool) (m : Notation) where
   pub took : (s : Summary) (b : ℕ) (P : Option Summary → Type 0) → (P None → ⊥) → P (step_by C m s b) → Took C m s b P
   took s b P none is = go (role_at m (part_of s.stage) b) refl is where
-    go : (o : Option Role) → role_at m (part_of s.stage) b ≡ o → P (move_by C m s (b == 43) (b == 48) o) → Took C m s b P
+    go : (o : Option Role) → role_at m (part_of s.stage) b ≡ o → P (move_by C m s b o) → Took C m s b P
     go None plays is = absurd (none is)
-    go (Some r) plays is = take s.ended (takes m s (b == 43) r) (admits C s (b == 43) (b == 48) r) refl refl refl is where
-      take : (e t a : Bool) → s.ended ≡ e → takes m s (b == 43) r ≡ t → admits C s (b == 43) (b == 48) r ≡ a
+    go (Some r) plays is = take s.ended (takes m s (b == 43) r) (admits C s b r) refl refl refl is where
+      take : (e t a : Bool) → s.ended ≡ e → takes m s (b == 43) r ≡ t → admits C s b r ≡ a
           → P (if not e && (t && a) then Some (after s (b == 48) r) else None) → Took C m s b P
       take false true true going taken admitted is =
           record { role = r; plays = plays; going = going; taken = taken; admitted = admitted; rest = is }
@@ -99,11 +99,11 @@ module _ (C : Condition → Bool) (m : Notation) where
 
   -- What a byte makes of a summary.
   pub moved : (s : Summary) (b : ℕ) (r : Role) → role_at m (part_of s.stage) b ≡ Some r → s.ended ≡ false → takes m s (b == 43) r ≡ true
-      → admits C s (b == 43) (b == 48) r ≡ true → step_by C m s b ≡ Some (after s (b == 48) r)
+      → admits C s b r ≡ true → step_by C m s b ≡ Some (after s (b == 48) r)
   moved s b r plays going taken admitted = grind arith
 
   pub arrives_byte : (s : Summary) (b : ℕ) (r : Role) (c : Cuts) (text : List ℕ) (d : Cuts) → s.ended ≡ false → role_at m (part_of s.stage) b ≡ Some r
-      → takes m s (b == 43) r ≡ true → admits C s (b == 43) (b == 48) r ≡ true
+      → takes m s (b == 43) r ≡ true → admits C s b r ≡ true
       → Arrives C m (Some (after s (b == 48) r)) (count (part_of s.stage) (Some r) c) text d → Arrives C m (Some s) c (b ∷ text) d
   arrives_byte s b r c text d going plays taken admitted more = grind arith
 

@@ -15,7 +15,7 @@ use Rattle.lexical_literal.specs.Literal.{Literal, Reads, is_float}
 use Rattle.lexical_literal.specs.Notation.{Notation, notation_of}
 use Rattle.lexical_literal.specs.Read.{Read}
 use Rattle.lexical_literal.specs.Cause.{is_in}
-use Rattle.lexical_literal.specs.Suffix.{is_digit, is_stopped, stop_end, suffix_size}
+use Rattle.lexical_literal.specs.Suffix.{is_digit, is_stopped, kind_with, stop_end, suffix_size}
 use Rattle.lexical_literal.specs.Token.{AllShorter, HasNone, IsAhead, IsChosen, IsFollowed, IsOver, IsRefused, IsToken, IsUnknown, IsCandidate, NoCandidate, NoLonger, gives_back, is_shorter}
 use Rattle.lexical_literal.specs.declared.list.Form.{Form}
 use Rattle.lexical_literal.specs.declared.list.Tokens.{Tokens}
@@ -364,14 +364,15 @@ module _ (list : FormList) (t : Tokens) (text : List ℕ) where
   -- The token that was picked, or why there is none.
   module _ (index : ℕ) (form : Form) (c : Candidate) (is : IsPicked list t text index form c) where
     pub token_is : (token : Token) → token.form ≡ index → ReadsForm (take c.size text) token.literal form
-        → token.suffix.now ≡ take (c.end - c.size) (drop c.size text) → token.rest.now ≡ drop c.end text
+        → token.literal.kind ≡ kind_with form.suffixes token.suffix.now form.kind → token.suffix.now ≡ take (c.end - c.size) (drop c.size text) → token.rest.now ≡ drop c.end text
         → IsFollowed list t text c.end ⊎ (IsOver list t text c.end × (is_stopped form.suffixes text c.end ≡ false)) → IsToken list t text token
-    token_is token same literal suffix rest ended = record {
+    token_is token same literal kind suffix rest ended = record {
       form = form;
       size = c.size;
       end = c.end;
       chosen = subst (λ n. IsChosen list t text n form c.size c.end) (sym same) is.chosen;
       literal = literal;
+      kind = kind;
       suffix = suffix;
       rest = rest;
       ended = ended;

@@ -1,5 +1,5 @@
 -- Which texts of mantissa digits are literals.
-use Rattle.std.proofs.Common.{ℕ, ◌≡◌, ◌≢◌, ◌↔◌, Bool, true, false, not, ◌==◌, ◌&&◌, ◌||◌, IsFalse, List, [], ◌∷◌, Some, None, refl, sym, ap, ◌∙◌, arith}
+use Rattle.std.proofs.Common.{ℕ, ◌≡◌, ◌≢◌, ◌↔◌, Bool, true, false, not, ◌&&◌, ◌||◌, IsFalse, List, [], ◌∷◌, Some, None, refl, sym, ap, ◌∙◌, arith}
 use Rattle.lexical_util.specs.Layout as layout
 use Rattle.lexical_util.specs.declared.feature_format.roles.Role.TheVariants as roles
 use Rattle.lexical_util.specs.declared.format_flags.Part.TheVariants as parts
@@ -9,7 +9,7 @@ use Rattle.lexical_literal.specs.Additions.Plain.{HasRoles, HasSizes, IsReady}
 use Rattle.lexical_literal.specs.Additions.Sizes.{first_group, unsized}
 use Rattle.lexical_literal.specs.Notation.{Notation}
 use Rattle.lexical_literal.specs.Literal.{Literal, Reads}
-use Rattle.lexical_literal.specs.Readings.{AllIn}
+use Rattle.lexical_literal.specs.Readings.{AllIn, refuses_first}
 use Rattle.lexical_literal.specs.Additions.Summary.{needs_exponent, move_by, step, scan, is_accepted, start, part_of}
 use Rattle.lexical_literal.specs.declared.steps.Stage.{Stage}
 use Rattle.lexical_literal.specs.declared.steps.Stage.TheVariants as stages
@@ -49,40 +49,61 @@ module _ (m : Notation) (ready : IsReady (unsized m)) (sizes : HasSizes m) where
       → is_accepted u (scan u (Some (reading stages.Integer false)) digits) ≡ not (m.condition conditions.BaseSuffix || needs_exponent m)
   more_digits [] all = grind arith
   more_digits (b ∷ digits) all =
-      let is : move_by u.condition u (reading stages.Integer false) (b == 43) (b == 48) (Some roles.Digit)
+      let is : move_by u.condition u (reading stages.Integer false) b (Some roles.Digit)
       ≡ Some (reading stages.Integer false) = grind arith in
-      ap (λ o. is_accepted u (scan u o digits)) (ap (move_by u.condition u (reading stages.Integer false) (b == 43) (b == 48))
+      ap (λ o. is_accepted u (scan u o digits)) (ap (move_by u.condition u (reading stages.Integer false) b)
       (digit_role u parts.Integer b all.0) ∙ is) ∙ more_digits digits all.1
 
   module _ (first : ℕ) (digits : List ℕ) (not_zero : first ≢ 48) (all : AllIn (m.digit parts.Integer) (first ∷ digits)) where
     -- The first digit, which is not 0.
     first_digit : (stage : Stage) → part_of stage ≡ parts.Integer → let s = reading stage false in
-        step u s first ≡ move_by u.condition u s (first == 43) false (Some roles.Digit)
+        step u s first ≡ move_by u.condition u s first (Some roles.Digit)
     first_digit stage at = grind arith
 
     pub digits_read : ((l : Literal) × Reads m l (first ∷ digits))
-        ↔ IsFalse ((m.condition conditions.BasePrefix || m.condition conditions.BaseSuffix)
+        ↔ IsFalse ((m.condition conditions.BasePrefix || (m.condition conditions.BaseSuffix || refuses_first m.condition first))
         || (m.flag layout.required_mantissa_sign || (m.flag layout.required_exponent_notation && not m.integers_only)))
-    digits_read = literal_exactly (first ∷ digits) _ (joined (first ∷ digits) all) (ap (λ o. is_accepted u (scan u o digits)) (first_digit stages.Start refl)
-        ∙ (let none = scan_none u.condition u digits in let more = more_digits digits all.1 in grind arith))
+    digits_read = literal_exactly (first ∷ digits) _ (joined (first ∷ digits) all)
+        (ap (λ o. is_accepted u (scan u o digits)) (first_digit stages.Start refl) ∙ go _ refl) where
+          refused : (p s f g e : Bool) → ((p || f) || g) ≡ true → false ≡ not ((p || (s || f)) || (g || e))
+          refused p s f g e is = grind arith
 
-    pub negative_read : ((l : Literal) × Reads m l (45 ∷ first ∷ digits)) ↔ IsFalse ((m.condition conditions.BasePrefix || m.condition conditions.BaseSuffix)
+          free : (p s f g e : Bool) → ((p || f) || g) ≡ false → not (s || e) ≡ not ((p || (s || f)) || (g || e))
+          free p s f g e is = grind arith
+
+          go : (none : Bool) → ((m.condition conditions.BasePrefix || refuses_first m.condition first) || m.flag layout.required_mantissa_sign) ≡ none
+              → is_accepted u (scan u (move_by u.condition u start first (Some roles.Digit)) digits)
+              ≡ not ((m.condition conditions.BasePrefix || (m.condition conditions.BaseSuffix || refuses_first m.condition first))
+              || (m.flag layout.required_mantissa_sign || (m.flag layout.required_exponent_notation && not m.integers_only)))
+          go true is =
+              let move : move_by u.condition u start first (Some roles.Digit) ≡ None = grind arith in
+              ap (λ o. is_accepted u (scan u o digits)) move ∙ ap (is_accepted u) (scan_none u.condition u digits)
+              ∙ refused (m.condition conditions.BasePrefix) (m.condition conditions.BaseSuffix) (refuses_first m.condition first)
+              (m.flag layout.required_mantissa_sign) (m.flag layout.required_exponent_notation && not m.integers_only) is
+          go false is =
+              let move : move_by u.condition u start first (Some roles.Digit) ≡ Some (reading stages.Integer false) = grind arith in
+              ap (λ o. is_accepted u (scan u o digits)) move ∙ more_digits digits all.1
+              ∙ free (m.condition conditions.BasePrefix) (m.condition conditions.BaseSuffix) (refuses_first m.condition first)
+              (m.flag layout.required_mantissa_sign) (m.flag layout.required_exponent_notation && not m.integers_only) is
+
+    pub negative_read : ((l : Literal) × Reads m l (45 ∷ first ∷ digits))
+        ↔ IsFalse ((m.condition conditions.BasePrefix || (m.condition conditions.BaseSuffix || refuses_first m.condition first))
         || (m.condition conditions.NegativeSign || (m.flag layout.required_exponent_notation && not m.integers_only)))
     negative_read = literal_exactly (45 ∷ first ∷ digits) _ (or_from _ _ minus (joined (first ∷ digits) all))
         (ap (λ o. is_accepted u (scan u o (first ∷ digits)))
-        (ap (move_by u.condition u start false false) (is_role u parts.Integer 45 ready.roles roles.Sign (λ e. cc) refl)) ∙ go
+        (ap (move_by u.condition u start 45) (is_role u parts.Integer 45 ready.roles roles.Sign (λ e. cc) refl)) ∙ go
         (m.condition conditions.NegativeSign) refl) where
           minus : m.separator 45 ≡ false
           minus = false_from_ne_true _ (λ is. let same = h.one roles.Separator roles.Sign 45 is refl in cc)
 
           go : (minus : Bool) → m.condition conditions.NegativeSign ≡ minus
-              → is_accepted u (scan u (move_by u.condition u start false false (Some roles.Sign)) (first ∷ digits))
-              ≡ not ((m.condition conditions.BasePrefix || m.condition conditions.BaseSuffix)
+              → is_accepted u (scan u (move_by u.condition u start 45 (Some roles.Sign)) (first ∷ digits))
+              ≡ not ((m.condition conditions.BasePrefix || (m.condition conditions.BaseSuffix || refuses_first m.condition first))
               || (m.condition conditions.NegativeSign || (m.flag layout.required_exponent_notation && not m.integers_only)))
           go true is =
-              let sign : move_by u.condition u start false false (Some roles.Sign) ≡ None = grind arith in
+              let sign : move_by u.condition u start 45 (Some roles.Sign) ≡ None = grind arith in
               ap (λ o. is_accepted u (scan u o (first ∷ digits))) sign ∙ grind arith
           go false is =
-              let sign : move_by u.condition u start false false (Some roles.Sign) ≡ Some (reading stages.Empty false) = grind arith in
+              let sign : move_by u.condition u start 45 (Some roles.Sign) ≡ Some (reading stages.Empty false) = grind arith in
               ap (λ o. is_accepted u (scan u o (first ∷ digits))) sign ∙ ap (λ o. is_accepted u (scan u o digits)) (first_digit stages.Empty refl)
               ∙ (let none = scan_none u.condition u digits in let more = more_digits digits all.1 in grind arith)

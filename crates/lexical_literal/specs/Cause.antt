@@ -241,11 +241,13 @@ requirement_span layout.no_exponent_without_fraction m k next = (k.size, wrong_e
 requirement_span _ m k next = (k.size, k.size)
 
 -- `condition_span c m k next` has the first index and the end of the bytes to show for the condition `c`: none, where the prefix
--- belongs or at the end, the sign, or the last group of digits.
+-- belongs or at the end, the wrong sign or first byte, or the last group of digits.
 abbrev pub condition_span : Condition → Notation → Marks → Option ℕ → ℕ × ℕ
 condition_span conditions.BasePrefix m k next = (k.first, k.first)
 condition_span conditions.BaseSuffix m k next = (k.size, k.size)
 condition_span conditions.NegativeSign m k next = (k.size, wrong_end k next)
+condition_span conditions.LeadingZero m k next = (k.size, wrong_end k next)
+condition_span conditions.DecimalFirstDigit m k next = (k.size, wrong_end k next)
 condition_span _ m k next = (k.group, if is_in (m.digit parts.Integer) next then wrong_end k next else k.size)
 
 -- `first_unmet mask unmet` is the first of the conditions `unmet` if no flag of `mask` is to blame, and `None` otherwise.

@@ -23,6 +23,10 @@ use Rattle.lexical_literal.specs.declared.specials.Specials.{Specials}
 abbrev pub ReadsForm : List ℕ → Read → Form → Type 0
 ReadsForm text read form = (read.format ≡ form.syntax.word) × Reads (notation_of form.syntax) read.literal text
 
+-- `HasKind forms index read` holds if `read` has the kind of the form with this index.
+abbrev pub HasKind : List Form → ℕ → Read → Type 0
+HasKind forms index read = IsSomeAnd (slice_get forms index) (λ form. read.kind ≡ form.kind)
+
 -- `NoForm forms text` holds if `text` is a literal of none of `forms`.
 abbrev pub NoForm : List Form → List ℕ → Type 0
 NoForm forms text = All (λ form. NoLiteral (notation_of form.syntax) text) forms
@@ -76,10 +80,10 @@ special_in specials text (Some form) = special_of (notation_of form.syntax) spec
 abbrev pub special_by : FormList → List ℕ → Option Special
 special_by list text = special_in list.specials text (slice_get list.forms 0)
 
--- `IsNumber list text number` holds if `number` is the literal `text` of the first form that has it, and the index of this form, or
--- the special value `text`, if `text` is a literal of no form.
+-- `IsNumber list text number` holds if `number` is the literal `text` of the first form that has it, with the kind of this form, and its
+-- index, or the special value `text`, if `text` is a literal of no form.
 abbrev pub IsNumber : FormList → List ℕ → Number → Type 0
-IsNumber list text (numbers.Literal literal form) = IsFirst list.forms text form literal
+IsNumber list text (numbers.Literal literal form) = IsFirst list.forms text form literal × HasKind list.forms form literal
 IsNumber list text (numbers.Special special) = NoForm list.forms text × (special_by list text ≡ Some special)
 
 -- `IsReadByForms list text result` holds if `result` is the number `text`, or the error of a text that is none.
@@ -90,9 +94,9 @@ pub record IsReadByForms (list : FormList) (text : List ℕ) (result : Result Nu
   pub error : IfErr result (IsFormError list.forms text)
 
 -- `IsFrontNumber list text size number` holds if the first `size` bytes of `text` are the longest front that is a literal of a
--- form, and `number` is this literal, and the index of the first form that has it.
+-- form, and `number` is this literal, with the kind of the first form that has it, and the index of this form.
 abbrev pub IsFrontNumber : FormList → List ℕ → ℕ → Number → Type 0
-IsFrontNumber list text size (numbers.Literal literal form) = IsGreatest (HasFront text) list.forms form size
+IsFrontNumber list text size (numbers.Literal literal form) = IsGreatest (HasFront text) list.forms form size × HasKind list.forms form literal
     × IsSomeAnd (slice_get list.forms form) (λ it. (literal.format ≡ it.syntax.word) × ReadsFront (notation_of it.syntax) literal.literal text size)
 IsFrontNumber list text size (numbers.Special special) = ⊥
 

@@ -3,6 +3,7 @@ pub mod Groups
 pub mod Run
 pub mod Literal
 pub mod Front
+pub mod Kind
 pub mod Read
 pub mod Parts
 pub mod Readings

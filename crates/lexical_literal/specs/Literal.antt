@@ -1,5 +1,5 @@
 -- Literals: the parts of a number, how each part is spelled, and what each flag and each condition requires of the parts.
-use Rattle.std.specs.Prelude.{ℕ, ◌≡◌, Bool, true, false, not, ◌==◌, ◌&&◌, ◌||◌, if◌then◌else◌, IsTrue, List, [], ◌∷◌, ◌++◌}
+use Rattle.std.specs.Prelude.{ℕ, ◌≡◌, Bool, true, false, not, ◌==◌, ◌&&◌, ◌||◌, if◌then◌else◌, nat_le, IsTrue, List, [], ◌∷◌, ◌++◌}
 use Rattle.std.specs.List.{list_any}
 use Rattle.lexical_util.specs.Ascii.{ByteSet}
 use Rattle.lexical_util.specs.Layout as layout
@@ -93,6 +93,21 @@ requirement layout.no_float_leading_zeros m l = not (is_float l) || not (is_zero
 requirement layout.required_exponent_notation m l = m.integers_only || is_present l.exponent_character
 requirement _ m l = true
 
+-- `begins_with A bytes` is true if the first of `bytes` is in `A`.
+abbrev pub begins_with : ByteSet → List ℕ → Bool
+begins_with A [] = false
+begins_with A (byte ∷ bytes) = A byte
+
+-- `may_begin c digit` is true if the condition `c` lets a literal begin with `digit`, behind its sign: with `0`, or with `0` to `9`.
+abbrev pub may_begin : Condition → ByteSet
+may_begin conditions.LeadingZero digit = digit == 48
+may_begin conditions.DecimalFirstDigit digit = nat_le digit 57
+may_begin _ digit = true
+
+-- `begins c m l` is true if the text of `l` behind its sign begins with a digit that the condition `c` allows.
+abbrev pub begins : Condition → Notation → Literal → Bool
+begins c m l = begins_with (λ byte. m.digit parts.Integer byte && may_begin c byte) (text_of (record l { sign = [] }))
+
 -- `condition c m l` is true if the parts of `l` are as the condition `c` requires. The size of higher groups changes what that of
 -- groups of the integer requires, and requires nothing itself.
 abbrev pub condition : Condition → Notation → Literal → Bool
@@ -102,6 +117,8 @@ condition conditions.NegativeSign m l = is_absent l.sign || is_plus l.sign
 condition conditions.IntegerGroupSize m l = is_grouped m parts.Integer l.integer
 condition conditions.HigherGroupSize m l = true
 condition conditions.FractionGroupSize m l = is_grouped m parts.Fraction l.fraction
+condition conditions.LeadingZero m l = begins conditions.LeadingZero m l
+condition conditions.DecimalFirstDigit m l = begins conditions.DecimalFirstDigit m l
 
 -- `IsSpelled m l` holds if each part of `l` is spelled as the notation `m` allows, if the parts go together, and if they
 -- are as each flag that is set requires.

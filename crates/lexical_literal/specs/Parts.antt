@@ -2,6 +2,7 @@
 use Rattle.std.specs.Prelude.{ℕ, ◌≡◌, IfErr, IfOk, IsErr, IsOkAnd, List, Result}
 use Rattle.lexical_literal.specs.Cause.{Explained, IsRefusal}
 use Rattle.lexical_literal.specs.Front.{NoFront, ReadsFront}
+use Rattle.lexical_literal.specs.Kind.{exact}
 use Rattle.lexical_literal.specs.Literal.{Literal, Reads}
 use Rattle.lexical_literal.specs.Notation.{notation_of}
 use Rattle.lexical_literal.specs.Read.{Read}
@@ -28,6 +29,8 @@ literal_of parts = record {
 pub record IsRead (g : Grammar) (text : List ℕ) (result : Result Read Explained) : Type 0 where
   -- The text is a literal with the parts that are returned.
   pub found : IfOk result (λ read. (read.format ≡ g.word) × Reads (notation_of g) read.literal text)
+  -- It is worth the number that it represents.
+  pub kind : IfOk result (λ read. read.kind ≡ exact)
   -- A literal has no other parts, and they are returned.
   pub only : (l : Literal) → Reads (notation_of g) l text → IsOkAnd result (λ read. read.literal ≡ l)
   -- An error says how far the text is right, why it is not a literal, and which bytes to show.
@@ -38,6 +41,7 @@ pub record IsRead (g : Grammar) (text : List ℕ) (result : Result Read Explaine
 pub record IsReadPrefix (g : Grammar) (text : List ℕ) (result : Result Front Explained) : Type 0 where
   -- A front of the text is a literal with the parts that are returned, and no longer front is a literal.
   pub found : IfOk result (λ front. (front.literal.format ≡ g.word) × ReadsFront (notation_of g) front.literal.literal text front.size)
+  pub kind : IfOk result (λ front. front.literal.kind ≡ exact)
   -- If no front is a literal, an error says why the text is not one.
   pub none : IsErr result → NoFront (notation_of g) text
   pub error : IfErr result (λ error. IsRefusal (notation_of g) text error.refusal)

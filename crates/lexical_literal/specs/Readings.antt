@@ -1,16 +1,22 @@
 -- What laws on literals state: the roles of the bytes of each part, and texts with two readings.
-use Rattle.std.specs.Prelude.{ℕ, ◌≡◌, ◌==◌, ◌||◌, IsTrue, List}
+use Rattle.std.specs.Prelude.{ℕ, ◌≡◌, ◌==◌, ◌&&◌, ◌||◌, Bool, not, IsTrue, List}
 use Rattle.std.specs.List.{AllByRecursion}
 use Rattle.lexical_util.specs.Ascii.{ByteSet}
 use Rattle.lexical_util.specs.Roles.{signs}
 use Rattle.lexical_util.specs.declared.format_flags.Part.{Part}
 use Rattle.lexical_util.specs.declared.format_flags.Part.TheVariants as parts
 use Rattle.lexical_literal.specs.Notation.{Notation}
-use Rattle.lexical_literal.specs.Literal.{Literal, Reads}
+use Rattle.lexical_literal.specs.Literal.{Literal, Reads, may_begin}
+use Rattle.lexical_literal.specs.declared.syntax.Condition.{Condition}
+use Rattle.lexical_literal.specs.declared.syntax.Condition.TheVariants as conditions
 
 -- `AllIn A bytes` holds if each of `bytes` is in `A`.
 abbrev pub AllIn : ByteSet → List ℕ → Type 0
 AllIn A bytes = AllByRecursion (λ byte. IsTrue (A byte)) bytes
+
+-- `refuses_first C digit` is true if one of the conditions `C` does not let a literal begin with `digit`, which is not 0.
+abbrev pub refuses_first : (Condition → Bool) → ℕ → Bool
+refuses_first C digit = C conditions.LeadingZero || (C conditions.DecimalFirstDigit && not (may_begin conditions.DecimalFirstDigit digit))
 
 -- `run_byte m part` is the set of the digits of `part` and of the separator.
 abbrev pub run_byte : Notation → Part → ByteSet

@@ -5,6 +5,7 @@ use Rattle.std.specs.Char.{eq_ignore_ascii_case}
 use Rattle.std.specs.List.{list_any}
 use Rattle.lexical_util.specs.Ascii.{ByteSet}
 use Rattle.lexical_literal.specs.Cause.{is_in}
+use Rattle.lexical_literal.specs.declared.kind.Kind.{Kind}
 use Rattle.lexical_literal.specs.declared.suffix.Stop.{Stop}
 use Rattle.lexical_literal.specs.declared.suffix.Suffixes.{Suffixes}
 
@@ -26,12 +27,12 @@ word_size (byte ∷ text) = if is_word_byte byte then 1 + word_size text else 0
 abbrev pub stop_end : List ℕ → ℕ → ℕ
 stop_end text index = if nat_lt index (length text) then index + 1 + word_size (drop (index + 1) text) else index
 
--- `begins either word text` is true if `text` begins with `word`, letter case aside if `either` is true.
+-- `begins either word text` is true if `text` begins with `word`, letter case aside if `either` is true, and if these are bytes of a word.
 abbrev pub begins : Bool → List ℕ → List ℕ → Bool
 begins either [] text = true
 begins either (letter ∷ word) [] = false
 begins either (letter ∷ word) (byte ∷ text) =
-    (if either then eq_ignore_ascii_case letter byte else letter == byte) && begins either word text
+    is_word_byte byte && (if either then eq_ignore_ascii_case letter byte else letter == byte) && begins either word text
 
 -- `longest_word either words text` is the length of the longest of `words` with which `text` begins, or 0 if it begins with none.
 abbrev pub longest_word : Bool → List (Bor (List ℕ)) → List ℕ → ℕ
@@ -52,6 +53,18 @@ suffix_size (Some it) float text =
     if any_word_size it.now.any.now text == 0
     then longest_word it.now.either_case (if float then it.now.floats.now else it.now.integers.now) text
     else any_word_size it.now.any.now text
+
+-- `kind_among either kinds word kind` is the kind of the first of `kinds` that has `word`, letter case aside if `either` is true, or `kind` if
+-- none has it.
+abbrev pub kind_among : Bool → List (Bor (List ℕ) × Kind) → List ℕ → Kind → Kind
+kind_among either [] word kind = kind
+kind_among either (first ∷ kinds) word kind =
+    if begins either first.0.now word && (length first.0.now == length word) then first.1 else kind_among either kinds word kind
+
+-- `kind_with suffixes word kind` is the kind of a number with the suffix `word`, and `kind` unless the suffixes have another.
+abbrev pub kind_with : Option (Bor Suffixes) → List ℕ → Kind → Kind
+kind_with None word kind = kind
+kind_with (Some it) word kind = kind_among it.now.either_case it.now.kinds.now word kind
 
 -- `is_followed words text` is true if the word with which `text` begins is one of `words`.
 abbrev pub is_followed : List (Bor (List ℕ)) → List ℕ → Bool

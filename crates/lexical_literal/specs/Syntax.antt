@@ -1,5 +1,5 @@
 -- A syntax: a lawful format, with options that fit it or without options, and conditions that do not contradict it.
-use Rattle.std.specs.Prelude.{ℕ, ⊤, ◌≡◌, ◌==◌, ◌&&◌, nat_le, if◌then◌else◌, List, [], ◌∷◌, Option, Some, None, option_map}
+use Rattle.std.specs.Prelude.{ℕ, ⊤, ◌≡◌, ◌==◌, ◌&&◌, ◌||◌, nat_le, if◌then◌else◌, List, [], ◌∷◌, Option, Some, None, option_map}
 use Rattle.std.specs.Option.{option_or}
 use Rattle.lexical_util.specs.Layout as layout
 use Rattle.lexical_util.specs.Layout.{Flag}
@@ -35,6 +35,10 @@ abbrev pub lacks_separator : Record → Flag → ConditionsErrorKind → Option 
 lacks_separator r flag kind =
     if r.flag flag then (if r.byte layout.digit_separator == 0 then Some faults.NoSeparator else None) else Some kind
 
+-- `forbids_zeros r` is `NoLeadingZeros` if a flag of the format `r` forbids leading zeros, and `None` otherwise.
+abbrev pub forbids_zeros : Record → Option ConditionsErrorKind
+forbids_zeros r = if r.flag layout.no_integer_leading_zeros || r.flag layout.no_float_leading_zeros then Some faults.NoLeadingZeros else None
+
 -- `missing r c d` is what the condition `d` needs and neither the format `r` nor the conditions `c` have, or `None` if there is
 -- nothing.
 abbrev pub missing : Record → Conditions → Condition → Option ConditionsErrorKind
@@ -44,6 +48,8 @@ missing r c conditions.NegativeSign = None
 missing r c conditions.IntegerGroupSize = lacks_separator r layout.integer_internal_digit_separator faults.NoInternalSeparator
 missing r c conditions.HigherGroupSize = if has c conditions.IntegerGroupSize then None else Some faults.NoIntegerGroupSize
 missing r c conditions.FractionGroupSize = lacks_separator r layout.fraction_internal_digit_separator faults.NoFractionSeparator
+missing r c conditions.LeadingZero = forbids_zeros r
+missing r c conditions.DecimalFirstDigit = forbids_zeros r
 
 -- `fault r c d` is the error of `d` as one of the conditions `c` in the format `r`, or `None` if there is none.
 unfoldable pub fault : Record → Conditions → Condition → Option ConditionsError

@@ -8,7 +8,7 @@ use Rattle.lexical_literal.specs.Forms.{HasFront, IsFormError, IsGreatest, NoFor
 use Rattle.lexical_literal.specs.Front.{IsValidUpTo}
 use Rattle.lexical_literal.specs.Literal.{Literal, Reads, is_float}
 use Rattle.lexical_literal.specs.Notation.{Notation, notation_of}
-use Rattle.lexical_literal.specs.Suffix.{byte_before, is_digit, is_followed, is_stopped, is_word_byte, stop_end, suffix_size, word_size}
+use Rattle.lexical_literal.specs.Suffix.{byte_before, is_digit, is_followed, is_stopped, is_word_byte, kind_with, stop_end, suffix_size, word_size}
 use Rattle.lexical_literal.specs.declared.list.Form.{Form}
 use Rattle.lexical_literal.specs.declared.list.Tokens.{Tokens}
 use Rattle.lexical_literal.specs.declared.token.Token.{Token}
@@ -93,7 +93,7 @@ module _ (list : FormList) (t : Tokens) (text : List ℕ) where
   abbrev pub IsOver : ℕ → Type 0
   IsOver end = All (λ form. IsAhead t.gives_points_back text end form → ⊥) list.forms
 
-  -- `IsToken token` holds if `token` has the longest candidate, its suffix and the rest of `text`, which a word may be that may follow; if not,
+  -- `IsToken token` holds if `token` has the longest candidate, its kind, its suffix and the rest of `text`, which a word may be that may follow; if not,
   -- no literal goes on, and nothing follows that may not.
   pub record IsToken (token : Token) : Type 0 where
     pub form : Form
@@ -101,6 +101,7 @@ module _ (list : FormList) (t : Tokens) (text : List ℕ) where
     pub end : ℕ
     pub chosen : IsChosen token.form form size end
     pub literal : ReadsForm (take size text) token.literal form
+    pub kind : token.literal.kind ≡ kind_with form.suffixes token.suffix.now form.kind
     pub suffix : token.suffix.now ≡ take (end - size) (drop size text)
     pub rest : token.rest.now ≡ drop end text
     pub ended : IsFollowed end ⊎ (IsOver end × (is_stopped form.suffixes text end ≡ false))

@@ -206,10 +206,11 @@ impl Spot {
     }
 
     // Returns whether the cause is a wrong byte. It takes less time than all answers.
+    #[inline(always)]
     const fn is_byte(self) -> bool
         ensures { result ≡ is_byte (refusal_of (notation_of (grammar_at self)) self).kind }
     {
-        matches!(self.stop().blame().kind, ReadErrorKind::Byte)
+        self.stop().is_byte()
     }
 
     // Returns what has been read, and the byte that cannot follow.
@@ -511,6 +512,18 @@ impl Stop {
             case_mask(self.grammar, other)
         } else {
             0
+        }
+    }
+
+    // Returns whether the cause is a wrong byte.
+    const fn is_byte(self) -> bool
+        ensures { result ≡ is_byte (blame (notation_of self.grammar) self.read self.group self.byte).kind }
+    {
+        match self.byte {
+            None => false,
+            Some(byte) => {
+                !self.is_free() && self.separators() == 0 && self.case_flags(byte) == 0
+            }
         }
     }
 

@@ -8,7 +8,7 @@ ghost use Rattle.lexical_util.specs.declared.format_flags.Part.{Part};
 ghost use Rattle.lexical_literal.specs.Cause.{IsCause, IsRefusal, SameBlame};
 ghost use Rattle.lexical_literal.specs.Literal.{Literal, Reads, condition, requirement};
 ghost use Rattle.lexical_literal.specs.Notation.{Notation, has, notation_of};
-ghost use Rattle.lexical_literal.specs.Readings.{AllIn, PartsHaveRoles};
+ghost use Rattle.lexical_literal.specs.Readings.{AllIn, PartsHaveRoles, refuses_first};
 ghost use Rattle.lexical_literal.specs.Syntax.{IsSyntax};
 ghost use Rattle.lexical_literal.specs.declared.cause.ReadErrorKind.{ReadErrorKind};
 ghost use Rattle.lexical_literal.specs.declared.cause.Refusal.{Refusal};
@@ -62,20 +62,20 @@ pub fn literal_facts()
         → (c : Condition) → IsTrue (has g.conditions c) → IsTrue (condition c (notation_of g) l) }
 
     // Mantissa digits that do not begin with 0 are a literal if and only if no flag requires a sign or an exponent, and no
-    // condition a prefix or a suffix.
+    // condition a prefix, a suffix or another first digit.
     ensures digits { (g : Grammar) → IsSyntax g → (first : ℕ) → (digits : List ℕ) → first ≢ 48
         → AllIn ((notation_of g).digit Part.Integer) (first ∷ digits)
         → ((l : Literal) × Reads (notation_of g) l (first ∷ digits))
-        ↔ IsFalse ((has g.conditions conditions.BasePrefix || has g.conditions conditions.BaseSuffix)
+        ↔ IsFalse ((has g.conditions conditions.BasePrefix || (has g.conditions conditions.BaseSuffix || refuses_first (has g.conditions) first))
         || ((notation_of g).flag layout.required_mantissa_sign
         || ((notation_of g).flag layout.required_exponent_notation && not (notation_of g).integers_only))) }
 
     // After a minus sign, they are a literal if and only if no flag requires an exponent, and no condition refuses the sign
-    // or requires a prefix or a suffix.
+    // or requires a prefix, a suffix or another first digit.
     ensures negative { (g : Grammar) → IsSyntax g → (first : ℕ) → (digits : List ℕ) → first ≢ 48
         → AllIn ((notation_of g).digit Part.Integer) (first ∷ digits)
         → ((l : Literal) × Reads (notation_of g) l (45 ∷ first ∷ digits))
-        ↔ IsFalse ((has g.conditions conditions.BasePrefix || has g.conditions conditions.BaseSuffix)
+        ↔ IsFalse ((has g.conditions conditions.BasePrefix || (has g.conditions conditions.BaseSuffix || refuses_first (has g.conditions) first))
         || (has g.conditions conditions.NegativeSign
         || ((notation_of g).flag layout.required_exponent_notation && not (notation_of g).integers_only))) }
 {

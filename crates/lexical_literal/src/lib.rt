@@ -6,6 +6,7 @@
 
 pub mod cause;
 mod groups;
+pub mod kind;
 pub mod laws;
 pub mod list;
 pub mod literal;

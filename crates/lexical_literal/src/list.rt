@@ -1,15 +1,18 @@
 //! Numbers that have several forms, such as `10`, `0x1F` and `0b1`.
 
-ghost use Rattle.std.specs.Prelude.{◌≡◌, ◌<◌, IsSomeAnd, IsTrue, None, Some, SomeIff, false, length, slice_get};
-ghost use Rattle.lexical_literal.specs.Additions.Forms.{IsFoundForm, IsFoundFrontForm, IsFurthestForm, PlaysNoRole, further, longer, sign_size};
-ghost use Rattle.lexical_literal.specs.Additions.Longest.{IsStopped};
-ghost use Rattle.lexical_literal.specs.Forms.{IsErrorOfForm, IsFormError, IsFrontByForms, IsReadByForms, NoForm, special_by};
-ghost use Rattle.lexical_literal.specs.Front.{NoLiteral};
+ghost use Rattle.std.specs.Prelude.{ℕ, ◌≡◌, ◌+◌, ◌<◌, ◌≤◌, IfErr, IfOk, IfSome, IsErr, IsNone, IsSomeAnd, IsTrue, None, Some, SomeIff, false, length, slice_get};
+ghost use Rattle.lexical_literal.specs.Additions.Forms.{IsFoundForm, IsFoundFrontForm, IsFurthestForm, PlaysNoRole, further, further_on, longer, sign_size};
+ghost use Rattle.lexical_literal.specs.Additions.Longest.{HasBegun, IsMeasured, IsStopped, IsUnderway};
+ghost use Rattle.lexical_literal.specs.Forms.{HasKind, IsErrorOfForm, IsFormError, IsFrontByForms, IsReadByForms, NoForm, special_by};
+ghost use Rattle.lexical_literal.specs.Front.{IsValidUpTo, NoLiteral};
+ghost use Rattle.lexical_literal.specs.Kind.{exact};
+ghost use Rattle.lexical_literal.specs.declared.groups.Group.{Group};
 ghost use Rattle.lexical_literal.specs.Notation.{notation_of};
 
 use crate::cause::ReadError;
+use crate::kind::Kind;
 use crate::literal::Literal;
-use crate::plain::At;
+use crate::plain::{At, Counted};
 use crate::read::Found;
 use crate::specials::{Special, Specials};
 use crate::steps::{is_digit, role_at};
@@ -18,26 +21,29 @@ use crate::syntax::{Condition, Grammar, Syntax};
 use lexical_util::format::Part;
 use std::marker::Model;
 
-/// A form of numbers: its name, such as `hexadecimal`, its syntax, and the suffixes of its tokens.
+/// A form of numbers: its name, such as `hexadecimal`, its syntax, the suffixes of its tokens, and its kind.
 #[derive(Clone, Copy)]
 pub struct Form {
     pub(crate) name: &'static str,
     pub(crate) syntax: Syntax,
     pub(crate) suffixes: Option<&'static Suffixes>,
+    pub(crate) kind: Kind,
 }
 
 impl Form {
-    /// Returns the form with a name, which may be empty, and a syntax, without suffixes.
+    /// Returns the form with a name, which may be empty, and a syntax, without suffixes, of the kind [`Kind::EXACT`].
     #[must_use]
     pub const fn new(name: &'static str, syntax: Syntax) -> Form
         ensures name { result.name.now ≡ name.now }
         ensures syntax { result.syntax ≡ syntax }
         ensures suffixes { result.suffixes ≡ None }
+        ensures kind { result.kind ≡ exact }
     {
         Form {
             name,
             syntax,
             suffixes: None,
+            kind: Kind::EXACT,
         }
     }
 
@@ -47,12 +53,38 @@ impl Form {
         ensures name { result.name.now ≡ self.now.name.now }
         ensures syntax { result.syntax ≡ self.now.syntax }
         ensures suffixes { result.suffixes ≡ Some suffixes.entry }
+        ensures kind { result.kind ≡ self.now.kind }
     {
         Form {
             name: self.name,
             syntax: self.syntax,
             suffixes: Some(suffixes),
+            kind: self.kind,
         }
+    }
+
+    /// Returns the same form with another kind, which its literals have.
+    #[must_use]
+    pub const fn with_kind(&self, kind: Kind) -> Form
+        ensures name { result.name.now ≡ self.now.name.now }
+        ensures syntax { result.syntax ≡ self.now.syntax }
+        ensures suffixes { result.suffixes ≡ self.now.suffixes }
+        ensures kind { result.kind ≡ kind }
+    {
+        Form {
+            name: self.name,
+            syntax: self.syntax,
+            suffixes: self.suffixes,
+            kind,
+        }
+    }
+
+    /// Returns the kind.
+    #[must_use]
+    pub const fn kind(&self) -> Kind
+        ensures { result ≡ self.now.kind }
+    {
+        self.kind
     }
 
     /// Returns the suffixes, if there are any.
@@ -239,13 +271,32 @@ impl<'a> Forms<'a> {
     pub fn read<'t>(&self, text: &'t [u8]) -> Result<Number<'t>, FormError>
         ensures { IsReadByForms self.now text.now result }
     {
-        match self.find(text) {
-            Some((form, literal)) => Ok(Number::Literal { literal, form }),
-            None => match self.special(text) {
-                Some(special) => Ok(Number::Special(special)),
-                None => Err(self.refuse(text, self.furthest(text))),
-            },
+        let sign = sign_size(text);
+        let mut furthest = None;
+        let mut form = 0;
+        while form < self.forms.len() {
+            let it = &self.forms[form];
+            let syntax = &it.syntax;
+            if !excludes(syntax.grammar(), text, sign) {
+                let counted = syntax.begin(false, text, false);
+                if syntax.is_whole(text, counted) {
+                    let literal = syntax
+                        .literal(text, counted.counts, counted.sums)
+                        .with_kind(it.kind);
+                    return Ok(Number::Literal { literal, form });
+                }
+                let stop = match syntax.reached(text, counted) {
+                    Ok(counts) => {
+                        let literal = syntax.summed(text, counts).with_kind(it.kind);
+                        return Ok(Number::Literal { literal, form });
+                    }
+                    Err(stop) => stop,
+                };
+                furthest = further_on(sign, furthest, form, stop);
+            }
+            form += 1;
         }
+        self.without_literal(text, furthest)
     }
 
     /// Returns the longest literal of any form that `text` begins with, of the first form if several have it, and the rest
@@ -261,10 +312,43 @@ impl<'a> Forms<'a> {
             Ok((form, found)) => {
                 let Found { size, counts } = found;
                 let (front, rest) = text.split_at(size);
-                let literal = self.as_slice()[form].syntax.summed(front, counts);
+                let summed = self.as_slice()[form].syntax.summed(front, counts);
+                let literal = self.of_form(form, summed);
                 Ok((Number::Literal { literal, form }, rest))
             }
             Err(error) => Err(error),
+        }
+    }
+
+    // Returns a literal with the kind of the form with the index `form`.
+    #[inline(always)]
+    fn of_form<'t>(&self, form: usize, literal: Literal<'t>) -> Literal<'t>
+        requires { form < length self.now.forms }
+        ensures format { result.format ≡ literal.entry.format }
+        ensures literal { result.literal ≡ literal.entry.literal }
+        ensures kind { HasKind self.now.forms form result }
+    {
+        literal.with_kind(self.as_slice()[form].kind)
+    }
+
+    // Returns the special value that `text` is, which is no literal, or why it is none. The form that goes furthest is known if it
+    // goes beyond the first byte behind the sign.
+    #[inline(never)]
+    fn without_literal<'t>(
+        &self,
+        text: &'t [u8],
+        furthest: Option<(usize, At)>,
+    ) -> Result<Number<'t>, FormError>
+        requires furthest { IfSome furthest (λ best. IsFurthestForm self.now.forms text.now (Some best)) }
+        requires none { NoForm self.now.forms text.now }
+        ensures { IsReadByForms self.now text.now result }
+    {
+        match self.special(text) {
+            Some(special) => Ok(Number::Special(special)),
+            None => match furthest {
+                None => Err(self.refuse(text, self.furthest(text))),
+                Some(best) => Err(self.refuse(text, Some(best))),
+            },
         }
     }
 
@@ -275,15 +359,14 @@ impl<'a> Forms<'a> {
         self.specials.read(&self.forms[0].syntax, text)
     }
 
-    // Returns the index of the first form of which `text` is a literal, and the literal. A form that the first bytes exclude is not
-    // asked.
+    // Returns the index of the first form of which `text` is a literal, and the literal.
     pub(crate) fn find<'t>(&self, text: &'t [u8]) -> Option<(usize, Literal<'t>)>
         ensures { IsFoundForm self.now.forms text.now result }
     {
         let mut form = 0;
         while form < self.forms.len() {
             let syntax = &self.forms[form].syntax;
-            if !excludes(syntax.grammar(), text) {
+            if !excludes(syntax.grammar(), text, sign_size(text)) {
                 let counted = syntax.begin(false, text, false);
                 if syntax.is_whole(text, counted) {
                     return Some((form, syntax.literal(text, counted.counts, counted.sums)));
@@ -350,8 +433,7 @@ impl<'a> Forms<'a> {
         let forms = self.as_slice();
         let mut form = first + 1;
         while form < forms.len() {
-            let reached = forms[form].syntax.stop_in(text);
-            if reached.size == stop.size {
+            if let Some(reached) = forms[form].syntax.stop_at(text, stop.size) {
                 let other = self.error_at(text, form, reached);
                 if !other.error.is_byte() {
                     return other;
@@ -414,7 +496,69 @@ pub(crate) const fn further(
     }
 }
 
+// Returns the same, without a form that does not go beyond the first byte behind a sign of this length.
+#[inline(always)]
+const fn further_on(
+    sign: usize,
+    furthest: Option<(usize, At)>,
+    form: usize,
+    stop: At,
+) -> Option<(usize, At)>
+    requires { sign ≤ 1 }
+    ensures { result ≡ further_on sign furthest form stop }
+{
+    if stop.size > sign + 1 {
+        further(furthest, form, stop)
+    } else {
+        furthest
+    }
+}
+
 impl Syntax {
+    // Returns the lengths of the parts of `text`, of which a front has been read, or where reading stops if it is not a literal.
+    #[inline(always)]
+    fn reached(&self, text: &[u8], counted: Counted) -> Result<[usize; 9], At>
+        requires { HasBegun (notation_of self.now) text.now counted }
+        ensures some { IfOk result (IsMeasured (notation_of self.now) text.now) }
+        ensures stop { IfErr result (IsStopped (notation_of self.now) text.now) }
+        ensures none { IsErr result → NoLiteral (notation_of self.now) text.now }
+    {
+        if counted.exact {
+            Err(counted.at)
+        } else {
+            self.go_on(text, counted.at)
+        }
+    }
+
+    // Returns the same where `at` has been read.
+    #[inline(never)]
+    fn go_on(&self, text: &[u8], at: At) -> Result<[usize; 9], At>
+        requires { (group : Group) × IsUnderway (notation_of self.now) text.now at group }
+        ensures some { IfOk result (IsMeasured (notation_of self.now) text.now) }
+        ensures stop { IfErr result (IsStopped (notation_of self.now) text.now) }
+        ensures none { IsErr result → NoLiteral (notation_of self.now) text.now }
+    {
+        let stop = self.stop(text, at);
+        match self.lengths(text, stop) {
+            Some(counts) => Ok(counts),
+            None => Err(stop),
+        }
+    }
+
+    // Returns where reading `text` stops if that is behind `size` bytes.
+    fn stop_at(&self, text: &[u8], size: usize) -> Option<At>
+        ensures some { IfSome result (IsStopped (notation_of self.now) text.now) }
+        ensures size { IfSome result (λ stop. stop.size ≡ size) }
+        ensures none { IsNone result → IsValidUpTo (notation_of self.now) text.now size → ⊥ }
+    {
+        let start = sign_size(text);
+        if size > start + 1 && excludes(self.grammar(), text, start) {
+            return None;
+        }
+        let stop = self.stop_in(text);
+        if stop.size == size { Some(stop) } else { None }
+    }
+
     // Returns where reading `text` stops.
     #[cold]
     fn stop_in(&self, text: &[u8]) -> At
@@ -425,13 +569,14 @@ impl Syntax {
     }
 }
 
-// Returns whether the first bytes behind the sign exclude that `text` is a literal: there is not the prefix that is required, or
-// the second plays no role.
+// Returns whether the first bytes behind the sign, which has this length, exclude that `text` is a literal: there is not the prefix
+// that is required, or the second plays no role. Then no literal begins with both.
 #[inline(always)]
-const fn excludes(grammar: Grammar, text: &[u8]) -> bool
-    ensures { IsTrue result → NoLiteral (notation_of grammar) text.now }
+const fn excludes(grammar: Grammar, text: &[u8], sign: usize) -> bool
+    requires { sign ≡ sign_size text.now }
+    ensures none { IsTrue result → NoLiteral (notation_of grammar) text.now }
+    ensures near { IsTrue result → (n : ℕ) → IsValidUpTo (notation_of grammar) text.now n → n ≤ sign_size text.now + 1 }
 {
-    let sign = sign_size(text);
     let is_long = sign + 1 < text.len();
     if grammar.conditions.has(Condition::BasePrefix) {
         !(is_long && text[sign] == b'0' && grammar.view().is_base_prefix(text[sign + 1]))
@@ -440,20 +585,21 @@ const fn excludes(grammar: Grammar, text: &[u8]) -> bool
     }
 }
 
-// Returns whether `byte` plays no role, and is no zero, which a prefix begins with.
+// Returns whether `byte` plays no role. Bytes up to `9` are said to play one: most are digits, and a prefix begins with a zero.
 #[inline(always)]
-const fn plays_no_role(grammar: Grammar, byte: u8) -> bool
+pub(crate) const fn plays_no_role(grammar: Grammar, byte: u8) -> bool
     ensures { IsTrue result → PlaysNoRole (notation_of grammar) byte }
 {
-    byte != b'0'
+    byte > b'9'
         && matches!(role_at(grammar, Part::Integer, byte), None)
         && !is_digit(grammar, Part::Exponent, byte)
 }
 
 // Returns the length of the sign with which `text` begins.
 #[inline(always)]
-const fn sign_size(text: &[u8]) -> usize
-    ensures { result ≡ sign_size text.now }
+pub(crate) const fn sign_size(text: &[u8]) -> usize
+    ensures size { result ≡ sign_size text.now }
+    ensures small { result ≤ 1 }
 {
     match text {
         [b'+' | b'-', ..] => 1,

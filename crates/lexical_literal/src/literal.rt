@@ -1,8 +1,9 @@
 //! Literals that were read, and the numbers that their digits represent.
 
 ghost use Rattle.std.specs.Prelude.{◌≡◌, ◌++◌, ◌%◌, ◌^◌, [], ℕ, IfSome, IsFalse, IsSome, List};
-ghost use Rattle.lexical_literal.specs.Additions.Read.{AreSums, IsCut, IsSum, cut};
+ghost use Rattle.lexical_literal.specs.Additions.Read.{AreSums, IsCut, IsSum, cut, given};
 ghost use Rattle.lexical_literal.specs.Additions.Summary.{cuts_of};
+ghost use Rattle.lexical_literal.specs.Kind.{exact};
 ghost use Rattle.lexical_literal.specs.Literal.{Reads, is_float, is_minus};
 ghost use Rattle.lexical_literal.specs.Notation.{Notation, notation_of};
 ghost use Rattle.lexical_literal.specs.Parts.{literal_of};
@@ -15,6 +16,7 @@ ghost use Rattle.lexical_util.specs.Layout as layout;
 ghost use Rattle.lexical_util.specs.Record.{effective_exponent_radix, raw};
 ghost use Rattle.lexical_util.specs.Rules.{IsRadix};
 
+use crate::kind::Kind;
 use crate::plain::{Sum, Sums};
 use crate::read::{Parts, cut};
 use crate::syntax::Syntax;
@@ -31,7 +33,10 @@ pub struct Literal<'a> {
     view: NumberFormat,
     mantissa: Option<u64>,
     places: usize,
-    exponent: Option<u64>,
+    // The number, if there is one. An `Option` would have 8 bytes more.
+    exponent: u64,
+    has_exponent: bool,
+    kind: Kind,
 }
 
 impl<'a> Model for Literal<'a> {
@@ -39,12 +44,12 @@ impl<'a> Model for Literal<'a> {
 
     ghost Value = { Read };
 
-    ghost use Rattle.lexical_literal.specs.Additions.Read.{IsMade, cut};
+    ghost use Rattle.lexical_literal.specs.Additions.Read.{IsMade, cut, given};
     ghost use Rattle.lexical_literal.specs.Additions.Summary.{cuts_of};
 
-    ghost view = { λ it. record { format = it.view; literal = cut it.text.now (cuts_of it.counts) } };
+    ghost view = { λ it. record { format = it.view; literal = cut it.text.now (cuts_of it.counts); kind = it.kind } };
 
-    ghost invariant = { λ it. IsMade it.view it.text.now (cuts_of it.counts) it.mantissa it.places it.exponent };
+    ghost invariant = { λ it. IsMade it.view it.text.now (cuts_of it.counts) it.mantissa it.places (given it.has_exponent it.exponent) };
 }
 
 impl<'a> Literal<'a> {
@@ -55,6 +60,26 @@ impl<'a> Literal<'a> {
         ensures { result ≡ self.now.format }
     {
         self.view
+    }
+
+    /// Returns the kind, which decides what the literal is worth.
+    #[must_use]
+    #[inline(always)]
+    pub const fn kind(&self) -> Kind
+        ensures { result ≡ self.now.kind }
+    {
+        self.kind
+    }
+
+    /// Returns the same literal with another kind. A [`Syntax`] reads literals of the kind [`Kind::EXACT`].
+    #[must_use]
+    #[inline(always)]
+    pub const fn with_kind(self, kind: Kind) -> Literal<'a>
+        ensures format { result.format ≡ self.entry.format }
+        ensures literal { result.literal ≡ self.entry.literal }
+        ensures kind { result.kind ≡ kind }
+    {
+        Literal { kind, ..self }
     }
 
     /// Returns the parts.
@@ -140,7 +165,7 @@ impl<'a> Literal<'a> {
             → IsSome result }
         ensures value { IfSome result (λ e. e ≡ exponent (raw self.now.format) self.now.literal) }
     {
-        self.exponent
+        given(self.has_exponent, self.exponent)
     }
 }
 
@@ -150,7 +175,7 @@ impl Syntax {
     pub(crate) fn literal<'a>(&self, text: &'a [u8], counts: [usize; 9], sums: Sums) -> Literal<'a>
         requires cut { IsCut (notation_of self.now) text.now (cuts_of counts) }
         requires sums { AreSums (raw self.now.word) (cut text.now (cuts_of counts)) sums }
-        ensures { result ≡ record { format = self.now.word; literal = cut text.now (cuts_of counts) } }
+        ensures { result ≡ record { format = self.now.word; literal = cut text.now (cuts_of counts); kind = exact } }
     {
         let view = self.format().view();
         let Sums {
@@ -161,19 +186,22 @@ impl Syntax {
                 value: exponent_value,
             },
         } = sums;
+        let (has_exponent, exponent) = split(exponent(
+            view.exponent_radix(),
+            text,
+            counts,
+            exponent_digits,
+            exponent_value,
+        ));
         Literal {
             text,
             counts,
             view,
             mantissa: mantissa(view.mantissa_radix(), text, counts, digits, value),
             places,
-            exponent: exponent(
-                view.exponent_radix(),
-                text,
-                counts,
-                exponent_digits,
-                exponent_value,
-            ),
+            exponent,
+            has_exponent,
+            kind: Kind::EXACT,
         }
     }
 
@@ -181,7 +209,7 @@ impl Syntax {
     #[cold]
     pub(crate) fn summed<'a>(&self, text: &'a [u8], counts: [usize; 9]) -> Literal<'a>
         requires { IsCut (notation_of self.now) text.now (cuts_of counts) }
-        ensures { result ≡ record { format = self.now.word; literal = cut text.now (cuts_of counts) } }
+        ensures { result ≡ record { format = self.now.word; literal = cut text.now (cuts_of counts); kind = exact } }
     {
         let view = self.format().view();
         let sums = sums_of(
@@ -190,6 +218,25 @@ impl Syntax {
             &cut(text, counts),
         );
         self.literal(text, counts, sums)
+    }
+}
+
+// Returns `number` if `has` is true.
+#[inline(always)]
+const fn given(has: bool, number: u64) -> Option<u64>
+    ensures { result ≡ given has number }
+{
+    if has { Some(number) } else { None }
+}
+
+// Returns whether there is a number, and the number.
+#[inline(always)]
+const fn split(number: Option<u64>) -> (bool, u64)
+    ensures { given result.0 result.1 ≡ number }
+{
+    match number {
+        Some(number) => (true, number),
+        None => (false, 0),
     }
 }
 

@@ -4,12 +4,12 @@
 //! decimal, which takes less time where the compiler knows it. Then reading also stops behind a leading zero, and where the digits
 //! of a part are absent, so that fewer paths join.
 
-ghost use Rattle.std.specs.Prelude.{◌≡◌, ◌<◌, ◌≤◌, ◌+◌, ◌-◌, ◌*◌, ◌%◌, ◌^◌, ◌∷◌, [], false, true, IfSome, IsNone, IsTrue, get_or, length};
+ghost use Rattle.std.specs.Prelude.{◌≡◌, ◌<◌, ◌≤◌, ◌+◌, ◌-◌, ◌*◌, ◌%◌, ◌^◌, ◌∷◌, [], false, true, IfSome, IsNone, IsTrue, get_or, length, nat_lt, ◌&&◌};
 ghost use Rattle.lexical_util.specs.Record.{raw};
 ghost use Rattle.lexical_literal.specs.Notation.{Notation, radix_of};
 ghost use Rattle.lexical_literal.specs.Additions.Longest.{HasFound};
 ghost use Rattle.lexical_literal.specs.Additions.Plain.{IsAt, IsBegun, IsDecimal, IsDigitAt, IsOpened, IsOver, IsPassed, IsReadOn, IsReady, IsRefused};
-ghost use Rattle.lexical_literal.specs.Additions.Plain.{IsRunOn, IsSeparated, IsSign, behind_sign, counts_of, fresh, is_free, at_stage, reached};
+ghost use Rattle.lexical_literal.specs.Additions.Plain.{IsRunOn, IsSeparated, IsSign, behind_sign, counts_of, fresh, has_first, is_first, is_free, at_stage, may_read, reached};
 ghost use Rattle.lexical_literal.specs.Additions.Sizes.{steps_of};
 ghost use Rattle.lexical_literal.specs.Additions.Read.{AreSums, IsMantissa, IsSummed, cut};
 ghost use Rattle.lexical_literal.specs.Additions.Summary.{Cuts, after_mark, after_point, awaits_integer, cuts_of, has_digit, is_bare, is_fresh};
@@ -368,7 +368,7 @@ const fn digits(grammar: Grammar, decimal: bool, text: &[u8], part: Part, begun:
     requires none { has_digit begun.stage ≡ false }
     requires signed { is_signed (steps_of grammar) part begun.stage ≡ true }
     requires part { part_of begun.stage ≡ part }
-    requires free { is_free (steps_of grammar) begun.stage ≡ true }
+    requires first { may_read (steps_of grammar) text.now begun.size begun.stage ≡ true }
     ensures free { is_free (steps_of grammar) result.stage ≡ true }
     ensures run { IsRunOn (steps_of grammar) (radix_of (raw grammar.word) part) text.now part begun result }
     ensures digits { result.digits ≤ result.size }
@@ -431,7 +431,31 @@ pub(crate) const fn plain(grammar: Grammar, decimal: bool, text: &[u8], fronts: 
     integer(grammar, decimal, text, fronts, opening)
 }
 
-// Returns what comes before the digits of the integer, or `None` if a base prefix is required that does not follow.
+// Returns whether no condition is on the first digit, or one follows that they allow.
+#[inline(always)]
+const fn has_first(grammar: Grammar, text: &[u8], size: usize) -> bool
+    ensures { result ≡ has_first (steps_of grammar) text.now size }
+{
+    let needs_zero = grammar.conditions.has(Condition::LeadingZero);
+    let needs_decimal = grammar.conditions.has(Condition::DecimalFirstDigit);
+    (!needs_zero && !needs_decimal) || is_first(grammar, text, size)
+}
+
+// Returns whether a digit follows that the conditions on the first digit allow. It is not inlined, so that reading without them
+// takes no longer.
+#[cold]
+const fn is_first(grammar: Grammar, text: &[u8], size: usize) -> bool
+    ensures { result ≡ (nat_lt size (length text.now) && ((steps_of grammar).digit Part.Integer (get_or text.now size 0)
+        && is_first (steps_of grammar) (get_or text.now size 0))) }
+{
+    size < text.len()
+        && is_digit(grammar, Part::Integer, text[size])
+        && (!grammar.conditions.has(Condition::LeadingZero) || text[size] == b'0')
+        && (!grammar.conditions.has(Condition::DecimalFirstDigit) || text[size] <= b'9')
+}
+
+// Returns what comes before the digits of the integer, or `None` if a base prefix or a first digit is required that does not
+// follow.
 #[tactic(auto, using(crate::proofs::JoinLemmas::opened))]
 #[inline(always)]
 const fn open(grammar: Grammar, decimal: bool, text: &[u8], sign: usize) -> Option<Opening>
@@ -446,15 +470,15 @@ const fn open(grammar: Grammar, decimal: bool, text: &[u8], sign: usize) -> Opti
             size: sign + 2,
             stage: Stage::Prefixed,
         })
-    } else if grammar.conditions.has(Condition::BasePrefix) {
-        None
-    } else {
+    } else if !grammar.conditions.has(Condition::BasePrefix) && has_first(grammar, text, sign) {
         Some(Opening {
             sign,
             prefix: 0,
             size: sign,
             stage: behind_sign(Part::Integer, sign),
         })
+    } else {
+        None
     }
 }
 

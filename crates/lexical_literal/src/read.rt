@@ -130,6 +130,16 @@ impl Syntax {
         }
     }
 
+    // Returns whether the front of `text` up to `stop`, where reading stops, is a literal.
+    #[inline(always)]
+    pub(crate) const fn is_literal_up_to(&self, text: &[u8], stop: At) -> bool
+        requires { IsStopped (notation_of self.now) text.now stop }
+        ensures { result ≡ false → NoLiteral (notation_of self.now) (take stop.size text.now) }
+    {
+        let group = self.group_at(text, stop);
+        ends(self.grammar(), stop, group)
+    }
+
     // Returns where reading `text` stops, of which a front has been read.
     #[inline(always)]
     pub(crate) const fn reach(&self, text: &[u8], counted: Counted) -> At

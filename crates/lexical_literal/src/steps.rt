@@ -11,7 +11,7 @@ ghost use Rattle.lexical_literal.specs.Additions.Sizes.{steps_of};
 ghost use Rattle.lexical_literal.specs.declared.syntax.Condition.TheVariants as conditions;
 ghost use Rattle.lexical_literal.specs.Additions.Summary.{after_point, digits_of, part_of, role_at, piece_number, piece_of, has_digit, may_follow, admits};
 ghost use Rattle.lexical_literal.specs.Additions.Summary.{finishes, forbids_plus, gap_fits, awaits_integer, is_negative, is_signed, lacks_prefix, is_run};
-ghost use Rattle.lexical_literal.specs.Additions.Summary.{leads_to_prefix, needs_exponent, continues, ends, is_complete, move_by, step, takes, after};
+ghost use Rattle.lexical_literal.specs.Additions.Summary.{leads, leads_to_prefix, needs_exponent, continues, ends, is_complete, move_by, step, takes, after};
 
 use crate::groups::has_size;
 use crate::syntax::{Condition, Conditions, Grammar};
@@ -368,35 +368,41 @@ const fn is_negative(part: Part, plus: bool, role: Role) -> bool
     matches!(role, Role::Sign) && !matches!(part, Part::Exponent) && !plus
 }
 
-// Returns whether the conditions let a byte with the role `role` follow.
+// Returns whether a byte with the role `role` is a sign, or a digit that fits if `fits` is true.
 #[inline(always)]
-pub(crate) const fn admits(
-    conditions: Conditions,
-    read: Summary,
-    plus: bool,
-    zero: bool,
-    role: Role,
-) -> bool
-    ensures { result ≡ admits (has conditions) read plus zero role }
+const fn leads(fits: bool, role: Role) -> bool
+    ensures { result ≡ leads fits role }
 {
-    conditions.is_none() || some_admit(conditions, read, plus, zero, role)
+    match role {
+        Role::Sign => true,
+        Role::Digit => fits,
+        _ => false,
+    }
+}
+
+// Returns whether the conditions let `byte` follow, which has the role `role`.
+#[inline(always)]
+pub(crate) const fn admits(conditions: Conditions, read: Summary, byte: u8, role: Role) -> bool
+    ensures { result ≡ admits (has conditions) read byte role }
+{
+    conditions.is_none() || some_admit(conditions, read, byte, role)
 }
 
 // Returns the same. It is not inlined, so that steps without conditions take no longer.
 #[cold]
-const fn some_admit(
-    conditions: Conditions,
-    read: Summary,
-    plus: bool,
-    zero: bool,
-    role: Role,
-) -> bool
-    ensures { result ≡ admits (has conditions) read plus zero role }
+const fn some_admit(conditions: Conditions, read: Summary, byte: u8, role: Role) -> bool
+    ensures { result ≡ admits (has conditions) read byte role }
 {
+    let zero = byte == b'0';
     let needs_prefix = conditions.has(Condition::BasePrefix) && lacks_prefix(read.stage);
+    let first = awaits_integer(read.stage);
+    let needs_zero = conditions.has(Condition::LeadingZero) && first;
+    let needs_decimal = conditions.has(Condition::DecimalFirstDigit) && first;
     (!needs_prefix || leads_to_prefix(read.stage, zero, role))
         && !(conditions.has(Condition::NegativeSign)
-            && is_negative(part_of(read.stage), plus, role))
+            && is_negative(part_of(read.stage), byte == b'+', role))
+        && (!needs_zero || leads(zero, role))
+        && (!needs_decimal || leads(byte <= b'9', role))
 }
 
 // Returns whether the conditions let a literal end.
@@ -521,15 +527,13 @@ pub(crate) const fn step(grammar: Grammar, read: Summary, byte: u8) -> Option<(R
 // Returns what `byte` makes of what has been read if it has the role `role`, or `None` if no literal begins so.
 #[inline(always)]
 pub(crate) const fn moved(grammar: Grammar, read: Summary, byte: u8, role: Role) -> Option<Summary>
-    ensures { result ≡ move_by (has grammar.conditions) (steps_of grammar) read (byte == 43) (byte == 48) (Some role) }
+    ensures { result ≡ move_by (has grammar.conditions) (steps_of grammar) read byte (Some role) }
 {
-    let plus = byte == b'+';
-    let zero = byte == b'0';
     if !read.ended
-        && takes(grammar, read, plus, role)
-        && admits(grammar.conditions, read, plus, zero, role)
+        && takes(grammar, read, byte == b'+', role)
+        && admits(grammar.conditions, read, byte, role)
     {
-        Some(after(read, zero, role))
+        Some(after(read, byte == b'0', role))
     } else {
         None
     }

@@ -3,9 +3,11 @@
 ghost use Rattle.std.specs.Prelude.{◌≡◌, ◌==◌, [], ◌+◌, ◌≤◌, IsTrue, Some, false, if◌then◌else◌, length, slice_get};
 ghost use Rattle.std.specs.Char.{eq_ignore_ascii_case};
 ghost use Rattle.std.specs.List.{list_any};
-ghost use Rattle.lexical_literal.specs.Suffix.{admits, any_word_size, begins, byte_before, is_followed, is_stopped, is_word_byte, longest_word};
+ghost use Rattle.lexical_literal.specs.Cause.{is_in};
+ghost use Rattle.lexical_literal.specs.Suffix.{admits, any_word_size, begins, byte_before, is_followed, is_stopped, is_word_byte, kind_among, kind_with, longest_word};
 ghost use Rattle.lexical_literal.specs.Suffix.{meets, suffix_size, word_size};
 
+use crate::kind::Kind;
 use crate::read::byte_at;
 
 /// Bytes behind a number with which it is no token: one of some bytes, if the number ends in one of others, and if one of
@@ -38,11 +40,12 @@ pub struct Suffixes {
     either_case: bool,
     any: &'static [u8],
     stops: &'static [Stop],
+    kinds: &'static [(&'static [u8], Kind)],
 }
 
 impl Suffixes {
     /// Returns suffixes: the words `integers` behind integers, and `floats` behind floats, in this case, with the bytes that
-    /// may not follow. Letters, digits, `_` and bytes from 128 up never may.
+    /// may not follow. Letters, digits, `_` and bytes from 128 up never may. A word that has other bytes is never found.
     #[must_use]
     pub const fn new(
         integers: &'static [&'static [u8]],
@@ -54,6 +57,7 @@ impl Suffixes {
         ensures case { result.either_case ≡ false }
         ensures any { result.any.now ≡ [] }
         ensures stops { result.stops ≡ stops.entry }
+        ensures kinds { result.kinds.now ≡ [] }
     {
         Suffixes {
             integers,
@@ -61,6 +65,7 @@ impl Suffixes {
             either_case: false,
             any: &[],
             stops,
+            kinds: &[],
         }
     }
 
@@ -83,11 +88,20 @@ impl Suffixes {
         ensures case { result.either_case ≡ self.either_case }
         ensures any { result.any ≡ begins.entry }
         ensures stops { result.stops ≡ self.stops }
+        ensures kinds { result.kinds ≡ self.kinds }
     {
         Suffixes {
             any: begins,
             ..self
         }
+    }
+
+    /// Sets the kinds of numbers with these suffixes. With others, and without one, a number has the kind of its form.
+    #[must_use]
+    pub const fn with_kinds(self, kinds: &'static [(&'static [u8], Kind)]) -> Suffixes
+        ensures { result ≡ record self { kinds = kinds.entry } }
+    {
+        Suffixes { kinds, ..self }
     }
 
     // Returns the length of the longest suffix with which `text` begins, or 0 if there is none.
@@ -117,7 +131,39 @@ pub(crate) const fn suffix_size(
 {
     match suffixes {
         None => 0,
-        Some(suffixes) => suffixes.size(float, text),
+        Some(suffixes) => {
+            if has_word_byte(text, 0) {
+                suffixes.size(float, text)
+            } else {
+                0
+            }
+        }
+    }
+}
+
+// Returns the kind of a number with the suffix `word`, of a form of the kind `kind`.
+pub(crate) const fn kind_with(suffixes: Option<&'static Suffixes>, word: &[u8], kind: Kind) -> Kind
+    ensures { result ≡ kind_with suffixes.entry word.now kind }
+{
+    match suffixes {
+        None => kind,
+        Some(it) => kind_among(it.either_case, it.kinds, word, kind),
+    }
+}
+
+// Returns the kind of the first of `kinds` with the suffix `word`, or `kind` if there is none.
+const fn kind_among(either: bool, kinds: &[(&[u8], Kind)], word: &[u8], kind: Kind) -> Kind
+    ensures { result ≡ kind_among either kinds.now word.now kind }
+{
+    match kinds {
+        [] => kind,
+        [(suffix, own), rest @ ..] => {
+            if begins(either, suffix, word) && suffix.len() == word.len() {
+                *own
+            } else {
+                kind_among(either, rest, word, kind)
+            }
+        }
     }
 }
 
@@ -126,13 +172,21 @@ pub(crate) const fn suffix_size(
 pub(crate) const fn is_stopped(suffixes: Option<&'static Suffixes>, text: &[u8], end: usize) -> bool
     ensures { result ≡ is_stopped suffixes.entry text.now end }
 {
-    let word = match byte_at(text, end) {
+    has_word_byte(text, end)
+        || match suffixes {
+            None => false,
+            Some(suffixes) => is_one_met(suffixes.stops, text, end),
+        }
+}
+
+// Returns whether the byte at `index` is one of a word.
+#[inline(always)]
+const fn has_word_byte(text: &[u8], index: usize) -> bool
+    ensures { result ≡ is_in is_word_byte (slice_get text.now index) }
+{
+    match byte_at(text, index) {
         None => false,
         Some(byte) => is_word_byte(byte),
-    };
-    word || match suffixes {
-        None => false,
-        Some(suffixes) => is_one_met(suffixes.stops, text, end),
     }
 }
 
@@ -234,7 +288,7 @@ const fn any_word_size(begins: &[u8], text: &[u8]) -> usize
     }
 }
 
-// Returns whether `text` begins with `word`, letter case aside if `either` is true.
+// Returns whether `text` begins with `word`, letter case aside if `either` is true, and if these are bytes of a word.
 const fn begins(either: bool, word: &[u8], text: &[u8]) -> bool
     ensures begins { result ≡ begins either word.now text.now }
     ensures within { IsTrue result → length word.now ≤ length text.now }
@@ -243,7 +297,9 @@ const fn begins(either: bool, word: &[u8], text: &[u8]) -> bool
         [] => true,
         [letter, word @ ..] => match text {
             [] => false,
-            [byte, text @ ..] => is_same(either, *letter, *byte) && begins(either, word, text),
+            [byte, text @ ..] => {
+                is_word_byte(*byte) && is_same(either, *letter, *byte) && begins(either, word, text)
+            }
         },
     }
 }

@@ -52,16 +52,22 @@ pub enum Condition {
     /// The fraction of a literal has no digit separators, or has them between groups of as many digits as the number says,
     /// counted from the left.
     FractionGroupSize,
+    /// Behind its sign, a literal begins with the digit 0, which may be that of its base prefix.
+    LeadingZero,
+    /// Behind its sign, a literal begins with a digit that is not a letter, which may be the 0 of its base prefix.
+    DecimalFirstDigit,
 }
 
 /// All conditions, in the order in which they are checked and printed.
-pub const CONDITIONS: [Condition; 6] = [
+pub const CONDITIONS: [Condition; 8] = [
     Condition::BasePrefix,
     Condition::BaseSuffix,
     Condition::NegativeSign,
     Condition::IntegerGroupSize,
     Condition::HigherGroupSize,
     Condition::FractionGroupSize,
+    Condition::LeadingZero,
+    Condition::DecimalFirstDigit,
 ];
 
 impl Condition {
@@ -132,7 +138,7 @@ impl Conditions {
     const fn are_usual(self) -> bool
         ensures { IsTrue result → self ≡ kept (is_same conditions.NegativeSign) (number_of self) }
     {
-        matches!(self.numbers, [0, 0, _, 0, 0, 0])
+        matches!(self.numbers, [0, 0, _, 0, 0, 0, 0, 0])
     }
 
     // Returns the first of them.
@@ -184,6 +190,8 @@ pub enum ConditionsErrorKind {
     NoSeparator,
     /// `integer_group_size` is not one of the conditions.
     NoIntegerGroupSize,
+    /// A flag forbids leading zeros, and the condition may need one.
+    NoLeadingZeros,
 }
 
 // Any format, with any options and conditions. Without options, literals are integers alone.
@@ -450,6 +458,11 @@ const fn missing(
             if digit_separator(grammar.word) == 0 => Some(ConditionsErrorKind::NoSeparator),
         Condition::HigherGroupSize if !conditions.has(Condition::IntegerGroupSize) => Some(
             ConditionsErrorKind::NoIntegerGroupSize,
+        ),
+        Condition::LeadingZero | Condition::DecimalFirstDigit
+            if grammar.view().no_integer_leading_zeros()
+                || grammar.view().no_float_leading_zeros() => Some(
+            ConditionsErrorKind::NoLeadingZeros,
         ),
         _ => None,
     }

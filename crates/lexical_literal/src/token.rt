@@ -1,28 +1,33 @@
 //! Tokens: numbers in the middle of a text, each with its suffix.
 
-ghost use Rattle.std.specs.Prelude.{◌≡◌, ◌<◌, ◌≤◌, ◌-◌, ℕ, All, IsNone, IsSomeAnd, IsTrue, drop, false, length, slice_get, take, true};
+ghost use Rattle.std.specs.Prelude.{◌≡◌, ◌<◌, ◌≤◌, ◌+◌, ◌-◌, ℕ, All, IsNone, IsSomeAnd, IsTrue, Some, drop, false, length, slice_get, take, true};
 ghost use Rattle.std.specs.Option.{ForSome};
-ghost use Rattle.lexical_literal.specs.Additions.Forms.{IsFurthestForm};
-ghost use Rattle.lexical_literal.specs.Additions.Longest.{IsCountedFront, IsMeasured, IsStopped};
-ghost use Rattle.lexical_literal.specs.Additions.Token.{IsBestOf, IsMade, IsOwn, IsPicked, NoOwn, better, goes_on, has_float, suffixed, whole};
+ghost use Rattle.lexical_literal.specs.Additions.Forms.{IsFurthestForm, sign_size};
+ghost use Rattle.lexical_literal.specs.Additions.Longest.{HasBegun, IsCountedFront, IsMeasured, IsStopped};
+ghost use Rattle.lexical_literal.specs.Additions.Read.{IsSummed};
+ghost use Rattle.lexical_literal.specs.Additions.Token.{AreWithin, FrontsWithin, IsBestOf, IsLeading, IsMade, IsOwn, IsPicked, IsWithin, NoOwn, better, goes_on};
+ghost use Rattle.lexical_literal.specs.Additions.Token.{has_float, has_prefix, suffixed, whole};
 ghost use Rattle.lexical_literal.specs.Cause.{is_in};
 ghost use Rattle.lexical_literal.specs.Forms.{ReadsForm};
 ghost use Rattle.lexical_literal.specs.Notation.{notation_of};
-ghost use Rattle.lexical_literal.specs.Suffix.{is_digit, stop_end};
-ghost use Rattle.lexical_literal.specs.Token.{HasNone, IsAhead, IsReadByTokens, IsTokenError, IsRefused, IsWordUpTo, NoCandidate, gives_back, is_shorter};
+ghost use Rattle.lexical_literal.specs.Suffix.{is_digit, kind_with, stop_end};
+ghost use Rattle.lexical_literal.specs.Token.{HasNone, IsAhead, IsReadByTokens, IsToken, IsTokenError, IsRefused, IsWordUpTo, NoCandidate, gives_back, is_shorter};
+ghost use Rattle.lexical_util.specs.Record.{raw};
 
-use crate::list::{Form, FormError, Forms, Tokens, further};
+use crate::list::{Form, FormError, Forms, Tokens, further, plays_no_role, sign_size};
 use crate::literal::Literal;
-use crate::plain::At;
+use crate::plain::{At, Counted};
 use crate::read::{Found, byte_at};
 use crate::steps::is_point;
-use crate::suffix::{byte_before, is_followed, is_stopped, is_word_byte, suffix_size, word_size};
-use crate::syntax::Syntax;
+use crate::suffix::{
+    byte_before, is_followed, is_stopped, is_word_byte, kind_with, suffix_size, word_size,
+};
+use crate::syntax::{Condition, Grammar, Syntax};
 
 /// A number that a text begins with, and what follows it.
 #[derive(Drop)]
 pub struct Token<'a> {
-    /// The literal.
+    /// The literal, with the kind that its form and its suffix give it.
     pub literal: Literal<'a>,
     /// The index of its form. Those of forms that need a suffix are behind the others.
     pub form: usize,
@@ -84,6 +89,20 @@ impl<'a> Forms<'a> {
         let Some(tokens) = self.tokens else {
             return Err(TokenError::NoTokens);
         };
+        match self.leading(tokens, text, true) {
+            Some(token) => Ok(token),
+            None => self.token_of(tokens, text),
+        }
+    }
+
+    // Returns the token that `text` begins with.
+    #[cold]
+    fn token_of<'t>(&self, tokens: &Tokens, text: &'t [u8]) -> Result<Token<'t>, TokenError>
+        ensures { IsReadByTokens self.now (Some tokens.entry) text.now result }
+    {
+        if let Some(token) = self.leading(tokens, text, false) {
+            return Ok(token);
+        }
         let back = tokens.gives_points_back;
         let plain = scan(self.forms, back, false, text);
         let suffixed = scan(tokens.forms, back, true, text);
@@ -110,6 +129,77 @@ impl<'a> Forms<'a> {
             form,
             start: size,
             end,
+        })
+    }
+
+    // Returns the token that `text` begins with, if reading the forms of the list once tells it. If `excluding` is true, a form of
+    // which no literal goes on behind the first byte and the sign is not asked.
+    #[inline(always)]
+    fn leading<'t>(&self, tokens: &Tokens, text: &'t [u8], excluding: bool) -> Option<Token<'t>>
+        ensures { ForSome result (IsToken self.now tokens.now text.now) }
+    {
+        let sign = sign_size(text);
+        let mut reached = sign;
+        let mut form = 0;
+        while form < self.forms.len() {
+            let it = &self.forms[form];
+            if excluding && is_past(it.syntax.grammar(), text, sign + 1) {
+                reached = larger(reached, sign + 1);
+            } else {
+                let counted = it.syntax.begin(false, text, true);
+                let size = counted.at.size;
+                if counted.complete
+                    && reached < size
+                    && are_past(self.forms, text, size)
+                    && are_past(tokens.forms, text, size)
+                {
+                    return self.behind(tokens, text, it, form, counted);
+                }
+                reached = larger(reached, it.bound(text, it.syntax.reach(text, counted)));
+            }
+            form += 1;
+        }
+        None
+    }
+
+    // Returns the token of which `counted` is the literal, of the form with this index, if its point is not given back and
+    // nothing follows that may not.
+    #[inline(always)]
+    fn behind<'t>(
+        &self,
+        tokens: &Tokens,
+        text: &'t [u8],
+        it: &Form,
+        form: usize,
+        counted: Counted,
+    ) -> Option<Token<'t>>
+        requires complete { IsTrue counted.complete }
+        requires begun { HasBegun (notation_of it.now.syntax) text.now counted }
+        requires summed { IsSummed (raw it.now.syntax.word) text.now counted }
+        requires leading { IsLeading self.now tokens.now text.now form it.now counted.at.size }
+        ensures { ForSome result (IsToken self.now tokens.now text.now) }
+    {
+        let Counted {
+            at,
+            counts,
+            sums,
+            ..
+        } = counted;
+        let (front, rest) = text.split_at(at.size);
+        let more = suffix_size(it.suffixes, is_float(counts), rest);
+        if gives_back(it.syntax, tokens.gives_points_back, text, at.size)
+            || is_stopped(it.suffixes, text, at.size + more)
+        {
+            return None;
+        }
+        let (suffix, rest) = rest.split_at(more);
+        let kind = kind_with(it.suffixes, suffix, it.kind);
+        let literal = it.syntax.literal(front, counts, sums).with_kind(kind);
+        Some(Token {
+            literal,
+            form,
+            suffix,
+            rest,
         })
     }
 
@@ -164,6 +254,66 @@ impl<'a> Forms<'a> {
     }
 }
 
+// Returns whether no literal of a form begins with more than the first `size` bytes of `text`, which are more than a sign.
+#[inline(always)]
+fn are_past(forms: &[Form], text: &[u8], size: usize) -> bool
+    ensures { IsTrue result → sign_size text.now < size → AreWithin forms.now text.now size }
+{
+    let mut form = 0;
+    while form < forms.len() {
+        if !is_past(forms[form].syntax.grammar(), text, size) {
+            return false;
+        }
+        form += 1;
+    }
+    true
+}
+
+// Returns whether no literal begins with more than the first `size` bytes of `text`, which are more than a sign.
+#[inline(always)]
+const fn is_past(grammar: Grammar, text: &[u8], size: usize) -> bool
+    ensures { IsTrue result → sign_size text.now < size → IsWithin (notation_of grammar) text.now size }
+{
+    lacks_prefix(grammar, text) || is_over(grammar, text, size)
+}
+
+// Returns whether the text ends behind the first `size` bytes, or a byte follows that plays no role.
+#[inline(always)]
+const fn is_over(grammar: Grammar, text: &[u8], size: usize) -> bool
+    ensures { IsTrue result → IsWithin (notation_of grammar) text.now size }
+{
+    match byte_at(text, size) {
+        None => true,
+        Some(byte) => plays_no_role(grammar, byte),
+    }
+}
+
+// Returns whether there is not the base prefix that is required.
+#[inline(always)]
+const fn lacks_prefix(grammar: Grammar, text: &[u8]) -> bool
+    ensures { IsTrue result → IsWithin (notation_of grammar) text.now (sign_size text.now + 1) }
+{
+    grammar.conditions.has(Condition::BasePrefix) && !has_prefix(grammar, text, sign_size(text))
+}
+
+// Returns whether a zero and a base prefix are at `index`.
+#[inline(always)]
+const fn has_prefix(grammar: Grammar, text: &[u8], index: usize) -> bool
+    requires { index ≤ length text.now }
+    ensures { result ≡ has_prefix (notation_of grammar) text.now index }
+{
+    index + 1 < text.len() && text[index] == b'0' && grammar.view().is_base_prefix(text[index + 1])
+}
+
+// Returns the larger of two sizes.
+#[inline(always)]
+const fn larger(one: usize, other: usize) -> usize
+    ensures one { one ≤ result }
+    ensures other { other ≤ result }
+{
+    if one < other { other } else { one }
+}
+
 // Returns the token with this candidate.
 #[inline(always)]
 fn made<'t>(it: &Form, text: &'t [u8], form: usize, candidate: Candidate) -> Token<'t>
@@ -172,6 +322,7 @@ fn made<'t>(it: &Form, text: &'t [u8], form: usize, candidate: Candidate) -> Tok
     requires within { candidate.end ≤ length text.now }
     ensures form { result.form ≡ form }
     ensures literal { ReadsForm (take candidate.size text.now) result.literal it.now }
+    ensures kind { result.literal.kind ≡ kind_with it.now.suffixes result.suffix.now it.now.kind }
     ensures suffix { result.suffix.now ≡ take (candidate.end - candidate.size) (drop candidate.size text.now) }
     ensures rest { result.rest.now ≡ drop candidate.end text.now }
 {
@@ -179,7 +330,8 @@ fn made<'t>(it: &Form, text: &'t [u8], form: usize, candidate: Candidate) -> Tok
     let (front, behind) = text.split_at(size);
     let (suffix, _) = behind.split_at(end - size);
     let (_, rest) = text.split_at(end);
-    let literal = it.syntax.summed(front, counts);
+    let kind = kind_with(it.suffixes, suffix, it.kind);
+    let literal = it.syntax.summed(front, counts).with_kind(kind);
     Token {
         literal,
         form,
@@ -189,6 +341,19 @@ fn made<'t>(it: &Form, text: &'t [u8], form: usize, candidate: Candidate) -> Tok
 }
 
 impl Form {
+    // Returns a size that no front of `text` that is a literal exceeds, where reading stops at `stop`.
+    #[inline(always)]
+    fn bound(&self, text: &[u8], stop: At) -> usize
+        requires { IsStopped (notation_of self.now.syntax) text.now stop }
+        ensures { FrontsWithin text.now result self.now }
+    {
+        if stop.size == 0 || self.syntax.is_literal_up_to(text, stop) {
+            stop.size
+        } else {
+            stop.size - 1
+        }
+    }
+
     // Returns where reading `text` stops, and the candidate, if there is one.
     #[inline(always)]
     fn candidate(&self, back: bool, needs: bool, text: &[u8]) -> (At, Option<Candidate>)

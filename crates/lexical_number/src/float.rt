@@ -20,6 +20,10 @@ pub trait Float: Copy {
         requires { bits ≤ ones (format_of DOUBLE) * hid (format_of DOUBLE) }
         ensures { value result ≡ from_bits (format_of DOUBLE) bits };
 
+    /// Returns the float with the value of an `f32`.
+    fn from_single(single: f32) -> Self
+        ensures { value result ≡ single };
+
     /// Returns the float with the other sign.
     fn negated(self) -> Self
         ensures { value result ≡ neg (value self) };
@@ -58,6 +62,11 @@ impl Float for f64 {
     }
 
     #[inline(always)]
+    fn from_single(single: f32) -> f64 {
+        f64::from(single)
+    }
+
+    #[inline(always)]
     fn negated(self) -> f64 {
         -self
     }
@@ -92,6 +101,11 @@ impl Float for f32 {
     #[tactic(auto, using(crate::proofs::TenLemmas::patterns))]
     fn from_magnitude(bits: u64) -> f32 {
         f32::from_bits(bits as u32)
+    }
+
+    #[inline(always)]
+    fn from_single(single: f32) -> f32 {
+        single
     }
 
     #[inline(always)]

@@ -1,10 +1,11 @@
 //! Numbers with a sign, by their value or by their digits.
 
-ghost use Rattle.std.specs.Prelude.{◌≡◌, ◌+◌, ◌-◌, ◌*◌, ◌^◌, ◌≤◌, if◌then◌else◌};
+ghost use Rattle.std.specs.Prelude.{◌≡◌, ◌+◌, ◌-◌, ◌*◌, ◌%◌, ◌^◌, ◌≤◌, if◌then◌else◌};
 ghost use Rattle.std.specs.Option.{SomeIff};
 ghost use Rattle.lexical_number.specs.Number.{number};
 ghost use Rattle.lexical_number.specs.Numeral.{Fits, size_of, value_of, with_sign};
 
+use crate::word::add_all;
 use lexical_base::digit::char_to_digit;
 
 /// A number without a sign.
@@ -89,6 +90,17 @@ impl Numeral<'_> {
             Magnitude::Word(word) if word as u128 <= most => Some(word as u128),
             Magnitude::Word(_) => None,
             Magnitude::Digits(bytes, radix) => wide_size(bytes, radix, most),
+        }
+    }
+
+    /// Returns the number without its sign, modulo `2 ^ 64`.
+    #[must_use]
+    pub const fn low_bits(&self) -> u64
+        ensures { result ≡ size_of self.now % 2 ^ 64 }
+    {
+        match self.magnitude {
+            Magnitude::Word(word) => word,
+            Magnitude::Digits(bytes, radix) => add_all(0, bytes, radix),
         }
     }
 

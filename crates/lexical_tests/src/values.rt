@@ -5,7 +5,8 @@ ghost use Rattle.std.specs.Prelude.{◌-◌, ◌<◌, ◌^◌, ◌≤◌};
 
 use callers::formats::read_decimal;
 use lexical_literal::list::{Form, FormError, Forms};
-use lexical_literal::syntax::Syntax;
+use lexical_literal::specials::{Sign, Special, Specials, Spelling};
+use lexical_literal::syntax::{Condition, Conditions, Syntax};
 use lexical_number::integer::Integer;
 use lexical_util::edits::{Edit, FlagSetter};
 use lexical_util::error::Error;
@@ -13,6 +14,7 @@ use lexical_util::format::{Format, NonZeroU8, NumberFormat, STANDARD};
 use lexical_value::float::to_float;
 use lexical_value::integer::ValueErrorKind;
 use lexical_value::parse::{ParseError, parse_float, parse_integer};
+use lexical_writer::choice::choose;
 use lexical_writer::float::format_float;
 use lexical_writer::float_digits::FloatDigits;
 use lexical_writer::integer::format_integer;
@@ -342,9 +344,11 @@ fn converted<'a>(
     buffer.get(..length).ok_or(WriteError::Buffer(length))
 }
 
-// Returns the format of a text: hexadecimal with a prefix, and otherwise decimal.
+// Returns the format of a text: hexadecimal with a prefix, with the exponent base 2 if this is `0X`, and otherwise decimal.
 fn text_format(text: &str) -> u128 {
-    if text.contains('x') {
+    if text.contains('X') {
+        0x0A021000_78000000_00000000_00000000
+    } else if text.contains('x') {
         0x0A101000_78000000_00000000_00000000
     } else {
         0x0A0A0A00_00000000_00000000_00000000
@@ -363,6 +367,9 @@ const EXPONENT: u128 = 0x0A0A0A00_00000000_00000000_00004000;
 const NO_EXPONENT: u128 = 0x0A0A0A00_00000000_00000000_00000040;
 
 const PREFIX: u128 = 0x0A101000_78000000_00000000_00003000;
+
+// A sign and an exponent with a sign are required.
+const SIGNS: u128 = 0x0A0A0A00_00000000_00000000_00004120;
 
 const LEAST: Style = Style {
     min_digits: 3,
@@ -403,13 +410,23 @@ const FROM_3: Style = Style {
 
 // A text, a format, whether its literals can be floats, a style, and what is written.
 #[rattlefmt::skip]
-const WRITTEN: [(&str, u128, bool, Style, &[u8]); 36] = [
+const WRITTEN: [(&str, u128, bool, Style, &[u8]); 46] = [
     ("-12.50^2", NO_EXPONENT, true, PLAIN, b"-1250"),
     ("1.50", NO_EXPONENT, true, PLAIN, b"1.50"),
     ("1.0", BARE, false, PLAIN, b"1"),
     ("0^-9", BARE, false, PLAIN, b"0"),
     ("12.50^1", NO_EXPONENT, true, PLAIN, b"125"),
     ("1^-7", NO_EXPONENT, true, PLAIN, b"0.0000001"),
+    ("1.2^3", NO_EXPONENT, true, PLAIN, b"1200"),
+    ("0^5", NO_EXPONENT, true, PLAIN, b"0"),
+    (".", BARE, true, PLAIN, b"0."),
+    ("5.", BARE, true, PLAIN, b"5."),
+    ("1^", BARE, true, PLAIN, b"1^0"),
+    ("5", SIGNS, true, PLAIN, b"+5^+0"),
+    ("0X1^3", BARE, true, PLAIN, b"8"),
+    ("0X1.8^1", BARE, false, PLAIN, b"3"),
+    ("0X18^-3", BARE, false, PLAIN, b"3"),
+    ("0X3^126", BARE, true, PLAIN, b"255211775190703847597530955573826158592"),
     ("0xFF", BARE, true, PLAIN, b"255"),
     ("-0x10.0^2", BARE, false, PLAIN, b"-4096"),
     ("255", PREFIX, true, PLAIN, b"0xFF"),
@@ -445,7 +462,7 @@ const WRITTEN: [(&str, u128, bool, Style, &[u8]); 36] = [
 #[test]
 fn literals_are_written_in_a_style(rt: HostRuntime) {
     for (text, word, floats, style, wanted) in &WRITTEN {
-        let mut buffer = [0u8; 16];
+        let mut buffer = [0u8; 40];
         let written = converted(*text, *word, *floats, *style, &mut buffer);
         assert!(rt; matches!(written, Ok(it) if it == *wanted), "{text}");
     }
@@ -476,6 +493,134 @@ fn what_is_not_whole_or_too_long_is_refused(rt: HostRuntime) {
         matches!(
             converted("1^800", BARE, false, NEVER, &mut buffer),
             Err(WriteError::Long)
+        )
+    );
+    // Where the point does not move by whole digits, a number that is not whole has this error first.
+    assert!(rt;
+        matches!(
+            converted("0X1^-3", HEXADECIMAL, false, PLAIN, &mut buffer),
+            Err(WriteError::Fraction)
+        )
+    );
+    assert!(rt;
+        matches!(
+            converted("0X1^3", HEXADECIMAL, false, PLAIN, &mut buffer),
+            Err(WriteError::Exponent)
+        )
+    );
+    assert!(rt;
+        matches!(
+            converted("0X1^128", BARE, true, PLAIN, &mut buffer),
+            Err(WriteError::Radix)
+        )
+    );
+}
+
+// Groups of 3 and then of 2 digits before the point, and of 3 behind it.
+#[test]
+fn conditions_decide_on_groups(rt: HostRuntime) -> Result<(), Fail> {
+    let format = Format::new(0x00000A00_0000002C_00000003_0000000C);
+    let format = format.ok().ok_or("a format")?;
+    let plain = Syntax::new(format, b'e', b'.').ok().ok_or("a syntax")?;
+    let sizes = Conditions::NONE
+        .with(Condition::IntegerGroupSize, 3)
+        .with(Condition::HigherGroupSize, 2)
+        .with(Condition::FractionGroupSize, 3);
+    let syntax = plain.with_conditions(sizes).ok().ok_or("conditions")?;
+    let Ok(literal) = plain.read(b"1234567.1234") else {
+        return Err("a literal".into());
+    };
+    let layout = format_literal(&literal, &syntax, PLAIN);
+    let layout = layout.ok().ok_or("a layout")?;
+    let mut buffer = [0u8; 15];
+    assert_eq!(rt; layout.write(&mut buffer), 15);
+    assert_eq!(rt; buffer.as_slice(), b"12,34,567.123,4".as_slice());
+    Ok(())
+}
+
+// Returns whether infinity below 0 is spelled with this sign and word in the format `word`, or not at all.
+fn is_spelled(
+    word: u128,
+    sign: Option<Sign>,
+    wanted: Option<(Option<Sign>, &[u8])>,
+) -> Option<bool> {
+    let specials = Specials {
+        nan: Some(b"nan"),
+        inf: None,
+        infinity: Some(b"inf"),
+    };
+    let spelling = Spelling::Inf;
+    let syntax = Syntax::integers(Format::new(word).ok()?);
+    match (specials.spell(&syntax, Special { sign, spelling }), wanted) {
+        (Some(text), Some((sign, word))) => Some(text.sign == sign && text.word == word),
+        (None, None) => Some(true),
+        _ => Some(false),
+    }
+}
+
+#[test]
+fn special_values_are_spelled_as_they_are_read(rt: HostRuntime) {
+    let minus = Some(Sign::Minus);
+    let plus = Some(Sign::Plus);
+    assert_eq!(rt;
+        is_spelled(STANDARD, minus, Some((minus, b"inf"))),
+        Some(true)
+    );
+    assert_eq!(rt;
+        is_spelled(STANDARD, plus, Some((None, b"inf"))),
+        Some(true)
+    );
+    // required_mantissa_sign, no_special.
+    assert_eq!(rt;
+        is_spelled(STANDARD | 0x20, None, Some((plus, b"inf"))),
+        Some(true)
+    );
+    assert_eq!(rt; is_spelled(STANDARD | 0x400, minus, None), Some(true));
+}
+
+// Returns a syntax without requirements in a radix, in which only decimal literals can be floats.
+fn syntax_in(radix: u128) -> Result<Syntax, WriteError> {
+    let format = Format::new(radix << 104).map_err(|_| WriteError::Special)?;
+    match Syntax::new(format, b'^', b'.') {
+        Ok(syntax) if radix == 10 => Ok(syntax),
+        _ => Ok(Syntax::integers(format)),
+    }
+}
+
+// Returns what forms of two radixes write for a text of the second.
+fn chosen<'a>(
+    text: &[u8],
+    radixes: [u128; 2],
+    buffer: &'a mut [u8],
+) -> Result<&'a [u8], WriteError> {
+    let (first, second) = (syntax_in(radixes[0])?, syntax_in(radixes[1])?);
+    let forms = [Form::new("", first), Form::new("", second)];
+    let literal = second.read(text).map_err(|_| WriteError::Special)?;
+    let Some(list) = Forms::new(&forms) else {
+        return Err(WriteError::Special);
+    };
+    let (_, length) = choose(&list, &literal, PLAIN, buffer)?;
+    buffer.get(..length).ok_or(WriteError::Buffer(length))
+}
+
+#[test]
+fn forms_write_what_they_read_as_the_same_number(rt: HostRuntime) {
+    let mut buffer = [0u8; 40];
+    // The first form reads `17` as another number, and writes it itself.
+    assert!(rt; matches!(chosen(b"17", [10, 8], &mut buffer), Ok(b"15")));
+    assert!(rt; matches!(chosen(b"300", [16, 10], &mut buffer), Ok(b"12C")));
+    assert!(rt; matches!(chosen(b"7", [10, 8], &mut buffer), Ok(b"7")));
+    assert!(rt; matches!(chosen(b"1.5", [16, 10], &mut buffer), Ok(b"1.5")));
+    let long = chosen(
+        b"340282366920938463463374607431768211456",
+        [16, 10],
+        &mut buffer,
+    );
+    assert!(rt; matches!(long, Err(WriteError::ReadBack)));
+    assert!(rt;
+        matches!(
+            chosen(b"300", [16, 10], &mut []),
+            Err(WriteError::Buffer(3))
         )
     );
 }

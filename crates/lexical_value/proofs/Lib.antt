@@ -1,2 +1,3 @@
-mod FloatLemmas
+pub mod FloatLemmas
+mod KindLemmas
 mod ValueLemmas

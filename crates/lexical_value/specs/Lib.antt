@@ -2,3 +2,4 @@ pub mod Value
 pub mod Integer
 pub mod Float
 pub mod Parsed
+pub mod Kind

@@ -1,37 +1,114 @@
 //! The value of a literal as a value of a float type.
 
-ghost use Rattle.std.specs.Prelude.{ℕ, ◌≡◌, ◌↔◌, ◌≤◌, ◌^◌, ◌||◌, false, min, IfErr, IfOk, IfSome, IsOk, IsSome, IsTrue};
-ghost use Rattle.std.specs.Float.{NotNan};
+ghost use Rattle.std.specs.Prelude.{ℕ, ◌≡◌, ◌↔◌, ◌≤◌, ◌^◌, ◌||◌, false, min, Err, IfErr, IfOk, Ok, IfSome, IsOk, IsSome, IsTrue};
+ghost use Rattle.std.specs.Float.{NotNan, binary32};
 ghost use Rattle.std.specs.Float.Ieee.{round};
 ghost use Rattle.core.specs.Dec2flt.Rounding.{IsNearestBits};
 ghost use Rattle.lexical_util.specs.Layout as layout;
 ghost use Rattle.lexical_util.specs.Record.{raw};
-ghost use Rattle.lexical_literal.specs.Literal.{is_minus};
-ghost use Rattle.lexical_literal.specs.Parts.{literal_of};
+ghost use Rattle.lexical_literal.specs.Literal.{is_float, is_minus};
 ghost use Rattle.lexical_literal.specs.Read.{exponent, mantissa};
 ghost use Rattle.lexical_number.specs.Binary.{format_of};
 ghost use Rattle.lexical_number.specs.Leading.{Leads};
 ghost use Rattle.lexical_value.specs.Float.{is_binary, is_decimal, nearest};
+ghost use Rattle.lexical_value.specs.Kind.{float_worth, format_by, is_exact};
 ghost use Rattle.lexical_value.specs.Value.{denominator, numerator};
 ghost use Rattle.lexical_value.specs.declared.integer.ValueErrorKind.TheVariants as kinds;
 
-use crate::integer::ValueErrorKind;
+use crate::integer::{ValueErrorKind, integer_numeral};
+use crate::kind::{Worth, fewer, is_exact};
+use lexical_literal::kind::FloatKind;
 use lexical_literal::literal::Literal;
-use lexical_literal::read::Parts;
 use lexical_number::decimal::{decimal_to_float, digits_to_float};
 use lexical_number::float::Float;
 use lexical_number::leading::{Leading, push_all, saturating};
-use lexical_number::parts::{bits_of, count, raised_bits};
+use lexical_number::parts::{bits_of, raised_bits};
 use lexical_util::format::NumberFormat;
 
-/// Returns the value of a literal as a value of a float type: rounded once to the nearest float, or to the even one if two
-/// are as near. The value is infinite if it is that large. Its sign is that of the literal, also for 0.
+/// Returns the value of a literal by its kind as a value of a float type: rounded once to the nearest float, or to the even one
+/// if two are as near. The value is infinite if it is that large. Its sign is that of the literal, also for 0.
 ///
 /// # Errors
 ///
-/// If the mantissa radix and the exponent base are neither both 10 nor both powers of two, of any literal.
+/// If the mantissa radix and the exponent base are neither both 10 nor both powers of two, of any literal, or if an integer is
+/// too large for its kind.
 #[inline(always)]
 pub fn to_float<F: Float>(literal: &Literal) -> Result<F, ValueErrorKind>
+    ensures value { IfOk result (λ value. float_worth literal.now.kind (format_of F.DOUBLE) (raw literal.now.format) literal.now.literal
+        ≡ Ok (F.value value)) }
+    ensures error { IfErr result (λ error. float_worth literal.now.kind (format_of F.DOUBLE) (raw literal.now.format) literal.now.literal
+        ≡ Err error) }
+    ensures no_nan { IfOk result (λ value. NotNan (F.value value)) }
+{
+    let kind = literal.kind();
+    if is_exact(kind.integers()) || literal.is_float() {
+        float_of_kind(kind.floats(), literal)
+    } else {
+        whole_float(literal)
+    }
+}
+
+// Returns the nearest float, or the nearest `f32` if floats are single.
+#[inline(always)]
+fn float_of_kind<F: Float>(kind: FloatKind, literal: &Literal) -> Result<F, ValueErrorKind>
+    ensures supported { IsTrue (is_decimal (raw literal.now.format) || is_binary (raw literal.now.format)) ↔ IsOk result }
+    ensures error { IfErr result (λ error. error ≡ kinds.UnsupportedRadix) }
+    ensures value { IfOk result (λ value. F.value value ≡ nearest (format_by kind (format_of F.DOUBLE)) (raw literal.now.format) literal.now.literal) }
+    ensures no_nan { IfOk result (λ value. NotNan (F.value value)) }
+{
+    match kind {
+        FloatKind::Nearest => nearest_float(literal),
+        FloatKind::Single => match nearest_single(literal) {
+            Ok(single) => Ok(F::from_single(single)),
+            Err(error) => Err(error),
+        },
+    }
+}
+
+// Returns the nearest `f32`, in one copy.
+#[cold]
+#[inline(never)]
+fn nearest_single(literal: &Literal) -> Result<f32, ValueErrorKind>
+    ensures supported { IsTrue (is_decimal (raw literal.now.format) || is_binary (raw literal.now.format)) ↔ IsOk result }
+    ensures error { IfErr result (λ error. error ≡ kinds.UnsupportedRadix) }
+    ensures value { IfOk result (λ value. value ≡ nearest binary32 (raw literal.now.format) literal.now.literal) }
+    ensures no_nan { IfOk result (λ value. NotNan value) }
+{
+    nearest_float(literal)
+}
+
+// Returns the float nearest to what an integer of a kind that is not exact is worth.
+#[cold]
+fn whole_float<F: Float>(literal: &Literal) -> Result<F, ValueErrorKind>
+    requires kind { is_exact literal.now.kind.integers ≡ false }
+    requires integer { is_float literal.now.literal ≡ false }
+    ensures value { IfOk result (λ value. float_worth literal.now.kind (format_of F.DOUBLE) (raw literal.now.format) literal.now.literal
+        ≡ Ok (F.value value)) }
+    ensures error { IfErr result (λ error. float_worth literal.now.kind (format_of F.DOUBLE) (raw literal.now.format) literal.now.literal
+        ≡ Err error) }
+    ensures no_nan { IfOk result (λ value. NotNan (F.value value)) }
+{
+    if !supports_floats(literal.format()) {
+        return Err(ValueErrorKind::UnsupportedRadix);
+    }
+    let Some(numeral) = integer_numeral(literal) else {
+        unreachable!()
+    };
+    match fewer(literal.kind().integers(), &numeral) {
+        Some(Worth { negative, size }) => {
+            Ok(signed(digits_to_float(size, 0, false, 0), negative))
+        }
+        None => Err(ValueErrorKind::out_of_range(numeral.negative)),
+    }
+}
+
+/// Returns the float nearest to the number that a literal represents, whatever its kind is, or to the even one if two are as near.
+///
+/// # Errors
+///
+/// If the mantissa radix and the exponent base are neither both 10 nor both powers of two.
+#[inline(always)]
+pub fn nearest_float<F: Float>(literal: &Literal) -> Result<F, ValueErrorKind>
     ensures supported { IsTrue (is_decimal (raw literal.now.format) || is_binary (raw literal.now.format)) ↔ IsOk result }
     ensures error { IfErr result (λ kind. kind ≡ kinds.UnsupportedRadix) }
     ensures value { IfOk result (λ value. F.value value ≡ nearest (format_of F.DOUBLE) (raw literal.now.format) literal.now.literal) }
@@ -47,9 +124,10 @@ pub fn to_float<F: Float>(literal: &Literal) -> Result<F, ValueErrorKind>
     Ok(signed(size, literal.is_negative()))
 }
 
-// Returns a float with a sign.
+/// Returns a float, or the same with the sign `-` if `negative` is true.
+#[must_use]
 #[inline(always)]
-pub(crate) fn signed<F: Float>(size: F, negative: bool) -> F
+pub fn signed<F: Float>(size: F, negative: bool) -> F
     ensures { (num den : ℕ) → F.value size ≡ round (format_of F.DOUBLE) false num den
         → F.value result ≡ round (format_of F.DOUBLE) negative num den }
 {
@@ -157,69 +235,4 @@ fn leading_of(literal: &Literal, radix: u32) -> Leading
             push_all(integer, radix, parts.fraction)
         }
     }
-}
-
-/// Returns the value of a literal of `format` with these parts as a value of a float type, as [`to_float`] does. It is `None` if
-/// the mantissa radix and the exponent base are neither both 10 nor both powers of two.
-#[inline(always)]
-pub fn parts_to_float<F: Float>(format: NumberFormat, parts: &Parts) -> Option<F>
-    ensures supported { IsTrue (is_decimal (raw format) || is_binary (raw format)) ↔ IsSome result }
-    ensures value { IfSome result (λ value. F.value value ≡ nearest (format_of F.DOUBLE) (raw format) (literal_of parts.now)) }
-    ensures no_nan { IfSome result (λ value. NotNan (F.value value)) }
-{
-    let size = if has_decimal_floats(format) {
-        decimal_parts(format, parts)
-    } else if let Some(bits) = binary_parts(F::DOUBLE, format, parts) {
-        F::from_magnitude(bits)
-    } else {
-        return None;
-    };
-    Some(signed(size, is_minus(parts.sign)))
-}
-
-// Returns whether a sign is a minus sign.
-const fn is_minus(sign: &[u8]) -> bool
-    ensures { result ≡ is_minus sign.now }
-{
-    matches!(sign, [b'-', ..])
-}
-
-// Returns the float nearest to a decimal literal with these parts, without its sign.
-#[inline(always)]
-fn decimal_parts<F: Float>(format: NumberFormat, parts: &Parts) -> F
-    requires { IsTrue (is_decimal (raw format)) }
-    ensures { F.value result ≡ round (format_of F.DOUBLE) false (numerator (raw format) (literal_of parts.now))
-        (denominator (raw format) (literal_of parts.now)) }
-{
-    let exponent = saturating(parts.exponent, format.exponent_radix());
-    decimal_to_float(
-        parts.integer,
-        parts.fraction,
-        is_minus(parts.exponent_sign),
-        exponent,
-    )
-}
-
-// Returns the bits of the float nearest to a literal with these parts, without its sign, or `None` if a radix is not a power of two.
-fn binary_parts(double: bool, format: NumberFormat, parts: &Parts) -> Option<u64>
-    ensures some { IsTrue (is_binary (raw format)) ↔ IsSome result }
-    ensures value { IfSome result (λ bits. IsNearestBits (format_of double) (numerator (raw format) (literal_of parts.now))
-        (denominator (raw format) (literal_of parts.now)) bits) }
-{
-    let radix = format.mantissa_radix();
-    let Some(radix_bits) = bits_of(radix) else {
-        return None;
-    };
-    let base = format.exponent_base();
-    let Some(base_bits) = bits_of(base) else {
-        return None;
-    };
-    let integer = push_all(Leading::ZERO, radix, parts.integer);
-    let leading = push_all(integer, radix, parts.fraction);
-    let places = count(parts.fraction, radix) as u64;
-    let negative = is_minus(parts.exponent_sign);
-    let exponent = saturating(parts.exponent, format.exponent_radix());
-    Some(raised_bits(
-        double, leading, radix_bits, places, negative, exponent, base_bits,
-    ))
 }

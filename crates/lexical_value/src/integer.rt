@@ -1,12 +1,14 @@
 //! The value of a literal as a value of an integer type.
 
-ghost use Rattle.std.specs.Prelude.{◌≡◌, ◌↔◌, if◌then◌else◌, [], IfSome, IsNone, IsTrue, MatchResult};
+ghost use Rattle.std.specs.Prelude.{◌≡◌, ◌↔◌, ℕ, if◌then◌else◌, [], IfSome, IsFalse, IsNone, IsTrue, MatchResult, Some};
 ghost use Rattle.lexical_util.specs.Record.{raw};
 ghost use Rattle.lexical_literal.specs.Literal.{is_float, is_minus};
 ghost use Rattle.lexical_number.specs.Numeral.{magnitude_size, size_of};
-ghost use Rattle.lexical_value.specs.Integer.{IsInteger, IsNoInteger, integer_size};
+ghost use Rattle.lexical_value.specs.Integer.{integer_size};
+ghost use Rattle.lexical_value.specs.Kind.{IsNotWorth, IsWorth, integer_worth};
 ghost use Rattle.lexical_value.specs.declared.integer.ValueErrorKind.TheVariants as kinds;
 
+use crate::kind::counted;
 use lexical_literal::literal::Literal;
 use lexical_number::integer::Integer;
 use lexical_number::numeral::{Magnitude, Numeral};
@@ -40,28 +42,49 @@ impl ValueErrorKind {
     }
 }
 
-/// Returns the value of a literal as a value of an integer type. The value of `-0` is 0.
+/// Returns the value of a literal by its kind as a value of an integer type. The value of `-0` is 0.
 ///
 /// # Errors
 ///
-/// If the literal has a decimal point or an exponent, or if its value is not in the range of the type, returns which.
+/// If the literal has a decimal point or an exponent, if it is too large for its kind, or if its value is not in the range of
+/// the type, returns which.
 #[inline(always)]
 pub fn to_integer<T: Integer>(literal: &Literal) -> Result<T, ValueErrorKind>
-    ensures { MatchResult result (λ value. IsInteger (raw literal.now.format) literal.now.literal (T.range.value value))
-        (IsNoInteger T.range.least T.range.largest (raw literal.now.format) literal.now.literal) }
+    ensures { MatchResult result (λ value. IsWorth literal.now.kind.integers (raw literal.now.format) literal.now.literal (T.range.value value))
+        (IsNotWorth literal.now.kind.integers T.range.least T.range.largest (raw literal.now.format) literal.now.literal) }
+{
+    match own_numeral(literal) {
+        Err(error) => Err(error),
+        Ok(numeral) => match T::from_numeral(&numeral) {
+            Some(value) => Ok(value),
+            None => Err(ValueErrorKind::out_of_range(numeral.negative)),
+        },
+    }
+}
+
+/// Returns the sign and the number of what an integer is worth by its kind, or why it is worth none.
+///
+/// # Errors
+///
+/// If the literal has a decimal point or an exponent, or if it is too large for its kind, returns which.
+#[inline(always)]
+pub fn own_numeral<'a>(literal: &Literal<'a>) -> Result<Numeral<'a>, ValueErrorKind>
+    ensures { MatchResult result (λ own. IsFalse (is_float literal.now.literal)
+        × (integer_worth literal.now.kind.integers (raw literal.now.format) literal.now.literal ≡ Some (own.negative, size_of own)))
+        (λ error. (least largest : ℕ) → IsNotWorth literal.now.kind.integers least largest (raw literal.now.format) literal.now.literal error) }
 {
     let Some(numeral) = integer_numeral(literal) else {
         return Err(ValueErrorKind::Float);
     };
-    match T::from_numeral(&numeral) {
-        Some(value) => Ok(value),
+    match counted(literal.kind().integers(), numeral) {
+        Some(own) => Ok(own),
         None => Err(ValueErrorKind::out_of_range(numeral.negative)),
     }
 }
 
-// Returns the sign and the number of a literal, or `None` if it has a decimal point or an exponent.
+/// Returns the sign and the number of a literal, or `None` if it has a decimal point or an exponent.
 #[inline(always)]
-pub(crate) fn integer_numeral<'a>(literal: &Literal<'a>) -> Option<Numeral<'a>>
+pub fn integer_numeral<'a>(literal: &Literal<'a>) -> Option<Numeral<'a>>
     ensures float { IsTrue (is_float literal.now.literal) ↔ IsNone result }
     ensures negative { IfSome result (λ numeral. numeral.negative ≡ is_minus literal.now.literal.sign) }
     ensures size { IfSome result (λ numeral. size_of numeral ≡ integer_size (raw literal.now.format) literal.now.literal) }

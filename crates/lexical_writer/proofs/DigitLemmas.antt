@@ -2,7 +2,7 @@
 use Rattle.std.proofs.Common.{ℕ, ◌≡◌, ◌+◌, ◌*◌, ◌<◌, ◌≤◌, ◌||◌, Bool, true, false, cond, nat_lt, List, [], ◌∷◌, ◌++◌, length, drop, get_or}
 use Rattle.std.proofs.Common.{Option, ◌-◌, ◌/◌, ◌%◌, map, set, slice_get, option_to_list, Some, None, refl, sym}
 use Rattle.std.proofs.Common.{ap, ◌∙◌, arith, suc, zero, drop-cons, add-one, replicate, append-nil, subst, inl, inr}
-use Rattle.std.proofs.lemmas.Bool.{cases_lt}
+use Rattle.std.proofs.lemmas.Bool.{cases_lt, false≢true, ltb-true}
 use Rattle.std.proofs.lemmas.Int.Digits.{all_below_base_digits_of, digits_of_step, length-digits_of_step, number_after_append}
 use Rattle.std.proofs.lemmas.List.{append_assoc, drop_all, drop-set, length-append, length-map, length-set, map_push}
 use Rattle.std.proofs.lemmas.Bool.Decides.{nat_tests}
@@ -11,11 +11,12 @@ use Rattle.std.proofs.lemmas.Nat.{div-mul-add, mod-mul-add}
 use Rattle.std.proofs.lemmas.Option.{get_or_from_slice_get}
 use Rattle.std.specs.Int.Digits.{AllBelowBase, digits_of, number_from_digits, number_from_digits_after}
 use Rattle.std.specs.List.{cons_option}
+use Rattle.lexical_util.specs.Ascii.{ByteSet}
 use Rattle.lexical_util.specs.Digits.{byte_value, digit_characters, digit_of}
 use Rattle.lexical_base.proofs.ValueLemmas.{byte_value-digit_character, same_at}
-use Rattle.lexical_literal.specs.Literal.{is_present}
+use Rattle.lexical_literal.specs.Literal.{begins_with, is_present}
 use Rattle.lexical_number.specs.Number.{digits_in, number}
-use Rattle.lexical_writer.specs.Digits.{at_least, character, ends_group, grouped, grouped_front, no_groups, only_if, padded_values, separated, values_of}
+use Rattle.lexical_writer.specs.Digits.{at_least, begins_decimal, character, ends_group, grouped, grouped_front, no_groups, only_if, padded_values, separated, values_of}
 use Rattle.lexical_writer.specs.declared.run.Pattern.{Pattern}
 use Rattle.lexical_writer.specs.declared.run.Padded.{Padded}
 use Rattle.lexical_writer.specs.declared.run.Source.{Source}
@@ -130,6 +131,19 @@ character_digit lowercase radix d small below =
     let value = character_value lowercase d (omega (arith, small, below)) in
     let test : nat_lt d radix ≡ true = grind (arith, nat_tests) in
     rw (value, test) refl
+
+-- Behind zeros, or a decimal digit where there are none, begins what is written.
+pub zero_first : (A : ByteSet) (pattern : Pattern) (k : ℕ) (digits : List ℕ) → A (character pattern.lowercase 0) ≡ true → 0 < k
+    → begins_with A (grouped pattern (replicate k 0 ++ digits)) ≡ true
+zero_first A pattern zero digits fits some = absurd (omega (arith, some))
+zero_first A pattern (suc k) digits fits some = fits
+
+pub decimal_first : (A : ByteSet) (pattern : Pattern) (radix k : ℕ) (digits : List ℕ) → A (character pattern.lowercase 0) ≡ true
+    → ((d : ℕ) → d < radix → d < 10 → A (character pattern.lowercase d) ≡ true) → AllBelowBase radix digits → begins_decimal digits ≡ true
+    → begins_with A (grouped pattern (replicate k 0 ++ digits)) ≡ true
+decimal_first A pattern radix (suc k) digits naught fits all is = naught
+decimal_first A pattern radix zero [] naught fits all is = absurd (false≢true is)
+decimal_first A pattern radix zero (d ∷ digits) naught fits all is = fits d all.0 (ltb-true _ _ is)
 
 -- The digits among grouped ones are those that were grouped.
 pub grouped_digits : (radix : ℕ) (pattern : Pattern) → radix ≤ 36 → (0 < pattern.higher → digit_of pattern.separator radix ≡ None) → (digits : List ℕ)

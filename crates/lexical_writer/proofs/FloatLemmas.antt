@@ -1,43 +1,245 @@
--- Literals of the same value are read as the same float.
-use Rattle.std.proofs.Common.{ℕ, ◌≡◌, ◌*◌, ◌<◌, ◌^◌, ◌||◌, if◌then◌else◌, Bool, true, false, ap, ◌∙◌, arith, zero, suc, Result, Ok, Err, IfOk}
+-- Digits with a point, zeros around them and an exponent have the value of the literal that is written.
+use Rattle.std.proofs.Common.{ℕ, suc, ◌≡◌, ◌+◌, ◌-◌, ◌*◌, ◌<◌, ◌≤◌, ◌^◌, ◌||◌, if◌then◌else◌, Bool, true, false, ap, ◌∙◌, arith, sym}
+use Rattle.std.proofs.Common.{List, [], ◌∷◌, ◌++◌, length, take, drop, replicate, Option, Some, None, Result, Ok, Err, IfOk}
 use Rattle.std.proofs.lemmas.Bool.Decides.{nat_tests}
-use lib.Ieee.{Format, round}
+use Rattle.std.proofs.lemmas.Int.Digits.{number_after_append}
+use Rattle.std.proofs.lemmas.List.{append_assoc, length-append, take-append-drop}
+use Rattle.std.proofs.lemmas.List.Elements.{filter_map-append}
+use lib.Ieee.{Format, emax, low, prec, round}
+use lib.Ieee.Exact.{HasValue, round_exact}
 use lib.Ieee.Scale.{round_same}
-use Rattle.std.proofs.Math.Nat.{pow-suc, pow-zero}
+use lib.Pow.{pow-add, shl_lt}
+use Rattle.std.proofs.Math.Nat.{one-le-pow, pow-le-pow_right}
+use Rattle.std.specs.Int.Digits.{number_from_digits, number_from_digits_after}
+use Rattle.std.specs.List.{cons_option}
 use Rattle.lexical_util.specs.Layout as layout
-use Rattle.lexical_util.specs.Record.{Record, effective_exponent_base}
+use Rattle.lexical_util.specs.Digits.{digit_of}
+use Rattle.lexical_util.specs.Record.{Record, raw, effective_exponent_base, effective_exponent_radix}
 use Rattle.lexical_literal.specs.Literal.{Literal, is_minus}
+use Rattle.lexical_literal.specs.Read.{exponent, mantissa}
+use Rattle.lexical_literal.specs.declared.syntax.Grammar.{Grammar}
+use Rattle.lexical_number.specs.Binary.{format_of, raised_down, raised_up}
+use Rattle.lexical_number.specs.Number.{digits_in, number}
 use Rattle.lexical_value.specs.Float.{is_binary, is_decimal, nearest}
 use Rattle.lexical_value.specs.Value.{denominator, numerator, power, scale}
-use Rattle.lexical_writer.specs.Conversion.{SameFraction}
+use Rattle.lexical_writer.specs.Digits.{size_of, values_of}
+use Rattle.lexical_writer.specs.Layout.{HasNumber, given_fraction, given_power}
+use Rattle.lexical_writer.specs.Rounded.{HasDecimals, rounded}
+use Rattle.lexical_writer.specs.declared.layout.Amount.{Amount}
+use Rattle.lexical_writer.proofs.ConversionLemmas.{zero_scaled}
+use Rattle.lexical_writer.proofs.DigitLemmas.{zeros_number}
+use Rattle.lexical_writer.proofs.PlainLemmas.{pow_twice, size_values, zeros_after}
+
+-- Digits between zeros, with more zeros behind a point.
+pub around : (radix before : ℕ) (digits : List ℕ) (after places : ℕ)
+    → number_from_digits radix ((replicate before 0 ++ (digits ++ replicate after 0)) ++ replicate places 0)
+    ≡ number_from_digits radix digits * radix ^ (after + places)
+around radix before digits after places =
+    let n = number_from_digits radix digits in
+    let zeros : List ℕ = replicate after 0 in
+    number_after_append radix 0 (replicate before 0 ++ (digits ++ zeros)) (replicate places 0)
+    ∙ ap (λ m. number_from_digits_after radix m (replicate places 0)) (zeros_number radix before (digits ++ zeros)
+    ∙ number_after_append radix 0 digits zeros ∙ zeros_after radix n after)
+    ∙ zeros_after radix (n * radix ^ after) places ∙ regrouped n (radix ^ after) (radix ^ places) ∙ sym (ap (λ p. n * p) (pow-add radix after places))
+  where
+    regrouped : (a b c : ℕ) → a * b * c ≡ a * (b * c)
+    regrouped a b c = omega arith
+
+-- Digits behind others, with zeros behind them.
+pub behind : (radix : ℕ) (xs ys : List ℕ) (after : ℕ)
+    → number_from_digits radix (xs ++ (ys ++ replicate after 0)) ≡ number_from_digits radix (xs ++ ys) * radix ^ after
+behind radix xs ys after =
+    ap (number_from_digits radix) (sym (append_assoc xs ys (replicate after 0))) ∙ number_after_append radix 0 (xs ++ ys) (replicate after 0)
+    ∙ zeros_after radix (number_from_digits radix (xs ++ ys)) after
+
+-- The digits of bytes are those before an index, and those from there on.
+pub cut_digits : (radix k : ℕ) (bytes : List ℕ) → digits_in radix (take k bytes) ++ digits_in radix (drop k bytes) ≡ digits_in radix bytes
+cut_digits radix k bytes = sym (filter_map-append _ (take k bytes) (drop k bytes)) ∙ ap (digits_in radix) (take-append-drop k bytes)
+
+fewer : (radix : ℕ) (bytes : List ℕ) → length (digits_in radix bytes) ≤ length bytes
+fewer radix [] = omega arith
+fewer radix (byte ∷ bytes) = one (digit_of byte radix) (digits_in radix bytes) (length bytes) (fewer radix bytes)
+  where
+    one : (digit : Option ℕ) (digits : List ℕ) (n : ℕ) → length digits ≤ n → length (cons_option digit digits) ≤ suc n
+    one None digits n most = omega (arith, most)
+    one (Some d) digits n most = omega (arith, most)
+
+-- If all bytes are digits, so are those from an index on.
+pub all_digits : (radix k : ℕ) (bytes : List ℕ) → length (digits_in radix bytes) ≡ length bytes
+    → length (digits_in radix (drop k bytes)) ≡ length (drop k bytes)
+all_digits radix k bytes all =
+    let digits = sym (ap length (cut_digits radix k bytes)) ∙ length-append (digits_in radix (take k bytes)) (digits_in radix (drop k bytes)) in
+    let whole = sym (ap length (take-append-drop k bytes)) ∙ length-append (take k bytes) (drop k bytes) in
+    let first = fewer radix (take k bytes) in
+    let second = fewer radix (drop k bytes) in
+    omega (arith, all, digits, whole, first, second)
+
+-- `HasParts r l n places negative e` holds if the mantissa of `l` is `n` over the radix to the power of `places`, and its exponent is `e`.
+record HasParts (r : Record) (l : Literal) (n places : ℕ) (negative : Bool) (e : ℕ) : Type 0 where
+  factor : ℕ
+  mantissa : mantissa r l ≡ n * factor
+  scale : scale r l ≡ r.byte layout.mantissa_radix ^ places * factor
+  up : raised_up (is_minus l.exponent_sign) (effective_exponent_base r) (exponent r l) ≡ raised_up negative (effective_exponent_base r) e
+  down : raised_down (is_minus l.exponent_sign) (effective_exponent_base r) (exponent r l) ≡ raised_down negative (effective_exponent_base r) e
+
+-- What has the digits of an amount has its mantissa and its exponent.
+has_parts : (g : Grammar) (amount : Amount) (n places e : ℕ) (negative : Bool)
+    → number_from_digits ((raw g.word).byte layout.mantissa_radix)
+    (values_of ((raw g.word).byte layout.mantissa_radix) amount.integer ++ values_of ((raw g.word).byte layout.mantissa_radix) (given_fraction amount)) ≡ n
+    → length (values_of ((raw g.word).byte layout.mantissa_radix) (given_fraction amount)) ≡ places
+    → raised_up (given_power amount).negative (effective_exponent_base (raw g.word)) (size_of (effective_exponent_radix (raw g.word)) (given_power amount).source)
+    ≡ raised_up negative (effective_exponent_base (raw g.word)) e
+    → raised_down (given_power amount).negative (effective_exponent_base (raw g.word)) (size_of (effective_exponent_radix (raw g.word)) (given_power amount).source)
+    ≡ raised_down negative (effective_exponent_base (raw g.word)) e
+    → 2 ≤ (raw g.word).byte layout.mantissa_radix → (l : Literal) → HasNumber g amount l
+    → HasParts (raw g.word) l n places negative e
+has_parts g amount n places e negative digits count up down two l has =
+    let s = raw g.word in
+    let radix = s.byte layout.mantissa_radix in
+    let front = values_of radix amount.integer in
+    let rest = values_of radix (given_fraction amount) in
+    let factor = zero_scaled radix (number_from_digits radix front) has.zero rest in
+    let integer : number radix l.integer ≡ number_from_digits radix front = has.integer ∙ size_values radix amount.integer two in
+    let b = effective_exponent_base s in
+    record {
+      factor = factor.0;
+      mantissa = ap (number_from_digits radix) (filter_map-append _ l.integer l.fraction)
+          ∙ number_after_append radix 0 (digits_in radix l.integer) (digits_in radix l.fraction)
+          ∙ (λ j. number_from_digits_after radix (integer j) (has.fraction j)) ∙ factor.1
+          ∙ ap (λ m. m * factor.0) (sym (number_after_append radix 0 front rest) ∙ digits);
+      scale = ap (λ (ds : List ℕ). radix ^ length ds) has.fraction ∙ factor.2 ∙ ap (λ k. radix ^ k * factor.0) count;
+      up = (λ j. raised_up (has.exponent_sign j) b (has.exponent j)) ∙ up;
+      down = (λ j. raised_down (has.exponent_sign j) b (has.exponent j)) ∙ down;
+    }
+
+-- What has the digits of an amount has its value.
+pub same_worth : (g : Grammar) (amount : Amount) (n places e : ℕ) (negative : Bool)
+    → number_from_digits ((raw g.word).byte layout.mantissa_radix)
+    (values_of ((raw g.word).byte layout.mantissa_radix) amount.integer ++ values_of ((raw g.word).byte layout.mantissa_radix) (given_fraction amount)) ≡ n
+    → length (values_of ((raw g.word).byte layout.mantissa_radix) (given_fraction amount)) ≡ places
+    → raised_up (given_power amount).negative (effective_exponent_base (raw g.word)) (size_of (effective_exponent_radix (raw g.word)) (given_power amount).source)
+    ≡ raised_up negative (effective_exponent_base (raw g.word)) e
+    → raised_down (given_power amount).negative (effective_exponent_base (raw g.word)) (size_of (effective_exponent_radix (raw g.word)) (given_power amount).source)
+    ≡ raised_down negative (effective_exponent_base (raw g.word)) e
+    → 2 ≤ (raw g.word).byte layout.mantissa_radix → (l : Literal) → HasNumber g amount l
+    → (n * raised_up negative (effective_exponent_base (raw g.word)) e) * denominator (raw g.word) l
+    ≡ numerator (raw g.word) l * ((raw g.word).byte layout.mantissa_radix ^ places * raised_down negative (effective_exponent_base (raw g.word)) e)
+same_worth g amount n places e negative digits count up down two l has =
+    let p = has_parts g amount n places e negative digits count up down two l has in
+    let unit = (raw g.word).byte layout.mantissa_radix ^ places in
+    let b = effective_exponent_base (raw g.word) in
+    (λ j. (n * raised_up negative b e) * (p.scale j * p.down j)) ∙ crossed n unit p.factor (raised_up negative b e) (raised_down negative b e)
+    ∙ sym (λ j. (p.mantissa j * p.up j) * (unit * raised_down negative b e))
+  where
+    crossed : (m s q u d : ℕ) → (m * u) * ((s * q) * d) ≡ ((m * q) * u) * (s * d)
+    crossed m s q u d = omega arith
+
+-- What has the digits of a number that is rounded is rounded.
+pub same_rounded : (g : Grammar) (amount : Amount) (n places e : ℕ) (negative : Bool)
+    → number_from_digits ((raw g.word).byte layout.mantissa_radix)
+    (values_of ((raw g.word).byte layout.mantissa_radix) amount.integer ++ values_of ((raw g.word).byte layout.mantissa_radix) (given_fraction amount)) ≡ n
+    → length (values_of ((raw g.word).byte layout.mantissa_radix) (given_fraction amount)) ≡ places
+    → raised_up (given_power amount).negative (effective_exponent_base (raw g.word)) (size_of (effective_exponent_radix (raw g.word)) (given_power amount).source)
+    ≡ raised_up negative (effective_exponent_base (raw g.word)) e
+    → raised_down (given_power amount).negative (effective_exponent_base (raw g.word)) (size_of (effective_exponent_radix (raw g.word)) (given_power amount).source)
+    ≡ raised_down negative (effective_exponent_base (raw g.word)) e
+    → 2 ≤ (raw g.word).byte layout.mantissa_radix → (l : Literal) → HasNumber g amount l
+    → (num den : ℕ) → n ≡ rounded (num * (raw g.word).byte layout.mantissa_radix ^ places * raised_down negative (effective_exponent_base (raw g.word)) e)
+    (den * raised_up negative (effective_exponent_base (raw g.word)) e)
+    → HasDecimals (raw g.word) l places num den
+same_rounded g amount n places e negative digits count up down two l has num den is =
+    let p = has_parts g amount n places e negative digits count up down two l has in
+    let unit = (raw g.word).byte layout.mantissa_radix ^ places in
+    ap (λ m. m * unit) p.mantissa ∙ turned n p.factor unit ∙ ap (λ m. m * (unit * p.factor)) is
+    ∙ sym (λ j. rounded (num * unit * p.down j) (den * p.up j) * p.scale j)
+  where
+    turned : (n q u : ℕ) → n * q * u ≡ n * (u * q)
+    turned n q u = omega arith
+
+pub twos : (i j : ℕ) → i ≤ j → 2 ^ i ≤ 2 ^ j
+twos i j less = pow-le-pow_right (omega arith) less
+
+-- A number of few bits times a power of two, over another one, is a float.
+pub exact : (double : Bool) (s : Bool) (n up down : ℕ) → n < 2 ^ prec (format_of double) → up ≤ 74 → down ≤ low (format_of double)
+    → HasValue (round (format_of double) s (n * 2 ^ up) (2 ^ down)) s (n * 2 ^ up) (2 ^ down)
+exact double s n up down small few fits =
+    let f = format_of double in
+    let j = up + low f - down in
+    let most = room double in
+    let fine : n * 2 ^ j < 2 ^ (low f + suc (emax f)) =
+    let below = shl_lt (prec f) j small in
+    let more = twos (prec f + j) (low f + suc (emax f)) (omega (arith, few, most)) in
+    omega (arith, below, more) in
+    let same : n * 2 ^ up * 2 ^ low f ≡ n * 2 ^ j * 2 ^ down =
+    assoc n (2 ^ up) (2 ^ low f) ∙ ap (λ p. n * p) (sym (pow-add 2 up (low f)) ∙ ap (λ k. 2 ^ k) {x = up + low f} {y = j + down} (omega (arith, fits))
+    ∙ pow-add 2 j down) ∙ sym (assoc n (2 ^ j) (2 ^ down)) in
+    round_exact f s (n * 2 ^ up) (2 ^ down) n j (one-le-pow down 2 (omega arith)) small fine same
+  where
+    assoc : (a b c : ℕ) → a * b * c ≡ a * (b * c)
+    assoc a b c = omega arith
+
+    room : (double : Bool) → prec (format_of double) + 74 ≤ suc (emax (format_of double))
+    room true = omega arith
+    room false = omega arith
 
 some_product : (m n : ℕ) → 0 < m → 0 < n → 0 < m * n
 some_product m n some more = grind arith
-
-some_power : (b k : ℕ) → 0 < b → 0 < b ^ k
-some_power b zero some = let none = pow-zero b in omega (arith, none)
-some_power b (suc k) some =
-    let next = pow-suc b k in let product = some_product (b ^ k) b (some_power b k some) some in omega (arith, next, product)
 
 -- Radixes in which floats are written are not 0.
 some_radixes : (r : Record) → (is_decimal r || is_binary r) ≡ true → (0 < r.byte layout.mantissa_radix) × (0 < effective_exponent_base r)
 some_radixes r is = grind (arith, nat_tests)
 
+some_down : (negative : Bool) (b e : ℕ) → 0 < b → 0 < raised_down negative b e
+some_down true b e some = one-le-pow e b some
+some_down false b e some = omega arith
+
 some_denominator : (r : Record) (l : Literal) → (is_decimal r || is_binary r) ≡ true → 0 < denominator r l
 some_denominator r l is =
     let radixes = some_radixes r is in
-    some_product (scale r l) _ (some_power _ _ radixes.0) (some (is_minus l.exponent_sign))
+    some_product (scale r l) _ (one-le-pow _ _ radixes.0) (some (is_minus l.exponent_sign))
   where
     some : (b : Bool) → 0 < (if b then power r l else 1)
-    some true = some_power _ _ (some_radixes r is).1
+    some true = one-le-pow _ _ (some_radixes r is).1
     some false = omega arith
 
-pub same_nearest : (f : Format) (r : Record) (l k : Literal) → (is_decimal r || is_binary r) ≡ true → SameFraction r l r k
-    → nearest f r l ≡ nearest f r k
-same_nearest f r l k is same =
-    ap (λ sign. round f sign (numerator r l) (denominator r l)) same.sign
-    ∙ round_same f (is_minus k.sign) (numerator r l) (denominator r l) (numerator r k) (denominator r k) (some_denominator r l is)
-    (some_denominator r k is) same.fraction
+-- Powers of two numbers are powers of one of which both are powers.
+raised : (x rb bb k e s : ℕ) (none : Bool) → s ≡ k * rb + (if none then 0 else e * bb) → x ^ s ≡ (x ^ rb) ^ k * (if none then 1 else (x ^ bb) ^ e)
+raised x rb bb k e s true is =
+    ap (λ k. x ^ k) {x = s} {y = k * rb} (omega (arith, is)) ∙ sym (pow_twice x rb k) ∙ omega arith
+raised x rb bb k e s false is = ap (λ k. x ^ k) is ∙ pow-add x (k * rb) (e * bb) ∙ (λ i. sym (pow_twice x rb k) i * sym (pow_twice x bb e) i)
+
+lowered : (x rb bb k e s : ℕ) (some : Bool) → s ≡ k * rb + (if some then e * bb else 0) → x ^ s ≡ (x ^ rb) ^ k * (if some then (x ^ bb) ^ e else 1)
+lowered x rb bb k e s true is = raised x rb bb k e s false is
+lowered x rb bb k e s false is = raised x rb bb k e s true is
+
+-- A fraction of powers of one number.
+pub same_scales : (f : Format) (x rb bb r b n after places e up down : ℕ) (negative : Bool) → x ^ rb ≡ r → x ^ bb ≡ b
+    → up ≡ after * rb + (if negative then 0 else e * bb) → down ≡ places * rb + (if negative then e * bb else 0)
+    → round f false (n * x ^ up) (x ^ down * 1) ≡ round f false (n * r ^ after * raised_up negative b e) (r ^ places * raised_down negative b e)
+same_scales f x rb bb r b n after places e up down negative radix base above below =
+    let num : n * x ^ up ≡ n * (x ^ rb) ^ after * raised_up negative (x ^ bb) e =
+    ap (λ p. n * p) (raised x rb bb after e up negative above) ∙ regrouped n ((x ^ rb) ^ after) (raised_up negative (x ^ bb) e) in
+    let den : x ^ down * 1 ≡ (x ^ rb) ^ places * raised_down negative (x ^ bb) e = once (x ^ down) ∙ lowered x rb bb places e down negative below in
+    (λ i. round f false (num i) (den i))
+    ∙ (λ i. round f false (n * radix i ^ after * raised_up negative (base i) e) (radix i ^ places * raised_down negative (base i) e))
+  where
+    regrouped : (a b c : ℕ) → a * (b * c) ≡ a * b * c
+    regrouped a b c = omega arith
+
+    once : (a : ℕ) → a * 1 ≡ a
+    once a = omega arith
+
+-- A literal that is worth a fraction is read as the float nearest to it.
+pub same_nearest : (f : Format) (r : Record) (l : Literal) (sign negative : Bool) (num places e : ℕ) → (is_decimal r || is_binary r) ≡ true
+    → is_minus l.sign ≡ sign
+    → num * denominator r l ≡ numerator r l * (r.byte layout.mantissa_radix ^ places * raised_down negative (effective_exponent_base r) e)
+    → round f sign num (r.byte layout.mantissa_radix ^ places * raised_down negative (effective_exponent_base r) e) ≡ nearest f r l
+same_nearest f r l sign negative num places e is minus same =
+    let radixes = some_radixes r is in
+    let den = r.byte layout.mantissa_radix ^ places * raised_down negative (effective_exponent_base r) e in
+    round_same f sign num den (numerator r l) (denominator r l)
+    (some_product _ _ (one-le-pow _ _ radixes.0) (some_down negative (effective_exponent_base r) e radixes.1)) (some_denominator r l is) same
+    ∙ ap (λ sign. round f sign (numerator r l) (denominator r l)) (sym minus)
 
 -- What follows from what holds of a result that is `Ok`.
 pub if_ok : {A E : Type 0} (P Q : A → Type 0) (result : Result A E) → ((x : A) → P x → Q x) → IfOk result P → IfOk result Q

@@ -4,4 +4,5 @@ mod LiteralLemmas
 mod MovedLemmas
 mod ConversionLemmas
 mod PlainLemmas
+mod WholeLemmas
 mod FloatLemmas

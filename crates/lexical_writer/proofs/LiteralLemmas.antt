@@ -1,10 +1,10 @@
 -- What is laid out is a literal with the digits of the amount.
 use Rattle.std.proofs.Common.{ℕ, ◌≡◌, ◌<◌, ◌≤◌, ◌+◌, ◌-◌, ◌*◌, ◌%◌, ◌==◌, ◌&&◌, ◌||◌, not}
-use Rattle.std.proofs.Common.{max, nat_le, nat_lt, if◌then◌else◌, Bool, true, false, IsTrue, List, [], ◌∷◌}
+use Rattle.std.proofs.Common.{max, nat_le, nat_lt, ◌⊎◌, if◌then◌else◌, Bool, true, false, IsTrue, List, [], ◌∷◌, ◌++◌}
 use Rattle.std.proofs.Common.{drop, inl, inr, cond, length, Option, Some, None, Result, Ok, Err}
 use Rattle.std.proofs.Common.{IfOk, is_some, option_to_list, unwrap_or, refl, sym, subst, ap, ◌∙◌, arith}
 use Rattle.std.proofs.Math.Nat.{mod-lt}
-use Rattle.std.proofs.lemmas.Bool.{and_from, cases_lt, false_from_ne_true, false≢true, lt-ltb, ltb-true, or_left, or_right}
+use Rattle.std.proofs.lemmas.Bool.{agree_below_at, and_from, cases_lt, false_from_ne_true, false≢true, lt-ltb, ltb-true, or_left, or_right}
 use Rattle.std.proofs.lemmas.Bool.Decides.{nat_tests}
 use Rattle.std.proofs.lemmas.Int.Digits.{all_below_base_digits_of, number_digits_of}
 use Rattle.std.specs.Int.Digits.{AllBelowBase, digits_of, number_from_digits}
@@ -17,7 +17,7 @@ use Rattle.lexical_util.specs.Roles as sets
 use Rattle.lexical_util.specs.Unfoldable.{cased, IsPunctuation, Lawful, Holds}
 use Rattle.lexical_util.specs.declared.format_flags.Part.{Part}
 use Rattle.lexical_util.specs.declared.format_flags.Part.TheVariants as parts
-use Rattle.lexical_literal.specs.Literal.{IsSpelled, Literal, Reads, condition, is_absent, is_none_or_one, is_plus, is_minus}
+use Rattle.lexical_literal.specs.Literal.{IsSpelled, Literal, Reads, begins, begins_with, condition, is_absent, may_begin, is_none_or_one, is_plus, is_minus}
 use Rattle.lexical_literal.specs.Literal.{has_leading_zero, is_float, is_zero_led}
 use Rattle.lexical_literal.specs.Literal.{is_none_or_prefix, is_present, requirement, text_of}
 use Rattle.lexical_literal.specs.Notation.{Notation, all_conditions, has, lacks_options, notation_of, number_of, point_of, exponent_character_of, radix_of}
@@ -33,17 +33,17 @@ use Rattle.lexical_literal.specs.declared.syntax.Grammar.{Grammar}
 use Rattle.lexical_literal.specs.declared.syntax.Options.{Options}
 use Rattle.lexical_literal.proofs.RunLemmas.{rest_of_none}
 use Rattle.lexical_number.specs.Number.{digits_in, number}
-use Rattle.lexical_writer.specs.Digits.{at_least, character, grouped, no_groups, only_if, size_of, values_of}
+use Rattle.lexical_writer.specs.Digits.{at_least, begins_decimal, character, grouped, no_groups, only_if, size_of, values_of}
 use Rattle.lexical_writer.specs.Layout.{HasNumber, fraction_pattern, fraction_text, given_fraction, given_power, has_exponent, has_point, has_zero}
-use Rattle.lexical_writer.specs.Layout.{IsLaidOut, after_zero, base_byte, integer_pattern, laid_out, least_digits, literal_of, one_if, options_of}
-use Rattle.lexical_writer.specs.Layout.{pattern_of, refusal, sign_of}
+use Rattle.lexical_writer.specs.Layout.{IsLaidOut, after_zero, base_byte, integer_pattern, laid_out, least_digits, led_digits, literal_of, one_if, options_of}
+use Rattle.lexical_writer.specs.Layout.{kept_digits, pattern_of, refusal, sign_of, takes_zeros}
 use Rattle.lexical_writer.specs.declared.layout.Amount.{Amount}
 use Rattle.lexical_writer.specs.declared.layout.Layout.{Layout}
 use Rattle.lexical_writer.specs.declared.layout.WriteError.{WriteError}
 use Rattle.lexical_writer.specs.declared.layout.WriteError.TheVariants as errors
 use Rattle.lexical_writer.specs.declared.layout.Style.{Style}
 use Rattle.lexical_writer.specs.declared.run.Pattern.{Pattern}
-use Rattle.lexical_writer.proofs.DigitLemmas.{character_value, grouped_digits, grouped_present, least_below, least_number, values_below}
+use Rattle.lexical_writer.proofs.DigitLemmas.{character_value, decimal_first, grouped_digits, grouped_present, least_below, least_number, values_below, zero_first}
 use Rattle.lexical_writer.proofs.GroupLemmas.{Between, grouped_rest, left_first, no_leading_zero, right_groups, single_fits}
 
 -- The flags of a lawful format agree.
@@ -71,16 +71,52 @@ at_least_2 : (r : Record) (c : Conditions) (d : Condition) → limits d ≡ (2, 
 unfolding fault
 at_least_2 r c d two none set = grind (arith, nat_tests)
 
-least : (r : Record) (c : Conditions) → contradiction r c ≡ None
-    → (has c conditions.IntegerGroupSize ≡ true → 2 ≤ number_of c conditions.IntegerGroupSize)
-    × (has c conditions.HigherGroupSize ≡ true → 2 ≤ number_of c conditions.HigherGroupSize)
-least r c none =
+no_faults : (r : Record) (c : Conditions) → contradiction r c ≡ None → (fault r c conditions.IntegerGroupSize ≡ None)
+    × (fault r c conditions.HigherGroupSize ≡ None) × (fault r c conditions.LeadingZero ≡ None) × (fault r c conditions.DecimalFirstDigit ≡ None)
+no_faults r c none =
     let prefix = first_none r c conditions.BasePrefix (drop 1 all_conditions) none in
     let suffix = first_none r c conditions.BaseSuffix (drop 2 all_conditions) prefix.1 in
     let sign = first_none r c conditions.NegativeSign (drop 3 all_conditions) suffix.1 in
     let last = first_none r c conditions.IntegerGroupSize (drop 4 all_conditions) sign.1 in
     let higher = first_none r c conditions.HigherGroupSize (drop 5 all_conditions) last.1 in
-    (at_least_2 r c conditions.IntegerGroupSize refl last.0, at_least_2 r c conditions.HigherGroupSize refl higher.0)
+    let fraction = first_none r c conditions.FractionGroupSize (drop 6 all_conditions) higher.1 in
+    let zero = first_none r c conditions.LeadingZero (drop 7 all_conditions) fraction.1 in
+    let decimal = first_none r c conditions.DecimalFirstDigit [] zero.1 in
+    (last.0, higher.0, zero.0, decimal.0)
+
+least : (r : Record) (c : Conditions) → contradiction r c ≡ None
+    → (has c conditions.IntegerGroupSize ≡ true → 2 ≤ number_of c conditions.IntegerGroupSize)
+    × (has c conditions.HigherGroupSize ≡ true → 2 ≤ number_of c conditions.HigherGroupSize)
+least r c none =
+    let are = no_faults r c none in
+    (at_least_2 r c conditions.IntegerGroupSize refl are.0, at_least_2 r c conditions.HigherGroupSize refl are.1)
+
+-- Where a flag forbids leading zeros, no condition is on the first digit.
+zero_unset : (r : Record) (c : Conditions) → (r.flag layout.no_integer_leading_zeros || r.flag layout.no_float_leading_zeros) ≡ true
+    → fault r c conditions.LeadingZero ≡ None → has c conditions.LeadingZero ≡ false
+unfolding fault
+zero_unset r c set none = grind (arith, nat_tests)
+
+decimal_unset : (r : Record) (c : Conditions) → (r.flag layout.no_integer_leading_zeros || r.flag layout.no_float_leading_zeros) ≡ true
+    → fault r c conditions.DecimalFirstDigit ≡ None → has c conditions.DecimalFirstDigit ≡ false
+unfolding fault
+decimal_unset r c set none = grind (arith, nat_tests)
+
+some_flag : (r : Record) (float : Bool) → r.flag (if float then layout.no_float_leading_zeros else layout.no_integer_leading_zeros) ≡ true
+    → (r.flag layout.no_integer_leading_zeros || r.flag layout.no_float_leading_zeros) ≡ true
+some_flag r true set = or_right (r.flag layout.no_integer_leading_zeros) _ set
+some_flag r false set = or_left _ _ set
+
+no_led_digits : (r : Record) (c : Conditions) (float : Bool) (digits : List ℕ) → contradiction r c ≡ None
+    → r.flag (if float then layout.no_float_leading_zeros else layout.no_integer_leading_zeros) ≡ true → led_digits c false digits ≡ 0
+no_led_digits r c float digits none set =
+    let some = some_flag r float set in
+    let are = no_faults r c none in
+    unset _ _ _ _ (zero_unset r c some are.2) (decimal_unset r c some are.3)
+  where
+    unset : (zero decimal other : Bool) (n : ℕ) → zero ≡ false → decimal ≡ false
+        → (if not false && (zero || (decimal && other)) then n else 0) ≡ 0
+    unset zero decimal other n first second = grind arith
 
 record AreRequired (m : Notation) (pattern : Pattern) : Type 0 where
   last : pattern.last ≡ m.number conditions.IntegerGroupSize
@@ -218,14 +254,48 @@ pub float_if : (point exponent : Bool) (a b : ℕ)
 float_if point exponent a b = grind arith
 
 -- Where leading zeros are forbidden, there are none, or there is a prefix.
-least_one : (r : Record) (style : Style) (float : Bool) (amount : Amount)
-    → r.flag (if float then layout.no_float_leading_zeros else layout.no_integer_leading_zeros) ≡ true → least_digits r style false float amount ≤ 1
-least_one r style float amount set = go _ set (has_zero r amount) _
+least_one : (r : Record) (c : Conditions) (style : Style) (float : Bool) (amount : Amount) → contradiction r c ≡ None
+    → r.flag (if float then layout.no_float_leading_zeros else layout.no_integer_leading_zeros) ≡ true → least_digits r c style false float amount ≤ 1
+least_one r c style float amount none set =
+    let radix = r.byte layout.mantissa_radix in
+    let digits = digits_of radix (size_of radix amount.integer) in
+    go _ set (has_zero r amount) (led_digits c false digits)
+    (max (if style.keep_leading_zeros then kept_digits radix amount.integer else 0) style.min_digits) (no_led_digits r c float digits none set)
   where
-    go : (flag : Bool) → flag ≡ true → (zero : Bool) (wish : ℕ) → max (one_if zero) (if false || not flag then wish else 0) ≤ 1
-    go true set true wish = omega arith
-    go true set false wish = omega arith
-    go false set zero wish = absurd (false≢true set)
+    go : (flag : Bool) → flag ≡ true → (zero : Bool) (led wish : ℕ) → led ≡ 0 → max (one_if zero) (max led (if false || not flag then wish else 0)) ≤ 1
+    go true set true led wish is = omega (arith, is)
+    go true set false led wish is = omega (arith, is)
+    go false set zero led wish is = absurd (false≢true set)
+
+-- What begins with a digit that a condition allows.
+begins_more : (A : ByteSet) (x y : List ℕ) → begins_with A x ≡ true → begins_with A (x ++ y) ≡ true
+begins_more A [] y is = absurd (false≢true is)
+begins_more A (b ∷ x) y is = is
+
+begins_behind : (A : ByteSet) (prefix : Option ℕ) (integer rest : List ℕ) → A 48 ≡ true → (is_some prefix ≡ false → begins_with A integer ≡ true)
+    → begins_with A (after_zero prefix ++ (integer ++ rest)) ≡ true
+begins_behind A None integer rest zero first = begins_more A integer rest (first refl)
+begins_behind A (Some byte) integer rest zero first = zero
+
+zero_character : (lowercase : Bool) → character lowercase 0 ≡ 48
+zero_character true = refl
+zero_character false = refl
+
+decimal_character : (lowercase : Bool) (d : ℕ) → d < 10 → nat_le (character lowercase d) 57 ≡ true
+decimal_character true d below = agree_below_at (λ d. nat_le (character true d) 57) (λ _. true) 10 d refl below
+decimal_character false d below = agree_below_at (λ d. nat_le (character false d) 57) (λ _. true) 10 d refl below
+
+-- How many digits there are with the zero that a condition requires.
+zero_least : (zero decimal other : Bool) (n a b : ℕ) → zero ≡ true → n < max a (max (if not false && (zero || (decimal && other)) then n + 1 else 0) b)
+zero_least true decimal other n a b set = omega arith
+zero_least false decimal other n a b set = absurd (false≢true set)
+
+decimal_least : (zero decimal begins : Bool) (n a b : ℕ) → decimal ≡ true
+    → (n < max a (max (if not false && (zero || (decimal && not begins)) then n + 1 else 0) b)) ⊎ (begins ≡ true)
+decimal_least true decimal begins n a b set = inl (omega arith)
+decimal_least false true true n a b set = inr refl
+decimal_least false true false n a b set = inl (omega arith)
+decimal_least false false begins n a b set = absurd (false≢true set)
 
 zero_led : (D : ByteSet) (prefix : Option ℕ) (run : List ℕ) → (is_some prefix ≡ false → has_leading_zero D run ≡ false)
     → not (is_absent (after_zero prefix) && has_leading_zero D run) ≡ true
@@ -264,9 +334,11 @@ module _ (g : Grammar) (style : Style) (amount : Amount) (is : IsSyntax g)
   abbrev point : Bool
   point = has_point g style amount
 
+  abbrev prefix : Option ℕ
+  prefix = base_byte (style.prefix || has g.conditions conditions.BasePrefix) (r.byte layout.base_prefix)
+
   abbrev least_integer : ℕ
-  least_integer = least_digits r style (is_some (base_byte (style.prefix || has g.conditions conditions.BasePrefix) (r.byte layout.base_prefix)))
-      (point || exponent) amount
+  least_integer = least_digits r g.conditions style (is_some prefix) (point || exponent) amount
 
   abbrev least_fraction : ℕ
   least_fraction = one_if (point && r.flag layout.required_fraction_digits)
@@ -406,7 +478,8 @@ module _ (g : Grammar) (style : Style) (amount : Amount) (is : IsSyntax g)
   no_lead : (float : Bool) → (point || exponent) ≡ float → r.flag (if float then layout.no_float_leading_zeros else layout.no_integer_leading_zeros) ≡ true
       → not (is_zero_led m l) ≡ true
   no_lead float kind set = zero_led (m.digit parts.Integer) _ l.integer (λ none. no_leading_zero (m.digit parts.Integer) radix least_integer pattern
-      (size_of radix amount.integer) (subst (λ k. k ≤ 1) (λ i. least_digits r style (sym none i) (sym kind i) amount) (least_one r style float amount set))
+      (size_of radix amount.integer) (subst (λ k. k ≤ 1) (λ i. least_digits r g.conditions style (sym none i) (sym kind i) amount)
+      (least_one r g.conditions style float amount is.conditions set))
       (radixes g.word is.lawful parts.Integer).0 (radixes g.word is.lawful parts.Integer).1 (digit parts.Integer pattern.lowercase))
 
   some_point : r.flag layout.no_exponent_without_fraction ≡ true → (is_absent l.exponent_character || is_present l.point) ≡ true
@@ -439,6 +512,38 @@ module _ (g : Grammar) (style : Style) (amount : Amount) (is : IsSyntax g)
   met layout.required_exponent_notation set = some_exponent set
   met _ set = refl
 
+  -- The first digit is one that conditions allow.
+  abbrev integer_digits : List ℕ
+  integer_digits = digits_of radix (size_of radix amount.integer)
+
+  -- How many digits the style wants where there is no prefix.
+  abbrev wish : ℕ
+  wish = if takes_zeros r false (point || exponent)
+      then max (if style.keep_leading_zeros then kept_digits radix amount.integer else 0) style.min_digits else 0
+
+  zero_more : (prefixed : Bool) → prefixed ≡ false → has g.conditions conditions.LeadingZero ≡ true
+      → length integer_digits < least_digits r g.conditions style prefixed (point || exponent) amount
+  zero_more true none set = absurd (false≢true (sym none))
+  zero_more false none set = zero_least (has g.conditions conditions.LeadingZero) (has g.conditions conditions.DecimalFirstDigit)
+      (not (begins_decimal integer_digits)) (length integer_digits) (one_if (has_zero r amount)) wish set
+
+  decimal_more : (prefixed : Bool) → prefixed ≡ false → has g.conditions conditions.DecimalFirstDigit ≡ true
+      → (length integer_digits < least_digits r g.conditions style prefixed (point || exponent) amount) ⊎ (begins_decimal integer_digits ≡ true)
+  decimal_more true none set = absurd (false≢true (sym none))
+  decimal_more false none set = decimal_least (has g.conditions conditions.LeadingZero) (has g.conditions conditions.DecimalFirstDigit)
+      (begins_decimal integer_digits) (length integer_digits) (one_if (has_zero r amount)) wish set
+
+  zero_begins : (c : Condition) → may_begin c 48 ≡ true
+      → (m.digit parts.Integer (character pattern.lowercase 0) && may_begin c (character pattern.lowercase 0)) ≡ true
+  zero_begins c fits = and_from _ _
+      (digit parts.Integer pattern.lowercase 0 (let two = (radixes g.word is.lawful parts.Integer).0 in omega (arith, two)))
+      (ap (may_begin c) (zero_character pattern.lowercase) ∙ fits)
+
+  begun : (c : Condition) → may_begin c 48 ≡ true
+      → (is_some prefix ≡ false → begins_with (λ b. m.digit parts.Integer b && may_begin c b) l.integer ≡ true) → begins c m l ≡ true
+  begun c fits first = begins_behind (λ b. m.digit parts.Integer b && may_begin c b) prefix l.integer _
+      (subst (λ b. (m.digit parts.Integer b && may_begin c b) ≡ true) (zero_character pattern.lowercase) (zero_begins c fits)) first
+
   conditions_met : (c : Condition) → IsTrue (m.condition c) → IsTrue (condition c m l)
   conditions_met conditions.BasePrefix set = let there = no_contradiction r g.conditions is.conditions in grind arith
   conditions_met conditions.BaseSuffix set = let there = no_contradiction r g.conditions is.conditions in grind arith
@@ -446,6 +551,16 @@ module _ (g : Grammar) (style : Style) (amount : Amount) (is : IsSyntax g)
   conditions_met conditions.IntegerGroupSize set = in_groups set
   conditions_met conditions.HigherGroupSize set = refl
   conditions_met conditions.FractionGroupSize set = fraction_in_groups set
+  conditions_met conditions.LeadingZero set = begun conditions.LeadingZero refl
+      (λ none. zero_first _ pattern (least_integer - length integer_digits) integer_digits (zero_begins conditions.LeadingZero refl)
+      (let more = zero_more (is_some prefix) none set in omega (arith, more)))
+  conditions_met conditions.DecimalFirstDigit set = begun conditions.DecimalFirstDigit refl (λ none. elim (decimal_more (is_some prefix) none set) [
+    | inl more ↦ zero_first _ pattern (least_integer - length integer_digits) integer_digits (zero_begins conditions.DecimalFirstDigit refl)
+        (omega (arith, more))
+    | inr decimal ↦ decimal_first _ pattern radix (least_integer - length integer_digits) integer_digits (zero_begins conditions.DecimalFirstDigit refl)
+        (λ d below small. and_from _ _ (digit parts.Integer pattern.lowercase d below) (decimal_character pattern.lowercase d small))
+        (all_below_base_digits_of radix (size_of radix amount.integer) (radixes g.word is.lawful parts.Integer).0) decimal
+  ])
 
   one_sign : (negative required : Bool) → is_none_or_one sets.signs (option_to_list (sign_of negative required)) ≡ true
   one_sign negative required = grind arith

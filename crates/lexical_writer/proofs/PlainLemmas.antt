@@ -1,9 +1,9 @@
 -- A number whose point has moved has the value of the literal.
-use Rattle.std.proofs.Common.{ℕ, zero, suc, ◌≡◌, ◌<◌, ◌≤◌, ◌+◌, ◌-◌, ◌*◌, ◌/◌, ◌%◌, ◌^◌}
-use Rattle.std.proofs.Common.{◌==◌, ◌&&◌, ◌||◌, ◌⊎◌, inl, inr, not, nat_lt, Bool, true, false, if◌then◌else◌}
-use Rattle.std.proofs.Common.{Option, Some, None, is_some, unwrap_or, List, [], ◌++◌, length, take, drop}
+use Rattle.std.proofs.Common.{ℕ, ℤ, zero, suc, ◌≡◌, ◌<◌, ◌≤◌, ◌+◌, ◌-◌, ◌*◌, ◌/◌, ◌%◌, ◌^◌}
+use Rattle.std.proofs.Common.{◌==◌, ◌&&◌, ◌||◌, ◌⊎◌, inl, inr, nat_lt, Bool, true, false, if◌then◌else◌}
+use Rattle.std.proofs.Common.{Option, None, unwrap_or, List, ◌++◌, length, take, drop}
 use Rattle.std.proofs.Common.{replicate, Result, Ok, Err, refl, sym, ap, ◌∙◌, subst, arith, append-nil}
-use Rattle.std.proofs.Math.Nat.{dvd_of_mod-eq-zero, div-mul_cancel, mul-div_cancel, one-le-pow, pow-suc, pow-zero}
+use Rattle.std.proofs.Math.Nat.{div-add-mod, mod-lt, mul-div_cancel, one-le-pow, pow-suc, pow-zero}
 use Rattle.std.proofs.lemmas.Bool.{cases_lt, false≢true}
 use Rattle.std.proofs.lemmas.Bool.Decides.{nat_tests}
 use Rattle.std.proofs.lemmas.Int.Digits.{number_after_append, number_after_ge, number_digits_of}
@@ -12,32 +12,37 @@ use Rattle.std.proofs.lemmas.List.Elements.{filter_map-append}
 use Rattle.std.specs.Int.Digits.{digits_of, number_from_digits, number_from_digits_after}
 use Rattle.lexical_util.specs.Layout as layout
 use Rattle.lexical_util.specs.Record.{Record, raw, effective_exponent_base, effective_exponent_radix}
+use Rattle.lexical_util.specs.declared.format_flags.Part.TheVariants as part
 use Rattle.lexical_literal.specs.Literal.{Literal, is_absent, is_minus}
 use Rattle.lexical_literal.specs.Parts.{literal_of}
 use Rattle.lexical_literal.specs.Read.{mantissa}
+use Rattle.lexical_literal.specs.Syntax.{IsSyntax}
 use Rattle.lexical_literal.specs.declared.read.Parts.{Parts}
 use Rattle.lexical_literal.specs.declared.syntax.Grammar.{Grammar}
 use Rattle.lexical_number.specs.Leading.{number_after}
 use Rattle.lexical_number.specs.Number.{digits_in, number}
+use Rattle.lexical_number.specs.Numeral.{with_sign}
 use Rattle.lexical_value.specs.Value.{denominator, numerator, power, scale}
 use Rattle.lexical_writer.specs.Conversion.{SameFraction}
 use Rattle.lexical_writer.specs.Digits.{padded_values, size_of, values_of}
-use Rattle.lexical_writer.specs.Layout.{HasNumber, given_fraction, given_power, number_of_size}
-use Rattle.lexical_writer.specs.Moved.{IsMoved, factors, has_zeros, moved_by, moved_fraction, moved_integer, too_far, trimmed}
+use Rattle.lexical_writer.specs.Layout.{HasNumber, HasValue, given_fraction, given_power, number_of_size}
+use Rattle.lexical_writer.specs.Moved.{IsFactor, IsMoved, IsWhole, factors, has_zeros, is_past, move_of, moved_by, moved_fraction, moved_integer, too_far, trimmed}
 use Rattle.lexical_writer.specs.declared.layout.Amount.{Amount}
 use Rattle.lexical_writer.specs.declared.layout.Power.{Power}
 use Rattle.lexical_writer.specs.declared.layout.WriteError.{WriteError}
 use Rattle.lexical_writer.specs.declared.layout.WriteError.TheVariants as errors
+use Rattle.lexical_writer.specs.declared.moved.Move.{Move}
 use Rattle.lexical_writer.specs.declared.run.Padded.{Padded}
 use Rattle.lexical_writer.specs.declared.run.Source.{Source}
 use Rattle.lexical_writer.specs.declared.run.Source.TheVariants as sources
 use Rattle.lexical_writer.proofs.ConversionLemmas.{zero_scaled}
+use Rattle.lexical_writer.proofs.LiteralLemmas.{radixes}
 use Rattle.lexical_writer.proofs.DigitLemmas.{zeros_number}
 use Rattle.lexical_writer.proofs.MovedLemmas.{absent_is, trimmed_is}
 use lib.Pow.{pow-add}
 
 -- Zeros behind digits.
-zeros_after : (radix n k : ℕ) → number_from_digits_after radix n (replicate k 0) ≡ n * radix ^ k
+pub zeros_after : (radix n k : ℕ) → number_from_digits_after radix n (replicate k 0) ≡ n * radix ^ k
 zeros_after radix n zero = let one = pow-zero radix in sym (ap (λ p. n * p) one ∙ omega arith)
 zeros_after radix n (suc k) =
     ap (λ m. number_from_digits_after radix m (replicate k 0)) {x = n * radix + 0} {y = n * radix} (omega arith) ∙ zeros_after radix (n * radix) k
@@ -47,10 +52,10 @@ zeros_after radix n (suc k) =
     turned a b c = omega arith
 
 -- The product of more factors.
-one_factor : (base : ℕ) → base ^ 1 ≡ base
+pub one_factor : (base : ℕ) → base ^ 1 ≡ base
 one_factor base = pow-suc base 0 ∙ ap (λ p. p * base) (pow-zero base) ∙ omega arith
 
-pow_twice : (base k n : ℕ) → (base ^ k) ^ n ≡ base ^ (n * k)
+pub pow_twice : (base k n : ℕ) → (base ^ k) ^ n ≡ base ^ (n * k)
 pow_twice base k zero = pow-zero (base ^ k) ∙ sym (ap (λ e. base ^ e) {x = 0 * k} {y = 0} (omega arith) ∙ pow-zero base)
 pow_twice base k (suc n) =
     pow-suc (base ^ k) n ∙ ap (λ p. p * base ^ k) (pow_twice base k n) ∙ sym (pow-add base (n * k) k)
@@ -67,28 +72,88 @@ factor_power base radix =
     (λ no. pow_if base radix 2 _ (base ^ 2 == radix) refl (λ no. pow_if base radix 3 _ (base ^ 3 == radix) refl
     (λ no. pow_if base radix 4 _ (base ^ 4 == radix) refl (λ no. pow_if base radix 5 0 (base ^ 5 == radix) refl (λ no some. absurd (false≢true (sym some)))))))
 
-abbrev places : WriteError → Bool → ℕ → ℕ → Result ℕ WriteError
-places far zeros e k = if zeros || e == 0 then Ok 0 else (if nat_lt (2 ^ 128 - 1) e then Err far else (if k == 0 || not (e % k == 0) then Err errors.Exponent
-    else (if nat_lt (2 ^ 64 - 1) (e / k) then Err far else Ok (e / k))))
+abbrev places : WriteError → Bool → Bool → ℕ → ℕ → ℕ → Result Move WriteError
+places far zeros left base e k =
+    if zeros || e == 0 then Ok (record { places = 0; factor = 1 }) else (if nat_lt (2 ^ 128 - 1) e then Err far else (if k == 0 then Err errors.Exponent
+    else (if nat_lt (2 ^ 64 - 1) (move_of left base e k).places then Err far else Ok (move_of left base e k))))
 
--- The power of the base is that of the radix by as many digits as the point moves.
-moves : (far : WriteError) (zeros : Bool) (base radix e k n : ℕ) → ((k == 0) ≡ false → base ^ k ≡ radix)
-    → places far zeros e k ≡ Ok n
-    → ((zeros ≡ true) × (n ≡ 0)) ⊎ (base ^ e ≡ radix ^ n)
-moves far true base radix e k n whole is = inl (refl, grind arith)
-moves far false base radix e k n whole is = inr (go (e == 0) refl)
+-- `IsRaised left base radix e move` holds if the power `e` of the base is that of the radix by which the point moves, and the factor that is left.
+abbrev IsRaised : Bool → ℕ → ℕ → ℕ → Move → Type 0
+IsRaised left base radix e move = base ^ e * (if left then move.factor else 1) ≡ radix ^ move.places * (if left then 1 else move.factor)
+
+in_parts : (e k : ℕ) → (e / k) * k + e % k ≡ e
+in_parts e k = let is = div-add-mod e k in omega (arith, is)
+
+raised_by : (past : Bool) (base k e : ℕ) → (past ≡ true → e % k < k) → (left : Bool) → past ≡ (left && nat_lt 0 (e % k))
+    → IsRaised left base (base ^ k) e (record {
+      places = if past then e / k + 1 else e / k;
+      factor = base ^ (if past then k - e % k else e % k);
+    })
+raised_by true base k e below true is =
+    let parts = in_parts e k in
+    let less = below refl in
+    sym (pow-add base e (k - e % k)) ∙ ap (λ n. base ^ n) {x = e + (k - e % k)} {y = (e / k + 1) * k} (next (e / k) k (e % k) e parts less)
+    ∙ sym (pow_twice base k (e / k + 1)) ∙ omega arith
   where
-    go : (test : Bool) → e == 0 ≡ test → base ^ e ≡ radix ^ n
+    next : (q k s e : ℕ) → q * k + s ≡ e → s < k → e + (k - s) ≡ (q + 1) * k
+    next q k s e is less = omega (arith, is, less)
+raised_by true base k e below false is = absurd (false≢true (sym is))
+raised_by false base k e below true is =
+    let parts = in_parts e k in
+    let none : e % k ≡ 0 = grind (arith, nat_tests) in
+    let one : base ^ (e % k) ≡ 1 = ap (λ n. base ^ n) none ∙ pow-zero base in
+    ap (λ f. base ^ e * f) one ∙ ap (λ n. base ^ n * 1) {x = e} {y = (e / k) * k} (omega (arith, parts, none))
+    ∙ ap (λ p. p * 1) (sym (pow_twice base k (e / k)))
+raised_by false base k e below false is =
+    let parts = in_parts e k in
+    ap (λ n. base ^ n * 1) (sym parts) ∙ ap (λ p. p * 1) (pow-add base ((e / k) * k) (e % k)) ∙ omega arith
+    ∙ ap (λ p. p * base ^ (e % k)) (sym (pow_twice base k (e / k)))
+
+-- The power of the base is that of the radix by as many digits as the point moves, times or over what is left.
+moves : (far : WriteError) (zeros left : Bool) (base radix e k : ℕ) (move : Move) → ((k == 0) ≡ false → base ^ k ≡ radix)
+    → places far zeros left base e k ≡ Ok move
+    → ((zeros ≡ true) × (move ≡ record { places = 0; factor = 1 })) ⊎ IsRaised left base radix e move
+moves far true left base radix e k move whole is = inl (refl, grind arith)
+moves far false left base radix e k move whole is = inr (go (e == 0) refl)
+  where
+    go : (test : Bool) → e == 0 ≡ test → IsRaised left base radix e move
     go true none =
         let first : e ≡ 0 = grind (arith, nat_tests) in
-        let second : n ≡ 0 = grind arith in
-        ap (λ e. base ^ e) first ∙ pow-zero base ∙ sym (ap (λ n. radix ^ n) second ∙ pow-zero radix)
+        let second : record { places = 0; factor = 1 } ≡ move = grind arith in
+        subst (IsRaised left base radix e) second (ap (λ e. base ^ e * (if left then 1 else 1)) first ∙ ap (λ p. p * (if left then 1 else 1))
+        (pow-zero base ∙ sym (pow-zero radix)))
     go false some =
         let factor : (k == 0) ≡ false = grind arith in
-        let exact : e % k ≡ 0 = grind (arith, nat_tests) in
-        let count : e / k ≡ n = grind arith in
-        ap (λ e. base ^ e) (sym (div-mul_cancel k (dvd_of_mod-eq-zero k exact)) ∙ ap (λ n. n * k) count) ∙ sym (pow_twice base k n)
-        ∙ ap (λ b. b ^ n) (whole factor)
+        let count : move_of left base e k ≡ move = grind arith in
+        subst (IsRaised left base radix e) count (subst (λ radix. IsRaised left base radix e (move_of left base e k)) (whole factor)
+        (raised_by (is_past left e k) base k e (λ past. mod-lt e {m = k} (grind (arith, nat_tests))) left refl))
+
+-- What is left is a factor of the radix.
+factor_of : (base k i : ℕ) → i ≤ k → IsFactor (base ^ i) (base ^ k)
+factor_of base k i within = (base ^ (k - i), ap (λ n. base ^ n) {x = k} {y = i + (k - i)} (omega (arith, within)) ∙ pow-add base i (k - i))
+
+left_within : (past : Bool) (k e : ℕ) → 0 < k → (if past then k - e % k else e % k) ≤ k
+left_within true k e some = omega arith
+left_within false k e some = let less = mod-lt e {m = k} some in omega (arith, less)
+
+factors_if : (far : WriteError) (none left : Bool) (base radix e k : ℕ) (move : Move) → ((k == 0) ≡ false → base ^ k ≡ radix)
+    → (if none then Ok (record { places = 0; factor = 1 }) else (if nat_lt (2 ^ 128 - 1) e then Err far else (if k == 0 then Err errors.Exponent
+    else (if nat_lt (2 ^ 64 - 1) (move_of left base e k).places then Err far else Ok (move_of left base e k))))) ≡ Ok move → IsFactor move.factor radix
+factors_if far true left base radix e k move whole is =
+    let it : record { places = 0; factor = 1 } ≡ move = grind arith in
+    subst (λ (m : Move). IsFactor m.factor radix) it (radix, omega arith)
+factors_if far false left base radix e k move whole is =
+    let some : (k == 0) ≡ false = grind arith in
+    let it : move_of left base e k ≡ move = grind arith in
+    subst (λ (m : Move). IsFactor m.factor radix) it (subst (IsFactor (move_of left base e k).factor) (whole some)
+    (factor_of base k _ (left_within (is_past left e k) k e (grind (arith, nat_tests)))))
+
+pub move_factor : (only : Bool) (r : Record) (parts : Parts) (move : Move) → moved_by only r parts ≡ Ok move
+    → IsFactor move.factor (r.byte layout.mantissa_radix)
+move_factor only r parts move by =
+    factors_if (too_far only parts) (has_zeros (r.byte layout.mantissa_radix) parts || number (effective_exponent_radix r) parts.exponent.now == 0)
+    (is_minus parts.exponent_sign.now) (effective_exponent_base r) (r.byte layout.mantissa_radix) (number (effective_exponent_radix r) parts.exponent.now)
+    (factors (effective_exponent_base r) (r.byte layout.mantissa_radix)) move (factor_power (effective_exponent_base r) (r.byte layout.mantissa_radix)) by
 
 -- The digits and the places of a point that has moved to the left.
 left_worth : (radix n : ℕ) (i f : List ℕ)
@@ -199,7 +264,7 @@ plain_worth left radix n i f some =
     regrouped a b c = omega arith
 
 -- The digits of a source represent its number.
-size_values : (radix : ℕ) (source : Source) → 2 ≤ radix → size_of radix source ≡ number_from_digits radix (values_of radix source)
+pub size_values : (radix : ℕ) (source : Source) → 2 ≤ radix → size_of radix source ≡ number_from_digits radix (values_of radix source)
 size_values radix (sources.Bytes bytes) two = refl
 size_values radix (sources.Number n) two = sym (number_digits_of radix n two)
 size_values radix (sources.Padded padded) two = refl
@@ -244,11 +309,41 @@ no_mantissa radix i f none =
         let is = trimmed_is digits in
         ap (number_from_digits radix) (is.1 ∙ ap (λ ds. ds ++ replicate is.0 0) (absent_is (trimmed digits) none)) ∙ zeros_after radix 0 is.0 ∙ omega arith
 
+-- `IsWorthTimes radix amount factor up down` holds if the digits of `amount` in `radix`, times `factor`, represent `up` over `down`.
+abbrev pub IsWorthTimes : ℕ → Amount → ℕ → ℕ → ℕ → Type 0
+IsWorthTimes radix amount factor up down =
+    (number_from_digits radix (values_of radix amount.integer ++ values_of radix (given_fraction amount)) * factor) * down
+    ≡ up * radix ^ length (values_of radix (given_fraction amount))
+
+times_worth : (left : Bool) (written factor f whole b p rest : ℕ) → b * (if left then factor else 1) ≡ p * (if left then 1 else factor)
+    → written * (f * (if left then p else 1)) ≡ (whole * (if left then 1 else p)) * rest
+    → (written * factor) * (f * (if left then b else 1)) ≡ (whole * (if left then 1 else b)) * rest
+times_worth true written factor f whole b p rest raised worth =
+    first written factor f b ∙ ap (λ m. written * (f * m)) (raised ∙ one p) ∙ worth
+  where
+    one : (p : ℕ) → p * 1 ≡ p
+    one p = omega arith
+
+    first : (a b c d : ℕ) → (a * b) * (c * d) ≡ a * (c * (d * b))
+    first a b c d = omega arith
+times_worth false written factor f whole b p rest raised worth =
+    first written factor f ∙ ap (λ m. m * factor) worth ∙ second whole p rest factor ∙ ap (λ m. (whole * m) * rest) (sym raised ∙ one b)
+  where
+    one : (p : ℕ) → p * 1 ≡ p
+    one p = omega arith
+
+    first : (a b c : ℕ) → (a * b) * (c * 1) ≡ (a * (c * 1)) * b
+    first a b c = omega arith
+
+    second : (w p r k : ℕ) → ((w * p) * r) * k ≡ (w * (p * k)) * r
+    second w p r k = omega arith
+
 -- The digits of a number whose point has moved are worth the literal.
-pub moved_is_worth : (only : Bool) (r : Record) (parts : Parts) (amount : Amount) (n : ℕ) → moved_by only r parts ≡ Ok n
-    → IsMoved (r.byte layout.mantissa_radix) (is_minus parts.exponent_sign.now) n parts amount → 2 ≤ r.byte layout.mantissa_radix
-    → IsWorth (r.byte layout.mantissa_radix) amount (numerator r (literal_of parts)) (denominator r (literal_of parts))
-moved_is_worth only r parts amount n by m two =
+pub moved_is_worth : (only : Bool) (r : Record) (parts : Parts) (amount : Amount) (move : Move) → moved_by only r parts ≡ Ok move
+    → IsMoved (r.byte layout.mantissa_radix) (is_minus parts.exponent_sign.now) move.places parts amount → 2 ≤ r.byte layout.mantissa_radix
+    → IsWorthTimes (r.byte layout.mantissa_radix) amount move.factor (numerator r (literal_of parts)) (denominator r (literal_of parts))
+moved_is_worth only r parts amount move by m two =
+    let n = move.places in
     let radix = r.byte layout.mantissa_radix in
     let left = is_minus parts.exponent_sign.now in
     let base = effective_exponent_base r in
@@ -266,17 +361,19 @@ moved_is_worth only r parts amount n by m two =
     let up = if left then 1 else base ^ e in
     let down = if left then base ^ e else 1 in
     let worth = plain_worth left radix n i f (omega (arith, two)) in
-    let equal : written * (radix ^ length f * down) ≡ (whole * up) * radix ^ length rest =
-    elim (moves (too_far only parts) (has_zeros radix parts) base radix e (factors base radix) n (factor_power base radix) by) [
+    let equal : (written * move.factor) * (radix ^ length f * down) ≡ (whole * up) * radix ^ length rest =
+    elim (moves (too_far only parts) (has_zeros radix parts) left base radix e (factors base radix) move (factor_power base radix) by) [
       | inl none ↦
-          none_worth whole written (if left then 1 else radix ^ n) up (if left then radix ^ n else 1) down (radix ^ length f) (radix ^ length rest)
-          (no_mantissa radix i f none.0) worth (one_power left radix n none.1)
-      | inr power ↦
-          ap (λ p. written * (radix ^ length f * (if left then p else 1))) power ∙ worth
-          ∙ sym (ap (λ p. (whole * (if left then 1 else p)) * radix ^ length rest) power)
+          ap (λ w. w * (radix ^ length f * down)) (ap (λ (m : Move). written * m.factor) none.1 ∙ one written)
+          ∙ none_worth whole written (if left then 1 else radix ^ n) up (if left then radix ^ n else 1) down (radix ^ length f) (radix ^ length rest)
+          (no_mantissa radix i f none.0) worth (one_power left radix n (ap (λ (m : Move). m.places) none.1))
+      | inr power ↦ times_worth left written move.factor (radix ^ length f) whole (base ^ e) (radix ^ n) (radix ^ length rest) power worth
     ] in
-    (λ j. digits j * (radix ^ length f * down)) ∙ equal ∙ sym (λ j. (mantissa_is j * up) * radix ^ length (m.fraction j))
+    (λ j. (digits j * move.factor) * (radix ^ length f * down)) ∙ equal ∙ sym (λ j. (mantissa_is j * up) * radix ^ length (m.fraction j))
   where
+    one : (p : ℕ) → p * 1 ≡ p
+    one p = omega arith
+
     one_power : (left : Bool) (radix n : ℕ) → n ≡ 0 → (if left then radix ^ n else 1) ≡ 1
     one_power true radix n none = ap (λ n. radix ^ n) none ∙ pow-zero radix
     one_power false radix n none = refl
@@ -328,39 +425,69 @@ same_worth g amount up down worth none two l has =
     crossed n u d t q is = first u t q ∙ ap (λ m. m * q) (sym is) ∙ second n d q
 
 -- What has the digits of a number whose point has moved has the value of the literal.
-pub same_moved : (only : Bool) (r : Record) (parts : Parts) (g : Grammar) (amount : Amount) (n : ℕ) → moved_by only r parts ≡ Ok n
-    → IsMoved (r.byte layout.mantissa_radix) (is_minus parts.exponent_sign.now) n parts amount
+pub same_moved : (only : Bool) (r : Record) (parts : Parts) (g : Grammar) (amount : Amount) (move : Move) → moved_by only r parts ≡ Ok move
+    → IsMoved (r.byte layout.mantissa_radix) (is_minus parts.exponent_sign.now) move.places parts amount → move.factor ≡ 1
     → r.byte layout.mantissa_radix ≡ (raw g.word).byte layout.mantissa_radix → 2 ≤ (raw g.word).byte layout.mantissa_radix
     → (l : Literal) → HasNumber g amount l → SameFraction r (literal_of parts) (raw g.word) l
-same_moved only r parts g amount n by m same two l has = record {
-  sign = sym (has.sign ∙ m.negative);
-  fraction = same_worth g amount _ _ (subst (λ radix. IsWorth radix amount (numerator r (literal_of parts)) (denominator r (literal_of parts))) same
-      (moved_is_worth only r parts amount n by m (subst (λ radix. 2 ≤ radix) (sym same) two))) m.exponent two l has;
-}
-
--- What has the digits of a whole number in another radix has the value of the literal.
-pub same_number : (only : Bool) (r : Record) (parts : Parts) (g : Grammar) (amount : Amount) (n : ℕ) → moved_by only r parts ≡ Ok n
-    → IsMoved (r.byte layout.mantissa_radix) (is_minus parts.exponent_sign.now) n parts amount → 2 ≤ r.byte layout.mantissa_radix
-    → 2 ≤ (raw g.word).byte layout.mantissa_radix → is_some amount.fraction ≡ false → (l : Literal)
-    → HasNumber g (number_of_size amount.negative (size_of (r.byte layout.mantissa_radix) amount.integer)) l
-    → SameFraction r (literal_of parts) (raw g.word) l
-same_number only r parts g amount n by m two_r two_s whole l has =
-    let radix = r.byte layout.mantissa_radix in
-    let other = (raw g.word).byte layout.mantissa_radix in
-    let size = size_of radix amount.integer in
-    let up = numerator r (literal_of parts) in
+same_moved only r parts g amount move by m whole same two l has =
+    let worth = moved_is_worth only r parts amount move by m (subst (λ radix. 2 ≤ radix) (sym same) two) in
     let down = denominator r (literal_of parts) in
-    let none : values_of radix (given_fraction amount) ≡ [] = no_digits amount.fraction whole in
-    let worth : size * down ≡ up * 1 = ap (λ n. n * down) (size_values radix amount.integer two_r
-    ∙ ap (number_from_digits radix) (sym (append-nil (values_of radix amount.integer)) ∙ ap (λ ds. values_of radix amount.integer ++ ds) (sym none)))
-    ∙ moved_is_worth only r parts amount n by m two_r ∙ ap (λ p. up * p) (ap (λ (ds : List ℕ). radix ^ length ds) none ∙ pow-zero radix) in
+    let radix = r.byte layout.mantissa_radix in
+    let digits = number_from_digits radix (values_of radix amount.integer ++ values_of radix (given_fraction amount)) in
     record {
       sign = sym (has.sign ∙ m.negative);
-      fraction = same_worth g (number_of_size amount.negative size) up down
-          (ap (λ n. n * down) (ap (number_from_digits other) (append-nil (digits_of other size)) ∙ number_digits_of other size two_s) ∙ worth
-          ∙ sym (ap (λ p. up * p) (pow-zero other))) refl two_s l has;
+      fraction = same_worth g amount _ _ (subst (λ radix. IsWorth radix amount (numerator r (literal_of parts)) down) same
+          (ap (λ n. n * down) (one digits) ∙ sym (ap (λ k. (digits * k) * down) whole) ∙ worth)) m.exponent two l has;
     }
   where
-    no_digits : (fraction : Option Source) → is_some fraction ≡ false → values_of (r.byte layout.mantissa_radix) (unwrap_or fraction (sources.Number 0)) ≡ []
-    no_digits None none = refl
-    no_digits (Some source) none = absurd (false≢true (sym none))
+    one : (p : ℕ) → p ≡ p * 1
+    one p = omega arith
+
+-- The whole number that a number is whose point has moved is the value of the literal.
+pub is_size : (only : Bool) (r : Record) (parts : Parts) (amount : Amount) (move : Move) (n : ℕ) → moved_by only r parts ≡ Ok move
+    → IsMoved (r.byte layout.mantissa_radix) (is_minus parts.exponent_sign.now) move.places parts amount → 2 ≤ r.byte layout.mantissa_radix
+    → IsWhole (r.byte layout.mantissa_radix) move.factor amount n → n * denominator r (literal_of parts) ≡ numerator r (literal_of parts)
+is_size only r parts amount move n by m two whole =
+    let radix = r.byte layout.mantissa_radix in
+    let down = denominator r (literal_of parts) in
+    let scale = radix ^ length (values_of radix (given_fraction amount)) in
+    cancelled _ _ scale (one-le-pow (length (values_of radix (given_fraction amount))) radix (omega (arith, two)))
+    (turned n down scale ∙ sym (ap (λ m. m * down) whole) ∙ moved_is_worth only r parts amount move by m two)
+  where
+    turned : (a b c : ℕ) → (a * b) * c ≡ (a * c) * b
+    turned a b c = omega arith
+
+-- What has the digits of the whole number that it is has the value of the literal.
+pub same_number : (only : Bool) (r : Record) (parts : Parts) (g : Grammar) (amount : Amount) (move : Move) (n : ℕ) → moved_by only r parts ≡ Ok move
+    → IsMoved (r.byte layout.mantissa_radix) (is_minus parts.exponent_sign.now) move.places parts amount → 2 ≤ r.byte layout.mantissa_radix
+    → 2 ≤ (raw g.word).byte layout.mantissa_radix → IsWhole (r.byte layout.mantissa_radix) move.factor amount n → (l : Literal)
+    → HasNumber g (number_of_size amount.negative n) l → SameFraction r (literal_of parts) (raw g.word) l
+same_number only r parts g amount move n by m two_r two_s whole l has =
+    let other = (raw g.word).byte layout.mantissa_radix in
+    let up = numerator r (literal_of parts) in
+    let down = denominator r (literal_of parts) in
+    let worth = is_size only r parts amount move n by m two_r whole in
+    record {
+      sign = sym (has.sign ∙ m.negative);
+      fraction = same_worth g (number_of_size amount.negative n) up down
+          (ap (λ n. n * down) (ap (number_from_digits other) (append-nil (digits_of other n)) ∙ number_digits_of other n two_s) ∙ worth
+          ∙ one up ∙ sym (ap (λ p. up * p) (pow-zero other))) refl two_s l has;
+    }
+  where
+    one : (p : ℕ) → p ≡ p * 1
+    one p = omega arith
+
+-- A literal that has the number of an integer has its value.
+pub has_value : (g : Grammar) (negative : Bool) (n : ℕ) (z : ℤ) → with_sign negative n ≡ z → IsSyntax g → (l : Literal)
+    → HasNumber g (number_of_size negative n) l → HasValue (raw g.word) l z
+has_value g negative n z is lawful l has =
+    let radix = (raw g.word).byte layout.mantissa_radix in
+    let two = (radixes g.word lawful.lawful part.Integer).0 in
+    record {
+      size = n;
+      sign = sym is ∙ ap (λ sign. with_sign sign n) (sym has.sign);
+      fraction = same_worth g (number_of_size negative n) n 1
+          (ap (λ k. k * 1) (ap (number_from_digits radix) (append-nil (digits_of radix n)) ∙ number_digits_of radix n two)
+          ∙ sym (ap (λ p. n * p) (pow-zero radix)))
+          refl two l has ∙ omega arith;
+    }

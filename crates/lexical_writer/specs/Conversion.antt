@@ -14,9 +14,8 @@ use Rattle.lexical_literal.specs.declared.read.Parts.{Parts}
 use Rattle.lexical_literal.specs.declared.syntax.Grammar.{Grammar}
 use Rattle.lexical_number.specs.Number.{number}
 use Rattle.lexical_value.specs.Value.{denominator, numerator}
-use Rattle.lexical_writer.specs.Digits.{size_of}
 use Rattle.lexical_writer.specs.Layout.{IsLaidOut, allows_exponent, laid_out, literal_of as written, needs_exponent, number_of_size, plain_style}
-use Rattle.lexical_writer.specs.Moved.{IsMoved, moved_by}
+use Rattle.lexical_writer.specs.Moved.{IsMoved, IsTimes, moved_by}
 use Rattle.lexical_writer.specs.declared.layout.Amount.{Amount}
 use Rattle.lexical_writer.specs.declared.layout.ExponentStyle.{ExponentStyle}
 use Rattle.lexical_writer.specs.declared.layout.ExponentStyle.TheVariants as exponents
@@ -108,38 +107,43 @@ abbrev pub IsShort : Grammar → Style → Amount → Result Layout WriteError �
 IsShort g style amount (Ok layout) = (moved_error g amount ≡ None) × (written layout ≡ laid_out g style amount)
 IsShort g style amount (Err error) = moved_error g amount ≡ Some error
 
+-- `or_limit whole limit error` is why a number is not written that is not whole, or has more than 128 bits: `Fraction` where only whole
+-- numbers can be written and it is not whole, and otherwise `limit`.
+abbrev pub or_limit : Bool → WriteError → WriteError → WriteError
+or_limit whole limit errors.Fraction = if whole then errors.Fraction else limit
+or_limit whole limit _ = limit
+
+-- `odd_error whole size` is why a number is not written that is `size` as a whole number, where no literal has its exponent.
+abbrev pub odd_error : Bool → Result ℕ WriteError → WriteError
+odd_error whole (Ok n) = errors.Exponent
+odd_error whole (Err error) = or_limit whole errors.Exponent error
+
+-- `IsOdd g radix factor amount result` holds if `result` is why `amount` times `factor` is not written in `radix`, where no literal has
+-- the exponent.
+abbrev pub IsOdd : Grammar → ℕ → ℕ → Amount → Result Layout WriteError → Type 0
+IsOdd g radix factor amount result = (size : Result ℕ WriteError) × IsTimes radix factor amount size
+    × (result ≡ Err (odd_error (lacks_options g.options) size))
+
 -- `IsPlain r parts g style result` holds if `result` is what is written for `parts`, or why it is not, where the point moves.
 abbrev pub IsPlain : Record → Parts → Grammar → Style → Result Layout WriteError → Type 0
 IsPlain r parts g style result = MatchResult (moved_by (lacks_options g.options) r parts)
-    (λ n. (amount : Amount) × IsMoved (r.byte layout.mantissa_radix) (is_minus parts.exponent_sign.now) n parts amount × IsShort g style amount result)
+    (λ move. (amount : Amount) × IsMoved (r.byte layout.mantissa_radix) (is_minus parts.exponent_sign.now) move.places parts amount
+    × ((move.factor == 1) ≡ true → IsShort g style amount result)
+    × ((move.factor == 1) ≡ false → IsOdd g (r.byte layout.mantissa_radix) move.factor amount result))
     (λ error. result ≡ Err error)
 
--- `radix_error error` is why a number of another radix is not written, whose point does not move because of `error`.
-abbrev pub radix_error : WriteError → WriteError
-radix_error errors.Fraction = errors.Fraction
-radix_error _ = errors.Radix
-
--- `number_error g radix amount` is why the number that `amount` represents in `radix` is not written in another radix, or `None` if it is:
--- it is not whole, or has more than 128 bits.
-abbrev pub number_error : Grammar → ℕ → Amount → Option WriteError
-number_error g radix amount =
-    if is_some amount.fraction then Some (if lacks_options g.options then errors.Fraction else errors.Radix)
-    else (if nat_lt (2 ^ 128 - 1) (size_of radix amount.integer) then Some errors.Radix else None)
-
--- `IsNumber g style radix amount result` holds if `result` is what is written for the number that `amount` represents in `radix`, or why
--- it is not.
-abbrev pub IsNumber : Grammar → Style → ℕ → Amount → Result Layout WriteError → Type 0
-IsNumber g style radix amount (Ok layout) = (number_error g radix amount ≡ None)
-    × (written layout ≡ laid_out g style (number_of_size amount.negative (size_of radix amount.integer)))
-IsNumber g style radix amount (Err error) = number_error g radix amount ≡ Some error
+-- `IsNumber g style negative size result` holds if `result` is what is written for the number `size`, or why it is not written.
+abbrev pub IsNumber : Grammar → Style → Bool → Result ℕ WriteError → Result Layout WriteError → Type 0
+IsNumber g style negative size (Ok layout) = (n : ℕ) × (size ≡ Ok n) × (written layout ≡ laid_out g style (number_of_size negative n))
+IsNumber g style negative size (Err error) = (other : WriteError) × (size ≡ Err other) × (error ≡ or_limit (lacks_options g.options) errors.Radix other)
 
 -- `IsInRadix r parts g style result` holds if `result` is what is written for the number that `parts` represents, or why it is not,
 -- where the radixes differ.
 abbrev pub IsInRadix : Record → Parts → Grammar → Style → Result Layout WriteError → Type 0
 IsInRadix r parts g style result = MatchResult (moved_by (lacks_options g.options) r parts)
-    (λ n. (amount : Amount) × IsMoved (r.byte layout.mantissa_radix) (is_minus parts.exponent_sign.now) n parts amount
-    × IsNumber g style (r.byte layout.mantissa_radix) amount result)
-    (λ error. result ≡ Err (radix_error error))
+    (λ move. (amount : Amount) × IsMoved (r.byte layout.mantissa_radix) (is_minus parts.exponent_sign.now) move.places parts amount
+    × (size : Result ℕ WriteError) × IsTimes (r.byte layout.mantissa_radix) move.factor amount size × IsNumber g style amount.negative size result)
+    (λ error. result ≡ Err (or_limit (lacks_options g.options) errors.Radix error))
 
 -- `IsConverted r parts g style result` holds if `result` is what is written for `parts`, or why it is not. Where the point is to move,
 -- it stays if it cannot.

@@ -1,5 +1,5 @@
 -- How digits are written: in which case, and in which groups.
-use Rattle.std.specs.Prelude.{ℕ, ◌-◌, ◌%◌, ◌==◌, ◌&&◌, nat_le, nat_lt, Bool, if◌then◌else◌, List}
+use Rattle.std.specs.Prelude.{ℕ, ◌-◌, ◌%◌, ◌==◌, ◌&&◌, nat_le, nat_lt, Bool, false, if◌then◌else◌, List}
 use Rattle.std.specs.Prelude.{[], ◌∷◌, ◌++◌, length, replicate, slice_index, Option, Some, None, option_to_list}
 use Rattle.std.specs.Char.{to_ascii_lowercase}
 use Rattle.std.specs.Int.Digits.{digits_of, number_from_digits}
@@ -35,6 +35,11 @@ size_of radix (sources.Padded padded) = number_from_digits radix (padded_values 
 -- `at_least least digits` is `digits` with as many zeros before them as make their number `least`, if it is less.
 abbrev pub at_least : ℕ → List ℕ → List ℕ
 at_least least digits = replicate (least - length digits) 0 ++ digits
+
+-- `begins_decimal digits` is true if the first of `digits` is below 10, so that its character is not a letter.
+abbrev pub begins_decimal : List ℕ → Bool
+begins_decimal [] = false
+begins_decimal (digit ∷ digits) = nat_lt digit 10
 
 -- `ends_group pattern left` is true if a group ends where `left` digits are left: those of the last group, and of whole groups
 -- before it.

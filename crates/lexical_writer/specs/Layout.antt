@@ -14,7 +14,7 @@ use Rattle.lexical_literal.specs.declared.syntax.Options.{Options}
 use Rattle.lexical_number.specs.Number.{digits_in, number, places}
 use Rattle.lexical_number.specs.Numeral.{with_sign}
 use Rattle.lexical_value.specs.Value.{denominator, numerator}
-use Rattle.lexical_writer.specs.Digits.{at_least, grouped, no_groups, only_if, run_text, size_of, values_of}
+use Rattle.lexical_writer.specs.Digits.{at_least, begins_decimal, grouped, no_groups, only_if, run_text, size_of, values_of}
 use Rattle.lexical_writer.specs.declared.layout.Amount.{Amount}
 use Rattle.lexical_writer.specs.declared.layout.Grouping.{Grouping}
 use Rattle.lexical_writer.specs.declared.layout.Grouping.TheVariants as groupings
@@ -63,9 +63,13 @@ options_of g = unwrap_or g.options (record { exponent = 0; point = 0 })
 abbrev pub given_fraction : Amount → Source
 given_fraction amount = unwrap_or amount.fraction (sources.Number 0)
 
+-- `no_power` is an exponent without digits.
+abbrev pub no_power : Power
+no_power = record { negative = false; source = sources.Number 0 }
+
 -- `given_power amount` is the exponent of `amount`, or one without digits if it has none.
 abbrev pub given_power : Amount → Power
-given_power amount = unwrap_or amount.exponent (record { negative = false; source = sources.Number 0 })
+given_power amount = unwrap_or amount.exponent no_power
 
 -- `either size other` is `size`, or `other` if `size` is 0.
 abbrev pub either : ℕ → ℕ → ℕ
@@ -109,6 +113,8 @@ plain_style = record {
   min_digits = 0;
   keep_leading_zeros = false;
   exponent = exponents.AsNumber;
+  decimals = None;
+  point = false;
 }
 
 -- `needs_exponent g` is true if each literal of `g` has an exponent.
@@ -153,17 +159,28 @@ one_if condition = if condition then 1 else 0
 abbrev pub takes_zeros : Record → Bool → Bool → Bool
 takes_zeros r prefix float = prefix || not (r.flag (if float then layout.no_float_leading_zeros else layout.no_integer_leading_zeros))
 
--- `least_digits r style prefix float amount` is how many integer digits are written at least: those that `style` wants, where leading
--- zeros are allowed, and a 0 that stands for absent digits.
-abbrev pub least_digits : Record → Style → Bool → Bool → Amount → ℕ
-least_digits r style prefix float amount =
-    let kept = if style.keep_leading_zeros then kept_digits (r.byte layout.mantissa_radix) amount.integer else 0 in
-    max (one_if (has_zero r amount)) (if takes_zeros r prefix float then max kept style.min_digits else 0)
+-- `lacks_zero c prefix digits` is true if a zero is written before the integer digits `digits`, of which the first is not 0, since the
+-- conditions `c` allow no other first digit. Behind a base prefix, none is.
+abbrev pub lacks_zero : Conditions → Bool → List ℕ → Bool
+lacks_zero c prefix digits = not prefix && (has c conditions.LeadingZero || (has c conditions.DecimalFirstDigit && not (begins_decimal digits)))
+
+-- `led_digits c prefix digits` is the number of `digits` with this zero, or 0 if none is written.
+abbrev pub led_digits : Conditions → Bool → List ℕ → ℕ
+led_digits c prefix digits = if lacks_zero c prefix digits then length digits + 1 else 0
+
+-- `least_digits r c style prefix float amount` is how many integer digits are written at least: with the zero that the conditions `c`
+-- require, those that `style` wants, where leading zeros are allowed, and a 0 that stands for absent digits.
+abbrev pub least_digits : Record → Conditions → Style → Bool → Bool → Amount → ℕ
+least_digits r c style prefix float amount =
+    let radix = r.byte layout.mantissa_radix in
+    let kept = if style.keep_leading_zeros then kept_digits radix amount.integer else 0 in
+    max (one_if (has_zero r amount)) (max (led_digits c prefix (digits_of radix (size_of radix amount.integer)))
+    (if takes_zeros r prefix float then max kept style.min_digits else 0))
 
 -- `integer_text r c style prefix float amount` is the integer that is written, behind a base prefix or not, of a float or not.
 abbrev pub integer_text : Record → Conditions → Style → Bool → Bool → Amount → List ℕ
 integer_text r c style prefix float amount = grouped (integer_pattern r c style)
-    (at_least (least_digits r style prefix float amount)
+    (at_least (least_digits r c style prefix float amount)
     (digits_of (r.byte layout.mantissa_radix) (size_of (r.byte layout.mantissa_radix) amount.integer)))
 
 -- `exponent_text r style exponent source` is what is written of the exponent digits of `source`, where they are required or not.

@@ -3,4 +3,5 @@ pub mod Layout
 pub mod Moved
 pub mod Conversion
 pub mod Buffer
-pub mod Float
+pub mod Rounded
+pub mod Choice

@@ -1,7 +1,8 @@
 -- How the point of a number moves, so that the number needs no exponent.
-use Rattle.std.specs.Prelude.{ℕ, ◌≡◌, ◌-◌, ◌/◌, ◌%◌, ◌^◌, ◌==◌, ◌&&◌, ◌||◌, not, nat_lt}
+use Rattle.std.specs.Prelude.{ℕ, ◌≡◌, ◌<◌, ◌≤◌, ◌+◌, ◌-◌, ◌*◌, ◌/◌, ◌%◌, ◌^◌, ◌==◌, ◌&&◌, ◌||◌, nat_lt}
 use Rattle.std.specs.Prelude.{Bool, if◌then◌else◌, List, [], ◌∷◌, ◌++◌, length, take, drop, replicate}
 use Rattle.std.specs.Prelude.{None, Result, Ok, Err, is_some}
+use Rattle.std.specs.Int.Digits.{number_from_digits}
 use Rattle.lexical_util.specs.Layout as layout
 use Rattle.lexical_util.specs.Record.{Record, effective_exponent_base, effective_exponent_radix}
 use Rattle.lexical_literal.specs.Literal.{is_absent, is_present, is_minus}
@@ -12,6 +13,7 @@ use Rattle.lexical_writer.specs.Layout.{given_fraction}
 use Rattle.lexical_writer.specs.declared.layout.Amount.{Amount}
 use Rattle.lexical_writer.specs.declared.layout.WriteError.{WriteError}
 use Rattle.lexical_writer.specs.declared.layout.WriteError.TheVariants as errors
+use Rattle.lexical_writer.specs.declared.moved.Move.{Move}
 
 -- `trimmed digits` are `digits` without the zeros that they end with.
 abbrev pub trimmed : List ℕ → List ℕ
@@ -55,14 +57,44 @@ has_zeros radix parts = is_absent (trimmed (digits_in radix parts.integer.now)) 
 abbrev pub too_far : Bool → Parts → WriteError
 too_far whole parts = if whole && is_minus parts.exponent_sign.now then errors.Fraction else errors.Long
 
--- `moved_by whole r parts` is the number of digits by which the point of `parts` moves in place of the exponent: none if all digits are
--- zeros, and otherwise one for each `factors` of the exponent. It is an error if these do not divide the exponent, and if it moves
--- too far.
-abbrev pub moved_by : Bool → Record → Parts → Result ℕ WriteError
+-- `is_past left e k` is true if a point that moves to the left in place of the exponent `e` moves by one digit more than `e` has times `k`.
+abbrev pub is_past : Bool → ℕ → ℕ → Bool
+is_past left e k = left && nat_lt 0 (e % k)
+
+-- `move_of left base e k` is how a point moves in place of the exponent `e` of `base`, of which `k` make a digit: by whole digits, to the
+-- left at least by `e`, and to the right at most, and then times what is left.
+abbrev pub move_of : Bool → ℕ → ℕ → ℕ → Move
+move_of left base e k = record {
+  places = if is_past left e k then e / k + 1 else e / k;
+  factor = base ^ (if is_past left e k then k - e % k else e % k);
+}
+
+-- `moved_by whole r parts` is how the point of `parts` moves in place of the exponent: not at all if all digits are zeros. It is an error
+-- if the mantissa radix is no power of the exponent base, and if the point moves too far.
+abbrev pub moved_by : Bool → Record → Parts → Result Move WriteError
 moved_by whole r parts =
     let e = number (effective_exponent_radix r) parts.exponent.now in
     let k = factors (effective_exponent_base r) (r.byte layout.mantissa_radix) in
-    if has_zeros (r.byte layout.mantissa_radix) parts || e == 0 then Ok 0
+    let move = move_of (is_minus parts.exponent_sign.now) (effective_exponent_base r) e k in
+    if has_zeros (r.byte layout.mantissa_radix) parts || e == 0 then Ok (record { places = 0; factor = 1 })
     else (if nat_lt (2 ^ 128 - 1) e then Err (too_far whole parts)
-    else (if k == 0 || not (e % k == 0) then Err errors.Exponent
-    else (if nat_lt (2 ^ 64 - 1) (e / k) then Err (too_far whole parts) else Ok (e / k))))
+    else (if k == 0 then Err errors.Exponent
+    else (if nat_lt (2 ^ 64 - 1) move.places then Err (too_far whole parts) else Ok move)))
+
+-- `IsFactor factor radix` holds if `radix` is a multiple of `factor`.
+abbrev pub IsFactor : ℕ → ℕ → Type 0
+IsFactor factor radix = (k : ℕ) × (radix ≡ factor * k)
+
+-- `IsWhole radix factor amount n` holds if `amount`, which has no exponent, times `factor` is the whole number `n`.
+abbrev pub IsWhole : ℕ → ℕ → Amount → ℕ → Type 0
+IsWhole radix factor amount n =
+    number_from_digits radix (values_of radix amount.integer ++ values_of radix (given_fraction amount)) * factor
+    ≡ n * radix ^ length (values_of radix (given_fraction amount))
+
+-- `IsTimes radix factor amount result` holds if `result` is the whole number that `amount` times `factor` is: `Fraction` if it is none, and
+-- `Radix` if it has more than 128 bits.
+abbrev pub IsTimes : ℕ → ℕ → Amount → Result ℕ WriteError → Type 0
+IsTimes radix factor amount (Ok n) = IsWhole radix factor amount n × (n ≤ 2 ^ 128 - 1)
+IsTimes radix factor amount (Err errors.Fraction) = (n : ℕ) → IsWhole radix factor amount n → ⊥
+IsTimes radix factor amount (Err errors.Radix) = (n : ℕ) × IsWhole radix factor amount n × (2 ^ 128 - 1 < n)
+IsTimes radix factor amount (Err _) = ⊥

@@ -1,10 +1,10 @@
 //! Runs of digits are written.
 
-ghost use Rattle.std.specs.Prelude.{◌≡◌, ◌++◌, ◌∷◌, [], true, false, ◌-◌, ◌<◌, ◌≤◌, ◌/◌, ◌%◌, ℕ, List, length, map, option_to_list, replicate};
+ghost use Rattle.std.specs.Prelude.{◌≡◌, ◌++◌, ◌∷◌, [], true, false, ◌-◌, ◌<◌, ◌≤◌, ◌/◌, ◌%◌, ◌^◌, ℕ, List, length, map, option_to_list, replicate};
 ghost use Rattle.std.specs.Int.Digits.{digits_of, number_from_digits};
 ghost use Rattle.lexical_number.specs.Number.{digits_in, number, places};
 ghost use Rattle.lexical_util.specs.Rules.{IsRadix};
-ghost use Rattle.lexical_writer.specs.Digits.{at_least, character, ends_group, grouped, grouped_front, only_if, padded_values, run_digits, run_text, separated};
+ghost use Rattle.lexical_writer.specs.Digits.{at_least, begins_decimal, character, ends_group, grouped, grouped_front, only_if, padded_values, run_digits, run_text, separated, values_of};
 
 use crate::run::{Padded, Pattern, Run, Source};
 use crate::sink::Sink;
@@ -45,7 +45,7 @@ fn split_last(number: u128, radix: u32) -> (u128, u32)
 }
 
 // Writes the digits of a number to the end of a buffer, and returns them.
-fn characters(buffer: &mut [u8; 128], number: u128, radix: u32) -> &[u8]
+pub(crate) fn characters(buffer: &mut [u8; 128], number: u128, radix: u32) -> &[u8]
     requires { IsRadix radix }
     ensures { result.now ≡ map (character false) (digits_of radix number) }
 {
@@ -62,7 +62,7 @@ fn characters(buffer: &mut [u8; 128], number: u128, radix: u32) -> &[u8]
 
 // Writes the decimal digits of a number to the end of a buffer, and returns them. Two at a time take less time.
 #[inline(always)]
-fn decimals(buffer: &mut [u8; 20], number: u64) -> &[u8]
+pub(crate) fn decimals(buffer: &mut [u8; 20], number: u64) -> &[u8]
     ensures { result.now ≡ map (character false) (digits_of 10 number) }
 {
     let mut left = number;
@@ -183,7 +183,7 @@ fn put_padded<S: Sink>(sink: &mut S, padded: &Padded, run: &Run)
         → S.has start sink.new (text ++ grouped run.now.pattern (at_least run.now.least (padded_values run.now.radix padded.now))) }
 {
     let count = padded.count(run.radix);
-    let missing = (run.least as u128).saturating_sub(count);
+    let missing = run.least.saturating_sub(count);
     let zeros = missing + padded.before as u128;
     let left = put_zeros(sink, zeros, missing + count, run);
     let left = put_digits(sink, padded.first, left, run);
@@ -223,7 +223,7 @@ fn put_characters<S: Sink>(sink: &mut S, bytes: &[u8], run: &Run)
     ensures { (start : S) → (text : List ℕ) → S.has start sink.old text
         → S.has start sink.new (text ++ grouped run.now.pattern (at_least run.now.least (digits_in run.now.radix bytes.now))) }
 {
-    if run.pattern.higher == 0 && !run.pattern.lowercase && run.least <= bytes.len() {
+    if run.pattern.higher == 0 && !run.pattern.lowercase && run.least <= bytes.len() as u128 {
         sink.put_all(bytes);
     } else {
         put_bytes(sink, bytes, run);
@@ -242,7 +242,38 @@ fn put_number<S: Sink>(sink: &mut S, number: u128, run: &Run)
     }
 }
 
+// Returns whether the first of the digits among bytes is decimal.
+fn begins_decimal(bytes: &[u8], radix: u32) -> bool
+    requires { IsRadix radix }
+    ensures { result ≡ begins_decimal (digits_in radix bytes.now) }
+{
+    let mut index = 0;
+    while index < bytes.len() {
+        if let Some(digit) = char_to_digit(bytes[index], radix) {
+            return digit < 10;
+        }
+        index += 1;
+    }
+    false
+}
+
 impl<'a> Padded<'a> {
+    // Returns whether the first digit is decimal.
+    fn begins_decimal(&self, radix: u32) -> bool
+        requires { IsRadix radix }
+        ensures { result ≡ begins_decimal (padded_values radix self.now) }
+    {
+        if self.before > 0 {
+            true
+        } else if count(self.first, radix) > 0 {
+            begins_decimal(self.first, radix)
+        } else if count(self.second, radix) > 0 {
+            begins_decimal(self.second, radix)
+        } else {
+            self.after > 0
+        }
+    }
+
     // Returns the digits among bytes, without zeros around them.
     #[inline(always)]
     pub(crate) const fn of(bytes: &'a [u8]) -> Padded<'a>
@@ -258,7 +289,8 @@ impl<'a> Padded<'a> {
 
     // Returns the number of digits.
     pub(crate) fn count(&self, radix: u32) -> u128
-        ensures { result ≡ length (padded_values radix self.now) }
+        ensures count { result ≡ length (padded_values radix self.now) }
+        ensures small { result < 2 ^ 67 }
     {
         self.before as u128
             + count(self.first, radix) as u128
@@ -291,6 +323,36 @@ impl<'a> Padded<'a> {
     }
 }
 
+impl Source<'_> {
+    // Returns the number of digits.
+    pub(crate) fn count(&self, radix: u32) -> u128
+        requires { IsRadix radix }
+        ensures count { result ≡ length (values_of radix self.now) }
+        ensures small { result < 2 ^ 67 }
+    {
+        match self {
+            Source::Bytes(bytes) => count(bytes, radix) as u128,
+            Source::Number(number) => characters(&mut [0; 128], *number, radix).len() as u128,
+            Source::Padded(padded) => padded.count(radix),
+        }
+    }
+
+    // Returns whether the first digit is decimal.
+    pub(crate) fn begins_decimal(&self, radix: u32) -> bool
+        requires { IsRadix radix }
+        ensures { result ≡ begins_decimal (values_of radix self.now) }
+    {
+        match self {
+            Source::Bytes(bytes) => begins_decimal(bytes, radix),
+            Source::Number(number) => begins_decimal(
+                characters(&mut [0; 128], *number, radix),
+                radix,
+            ),
+            Source::Padded(padded) => padded.begins_decimal(radix),
+        }
+    }
+}
+
 impl Run<'_> {
     // Returns the number of digits if there can be zeros around them, and 0 otherwise.
     pub(crate) fn count(&self) -> u128
@@ -306,12 +368,7 @@ impl Run<'_> {
     pub(crate) fn length(&self) -> u128
         ensures { result ≡ length (run_digits self.now) }
     {
-        let count = match &self.source {
-            Source::Bytes(bytes) => count(bytes, self.radix) as u128,
-            Source::Number(number) => characters(&mut [0; 128], *number, self.radix).len() as u128,
-            Source::Padded(padded) => padded.count(self.radix),
-        };
-        count.max(self.least as u128)
+        self.source.count(self.radix).max(self.least)
     }
 
     // Writes the digits.

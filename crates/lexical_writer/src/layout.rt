@@ -1,6 +1,6 @@
 //! Numbers are laid out as literals.
 
-ghost use Rattle.std.specs.Prelude.{◌≡◌, ◌++◌, ◌&&◌, not, nat_lt, [], ℕ, IfOk, List, length, option_to_list};
+ghost use Rattle.std.specs.Prelude.{◌≡◌, false, ◌++◌, ◌&&◌, not, nat_lt, [], ℕ, IfOk, List, length, option_to_list};
 ghost use Rattle.std.specs.Int.Digits.{digits_of};
 ghost use Rattle.lexical_util.specs.Record.{raw};
 ghost use Rattle.lexical_util.specs.Rules.{IsRadix, Lawful};
@@ -10,7 +10,7 @@ ghost use Rattle.lexical_literal.specs.Syntax.{IsSyntax};
 ghost use Rattle.lexical_writer.specs.Digits.{no_groups, only_if, run_digits, run_text, size_of, values_of};
 ghost use Rattle.lexical_writer.specs.Layout.{HasNumber, IsLaidOut, allows_exponent, base_byte, either, exponent_text, first_error};
 ghost use Rattle.lexical_writer.specs.Layout.{fraction_pattern, fraction_text, given_fraction, given_power, group_size, has_exponent, has_point, has_zero};
-ghost use Rattle.lexical_writer.specs.Layout.{integer_pattern, integer_text, kept_digits, least_digits, literal_of, needs_exponent, number_of_size};
+ghost use Rattle.lexical_writer.specs.Layout.{integer_pattern, integer_text, kept_digits, least_digits, led_digits, literal_of, needs_exponent, number_of_size};
 ghost use Rattle.lexical_writer.specs.Layout.{one_if, pattern_of, refusal, sign_of, wants_exponent};
 ghost use Rattle.lexical_writer.specs.Buffer.{IsTaken};
 
@@ -67,6 +67,10 @@ pub struct Style {
     pub keep_leading_zeros: bool,
     /// Whether there is an exponent.
     pub exponent: ExponentStyle,
+    /// How many digits the fraction of a float has, to which it is rounded. For `None`, as many as its value needs.
+    pub decimals: Option<u8>,
+    /// Whether a float has a point with a digit behind it, also before an exponent, as in `1.0e16`.
+    pub point: bool,
 }
 
 impl Style {
@@ -81,6 +85,8 @@ impl Style {
         min_digits: 0,
         keep_leading_zeros: false,
         exponent: ExponentStyle::AsNumber,
+        decimals: None,
+        point: false,
     };
 }
 
@@ -89,6 +95,8 @@ impl Style {
 pub enum WriteError {
     /// The number is NaN or infinity, which no literal is. No spelling is read back as this value.
     Special,
+    /// The literal is too large for its kind, and so has no value.
+    TooLarge,
     /// The number is below 0, or -0, and no literal has the sign `-`.
     Negative,
     /// The number is not whole, and the literals of the syntax are integers.
@@ -104,6 +112,8 @@ pub enum WriteError {
     Long,
     /// A limit: the buffer is too short for the text, which has this number of bytes.
     Buffer(usize),
+    /// A list of forms reads the text as another number, or not at all.
+    ReadBack,
 }
 
 /// The exponent of a number.
@@ -210,10 +220,10 @@ const fn base_byte(condition: bool, byte: u8) -> Option<u8>
 }
 
 // Returns 1 if `condition` is true, and 0 otherwise.
-const fn one_if(condition: bool) -> usize
+const fn one_if(condition: bool) -> u128
     ensures { result ≡ one_if condition }
 {
-    condition as usize
+    condition as u128
 }
 
 // Returns the number of digits of a source, or 0 if it is not bytes, so that it has no zeros to be kept.
@@ -374,7 +384,7 @@ impl<'a> Amount<'a> {
         Run {
             source: lean(self.integer, radix),
             radix,
-            least: self.least_digits(format, style, prefix, float),
+            least: self.least_digits(format, conditions, style, prefix, float),
             pattern: integer_pattern(format, conditions, style),
         }
     }
@@ -433,13 +443,54 @@ impl<'a> Amount<'a> {
             || !has_digits(self.fraction(), radix)
     }
 
+    // Returns how many integer digits there are with the zero that the conditions require before them, or 0 if they require
+    // none.
+    #[inline]
+    fn led_digits(&self, radix: u32, conditions: Conditions, prefix: bool) -> u128
+        requires { IsRadix radix }
+        ensures { result ≡ led_digits conditions prefix (digits_of radix (size_of radix self.now.integer)) }
+    {
+        if prefix
+            || !(conditions.has(Condition::LeadingZero)
+                || conditions.has(Condition::DecimalFirstDigit))
+        {
+            0
+        } else {
+            self.count_led(radix, conditions)
+        }
+    }
+
+    // Returns the same where there is no prefix.
+    #[cold]
+    fn count_led(&self, radix: u32, conditions: Conditions) -> u128
+        requires { IsRadix radix }
+        ensures { result ≡ led_digits conditions false (digits_of radix (size_of radix self.now.integer)) }
+    {
+        let digits = lean(self.integer, radix);
+        let needs_zero = conditions.has(Condition::LeadingZero);
+        let needs_decimal = conditions.has(Condition::DecimalFirstDigit);
+        if needs_zero || (needs_decimal && !digits.begins_decimal(radix)) {
+            digits.count(radix) + 1
+        } else {
+            0
+        }
+    }
+
     // Returns how many integer digits are written at least, behind a base prefix or not, of a float or not.
     #[inline]
-    fn least_digits(&self, format: NumberFormat, style: Style, prefix: bool, float: bool) -> usize
+    fn least_digits(
+        &self,
+        format: NumberFormat,
+        conditions: Conditions,
+        style: Style,
+        prefix: bool,
+        float: bool,
+    ) -> u128
         requires { Lawful format }
-        ensures { result ≡ least_digits (raw format) style prefix float self.now }
+        ensures { result ≡ least_digits (raw format) conditions style prefix float self.now }
     {
-        let zero = one_if(self.has_zero(format));
+        let radix = format.mantissa_radix();
+        let zero = one_if(self.has_zero(format)).max(self.led_digits(radix, conditions, prefix));
         let forbidden = if float {
             format.no_float_leading_zeros()
         } else {
@@ -449,16 +500,16 @@ impl<'a> Amount<'a> {
             return zero;
         }
         let kept = if style.keep_leading_zeros {
-            kept_digits(self.integer, format.mantissa_radix())
+            kept_digits(self.integer, radix)
         } else {
             0
         };
-        zero.max(kept.max(style.min_digits as usize))
+        zero.max((kept as u128).max(style.min_digits as u128))
     }
 
     // Returns the fraction digits, if there are any.
     #[inline]
-    fn fraction(&self) -> Source<'a>
+    pub(crate) fn fraction(&self) -> Source<'a>
         ensures { result ≡ given_fraction self.now }
     {
         match self.fraction {

@@ -4,6 +4,7 @@
 //! is a literal of the syntax, and its value is the number. No function allocates memory.
 #![tactic(auto)]
 
+pub mod choice;
 pub mod digits;
 pub mod float;
 pub mod float_digits;
@@ -12,5 +13,6 @@ pub mod laws;
 pub mod layout;
 pub mod literal;
 pub mod moved;
+pub mod rounded;
 pub mod run;
 pub mod sink;

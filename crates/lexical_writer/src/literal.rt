@@ -2,7 +2,7 @@
 
 ghost use Rattle.std.specs.Prelude.{◌≡◌, ◌&&◌, false, true, IfOk, None};
 ghost use Rattle.lexical_util.specs.Record.{raw};
-ghost use Rattle.lexical_util.specs.Rules.{IsRadix, Lawful};
+ghost use Rattle.lexical_util.specs.Rules.{Lawful};
 ghost use Rattle.lexical_literal.specs.Literal.{Reads, text_of, is_minus};
 ghost use Rattle.lexical_literal.specs.Notation.{has, lacks_options, notation_of};
 ghost use Rattle.lexical_literal.specs.Parts.{literal_of};
@@ -10,9 +10,8 @@ ghost use Rattle.lexical_literal.specs.Syntax.{IsSyntax};
 ghost use Rattle.lexical_number.specs.Numeral.{size_of as numeral_size};
 ghost use Rattle.lexical_writer.specs.Conversion.{IsConverted, IsInRadix, IsKept, IsNumber, IsPlain, IsShort, IsWritten, SameFraction};
 ghost use Rattle.lexical_writer.specs.Conversion.{amount_of, fraction_of, has_power, is_kept, is_refused, is_same_radix, is_unwanted, is_wish, power_of};
-ghost use Rattle.lexical_writer.specs.Conversion.{radix_error, source_of};
-ghost use Rattle.lexical_writer.specs.Digits.{size_of};
-ghost use Rattle.lexical_writer.specs.Layout.{HasNumber, literal_of as written, number_of_size};
+ghost use Rattle.lexical_writer.specs.Conversion.{odd_error, or_limit, source_of};
+ghost use Rattle.lexical_writer.specs.Layout.{HasNumber, IsLaidOut, literal_of as written, number_of_size};
 
 use crate::layout::{
     Amount, ExponentStyle, Layout, Power, Style, WriteError, allows_exponent, needs_exponent,
@@ -25,7 +24,7 @@ use lexical_literal::syntax::{Condition, Syntax};
 use lexical_number::numeral::{Magnitude, Numeral};
 use lexical_util::format::NumberFormat;
 
-/// Returns how a literal is written as a literal of `syntax`.
+/// Returns how a literal is written as a literal of `syntax`: the number that it represents, whatever its kind is.
 ///
 /// # Errors
 ///
@@ -141,6 +140,17 @@ fn keep<'a>(
     ensures parts { IsKept (raw format) parts.now syntax.now style result }
 {
     let amount = amount_of(format, parts, syntax.format().view())?;
+    lay_out(&amount, syntax, style)
+}
+
+// Returns how a number is written, or why it is not. Programs have one copy of this.
+#[inline(never)]
+fn lay_out<'a>(amount: &Amount<'a>, syntax: &Syntax, style: Style) -> Result<Layout<'a>, WriteError>
+    ensures literal { IfOk result (λ layout. Reads (notation_of syntax.now) (written layout) (text_of (written layout))) }
+    ensures number { IfOk result (λ layout. HasNumber syntax.now amount.now (written layout)) }
+    ensures parts { IsLaidOut syntax.now style amount.now result }
+    ensures lawful { IsSyntax syntax.now }
+{
     amount.lay_out(syntax, style)
 }
 
@@ -153,14 +163,20 @@ fn move_point<'a>(
 ) -> Result<Layout<'a>, WriteError>
     requires sign { is_refused parts.now syntax.now ≡ false }
     requires radix { is_same_radix (raw format) syntax.now ≡ true }
+    requires lawful { Lawful format }
     ensures literal { IfOk result (λ layout. Reads (notation_of syntax.now) (written layout) (text_of (written layout))) }
     ensures value { IfOk result (λ layout.
         SameFraction (raw format) (literal_of parts.now) (raw syntax.now.word) (written layout)) }
     ensures parts { IsPlain (raw format) parts.now syntax.now style result }
 {
-    let places = moved_by(format, parts, is_whole(syntax))?;
-    let amount = moved(parts, format.mantissa_radix(), places);
-    shorten(&amount, syntax, style)
+    let (radix, whole) = (format.mantissa_radix(), is_whole(syntax));
+    let by = moved_by(format, parts, whole)?;
+    let amount = moved(parts, radix, by.places);
+    if by.factor == 1 {
+        shorten(&amount, syntax, style)
+    } else {
+        Err(odd_error(whole, amount.times(radix, by.factor)))
+    }
 }
 
 // Returns how a number is written whose point has moved, or why it is not.
@@ -172,10 +188,10 @@ fn shorten<'a>(amount: &Amount<'a>, syntax: &Syntax, style: Style) -> Result<Lay
     ensures parts { IsShort syntax.now style amount.now result }
     ensures lawful { IsSyntax syntax.now }
 {
-    match amount.lay_out(syntax, Style::PLAIN) {
+    match lay_out(amount, syntax, Style::PLAIN) {
         Err(error) => Err(error),
         Ok(plain) if plain.is_long() => Err(WriteError::Long),
-        Ok(_) => amount.lay_out(syntax, style),
+        Ok(_) => lay_out(amount, syntax, style),
     }
 }
 
@@ -193,48 +209,57 @@ fn change_radix<'a>(
         SameFraction (raw format) (literal_of parts.now) (raw syntax.now.word) (written layout)) }
     ensures parts { IsInRadix (raw format) parts.now syntax.now style result }
 {
-    let places = match moved_by(format, parts, is_whole(syntax)) {
-        Ok(places) => places,
-        Err(error) => return Err(radix_error(error)),
+    let whole = is_whole(syntax);
+    let by = match moved_by(format, parts, whole) {
+        Ok(by) => by,
+        Err(error) => return Err(or_limit(whole, WriteError::Radix, error)),
     };
-    let amount = moved(parts, format.mantissa_radix(), places);
-    write_number(&amount, format.mantissa_radix(), syntax, style)
+    let radix = format.mantissa_radix();
+    let amount = moved(parts, radix, by.places);
+    write_number(
+        amount.negative,
+        amount.times(radix, by.factor),
+        syntax,
+        style,
+    )
 }
 
-// Returns how the number is written that an amount without an exponent represents in a radix, or why it is not.
-fn write_number<'a>(
-    amount: &Amount<'a>,
-    radix: u32,
+// Returns how a number is written that is `size` as a whole number, or why it is not.
+pub(crate) fn write_number<'a>(
+    negative: bool,
+    size: Result<u128, WriteError>,
     syntax: &Syntax,
     style: Style,
 ) -> Result<Layout<'a>, WriteError>
-    requires radix { IsRadix radix }
-    requires sign { (amount.now.negative && has syntax.now.conditions Condition.NegativeSign) ≡ false }
+    requires sign { (negative && has syntax.now.conditions Condition.NegativeSign) ≡ false }
     ensures literal { IfOk result (λ layout. Reads (notation_of syntax.now) (written layout) (text_of (written layout))) }
-    ensures number { IfOk result (λ layout. HasNumber syntax.now (number_of_size amount.now.negative (size_of radix amount.now.integer)) (written layout)) }
-    ensures parts { IsNumber syntax.now style radix amount.now result }
+    ensures number { IfOk result (λ layout. IfOk size (λ n. HasNumber syntax.now (number_of_size negative n) (written layout))) }
+    ensures parts { IsNumber syntax.now style negative size result }
     ensures lawful { IfOk result (λ layout. IsSyntax syntax.now) }
 {
-    if amount.fraction.is_some() {
-        return Err(if is_whole(syntax) {
-            WriteError::Fraction
-        } else {
-            WriteError::Radix
-        });
-    }
-    match amount.integer.size(radix) {
-        Some(size) => Amount::of_size(amount.negative, size).lay_out(syntax, style),
-        None => Err(WriteError::Radix),
+    match size {
+        Ok(size) => lay_out(&Amount::of_size(negative, size), syntax, style),
+        Err(error) => Err(or_limit(is_whole(syntax), WriteError::Radix, error)),
     }
 }
 
-// Returns why a number of another radix is not written, whose point does not move because of `error`.
-const fn radix_error(error: WriteError) -> WriteError
-    ensures { result ≡ radix_error error }
+// Returns why a number is not written that is not whole, or has more than 128 bits.
+const fn or_limit(whole: bool, limit: WriteError, error: WriteError) -> WriteError
+    ensures { result ≡ or_limit whole limit error }
 {
     match error {
-        WriteError::Fraction => WriteError::Fraction,
-        _ => WriteError::Radix,
+        WriteError::Fraction if whole => WriteError::Fraction,
+        _ => limit,
+    }
+}
+
+// Returns why a number is not written that is `size` as a whole number, where no literal has its exponent.
+const fn odd_error(whole: bool, size: Result<u128, WriteError>) -> WriteError
+    ensures { result ≡ odd_error whole size }
+{
+    match size {
+        Ok(_) => WriteError::Exponent,
+        Err(error) => or_limit(whole, WriteError::Exponent, error),
     }
 }
 

@@ -1,15 +1,17 @@
 //! The point of a number moves, so that the number needs no exponent.
 
-ghost use Rattle.std.specs.Prelude.{◌≡◌, ◌<◌, ◌≤◌, ◌*◌, ◌^◌, ◌-◌, ◌∷◌, false, take, drop, true};
+ghost use Rattle.std.specs.Prelude.{◌≡◌, ◌<◌, ◌≤◌, ◌*◌, ◌^◌, ◌-◌, ◌∷◌, false, length, take, drop, true};
 ghost use Rattle.std.specs.Int.Digits.{number_from_digits};
 ghost use Rattle.std.specs.Option.{SomeIff};
 ghost use Rattle.lexical_util.specs.Record.{effective_exponent_radix, raw};
+ghost use Rattle.lexical_util.specs.Rules.{IsRadix};
 ghost use Rattle.lexical_literal.specs.Literal.{is_absent, is_minus};
 ghost use Rattle.lexical_number.specs.Leading.{number_after};
 ghost use Rattle.lexical_number.specs.Number.{digits_in, number};
 ghost use Rattle.lexical_number.specs.Numeral.{size_of as numeral_size};
-ghost use Rattle.lexical_writer.specs.Digits.{padded_values, size_of};
-ghost use Rattle.lexical_writer.specs.Moved.{IsMoved, factors, moved_by, moved_fraction, moved_integer, too_far, trimmed};
+ghost use Rattle.lexical_writer.specs.Digits.{padded_values, size_of, values_of};
+ghost use Rattle.lexical_writer.specs.Layout.{given_fraction};
+ghost use Rattle.lexical_writer.specs.Moved.{IsFactor, IsMoved, IsTimes, factors, moved_by, moved_fraction, moved_integer, too_far, trimmed};
 
 use crate::layout::{Amount, WriteError};
 use crate::literal::is_minus;
@@ -73,7 +75,7 @@ fn size_after(front: u128, bytes: &[u8], radix: u32) -> Option<u128>
 }
 
 // Returns a number with as many zeros behind its digits as `places`, or `None` if it has more than 128 bits.
-fn shifted(number: u128, radix: u32, places: usize) -> Option<u128>
+pub(crate) fn shifted(number: u128, radix: u32, places: usize) -> Option<u128>
     requires { 0 < radix }
     ensures { SomeIff result (number * radix ^ places ≤ 2 ^ 128 - 1) (number * radix ^ places) }
 {
@@ -267,29 +269,86 @@ pub(crate) fn exponent_of<'a>(format: NumberFormat, parts: &Parts<'a>) -> Numera
     }
 }
 
-// Returns by how many digits the point moves. Only whole numbers can be written if `whole` is true.
-pub(crate) fn moved_by(
-    format: NumberFormat,
-    parts: &Parts,
-    whole: bool,
-) -> Result<usize, WriteError>
+// How the point of a number moves in place of the exponent.
+#[derive(Debug, Clone, Copy)]
+pub(crate) struct Move {
+    // By how many digits the point moves.
+    pub(crate) places: usize,
+    // By what the number is multiplied then. It is 1 if the point moves by whole digits in place of the exponent.
+    pub(crate) factor: u32,
+}
+
+// Returns how the point moves. Only whole numbers can be written if `whole` is true.
+pub(crate) fn moved_by(format: NumberFormat, parts: &Parts, whole: bool) -> Result<Move, WriteError>
     ensures { result ≡ moved_by whole (raw format) parts.now }
 {
     let radix = format.mantissa_radix();
     let exponent = exponent_of(format, parts).as_u128();
     if is_zero(parts.integer, radix) && is_zero(parts.fraction, radix) || exponent == Some(0) {
-        return Ok(0);
+        return Ok(Move {
+            places: 0,
+            factor: 1,
+        });
     }
     let Some(exponent) = exponent else {
         return Err(too_far(whole, parts));
     };
-    let factors = factors(format.exponent_base(), radix);
-    if factors == 0 || exponent % factors != 0 {
+    let base = format.exponent_base();
+    let factors = factors(base, radix);
+    if factors == 0 {
         return Err(WriteError::Exponent);
     }
-    let places = exponent / factors;
+    let (digits, rest) = (exponent / factors, exponent % factors);
+    let (places, power) = if is_minus(parts.exponent_sign) && rest > 0 {
+        (digits + 1, factors - rest)
+    } else {
+        (digits, rest)
+    };
     if places > usize::MAX as u128 {
         return Err(too_far(whole, parts));
     }
-    Ok(places as usize)
+    Ok(Move {
+        places: places as usize,
+        factor: base.pow(power as u32),
+    })
+}
+
+impl Amount<'_> {
+    // Returns a number without an exponent times a factor, as a whole number. It is `Fraction` if it is not whole, and `Radix`
+    // if it has more than 128 bits.
+    pub(crate) fn times(&self, radix: u32, factor: u32) -> Result<u128, WriteError>
+        requires radix { IsRadix radix }
+        requires factor { IsFactor factor radix }
+        requires trimmed { trimmed (values_of radix (given_fraction self.now)) ≡ values_of radix (given_fraction self.now) }
+        ensures { IsTimes radix factor self.now result }
+    {
+        let fraction = self.fraction();
+        if fraction.count(radix) > 1 {
+            return Err(WriteError::Fraction);
+        }
+        let product = last_digit(fraction, radix) * factor as u128;
+        if product % radix as u128 != 0 {
+            return Err(WriteError::Fraction);
+        }
+        let Some(size) = self.integer.size(radix) else {
+            return Err(WriteError::Radix);
+        };
+        let Some(whole) = size.checked_mul(factor as u128) else {
+            return Err(WriteError::Radix);
+        };
+        match whole.checked_add(product / radix as u128) {
+            Some(sum) => Ok(sum),
+            None => Err(WriteError::Radix),
+        }
+    }
+}
+
+// Returns the digit of a source that has at most one, or 0 if it has none.
+fn last_digit(source: Source, radix: u32) -> u128
+    requires radix { IsRadix radix }
+    requires one { length (values_of radix source) ≤ 1 }
+    ensures digit { result ≡ number_from_digits radix (values_of radix source.entry) }
+    ensures small { result < radix }
+{
+    source.size(radix).unwrap_or(0)
 }

@@ -45,7 +45,7 @@ pub struct Run<'a> {
     /// The radix of the digits.
     pub(crate) radix: u32,
     /// How many digits are written at least. Zeros come before those of the source.
-    pub(crate) least: usize,
+    pub(crate) least: u128,
     /// How the digits are written.
     pub(crate) pattern: Pattern,
     ghost valid: { (2 ≤ radix) × (radix ≤ 36) },

@@ -6,7 +6,7 @@ use crate::names::{at, start, texts};
 use core::ffi::CStr;
 use core::mem::MaybeUninit;
 use core::{ptr, slice};
-use peltzivar::literal::{self, Language, Sign, Special, Spelling};
+use peltzivar::literal::{self, FloatKind, IntegerKind, Kind, Language, Sign, Special, Spelling};
 
 /// The spellings of special values, as null-terminated strings. A null pointer is an absent one.
 #[repr(C)]
@@ -62,13 +62,53 @@ impl From<Special> for NumberedSpecial {
     }
 }
 
-/// A form of numbers: its name, as a null-terminated string or a null pointer, and its syntax.
+/// A form of numbers: its name, as a null-terminated string or a null pointer, its syntax, and the numbers of its kind.
 #[repr(C)]
 #[derive(Clone, Copy)]
 struct Form {
     name: *const u8,
     syntax: Syntax,
-    reserved: [u64; 2],
+    integer_kind: u8,
+    integer_bits: u8,
+    float_kind: u8,
+    reserved: [u8; 13],
+}
+
+impl Form {
+    /// No form.
+    const NONE: Form = Form {
+        name: ptr::null(),
+        syntax: Syntax::NONE,
+        integer_kind: 0,
+        integer_bits: 0,
+        float_kind: 0,
+        reserved: [0; 13],
+    };
+
+    /// Returns a form in C, with a name.
+    const fn of(name: *const u8, form: literal::Form) -> Form {
+        let (integer_kind, integer_bits) = match form.kind().integers() {
+            IntegerKind::AtMost(bits) => (1, bits),
+            IntegerKind::Wraps(bits) => (2, bits),
+            IntegerKind::WrapsModulo(bits) => (3, bits),
+            _ => (0, 0),
+        };
+        let float_kind = matches!(form.kind().floats(), FloatKind::Single) as u8;
+        Form { name, syntax: Syntax::of(form.syntax()), integer_kind, integer_bits, float_kind, ..Form::NONE }
+    }
+
+    /// Returns the kind, or `None` if there is none with these numbers.
+    fn kind(&self) -> Option<Kind> {
+        let integers = match (self.integer_kind, self.integer_bits) {
+            (0, 0) => IntegerKind::Exact,
+            (1, bits) => IntegerKind::AtMost(bits),
+            (2, bits) => IntegerKind::Wraps(bits),
+            (3, bits) => IntegerKind::WrapsModulo(bits),
+            _ => return None,
+        };
+        let floats = [FloatKind::Nearest, FloatKind::Single].get(usize::from(self.float_kind))?;
+        Kind::new(integers, *floats)
+    }
 }
 
 /// Forms of numbers, and the spellings of special values. `language` is the address of these forms if they are those of a
@@ -109,13 +149,12 @@ impl<const COUNT: usize> Lists<COUNT> {
     /// Returns the forms of a language, whose names are these texts.
     const fn of(language: Language, names: &'static [u8]) -> Self {
         let forms = language.forms().as_slice();
-        let mut lists =
-            Lists([Form { name: names.as_ptr(), syntax: Syntax::NONE, reserved: [0; 2] }; COUNT], [forms[0]; COUNT]);
+        let mut lists = Lists([Form::NONE; COUNT], [forms[0]; COUNT]);
         let mut form = 0;
         while form < COUNT {
-            lists.0[form].name = start(names, form);
-            lists.0[form].syntax = Syntax::of(forms[form].syntax());
+            lists.0[form] = Form::of(start(names, form), forms[form]);
             lists.1[form] = literal::Form::new("", forms[form].syntax());
+            lists.1[form] = lists.1[form].with_kind(forms[form].kind());
             form += 1;
         }
         lists
@@ -141,7 +180,7 @@ pub unsafe fn by<R>(forms: *const Forms, then: impl FnOnce(Given<'_>) -> R) -> R
     } else {
         own(&forms.read_unaligned(), &mut list)
     };
-    then(found.as_ref().ok_or("the forms are null, not 1 to 64, or have reserved members"))
+    then(found.as_ref().ok_or("the forms are null, not 1 to 64, or have an unknown kind or reserved members"))
 }
 
 /// Returns forms that are not those of a language, or `None` if they are refused.
@@ -156,8 +195,8 @@ unsafe fn own<'a>(it: &Forms, list: &'a mut [MaybeUninit<literal::Form>; MOST]) 
     }
     for (index, to) in list.iter_mut().take(it.count).enumerate() {
         let form = it.forms.add(index).read_unaligned();
-        let syntax = Syntax::given(Some(&form.syntax)).filter(|_| form.reserved == [0; 2])?;
-        to.write(literal::Form::new("", syntax));
+        let syntax = Syntax::given(Some(&form.syntax)).filter(|_| form.reserved == [0; 13])?;
+        to.write(literal::Form::new("", syntax).with_kind(form.kind()?));
     }
     // SAFETY: so many are written.
     let list = unsafe { slice::from_raw_parts(list.as_ptr().cast(), it.count) };

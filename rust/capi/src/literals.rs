@@ -49,16 +49,18 @@ impl Syntax {
 
     /// Returns the conditions, or `None` if a later version may have others.
     fn conditions(&self) -> Option<Conditions> {
-        let [a, b, c, d, e, f, rest @ ..] = self.numbers;
-        let &[first, second, third, fourth, fifth, sixth] = Condition::ALL else { return None };
+        let [a, b, c, d, e, f, g, h, rest @ ..] = self.numbers;
+        let &[first, second, third, fourth, fifth, sixth, seventh, eighth] = Condition::ALL else { return None };
         let all = Conditions::NONE
             .with(first, a)
             .with(second, b)
             .with(third, c)
             .with(fourth, d)
             .with(fifth, e)
-            .with(sixth, f);
-        (rest == [0; 8]).then_some(all)
+            .with(sixth, f)
+            .with(seventh, g)
+            .with(eighth, h);
+        (rest == [0; 6]).then_some(all)
     }
 
     /// Returns the syntax, which may not be lawful, or `None` if there is none or if a later version may read it otherwise.

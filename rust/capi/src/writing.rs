@@ -1,11 +1,15 @@
 //! Calls that write numbers.
 
-use crate::arguments::{write_by, Out};
-use crate::languages::{NumberedSpecial, Specials};
+use crate::arguments::{write_by, Out, Text};
+use crate::languages::{by, Forms, NumberedSpecial, Specials};
 use crate::literals::{Literal, Syntax};
 use crate::names::{at, texts};
 use crate::values::I128;
-use peltzivar::literal::{self, ExponentStyle, Grouping, Sign, Special, Spelling, WriteError, Written};
+use core::fmt::{self, Write};
+use core::str;
+use peltzivar::literal::{
+    self, ExponentStyle, Grouping, Real, Sign, Special, Spelling, Whole, Writable, WriteError, Written,
+};
 
 /// Whether a number is written: the index of one of [`DESCRIPTIONS`].
 type WriteStatus = u8;
@@ -15,7 +19,7 @@ const BUFFER: WriteStatus = 7;
 const ARGUMENT: WriteStatus = 8;
 
 texts! {
-    DESCRIPTIONS: [10] = |status| match status {
+    DESCRIPTIONS: [12] = |status| match status {
         1 => b"the digits or the exponent have another radix or base",
         2 => b"no literal has the sign '-'",
         3 => b"literals are integers, and the number is not whole",
@@ -25,6 +29,8 @@ texts! {
         7 => b"the buffer is too short",
         8 => b"peltzivar_check_syntax refuses the syntax, or no call has made the literal",
         9 => b"without an exponent, the text has more than 800 bytes",
+        10 => b"the text is read as another number",
+        11 => b"the literal is too large for its kind",
         _ => b"",
     };
 }
@@ -40,6 +46,9 @@ pub struct Style {
     min_digits: u8,
     exponent: u8,
     exponent_from: u32,
+    point: u8,
+    has_decimals: u8,
+    decimals: u8,
 }
 
 /// A group of this size is none.
@@ -56,6 +65,8 @@ impl Style {
         (style.group, style.fraction_group) = (group(self.group), group(self.fraction_group));
         (style.prefix, style.suffix) = (self.without_base == 0, self.without_base == 0);
         (style.lowercase, style.keep_leading_zeros) = (self.lowercase != 0, self.keep_leading_zeros != 0);
+        style.point = self.point != 0;
+        style.decimals = (self.has_decimals != 0).then_some(self.decimals);
         style.exponent(match self.exponent {
             1 => ExponentStyle::Never,
             2 => ExponentStyle::Always,
@@ -65,42 +76,87 @@ impl Style {
     }
 }
 
-/// Returns a syntax in whose radixes calls can write, and the style.
-fn given(syntax: Option<&Syntax>, style: Option<&Style>) -> Option<(literal::Syntax, literal::Style)> {
-    let syntax = Syntax::given(syntax)?;
+/// Returns the style, or that which makes no wish.
+fn wishes(style: Option<&Style>) -> literal::Style {
+    style.map_or(literal::Style::PLAIN, Style::given)
+}
+
+/// Returns whether calls can write in the radixes of a syntax.
+fn has_radixes(syntax: &literal::Syntax) -> bool {
     let format = syntax.format();
     let mut radixes = [format.mantissa_radix(), format.exponent_base(), format.exponent_radix()].into_iter();
-    let style = style.map_or(literal::Style::PLAIN, Style::given);
-    radixes.all(|it| (2..=36).contains(&it)).then_some((syntax, style))
+    radixes.all(|it| (2..=36).contains(&it))
+}
+
+/// Writes a text, as `finish` does. All calls share it.
+#[inline(never)]
+unsafe fn print(written: &Written<'_>, to: (*mut u8, usize, Out<usize>)) -> WriteStatus {
+    finish(to, |text| written.write_to(text))
+}
+
+/// Returns the status of an error.
+#[inline(never)]
+fn status_of(error: WriteError) -> WriteStatus {
+    match error {
+        WriteError::Radix => 1,
+        WriteError::Negative => 2,
+        WriteError::Fraction => 3,
+        WriteError::Exponent => 4,
+        WriteError::Float => 5,
+        WriteError::Long | WriteError::Buffer(_) => 9,
+        WriteError::ReadBack => 10,
+        WriteError::TooLarge => 11,
+        _ => SPECIAL,
+    }
+}
+
+/// Writes a text, and the size that is enough, and returns whether it fits.
+unsafe fn finish(
+    (text, len, needed): (*mut u8, usize, Out<usize>),
+    print: impl FnOnce(&mut Text) -> fmt::Result,
+) -> WriteStatus {
+    let length = write_by(text, len, print);
+    needed.write(length + 1);
+    if length < len {
+        0
+    } else {
+        BUFFER
+    }
 }
 
 /// Writes what `format` returns for a syntax and a style, and the size that is enough.
 unsafe fn write<'a>(
     (syntax, style): (Option<&Syntax>, Option<&Style>),
-    (text, len, needed): (*mut u8, usize, Out<usize>),
+    to: (*mut u8, usize, Out<usize>),
     format: impl FnOnce(&literal::Syntax, literal::Style) -> Result<Written<'a>, WriteError>,
 ) -> WriteStatus {
-    let Some((syntax, style)) = given(syntax, style) else { return ARGUMENT };
-    match format(&syntax, style) {
-        Ok(written) => {
-            let length = write_by(text, len, |to| written.write_to(to));
-            needed.write(length + 1);
-            if length < len {
-                0
-            } else {
-                BUFFER
-            }
-        }
-        Err(error) => match error {
-            WriteError::Radix => 1,
-            WriteError::Negative => 2,
-            WriteError::Fraction => 3,
-            WriteError::Exponent => 4,
-            WriteError::Float => 5,
-            WriteError::Long => 9,
-            _ => SPECIAL,
+    match Syntax::given(syntax).filter(has_radixes) {
+        Some(syntax) => match format(&syntax, wishes(style)) {
+            Ok(written) => print(&written, to),
+            Err(error) => status_of(error),
         },
+        None => ARGUMENT,
     }
+}
+
+/// Writes a number, or the value of a literal, by forms, and the size that is enough.
+#[inline(never)]
+unsafe fn write_number(
+    (forms, style): (*const Forms, Option<&Style>),
+    to: (*mut u8, usize, Out<usize>),
+    number: Result<&dyn Writable, literal::Literal>,
+) -> WriteStatus {
+    by(forms, |forms| match forms {
+        Ok(forms) if forms.as_slice().iter().all(|it| has_radixes(&it.syntax())) => {
+            let print = |written: &[u8]| finish(to, |text| text.write_str(str::from_utf8_unchecked(written)));
+            let written = match number {
+                Ok(number) => forms.written(number, wishes(style), print),
+                Err(literal) => forms.written_literal(&literal, wishes(style), print),
+            };
+            written.unwrap_or_else(status_of)
+        }
+        _ => ARGUMENT,
+    })
 }
 
 /// Writes an integer. All calls share it, since a copy for each type takes 2 kB.
@@ -161,6 +217,37 @@ calls! {
         };
         let specials = specials.spellings();
         write((syntax, None), (text, len, needed), |syntax, _| specials.format(syntax, Special { sign, spelling }))
+    }
+
+    fn peltzivar_forms_format_i64(
+        forms: *const Forms, value: i64, style: Option<&Style>, text: *mut u8, len: usize, needed: Out<usize>
+    ) -> WriteStatus {
+        write_number((forms, style), (text, len, needed), Ok(&Whole { value: i128::from(value) }))
+    }
+
+    fn peltzivar_forms_format_u64(
+        forms: *const Forms, value: u64, style: Option<&Style>, text: *mut u8, len: usize, needed: Out<usize>
+    ) -> WriteStatus {
+        write_number((forms, style), (text, len, needed), Ok(&Whole { value: i128::from(value) }))
+    }
+
+    fn peltzivar_forms_format_i128(
+        forms: *const Forms, value: I128, style: Option<&Style>, text: *mut u8, len: usize, needed: Out<usize>
+    ) -> WriteStatus {
+        write_number((forms, style), (text, len, needed), Ok(&Whole { value: i128::from(value) }))
+    }
+
+    fn peltzivar_forms_format_f64(
+        forms: *const Forms, value: f64, style: Option<&Style>, text: *mut u8, len: usize, needed: Out<usize>
+    ) -> WriteStatus {
+        write_number((forms, style), (text, len, needed), Ok(&Real { value }))
+    }
+
+    fn peltzivar_forms_format_literal(
+        forms: *const Forms, literal: &Literal, style: Option<&Style>, text: *mut u8, len: usize, needed: Out<usize>
+    ) -> WriteStatus {
+        let Some(literal) = literal.value() else { return ARGUMENT };
+        write_number((forms, style), (text, len, needed), Err(*literal))
     }
 
     fn peltzivar_write_description(status: WriteStatus) -> *const u8 { at(DESCRIPTIONS, status) }

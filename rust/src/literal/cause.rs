@@ -159,8 +159,9 @@ impl Spot {
     }
 
     // Returns whether the cause is a wrong byte. It takes less time than all answers.
+    #[inline(always)]
     const fn is_byte(self) -> bool {
-        matches!(self.stop().blame().kind, ReadErrorKind::Byte)
+        self.stop().is_byte()
     }
 
     // Returns what has been read, and the byte that cannot follow.
@@ -390,6 +391,14 @@ impl Stop {
             case_mask(self.grammar, other)
         } else {
             0
+        }
+    }
+
+    // Returns whether the cause is a wrong byte.
+    const fn is_byte(self) -> bool {
+        match self.byte {
+            None => false,
+            Some(byte) => !self.is_free() && self.separators() == 0 && self.case_flags(byte) == 0,
         }
     }
 

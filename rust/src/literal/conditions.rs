@@ -5,6 +5,7 @@ use core::fmt;
 use crate::edits::byte_from_number;
 use crate::format::{BASE_PREFIX, BASE_SUFFIX, DIGIT_SEPARATOR};
 use crate::format::{FRACTION_INTERNAL_DIGIT_SEPARATOR, INTEGER_INTERNAL_DIGIT_SEPARATOR};
+use crate::format::{NO_FLOAT_LEADING_ZEROS, NO_INTEGER_LEADING_ZEROS};
 use crate::lawful::Rejected;
 use crate::literal::syntax::{fault, CONDITIONS};
 use crate::literal::{Condition, Conditions, ConditionsError, ConditionsErrorKind, Syntax};
@@ -60,6 +61,12 @@ conditions! {
     /// Requires groups of as many fraction digits, from 2 to 8, counted from the left, if there are separators. With 3, a
     /// reader accepts `0.1234` and `0.123,4`, and refuses `0.12,345`.
     FractionGroupSize: fraction_group_size(number);
+    /// Requires that a number begins with `0` behind its sign. If set, a reader of C's octal integers accepts `0` and `017`,
+    /// and refuses `17`, and a writer adds the zero.
+    LeadingZero: required_leading_zero(flag);
+    /// Requires that a number begins with `0` to `9` behind its sign. If set, a reader of NASM's hexadecimal integers accepts
+    /// `0FFh` and `1Fh`, and refuses `FFh`, and a writer adds a zero before a letter.
+    DecimalFirstDigit: decimal_first_digit(flag);
 }
 
 impl Condition {
@@ -141,7 +148,7 @@ impl Syntax {
 }
 
 impl ConditionsErrorKind {
-    /// Returns the code of the error, the field that the format lacks, or that allows what it lacks, or 0, and the end of the
+    /// Returns the code of the error, the fields that the format lacks, or that decide what it lacks, or 0, and the end of the
     /// sentence.
     const fn lacking(self) -> (Error, u128, &'static str) {
         match self {
@@ -160,6 +167,11 @@ impl ConditionsErrorKind {
             ),
             Self::NoSeparator => (Error::InvalidDigitSeparator, DIGIT_SEPARATOR, "the format has no digit separator"),
             Self::NoIntegerGroupSize => (Error::InvalidDigitSeparator, 0, "integer_group_size is not"),
+            Self::NoLeadingZeros => (
+                Error::InvalidFlags,
+                NO_INTEGER_LEADING_ZEROS | NO_FLOAT_LEADING_ZEROS,
+                "the format forbids leading zeros",
+            ),
         }
     }
 }
@@ -177,7 +189,7 @@ impl ConditionsError {
         }
     }
 
-    /// Returns the mask of the field that the format lacks, or that allows what it lacks, or 0 if it lacks none.
+    /// Returns the mask of the fields that the format lacks, or that decide what it lacks, or 0 if it lacks none.
     #[must_use]
     pub const fn mask(&self) -> u128 {
         self.kind.lacking().1

@@ -93,8 +93,7 @@ impl Language {
     }
 
     /// Returns the number that `text` begins with, with its suffix, and the rest, as [`Forms::token`] does. ADA, FORTRAN, NASM,
-    /// SQL and languages of data, such as JSON, have no tokens, and neither, so far, do CSS, ELIXIR, HASKELL_GHC2021, LUA, PHP
-    /// and R.
+    /// SQL and languages of data, such as JSON, have no tokens.
     ///
     /// # Errors
     ///
@@ -193,10 +192,10 @@ impl fmt::Debug for Language {
     }
 }
 
-/// Defines the constants: the documentation and the name of each, the name, the syntax and the suffixes of each form, the
+/// Defines the constants: the documentation and the name of each, the name, the syntax, the suffixes and the kind of each form, the
 /// special values, if there are any, and rules for tokens, if the language has them.
 macro_rules! languages {
-    ($($(#[$about:meta])+ $name:ident = { $($form:literal: $syntax:expr $(=> $suffixes:expr)?),+ $(,)? } $(, $specials:expr)?
+    ($($(#[$about:meta])+ $name:ident = { $($form:literal: $syntax:expr $(=> $suffixes:expr)? $(; $kind:expr)?),+ $(,)? } $(, $specials:expr)?
         $(=> $tokens:expr)?;)+) => {
         impl Language {
             /// All languages, in alphabetical order.
@@ -207,7 +206,7 @@ macro_rules! languages {
                 $(assert!($syntax.supports_floats());)+
                 const DEFINITION: &Definition = &Definition {
                     name: stringify!($name),
-                    forms: Forms::new_or_panic(const { &[$(Form::new($form, $syntax)$(.with_suffixes(const { &$suffixes }))?),+] })
+                    forms: Forms::new_or_panic(const { &[$(Form::new($form, $syntax)$(.with_suffixes(const { &$suffixes }))?$(.with_kind($kind))?),+] })
                         $(.with_specials($specials))?
                         $(.with_tokens(const { &$tokens }))?,
                 };

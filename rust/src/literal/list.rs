@@ -3,8 +3,9 @@
 //! Numbers that have several forms, such as `10`, `0x1F` and `0b1`.
 
 use crate::literal::cause::ReadError;
+use crate::literal::kind::Kind;
 use crate::literal::literal::Literal;
-use crate::literal::plain::At;
+use crate::literal::plain::{At, Counted};
 use crate::literal::read::Found;
 use crate::literal::specials::{Special, Specials};
 use crate::literal::steps::{is_digit, role_at};
@@ -12,25 +13,38 @@ use crate::literal::suffix::Suffixes;
 use crate::literal::syntax::{Condition, Grammar, Syntax};
 use crate::word::Part;
 
-/// A form of numbers: its name, such as `hexadecimal`, its syntax, and the suffixes of its tokens.
+/// A form of numbers: its name, such as `hexadecimal`, its syntax, the suffixes of its tokens, and its kind.
 #[derive(Debug, Clone, Copy, PartialEq, Eq, Hash)]
 pub struct Form {
     pub(crate) name: &'static str,
     pub(crate) syntax: Syntax,
     pub(crate) suffixes: Option<&'static Suffixes>,
+    pub(crate) kind: Kind,
 }
 
 impl Form {
-    /// Returns the form with a name, which may be empty, and a syntax, without suffixes.
+    /// Returns the form with a name, which may be empty, and a syntax, without suffixes, of the kind [`Kind::EXACT`].
     #[must_use]
     pub const fn new(name: &'static str, syntax: Syntax) -> Form {
-        Form { name, syntax, suffixes: None }
+        Form { name, syntax, suffixes: None, kind: Kind::EXACT }
     }
 
     /// Returns the same form with the suffixes that its tokens may have.
     #[must_use]
     pub const fn with_suffixes(&self, suffixes: &'static Suffixes) -> Form {
-        Form { name: self.name, syntax: self.syntax, suffixes: Some(suffixes) }
+        Form { name: self.name, syntax: self.syntax, suffixes: Some(suffixes), kind: self.kind }
+    }
+
+    /// Returns the same form with another kind, which its literals have.
+    #[must_use]
+    pub const fn with_kind(&self, kind: Kind) -> Form {
+        Form { name: self.name, syntax: self.syntax, suffixes: self.suffixes, kind }
+    }
+
+    /// Returns the kind.
+    #[must_use]
+    pub const fn kind(&self) -> Kind {
+        self.kind
     }
 
     /// Returns the suffixes, if there are any.
@@ -155,13 +169,30 @@ impl<'a> Forms<'a> {
     /// If `text` is neither, returns the error of the form for which most of it is right. Of several, it is the first whose
     /// cause is not a wrong byte, or the first if the cause of each is one. So `0b12` has the error of the binary form.
     pub const fn read_bytes<'t>(&self, text: &'t [u8]) -> Result<Number<'t>, FormError> {
-        match self.find(text) {
-            Some((form, literal)) => Ok(Number::Literal { literal, form }),
-            None => match self.special(text) {
-                Some(special) => Ok(Number::Special(special)),
-                None => Err(self.refuse(text, self.furthest(text))),
-            },
+        let sign = sign_size(text);
+        let mut furthest = None;
+        let mut form = 0;
+        while form < self.forms.len() {
+            let it = &self.forms[form];
+            let syntax = &it.syntax;
+            if !excludes(syntax.as_grammar(), text, sign) {
+                let counted = syntax.begin(false, text, false);
+                if syntax.is_whole(text, counted) {
+                    let literal = syntax.literal(text, counted.counts, counted.sums).with_kind(it.kind);
+                    return Ok(Number::Literal { literal, form });
+                }
+                let stop = match syntax.reached(text, counted) {
+                    Ok(counts) => {
+                        let literal = syntax.summed(text, counts).with_kind(it.kind);
+                        return Ok(Number::Literal { literal, form });
+                    }
+                    Err(stop) => stop,
+                };
+                furthest = further_on(sign, furthest, form, stop);
+            }
+            form += 1;
         }
+        self.without_literal(text, furthest)
     }
 
     /// Returns the longest literal of any form that `text` begins with, of the first form if several have it, and the rest
@@ -175,10 +206,34 @@ impl<'a> Forms<'a> {
             Ok((form, found)) => {
                 let Found { size, counts } = found;
                 let (front, rest) = text.split_at(size);
-                let literal = self.as_slice()[form].syntax.summed(front, counts);
+                let summed = self.as_slice()[form].syntax.summed(front, counts);
+                let literal = self.of_form(form, summed);
                 Ok((Number::Literal { literal, form }, rest))
             }
             Err(error) => Err(error),
+        }
+    }
+
+    // Returns a literal with the kind of the form with the index `form`.
+    #[inline(always)]
+    const fn of_form<'t>(&self, form: usize, literal: Literal<'t>) -> Literal<'t> {
+        literal.with_kind(self.as_slice()[form].kind)
+    }
+
+    // Returns the special value that `text` is, which is no literal, or why it is none. The form that goes furthest is known if it
+    // goes beyond the first byte behind the sign.
+    #[inline(never)]
+    const fn without_literal<'t>(
+        &self,
+        text: &'t [u8],
+        furthest: Option<(usize, At)>,
+    ) -> Result<Number<'t>, FormError> {
+        match self.special(text) {
+            Some(special) => Ok(Number::Special(special)),
+            None => match furthest {
+                None => Err(self.refuse(text, self.furthest(text))),
+                Some(best) => Err(self.refuse(text, Some(best))),
+            },
         }
     }
 
@@ -187,13 +242,12 @@ impl<'a> Forms<'a> {
         self.specials.read_bytes(&self.forms[0].syntax, text)
     }
 
-    // Returns the index of the first form of which `text` is a literal, and the literal. A form that the first bytes exclude is not
-    // asked.
+    // Returns the index of the first form of which `text` is a literal, and the literal.
     pub(crate) const fn find<'t>(&self, text: &'t [u8]) -> Option<(usize, Literal<'t>)> {
         let mut form = 0;
         while form < self.forms.len() {
             let syntax = &self.forms[form].syntax;
-            if !excludes(syntax.as_grammar(), text) {
+            if !excludes(syntax.as_grammar(), text, sign_size(text)) {
                 let counted = syntax.begin_any(text, false);
                 if syntax.is_whole(text, counted) {
                     return Some((form, syntax.literal(text, counted.counts, counted.sums)));
@@ -250,8 +304,7 @@ impl<'a> Forms<'a> {
         let forms = self.as_slice();
         let mut form = first + 1;
         while form < forms.len() {
-            let reached = forms[form].syntax.stop_in(text);
-            if reached.size == stop.size {
+            if let Some(reached) = forms[form].syntax.stop_at(text, stop.size) {
                 let other = self.error_at(text, form, reached);
                 if !other.error.is_byte() {
                     return other;
@@ -290,7 +343,51 @@ pub(crate) const fn further(furthest: Option<(usize, At)>, form: usize, stop: At
     }
 }
 
+// Returns the same, without a form that does not go beyond the first byte behind a sign of this length.
+#[inline(always)]
+const fn further_on(sign: usize, furthest: Option<(usize, At)>, form: usize, stop: At) -> Option<(usize, At)> {
+    if stop.size > sign + 1 {
+        further(furthest, form, stop)
+    } else {
+        furthest
+    }
+}
+
 impl Syntax {
+    // Returns the lengths of the parts of `text`, of which a front has been read, or where reading stops if it is not a literal.
+    #[inline(always)]
+    const fn reached(&self, text: &[u8], counted: Counted) -> Result<[usize; 9], At> {
+        if counted.exact {
+            Err(counted.at)
+        } else {
+            self.go_on(text, counted.at)
+        }
+    }
+
+    // Returns the same where `at` has been read.
+    #[inline(never)]
+    const fn go_on(&self, text: &[u8], at: At) -> Result<[usize; 9], At> {
+        let stop = self.stop(text, at);
+        match self.lengths(text, stop) {
+            Some(counts) => Ok(counts),
+            None => Err(stop),
+        }
+    }
+
+    // Returns where reading `text` stops if that is behind `size` bytes.
+    const fn stop_at(&self, text: &[u8], size: usize) -> Option<At> {
+        let start = sign_size(text);
+        if size > start + 1 && excludes(self.as_grammar(), text, start) {
+            return None;
+        }
+        let stop = self.stop_in(text);
+        if stop.size == size {
+            Some(stop)
+        } else {
+            None
+        }
+    }
+
     // Returns where reading `text` stops.
     #[cold]
     const fn stop_in(&self, text: &[u8]) -> At {
@@ -299,11 +396,10 @@ impl Syntax {
     }
 }
 
-// Returns whether the first bytes behind the sign exclude that `text` is a literal: there is not the prefix that is required, or
-// the second plays no role.
+// Returns whether the first bytes behind the sign, which has this length, exclude that `text` is a literal: there is not the prefix
+// that is required, or the second plays no role. Then no literal begins with both.
 #[inline(always)]
-const fn excludes(grammar: Grammar, text: &[u8]) -> bool {
-    let sign = sign_size(text);
+const fn excludes(grammar: Grammar, text: &[u8], sign: usize) -> bool {
     let is_long = sign + 1 < text.len();
     if grammar.conditions.has(Condition::BasePrefix) {
         !(is_long && text[sign] == b'0' && grammar.view().is_base_prefix(text[sign + 1]))
@@ -312,15 +408,15 @@ const fn excludes(grammar: Grammar, text: &[u8]) -> bool {
     }
 }
 
-// Returns whether `byte` plays no role, and is no zero, which a prefix begins with.
+// Returns whether `byte` plays no role. Bytes up to `9` are said to play one: most are digits, and a prefix begins with a zero.
 #[inline(always)]
-const fn plays_no_role(grammar: Grammar, byte: u8) -> bool {
-    byte != b'0' && matches!(role_at(grammar, Part::Integer, byte), None) && !is_digit(grammar, Part::Exponent, byte)
+pub(crate) const fn plays_no_role(grammar: Grammar, byte: u8) -> bool {
+    byte > b'9' && matches!(role_at(grammar, Part::Integer, byte), None) && !is_digit(grammar, Part::Exponent, byte)
 }
 
 // Returns the length of the sign with which `text` begins.
 #[inline(always)]
-const fn sign_size(text: &[u8]) -> usize {
+pub(crate) const fn sign_size(text: &[u8]) -> usize {
     match text {
         [b'+' | b'-', ..] => 1,
         _ => 0,

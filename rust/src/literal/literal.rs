@@ -2,6 +2,7 @@
 
 //! Literals that were read, and the numbers that their digits represent.
 
+use crate::literal::kind::Kind;
 use crate::literal::plain::{Sum, Sums};
 use crate::literal::read::{cut, Parts};
 use crate::literal::syntax::Syntax;
@@ -17,7 +18,10 @@ pub struct Literal<'a> {
     view: FormatView,
     mantissa: Option<u64>,
     places: usize,
-    exponent: Option<u64>,
+    // The number, if there is one. An `Option` would have 8 bytes more.
+    exponent: u64,
+    has_exponent: bool,
+    kind: Kind,
 }
 
 impl<'a> Literal<'a> {
@@ -26,6 +30,20 @@ impl<'a> Literal<'a> {
     #[inline(always)]
     pub(crate) const fn format(&self) -> FormatView {
         self.view
+    }
+
+    /// Returns the kind, which decides what the literal is worth.
+    #[must_use]
+    #[inline(always)]
+    pub const fn kind(&self) -> Kind {
+        self.kind
+    }
+
+    /// Returns the same literal with another kind. A [`Syntax`] reads literals of the kind [`Kind::EXACT`].
+    #[must_use]
+    #[inline(always)]
+    pub const fn with_kind(self, kind: Kind) -> Literal<'a> {
+        Literal { kind, ..self }
     }
 
     /// Returns the parts.
@@ -76,7 +94,7 @@ impl<'a> Literal<'a> {
     #[must_use]
     #[inline(always)]
     pub(crate) const fn scale(&self) -> Option<u64> {
-        self.exponent
+        given(self.has_exponent, self.exponent)
     }
 }
 
@@ -90,13 +108,17 @@ impl Syntax {
             places,
             exponent: Sum { digits: exponent_digits, value: exponent_value },
         } = sums;
+        let (has_exponent, exponent) =
+            split(exponent(view.exponent_radix(), text, counts, exponent_digits, exponent_value));
         Literal {
             text,
             counts,
             view,
             mantissa: mantissa(view.mantissa_radix(), text, counts, digits, value),
             places,
-            exponent: exponent(view.exponent_radix(), text, counts, exponent_digits, exponent_value),
+            exponent,
+            has_exponent,
+            kind: Kind::EXACT,
         }
     }
 
@@ -106,6 +128,25 @@ impl Syntax {
         let view = self.format().view();
         let sums = sums_of(view.mantissa_radix(), view.exponent_radix(), &cut(text, counts));
         self.literal(text, counts, sums)
+    }
+}
+
+// Returns `number` if `has` is true.
+#[inline(always)]
+const fn given(has: bool, number: u64) -> Option<u64> {
+    if has {
+        Some(number)
+    } else {
+        None
+    }
+}
+
+// Returns whether there is a number, and the number.
+#[inline(always)]
+const fn split(number: Option<u64>) -> (bool, u64) {
+    match number {
+        Some(number) => (true, number),
+        None => (false, 0),
     }
 }
 

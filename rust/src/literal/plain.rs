@@ -264,15 +264,34 @@ pub(crate) const fn plain(grammar: Grammar, decimal: bool, text: &[u8], fronts: 
     integer(grammar, decimal, text, fronts, opening)
 }
 
-// Returns what comes before the digits of the integer, or `None` if a base prefix is required that does not follow.
+// Returns whether no condition is on the first digit, or one follows that they allow.
+#[inline(always)]
+const fn has_first(grammar: Grammar, text: &[u8], size: usize) -> bool {
+    let needs_zero = grammar.conditions.has(Condition::LeadingZero);
+    let needs_decimal = grammar.conditions.has(Condition::DecimalFirstDigit);
+    (!needs_zero && !needs_decimal) || is_first(grammar, text, size)
+}
+
+// Returns whether a digit follows that the conditions on the first digit allow. It is not inlined, so that reading without them
+// takes no longer.
+#[cold]
+const fn is_first(grammar: Grammar, text: &[u8], size: usize) -> bool {
+    size < text.len()
+        && is_digit(grammar, Part::Integer, text[size])
+        && (!grammar.conditions.has(Condition::LeadingZero) || text[size] == b'0')
+        && (!grammar.conditions.has(Condition::DecimalFirstDigit) || text[size] <= b'9')
+}
+
+// Returns what comes before the digits of the integer, or `None` if a base prefix or a first digit is required that does not
+// follow.
 #[inline(always)]
 const fn open(grammar: Grammar, decimal: bool, text: &[u8], sign: usize) -> Option<Opening> {
     if reads_prefix(grammar, decimal, text, sign) {
         Some(Opening { sign, prefix: 2, size: sign + 2, stage: Stage::Prefixed })
-    } else if grammar.conditions.has(Condition::BasePrefix) {
-        None
-    } else {
+    } else if !grammar.conditions.has(Condition::BasePrefix) && has_first(grammar, text, sign) {
         Some(Opening { sign, prefix: 0, size: sign, stage: behind_sign(Part::Integer, sign) })
+    } else {
+        None
     }
 }
 

@@ -93,6 +93,13 @@ impl Syntax {
         }
     }
 
+    // Returns whether the front of `text` up to `stop`, where reading stops, is a literal.
+    #[inline(always)]
+    pub(crate) const fn is_literal_up_to(&self, text: &[u8], stop: At) -> bool {
+        let group = self.group_at(text, stop);
+        ends(self.as_grammar(), stop, group)
+    }
+
     // Returns where reading `text` stops, of which a front has been read.
     #[inline(always)]
     pub(crate) const fn reach(&self, text: &[u8], counted: Counted) -> At {
@@ -104,7 +111,7 @@ impl Syntax {
     }
 
     // Returns where reading `text` stops, if it goes on at `at`.
-    #[inline(always)]
+    #[inline(never)]
     pub(crate) const fn stop(&self, text: &[u8], at: At) -> At {
         let group = self.group_at(text, at);
         match self.step(text, at, group) {

@@ -142,6 +142,8 @@ impl ReadError {
             Condition::FractionGroupSize => {
                 groups.decimal(conditions.number(condition) as usize).and(" fraction digits")
             }
+            Condition::LeadingZero => ShortText::of("expected a leading zero"),
+            Condition::DecimalFirstDigit => ShortText::of("expected a first digit from 0 to 9"),
         }
     }
 }

@@ -140,7 +140,7 @@ const fn condition_span(grammar: Grammar, marks: Marks, next: Option<u8>, condit
     match condition {
         Condition::BasePrefix => (marks.first, marks.first),
         Condition::BaseSuffix => (size, size),
-        Condition::NegativeSign => (size, end),
+        Condition::NegativeSign | Condition::LeadingZero | Condition::DecimalFirstDigit => (size, end),
         _ if is_digit_next(grammar, next) => (marks.group, end),
         _ => (marks.group, size),
     }

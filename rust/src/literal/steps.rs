@@ -292,18 +292,34 @@ const fn is_negative(part: Part, plus: bool, role: Role) -> bool {
     matches!(role, Role::Sign) && !matches!(part, Part::Exponent) && !plus
 }
 
-// Returns whether the conditions let a byte with the role `role` follow.
+// Returns whether a byte with the role `role` is a sign, or a digit that fits if `fits` is true.
 #[inline(always)]
-pub(crate) const fn admits(conditions: Conditions, read: Summary, plus: bool, zero: bool, role: Role) -> bool {
-    conditions.is_none() || some_admit(conditions, read, plus, zero, role)
+const fn leads(fits: bool, role: Role) -> bool {
+    match role {
+        Role::Sign => true,
+        Role::Digit => fits,
+        _ => false,
+    }
+}
+
+// Returns whether the conditions let `byte` follow, which has the role `role`.
+#[inline(always)]
+pub(crate) const fn admits(conditions: Conditions, read: Summary, byte: u8, role: Role) -> bool {
+    conditions.is_none() || some_admit(conditions, read, byte, role)
 }
 
 // Returns the same. It is not inlined, so that steps without conditions take no longer.
 #[cold]
-const fn some_admit(conditions: Conditions, read: Summary, plus: bool, zero: bool, role: Role) -> bool {
+const fn some_admit(conditions: Conditions, read: Summary, byte: u8, role: Role) -> bool {
+    let zero = byte == b'0';
     let needs_prefix = conditions.has(Condition::BasePrefix) && lacks_prefix(read.stage);
+    let first = awaits_integer(read.stage);
+    let needs_zero = conditions.has(Condition::LeadingZero) && first;
+    let needs_decimal = conditions.has(Condition::DecimalFirstDigit) && first;
     (!needs_prefix || leads_to_prefix(read.stage, zero, role))
-        && !(conditions.has(Condition::NegativeSign) && is_negative(part_of(read.stage), plus, role))
+        && !(conditions.has(Condition::NegativeSign) && is_negative(part_of(read.stage), byte == b'+', role))
+        && (!needs_zero || leads(zero, role))
+        && (!needs_decimal || leads(byte <= b'9', role))
 }
 
 // Returns whether the conditions let a literal end.
@@ -404,10 +420,8 @@ pub(crate) const fn step(grammar: Grammar, read: Summary, byte: u8) -> Option<(R
 // Returns what `byte` makes of what has been read if it has the role `role`, or `None` if no literal begins so.
 #[inline(always)]
 pub(crate) const fn moved(grammar: Grammar, read: Summary, byte: u8, role: Role) -> Option<Summary> {
-    let plus = byte == b'+';
-    let zero = byte == b'0';
-    if !read.ended && takes(grammar, read, plus, role) && admits(grammar.conditions, read, plus, zero, role) {
-        Some(after(read, zero, role))
+    if !read.ended && takes(grammar, read, byte == b'+', role) && admits(grammar.conditions, read, byte, role) {
+        Some(after(read, byte == b'0', role))
     } else {
         None
     }

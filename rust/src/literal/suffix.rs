@@ -2,6 +2,7 @@
 
 //! Words that stand directly behind a number, such as `u8`, and bytes that may not follow it.
 
+use crate::literal::kind::Kind;
 use crate::literal::read::byte_at;
 
 /// Bytes behind a number with which it is no token: one of some bytes, if the number ends in one of others, and if one of
@@ -30,18 +31,19 @@ pub struct Suffixes {
     either_case: bool,
     any: &'static [u8],
     stops: &'static [Stop],
+    kinds: &'static [(&'static [u8], Kind)],
 }
 
 impl Suffixes {
     /// Returns suffixes: the words `integers` behind integers, and `floats` behind floats, in this case, with the bytes that
-    /// may not follow. Letters, digits, `_` and bytes from 128 up never may.
+    /// may not follow. Letters, digits, `_` and bytes from 128 up never may. A word that has other bytes is never found.
     #[must_use]
     pub const fn new(
         integers: &'static [&'static [u8]],
         floats: &'static [&'static [u8]],
         stops: &'static [Stop],
     ) -> Suffixes {
-        Suffixes { integers, floats, either_case: false, any: &[], stops }
+        Suffixes { integers, floats, either_case: false, any: &[], stops, kinds: &[] }
     }
 
     /// Sets whether the words may be in either case.
@@ -54,6 +56,12 @@ impl Suffixes {
     #[must_use]
     pub const fn any_word(self, begins: &'static [u8]) -> Suffixes {
         Suffixes { any: begins, ..self }
+    }
+
+    /// Sets the kinds of numbers with these suffixes. With others, and without one, a number has the kind of its form.
+    #[must_use]
+    pub const fn with_kinds(self, kinds: &'static [(&'static [u8], Kind)]) -> Suffixes {
+        Suffixes { kinds, ..self }
     }
 
     // Returns the length of the longest suffix with which `text` begins, or 0 if there is none.
@@ -73,20 +81,54 @@ impl Suffixes {
 pub(crate) const fn suffix_size(suffixes: Option<&'static Suffixes>, float: bool, text: &[u8]) -> usize {
     match suffixes {
         None => 0,
-        Some(suffixes) => suffixes.size(float, text),
+        Some(suffixes) => {
+            if has_word_byte(text, 0) {
+                suffixes.size(float, text)
+            } else {
+                0
+            }
+        }
+    }
+}
+
+// Returns the kind of a number with the suffix `word`, of a form of the kind `kind`.
+pub(crate) const fn kind_with(suffixes: Option<&'static Suffixes>, word: &[u8], kind: Kind) -> Kind {
+    match suffixes {
+        None => kind,
+        Some(it) => kind_among(it.either_case, it.kinds, word, kind),
+    }
+}
+
+// Returns the kind of the first of `kinds` with the suffix `word`, or `kind` if there is none.
+const fn kind_among(either: bool, kinds: &[(&[u8], Kind)], word: &[u8], kind: Kind) -> Kind {
+    match kinds {
+        [] => kind,
+        [(suffix, own), rest @ ..] => {
+            if begins(either, suffix, word) && suffix.len() == word.len() {
+                *own
+            } else {
+                kind_among(either, rest, word, kind)
+            }
+        }
     }
 }
 
 // Returns whether what is behind the number that ends at `end` may not follow it.
 #[inline(always)]
 pub(crate) const fn is_stopped(suffixes: Option<&'static Suffixes>, text: &[u8], end: usize) -> bool {
-    let word = match byte_at(text, end) {
+    has_word_byte(text, end)
+        || match suffixes {
+            None => false,
+            Some(suffixes) => is_one_met(suffixes.stops, text, end),
+        }
+}
+
+// Returns whether the byte at `index` is one of a word.
+#[inline(always)]
+const fn has_word_byte(text: &[u8], index: usize) -> bool {
+    match byte_at(text, index) {
         None => false,
         Some(byte) => is_word_byte(byte),
-    };
-    word || match suffixes {
-        None => false,
-        Some(suffixes) => is_one_met(suffixes.stops, text, end),
     }
 }
 
@@ -168,13 +210,13 @@ const fn any_word_size(begins: &[u8], text: &[u8]) -> usize {
     }
 }
 
-// Returns whether `text` begins with `word`, letter case aside if `either` is true.
+// Returns whether `text` begins with `word`, letter case aside if `either` is true, and if these are bytes of a word.
 const fn begins(either: bool, word: &[u8], text: &[u8]) -> bool {
     match word {
         [] => true,
         [letter, word @ ..] => match text {
             [] => false,
-            [byte, text @ ..] => is_same(either, *letter, *byte) && begins(either, word, text),
+            [byte, text @ ..] => is_word_byte(*byte) && is_same(either, *letter, *byte) && begins(either, word, text),
         },
     }
 }

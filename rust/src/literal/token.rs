@@ -2,19 +2,19 @@
 
 //! Tokens: numbers in the middle of a text, each with its suffix.
 
-use crate::literal::list::{further, Form, FormError, Forms, Tokens};
+use crate::literal::list::{further, plays_no_role, sign_size, Form, FormError, Forms, Tokens};
 use crate::literal::literal::Literal;
-use crate::literal::plain::At;
+use crate::literal::plain::{At, Counted};
 use crate::literal::read::{byte_at, Found};
 use crate::literal::steps::is_point;
-use crate::literal::suffix::{byte_before, is_followed, is_stopped, is_word_byte, suffix_size, word_size};
-use crate::literal::syntax::Syntax;
+use crate::literal::suffix::{byte_before, is_followed, is_stopped, is_word_byte, kind_with, suffix_size, word_size};
+use crate::literal::syntax::{Condition, Grammar, Syntax};
 
 /// A number that a text begins with, and what follows it.
 #[derive(Debug, Clone, Copy, PartialEq, Eq, Hash)]
 #[non_exhaustive]
 pub struct Token<'a> {
-    /// The literal.
+    /// The literal, with the kind that its form and its suffix give it.
     pub literal: Literal<'a>,
     /// The index of its form. Those of forms that need a suffix are behind the others.
     pub form: usize,
@@ -75,6 +75,18 @@ impl<'a> Forms<'a> {
         let Some(tokens) = self.tokens else {
             return Err(TokenError::NoTokens);
         };
+        match self.leading(tokens, text, true) {
+            Some(token) => Ok(token),
+            None => self.token_of(tokens, text),
+        }
+    }
+
+    // Returns the token that `text` begins with.
+    #[cold]
+    const fn token_of<'t>(&self, tokens: &Tokens, text: &'t [u8]) -> Result<Token<'t>, TokenError> {
+        if let Some(token) = self.leading(tokens, text, false) {
+            return Ok(token);
+        }
         let back = tokens.gives_points_back;
         let plain = scan(self.forms, back, false, text);
         let suffixed = scan(tokens.forms, back, true, text);
@@ -97,6 +109,59 @@ impl<'a> Forms<'a> {
         }
         let end = stop_end(text, end);
         Err(TokenError::UnknownSuffix { form, start: size, end })
+    }
+
+    // Returns the token that `text` begins with, if reading the forms of the list once tells it. If `excluding` is true, a form of
+    // which no literal goes on behind the first byte and the sign is not asked.
+    #[inline(always)]
+    const fn leading<'t>(&self, tokens: &Tokens, text: &'t [u8], excluding: bool) -> Option<Token<'t>> {
+        let sign = sign_size(text);
+        let mut reached = sign;
+        let mut form = 0;
+        while form < self.forms.len() {
+            let it = &self.forms[form];
+            if excluding && is_past(it.syntax.as_grammar(), text, sign + 1) {
+                reached = larger(reached, sign + 1);
+            } else {
+                let counted = it.syntax.begin(false, text, true);
+                let size = counted.at.size;
+                if counted.complete
+                    && reached < size
+                    && are_past(self.forms, text, size)
+                    && are_past(tokens.forms, text, size)
+                {
+                    return self.behind(tokens, text, it, form, counted);
+                }
+                reached = larger(reached, it.bound(text, it.syntax.reach(text, counted)));
+            }
+            form += 1;
+        }
+        None
+    }
+
+    // Returns the token of which `counted` is the literal, of the form with this index, if its point is not given back and
+    // nothing follows that may not.
+    #[inline(always)]
+    const fn behind<'t>(
+        &self,
+        tokens: &Tokens,
+        text: &'t [u8],
+        it: &Form,
+        form: usize,
+        counted: Counted,
+    ) -> Option<Token<'t>> {
+        let Counted { at, counts, sums, .. } = counted;
+        let (front, rest) = text.split_at(at.size);
+        let more = suffix_size(it.suffixes, is_float(counts), rest);
+        if gives_back(it.syntax, tokens.gives_points_back, text, at.size)
+            || is_stopped(it.suffixes, text, at.size + more)
+        {
+            return None;
+        }
+        let (suffix, rest) = rest.split_at(more);
+        let kind = kind_with(it.suffixes, suffix, it.kind);
+        let literal = it.syntax.literal(front, counts, sums).with_kind(kind);
+        Some(Token { literal, form, suffix, rest })
     }
 
     // Returns the longest of the candidates of the list and of the forms that need a suffix, with its form.
@@ -139,6 +204,56 @@ impl<'a> Forms<'a> {
     }
 }
 
+// Returns whether no literal of a form begins with more than the first `size` bytes of `text`, which are more than a sign.
+#[inline(always)]
+const fn are_past(forms: &[Form], text: &[u8], size: usize) -> bool {
+    let mut form = 0;
+    while form < forms.len() {
+        if !is_past(forms[form].syntax.as_grammar(), text, size) {
+            return false;
+        }
+        form += 1;
+    }
+    true
+}
+
+// Returns whether no literal begins with more than the first `size` bytes of `text`, which are more than a sign.
+#[inline(always)]
+const fn is_past(grammar: Grammar, text: &[u8], size: usize) -> bool {
+    lacks_prefix(grammar, text) || is_over(grammar, text, size)
+}
+
+// Returns whether the text ends behind the first `size` bytes, or a byte follows that plays no role.
+#[inline(always)]
+const fn is_over(grammar: Grammar, text: &[u8], size: usize) -> bool {
+    match byte_at(text, size) {
+        None => true,
+        Some(byte) => plays_no_role(grammar, byte),
+    }
+}
+
+// Returns whether there is not the base prefix that is required.
+#[inline(always)]
+const fn lacks_prefix(grammar: Grammar, text: &[u8]) -> bool {
+    grammar.conditions.has(Condition::BasePrefix) && !has_prefix(grammar, text, sign_size(text))
+}
+
+// Returns whether a zero and a base prefix are at `index`.
+#[inline(always)]
+const fn has_prefix(grammar: Grammar, text: &[u8], index: usize) -> bool {
+    index + 1 < text.len() && text[index] == b'0' && grammar.view().is_base_prefix(text[index + 1])
+}
+
+// Returns the larger of two sizes.
+#[inline(always)]
+const fn larger(one: usize, other: usize) -> usize {
+    if one < other {
+        other
+    } else {
+        one
+    }
+}
+
 // Returns the token with this candidate.
 #[inline(always)]
 const fn made<'t>(it: &Form, text: &'t [u8], form: usize, candidate: Candidate) -> Token<'t> {
@@ -146,11 +261,22 @@ const fn made<'t>(it: &Form, text: &'t [u8], form: usize, candidate: Candidate) 
     let (front, behind) = text.split_at(size);
     let (suffix, _) = behind.split_at(end - size);
     let (_, rest) = text.split_at(end);
-    let literal = it.syntax.summed(front, counts);
+    let kind = kind_with(it.suffixes, suffix, it.kind);
+    let literal = it.syntax.summed(front, counts).with_kind(kind);
     Token { literal, form, suffix, rest }
 }
 
 impl Form {
+    // Returns a size that no front of `text` that is a literal exceeds, where reading stops at `stop`.
+    #[inline(always)]
+    const fn bound(&self, text: &[u8], stop: At) -> usize {
+        if stop.size == 0 || self.syntax.is_literal_up_to(text, stop) {
+            stop.size
+        } else {
+            stop.size - 1
+        }
+    }
+
     // Returns where reading `text` stops, and the candidate, if there is one.
     #[inline(always)]
     const fn candidate(&self, back: bool, needs: bool, text: &[u8]) -> (At, Option<Candidate>) {

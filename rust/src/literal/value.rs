@@ -5,17 +5,21 @@ use core::ops::Range;
 
 use crate::format_flags::Part;
 use crate::literal::plain::{At, Sums};
-use crate::literal::{FormError, Literal, Number, ReadError, Sign, Special, Spelling, Syntax};
+use crate::literal::{
+    FloatKind, FormError, IntegerKind, Kind, Literal, Number, ReadError, Sign, Special, Spelling, Syntax,
+};
 
 #[allow(clippy::question_mark, reason = "as it is proved")]
 pub(crate) mod float;
-mod integer;
+pub(crate) mod integer;
+pub(crate) mod kind;
 
 pub use integer::ValueErrorKind;
 
+use crate::number::decimal::{decimal_to_bits, digits_to_bits};
 use crate::number::float::Float;
-use float::{binary_size, to_float};
-use integer::{integer_numeral, to_integer};
+use float::{binary_size, exponent_of, nearest_float, to_float};
+use integer::{integer_numeral, own_numeral, to_integer};
 
 /// A type that can be [parsed][Syntax::parse]: each integer type of Rust, `f64` and `f32`, and a type of your own.
 ///
@@ -116,6 +120,8 @@ pub struct ValueError {
     kind: ValueErrorKind,
     target: &'static Target,
     size: usize,
+    /// The bits of integers of its kind, from which on a number is too large, or 0.
+    bits: u8,
 }
 
 /// The name of a type of values, and its limits.
@@ -153,9 +159,23 @@ impl ValueError {
         ValueError { size, ..self }
     }
 
-    /// Returns the error of a number of `size` bytes.
-    const fn of<T: FromLiteral>(kind: ValueErrorKind, size: usize) -> ValueError {
-        ValueError { kind, target: const { &T::TARGET }, size }
+    /// Returns the error of a literal of `size` bytes of a kind.
+    const fn of<T: FromLiteral>(kind: ValueErrorKind, size: usize, of: Kind) -> ValueError {
+        let bits = match of.integers() {
+            IntegerKind::AtMost(bits) | IntegerKind::Wraps(bits) => bits,
+            _ => 0,
+        };
+        ValueError { kind, target: const { &T::TARGET }, size, bits }
+    }
+
+    /// Returns whether a number that is out of range is so for its kind: the type has more values.
+    fn is_above_kind(&self) -> bool {
+        let most = (1_i128 << self.bits) - 1;
+        let has_more = |(least, largest): (i128, u128)| match self.kind {
+            ValueErrorKind::TooSmall => least < -most,
+            _ => largest > most.unsigned_abs(),
+        };
+        self.bits > 0 && self.target.limits.is_none_or(has_more)
     }
 
     /// Returns what is wrong.
@@ -178,7 +198,7 @@ impl ValueError {
     }
 }
 
-/// Prints the reason with the type and its limit, such as `above 65535, the largest u16`.
+/// Prints the reason with the type and its limit, such as `above 65535, the largest u16`, or with the limit of the kind.
 impl fmt::Display for ValueError {
     fn fmt(&self, f: &mut fmt::Formatter<'_>) -> fmt::Result {
         let target = self.target();
@@ -187,6 +207,12 @@ impl fmt::Display for ValueError {
             ValueErrorKind::Special => write!(f, "NaN or infinity, and {target} is an integer type"),
             ValueErrorKind::UnsupportedRadix => {
                 write!(f, "no {target}: the mantissa radix and the exponent base are not both 10 or both powers of two")
+            }
+            ValueErrorKind::TooLarge if self.is_above_kind() => {
+                write!(f, "above {}, the largest number of its form", (1_u128 << self.bits) - 1)
+            }
+            ValueErrorKind::TooSmall if self.is_above_kind() => {
+                write!(f, "below -{}, the least number of its form", (1_u128 << self.bits) - 1)
             }
             ValueErrorKind::TooLarge => match self.target.limits {
                 Some((_, largest)) => write!(f, "above {largest}, the largest {target}"),
@@ -296,8 +322,8 @@ macro_rules! conversions {
 
                 #[inline(always)]
                 fn try_from(literal: Literal<'_>) -> Result<$type, ValueError> {
-                    let size = literal.text.len();
-                    $type::from_literal(literal).map_err(|kind| ValueError::of::<$type>(kind, size))
+                    let (size, of) = (literal.text.len(), literal.kind());
+                    $type::from_literal(literal).map_err(|kind| ValueError::of::<$type>(kind, size, of))
                 }
             }
 
@@ -330,14 +356,14 @@ macro_rules! constant_calls {
                 ///
                 /// If the literal is a float, or if its value is not one of the type, returns which.
                 pub const fn $name(self) -> Result<$type, ValueError> {
-                    let kind = match integer_numeral(&self) {
-                        None => ValueErrorKind::Float,
-                        Some(numeral) => match numeral.$call() {
+                    let kind = match own_numeral(&self) {
+                        Err(kind) => kind,
+                        Ok(numeral) => match numeral.$call() {
                             Some(value) => return Ok(value),
                             None => ValueErrorKind::out_of_range(numeral.negative),
                         },
                     };
-                    Err(ValueError::of::<$type>(kind, self.text.len()))
+                    Err(ValueError::of::<$type>(kind, self.text.len(), self.kind()))
                 }
             )*
         }
@@ -346,34 +372,104 @@ macro_rules! constant_calls {
 
 constant_calls! { to_i64 as_i64 i64, to_u64 as_u64 u64, to_i128 as_i128 i128, to_u128 as_u128 u128, }
 
-/// Makes the calls for a float type.
+/// The value of a literal by its kind, which is not the number that it represents.
+pub(crate) enum Other {
+    Integer(i128),
+    Single(f64),
+    TooLarge,
+}
+
+impl Literal<'_> {
+    /// Returns the value by the kind, if it is not the number that the literal represents.
+    #[inline(never)]
+    pub(crate) fn other_value(&self) -> Option<Other> {
+        if self.is_whole() {
+            let Ok(own) = own_numeral(self) else { return Some(Other::TooLarge) };
+            let value = own.as_i128()?;
+            let written = integer_numeral(self)?.as_i128();
+            (written != Some(value)).then_some(Other::Integer(value))
+        } else if self.is_single() {
+            let value = to_float::<f64>(self).ok()?;
+            let nearest = nearest_float::<f64>(self).ok()?;
+            (value.to_bits() != nearest.to_bits()).then_some(Other::Single(value))
+        } else {
+            None
+        }
+    }
+
+    /// Returns whether the literal is an integer of a kind that is not exact.
+    const fn is_whole(&self) -> bool {
+        !self.is_float() && !matches!(self.kind().integers(), IntegerKind::Exact)
+    }
+
+    /// Returns whether floats are single.
+    const fn is_single(&self) -> bool {
+        matches!(self.kind().floats(), FloatKind::Single)
+    }
+}
+
+/// Returns the bits of the float nearest to a literal, without its sign, or `None` if the radix and the base are not both 10.
+const fn decimal_size(double: bool, literal: &Literal) -> Option<u64> {
+    if literal.format().mantissa_radix() != 10 || literal.format().exponent_base() != 10 {
+        return None;
+    }
+    let negative = literal.has_negative_exponent();
+    Some(match (literal.mantissa(), literal.scale()) {
+        (Some(mantissa), Some(exponent)) => {
+            digits_to_bits(double, mantissa, literal.places() as u64, negative, exponent)
+        }
+        _ => {
+            let parts = literal.cut();
+            decimal_to_bits(double, parts.integer, parts.fraction, negative, exponent_of(literal))
+        }
+    })
+}
+
+/// Makes the calls for floats, also in constants.
 macro_rules! floats {
-    ($($type:ident $to_float:ident $binary_to_float:ident $bits:ident,)*) => {
+    ($($type:ident $to_float:ident $binary_to_float:ident $worth:ident,)*) => {
         $(
             impl Literal<'_> {
                 #[doc = concat!("Returns the value, rounded once to the nearest `", stringify!($type), "`, or to the even")]
-                /// one if two are as near. It can be infinite, and the sign is that of the literal, also for 0.
+                /// one if two are as near. It can be infinite, and the sign is that of the literal, also for 0. A constant can
+                /// have it, too.
                 ///
                 /// # Errors
                 ///
                 /// If the mantissa radix and the exponent base are neither both 10 nor both powers of two, as
                 /// [`Syntax::supports_floats`] finds out once for all literals.
-                pub fn $to_float(self) -> Result<$type, ValueError> {
-                    self.try_into()
+                pub const fn $to_float(self) -> Result<$type, ValueError> {
+                    let double = <$type as Float>::DOUBLE && !self.is_single();
+                    match decimal_size(double, &self) {
+                        Some(bits) => self.$worth(double, bits),
+                        None => self.$binary_to_float(),
+                    }
                 }
 
                 #[doc = concat!("Returns the same as [`", stringify!($to_float), "`][Self::", stringify!($to_float), "], ")]
-                /// also in a constant, where the mantissa radix and the exponent base are powers of two.
+                /// where the mantissa radix and the exponent base are powers of two. A program that only calls this has no
+                /// table of powers of ten.
                 ///
                 /// # Errors
                 ///
-                /// If they are not both powers of two.
+                /// If they are not both powers of two, or if an integer is too large for its kind.
                 pub const fn $binary_to_float(self) -> Result<$type, ValueError> {
-                    match binary_size(<$type as Float>::DOUBLE, &self) {
-                        Some(bits) if self.is_negative() => Ok(-$type::from_bits(bits as $bits)),
-                        Some(bits) => Ok($type::from_bits(bits as $bits)),
-                        None => Err(ValueError::of::<$type>(ValueErrorKind::UnsupportedRadix, self.text.len())),
+                    let double = <$type as Float>::DOUBLE && !self.is_single();
+                    match binary_size(double, &self) {
+                        Some(bits) => self.$worth(double, bits),
+                        None => Err(ValueError::of::<$type>(ValueErrorKind::UnsupportedRadix, self.text.len(), self.kind())),
                     }
+                }
+
+                /// Returns the value by the kind, where `bits` are those of the number without its sign, as an `f64` or `f32`.
+                const fn $worth(&self, double: bool, bits: u64) -> Result<$type, ValueError> {
+                    let size = if double { f64::from_bits(bits) as $type } else { f32::from_bits(bits as u32) as $type };
+                    let (size, negative) = match own_numeral(self) {
+                        Ok(own) if self.is_whole() => (own.low_bits() as $type, own.negative),
+                        Err(kind) if self.is_whole() => return Err(ValueError::of::<$type>(kind, self.text.len(), self.kind())),
+                        _ => (size, self.is_negative()),
+                    };
+                    Ok(if negative { -size } else { size })
                 }
             }
 
@@ -395,7 +491,7 @@ macro_rules! floats {
     };
 }
 
-floats! { f64 to_f64 binary_to_f64 u64, f32 to_f32 binary_to_f32 u32, }
+floats! { f64 to_f64 binary_to_f64 f64_worth, f32 to_f32 binary_to_f32 f32_worth, }
 
 impl Syntax {
     /// Returns the value of the literal `text`. That of `-0` is 0 in each integer type.
@@ -447,7 +543,7 @@ impl Syntax {
     #[inline(never)]
     fn parse_generally<T: FromLiteral>(&self, text: &[u8]) -> Result<T, ParseError> {
         let literal = self.read_generally(text)?;
-        T::from_literal(literal).map_err(|kind| ParseError::Value(ValueError::of::<T>(kind, text.len())))
+        T::from_literal(literal).map_err(|kind| ParseError::Value(ValueError::of::<T>(kind, text.len(), Kind::EXACT)))
     }
 
     /// Returns the value of the longest literal that `text` begins with, and the rest of `text`, as
@@ -471,7 +567,8 @@ impl Syntax {
     }
 
     /// Returns whether literals have values of float types: whether the mantissa radix and the exponent base of the format
-    /// are both 10 or both powers of two. Where this is true, [`Literal::to_f64`] returns no error.
+    /// are both 10 or both powers of two. Where this is true, [`Literal::to_f64`] returns no error, unless an integer is too
+    /// large for its kind.
     #[must_use]
     pub const fn supports_floats(&self) -> bool {
         float::supports_floats(self.as_grammar().view())
@@ -486,15 +583,16 @@ impl Number<'_> {
     /// If the type does not have the value, returns why.
     #[inline]
     pub fn value<T: FromLiteral>(self) -> Result<T, ValueError> {
-        let (value, size) = match self {
-            Number::Literal { literal, .. } => (T::from_literal(literal), literal.text.len()),
-            Number::Special(special) => (T::from_special(special), 0),
+        let (value, size, of) = match self {
+            Number::Literal { literal, .. } => (T::from_literal(literal), literal.text.len(), literal.kind()),
+            Number::Special(special) => (T::from_special(special), 0, Kind::EXACT),
         };
-        value.map_err(|kind| ValueError::of::<T>(kind, size))
+        value.map_err(|kind| ValueError::of::<T>(kind, size, of))
     }
 
     /// Returns the value, rounded once to the nearest `f64`. The literals of each [`Language`][crate::literal::Language]
-    /// have one, and NaN and infinity keep their sign. For a literal of another syntax that has none, returns NaN.
+    /// have one, unless an integer is too large for its kind, and NaN and infinity keep their sign. For a literal that has
+    /// none, returns NaN.
     ///
     /// ```
     /// use peltzivar::literal::Language;

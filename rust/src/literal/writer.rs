@@ -3,11 +3,20 @@
 use core::fmt::{self, Write};
 use core::str;
 
-use crate::literal::{Literal, Sign, Special, Specials, Syntax};
+use crate::literal::value::Other;
+use crate::literal::{Forms, Literal, Sign, Special, Specials, Spelling, Syntax};
 use crate::number::float::Float;
 use crate::number::integer::Integer;
 
+#[allow(
+    clippy::exhaustive_structs,
+    clippy::manual_map,
+    clippy::needless_lifetimes,
+    reason = "as it is proved, and for the library for C alone"
+)]
+mod choice;
 mod digits;
+#[allow(clippy::question_mark, reason = "as it is proved")]
 mod float;
 mod float_digits;
 mod integer;
@@ -16,13 +25,19 @@ mod layout;
 mod literal;
 #[allow(clippy::needless_lifetimes, clippy::question_mark, reason = "as it is proved")]
 mod moved;
+#[allow(clippy::question_mark, reason = "as it is proved")]
+mod rounded;
 mod run;
 mod sink;
 
 pub use layout::{ExponentStyle, Grouping, Style, WriteError};
 
+use choice::choose;
+#[doc(hidden)]
+pub use choice::{Real, Whole, Writable};
 use float_digits::FloatDigits;
 use layout::Layout;
+use literal::write_number;
 use sink::{Sink, Window};
 
 /// A type that can be [written][Syntax::format_integer]: each integer type of Rust.
@@ -104,6 +119,42 @@ impl Style {
         self.exponent = wish;
         self
     }
+
+    /// Rounds a float to `count` digits behind the point, as `{:.2}` of std does: to the nearest, or to the even one if two
+    /// are as near. The sign of a number that becomes 0 is kept. There is no exponent, unless the syntax requires one, or the
+    /// style has [`ExponentStyle::Always`] or [`ExponentStyle::From`]. Then one digit is before the point. In a syntax of
+    /// integers alone, no digit is behind it.
+    ///
+    /// ```
+    /// use peltzivar::literal::{ExponentStyle, Language, Style};
+    ///
+    /// let syntax = Language::CSV_DE.forms()[0].syntax();
+    /// let money = Style::PLAIN.decimals(2);
+    /// assert_eq!(syntax.format_float(1234.5, money).unwrap().to_string(), "1.234,50");
+    /// assert_eq!(syntax.format_float(-0.004, money).unwrap().to_string(), "-0,00");
+    /// let json = Language::JSON.forms()[0].syntax();
+    /// let always = money.exponent(ExponentStyle::Always);
+    /// assert_eq!(json.format_float(99999.0, always).unwrap().to_string(), "1.00e5");
+    /// ```
+    #[must_use]
+    pub const fn decimals(mut self, count: u8) -> Style {
+        self.decimals = Some(count);
+        self
+    }
+
+    /// Writes a float with a point and a digit behind it, also before an exponent: `1.0e16`.
+    ///
+    /// ```
+    /// use peltzivar::literal::{Language, Style};
+    ///
+    /// let ada = Language::ADA.forms()[0].syntax();
+    /// assert_eq!(ada.format_float(1e16, Style::PLAIN.point()).unwrap().to_string(), "1.0e16");
+    /// ```
+    #[must_use]
+    pub const fn point(mut self) -> Style {
+        self.point = true;
+        self
+    }
 }
 
 /// Defines the default of a type.
@@ -168,10 +219,13 @@ impl Syntax {
     ///
     /// [`WriteError::Special`] for NaN and infinity, [`WriteError::Radix`] if the mantissa radix and the exponent base are
     /// neither both 10 nor both powers of two, and otherwise why no literal has the value.
+    #[inline(never)]
     pub fn format_float<T: WriteFloat>(&self, value: T, style: Style) -> Result<Written<'static>, WriteError> {
-        let (mut digits, mut text) = (FloatDigits::new(), [0; 32]);
+        let (mut digits, mut text) = (FloatDigits::new(), [0; 40]);
         let length = float::format_float(self, value, style, &mut digits)?.write(&mut text);
-        Ok(Written { text: Text::Float(FloatText { digits, syntax: *self, style, text, length }) })
+        let float =
+            FloatText { bits: value.bits().unwrap_or(0), lay_out: lay_out::<T>, syntax: *self, style, text, length };
+        Ok(Written { text: Text::Float(float) })
     }
 
     /// Returns a literal, which may be of another syntax, as a literal of this syntax with the same value.
@@ -180,7 +234,8 @@ impl Syntax {
     /// exponent that the literal does not have, `0` and `e0` are added. Trailing zeros are kept, and so is the sign of `-0`.
     /// Where no exponent is allowed, the point moves in its place, and trailing zeros of the fraction are left out: `1.2e3`
     /// is `1200`. So they are in a syntax of integers alone, in which `1.0` is `1`. In another radix, a whole number of up to
-    /// 128 bits is written: `0xFF` is `255`.
+    /// 128 bits is written: `0xFF` is `255`. If the value by the [kind][Literal::kind] of the literal is another number, that is
+    /// written: of Java's `0xffffffff`, it is `-1`.
     ///
     /// ```
     /// use peltzivar::literal::{Style, Syntax};
@@ -197,7 +252,153 @@ impl Syntax {
     ///
     /// If the literal cannot be written, returns why.
     pub fn format_literal<'a>(&self, literal: &Literal<'a>, style: Style) -> Result<Written<'a>, WriteError> {
-        literal::format_literal(literal, self, style).map(|layout| Written { text: Text::Number(layout) })
+        match literal.other_value() {
+            None => literal::format_literal(literal, self, style).map(|layout| Written { text: Text::Number(layout) }),
+            Some(other) => self.format_other(other, style),
+        }
+    }
+}
+
+impl Syntax {
+    /// Returns the value of a literal that is not the number that it represents.
+    #[cold]
+    #[inline(never)]
+    fn format_other(&self, other: Other, style: Style) -> Result<Written<'static>, WriteError> {
+        match other {
+            Other::Integer(value) => self.format_integer(value, style),
+            Other::Single(value) => self.format_float(value, style),
+            Other::TooLarge => Err(WriteError::TooLarge),
+        }
+    }
+}
+
+/// The longest text that is read back.
+const LONGEST: usize = 4096;
+
+impl<'a> Forms<'a> {
+    /// Returns the value of an integer as a number of one of these forms. [Reading][Self::read] the text returns the same
+    /// value.
+    ///
+    /// Decimal forms are asked first, and then the others, each in the order of the list. The first is taken whose text is
+    /// read, by all forms, as the same value: in C, 15 is not written as `17` of the octal form, which is decimal if it
+    /// begins with another digit than 0.
+    ///
+    /// ```
+    /// use peltzivar::literal::{Language, Style, WriteError};
+    ///
+    /// assert_eq!(Language::C.forms().format_integer(1_234_567, Style::PLAIN.group(3))?.to_string(), "1'234'567");
+    /// assert_eq!(Language::C.forms().format_integer(-1, Style::PLAIN).unwrap_err(), WriteError::Negative);
+    /// # Ok::<(), WriteError>(())
+    /// ```
+    ///
+    /// # Errors
+    ///
+    /// If no form is taken, returns the error of the form that was asked first, or [`WriteError::ReadBack`] if its text is read
+    /// as another number. [`WriteError::Buffer`] is that of a text of more than 4,096 bytes, which is not read back.
+    pub fn format_integer<T: WriteInteger>(&self, value: T, style: Style) -> Result<Written<'static>, WriteError> {
+        let (negative, size) = value.sign_and_size();
+        let layout = write_number(negative, Ok(size), &self.syntax_for(&Whole { value }, style)?, style)?;
+        Ok(Written { text: Text::Number(layout) })
+    }
+
+    /// Returns the value of a float as a number of one of these forms, or as one of the spellings of NaN and infinity.
+    /// [Reading][Self::read] the text returns the same bits, but for a NaN.
+    ///
+    /// Forms are asked as by [`format_integer`][Self::format_integer].
+    ///
+    /// ```
+    /// use peltzivar::literal::{Language, Style, WriteError};
+    ///
+    /// assert_eq!(Language::TOML.forms().format_float(-1e300, Style::PLAIN)?.to_string(), "-1e300");
+    /// assert_eq!(Language::TOML.forms().format_float(f32::INFINITY, Style::PLAIN)?.to_string(), "inf");
+    /// # Ok::<(), WriteError>(())
+    /// ```
+    ///
+    /// # Errors
+    ///
+    /// As [`format_integer`][Self::format_integer], and [`WriteError::Special`] for NaN and infinity without a spelling.
+    pub fn format_float<T: WriteFloat>(&self, value: T, style: Style) -> Result<Written<'a>, WriteError> {
+        match self.syntax_for(&Real { value }, style) {
+            Ok(syntax) => syntax.format_float(value, style),
+            Err(WriteError::Special) => {
+                let sign = value.bits().filter(|bits| *bits > u64::MAX >> if T::DOUBLE { 1 } else { 33 });
+                let spelling = value.bits().map_or(Spelling::Nan, |_| Spelling::Inf);
+                let special = Special { sign: sign.map(|_| Sign::Minus), spelling };
+                self.specials().format(&self[0].syntax(), special)
+            }
+            Err(error) => Err(error),
+        }
+    }
+
+    /// Returns a literal, which may be of other forms, as a number of one of these forms. [Reading][Self::read] the text
+    /// returns the same integer or, if either is a float, the same bits of `f64`.
+    ///
+    /// Forms of the radix of the literal are asked first, then decimal ones, and then the others, each in the order of the
+    /// list. The first is taken whose text is read, by all forms, as the same number.
+    ///
+    /// ```
+    /// use peltzivar::literal::{Language, Style, WriteError};
+    ///
+    /// let literal = Language::C.read("0x1.8p1").unwrap().literal().unwrap();
+    /// let write = |language: Language| language.forms().format_literal(&literal, Style::PLAIN).map(|it| it.to_string());
+    /// assert_eq!(write(Language::JAVA)?, "0x1.8p1");
+    /// assert_eq!(write(Language::PYTHON)?, "3");
+    /// # Ok::<(), WriteError>(())
+    /// ```
+    ///
+    /// # Errors
+    ///
+    /// As [`format_integer`][Self::format_integer].
+    pub fn format_literal<'b>(&self, literal: &Literal<'b>, style: Style) -> Result<Written<'b>, WriteError> {
+        match literal.other_value() {
+            None => self.syntax_for(literal, style)?.format_literal(literal, style),
+            Some(Other::Integer(value)) => self.format_integer(value, style),
+            Some(Other::Single(value)) => self.syntax_for(&Real { value }, style)?.format_float(value, style),
+            Some(Other::TooLarge) => Err(WriteError::TooLarge),
+        }
+    }
+
+    /// Returns the syntax of the form that writes a number.
+    fn syntax_for(&self, number: &dyn Writable, style: Style) -> Result<Syntax, WriteError> {
+        let (form, _) = choose(self, number, style, &mut [0; LONGEST])?;
+        Ok(self[form].syntax())
+    }
+
+    /// Passes the text of a number in one of these forms, for programs with few bytes.
+    ///
+    /// # Errors
+    ///
+    /// As those of the other calls.
+    #[doc(hidden)]
+    pub fn written<R>(
+        &self,
+        number: &dyn Writable,
+        style: Style,
+        then: impl FnOnce(&[u8]) -> R,
+    ) -> Result<R, WriteError> {
+        let buffer = &mut [0; LONGEST];
+        let (_, length) = choose(self, number, style, buffer)?;
+        Ok(then(&buffer[..length]))
+    }
+
+    /// Does the same for the value of a literal.
+    ///
+    /// # Errors
+    ///
+    /// As those of the other calls.
+    #[doc(hidden)]
+    pub fn written_literal<R>(
+        &self,
+        literal: &Literal,
+        style: Style,
+        then: impl FnOnce(&[u8]) -> R,
+    ) -> Result<R, WriteError> {
+        match literal.other_value() {
+            None => self.written(literal, style, then),
+            Some(Other::Integer(value)) => self.written(&Whole { value }, style, then),
+            Some(Other::Single(value)) => self.written(&Real { value }, style, then),
+            Some(Other::TooLarge) => Err(WriteError::TooLarge),
+        }
     }
 }
 
@@ -244,22 +445,34 @@ enum Text<'a> {
     Special(Option<u8>, &'a str),
 }
 
-/// The digits of a float, which can be laid out, and the text, if it is short, with its length.
+/// A call of [`lay_out`] for a type. A program has only those for the types that it writes.
+type LayOut = for<'b> fn(u64, &Syntax, Style, &'b mut FloatDigits) -> Option<Layout<'b>>;
+
+/// Returns the layout of the float of a type with these bits.
+fn lay_out<'b, T: Float>(bits: u64, syntax: &Syntax, style: Style, digits: &'b mut FloatDigits) -> Option<Layout<'b>> {
+    let sign = if T::DOUBLE { 1 << 63 } else { 1 << 31 };
+    let size = T::from_magnitude(bits % sign);
+    let value = if bits < sign { size } else { size.negated() };
+    float::format_float(syntax, value, style, digits).ok()
+}
+
+/// The bits of a float, which can be laid out, and the text, if it is short, with its length.
 #[derive(Clone, Copy)]
 struct FloatText {
-    digits: FloatDigits,
+    bits: u64,
+    lay_out: LayOut,
     syntax: Syntax,
     style: Style,
-    text: [u8; 32],
+    text: [u8; 40],
     length: usize,
 }
 
 impl Text<'_> {
-    /// Returns the layout of a number.
-    fn layout(&self) -> Option<Layout<'_>> {
+    /// Returns the layout of a number. The digits of a float are those of `digits`.
+    fn layout<'b>(&'b self, digits: &'b mut FloatDigits) -> Option<Layout<'b>> {
         match self {
             Text::Number(layout) => Some(*layout),
-            Text::Float(float) => float.digits.lay_out(&float.syntax, float.style).ok(),
+            Text::Float(FloatText { bits, lay_out, syntax, style, .. }) => lay_out(*bits, syntax, *style, digits),
             Text::Special(..) => None,
         }
     }
@@ -272,7 +485,7 @@ impl Text<'_> {
                 buffer[..*length].copy_from_slice(&text[..*length]);
                 *length
             }
-            Text::Float(_) => self.layout().map_or(0, |layout| layout.write(buffer)),
+            Text::Float(_) => self.layout(&mut FloatDigits::new()).map_or(0, |layout| layout.write(buffer)),
             Text::Special(sign, word) => {
                 let mut window = Window { bytes: buffer, length: 0 };
                 sign.iter().for_each(|sign| window.put(*sign));
@@ -335,7 +548,7 @@ impl Written<'_> {
             return to.write_str(word);
         }
         let mut printer = Printer { f: to, skip: 0, result: Ok(()) };
-        if let Some(layout) = self.text.layout() {
+        if let Some(layout) = self.text.layout(&mut FloatDigits::new()) {
             layout.put(&mut printer);
         }
         printer.result
@@ -344,7 +557,8 @@ impl Written<'_> {
     /// Prints the text, of which the length is known, with what the formatter adds.
     #[cold]
     fn pad(&self, f: &mut fmt::Formatter<'_>, length: usize) -> fmt::Result {
-        let layout = self.text.layout();
+        let mut digits = FloatDigits::new();
+        let layout = self.text.layout(&mut digits);
         let (own, prefix) = match (layout, self.text) {
             (Some(layout), _) => (layout.sign, layout.prefix),
             (None, Text::Special(sign, _)) => (sign, None),
@@ -428,6 +642,7 @@ impl fmt::Display for WriteError {
     fn fmt(&self, f: &mut fmt::Formatter<'_>) -> fmt::Result {
         f.pad(match self {
             WriteError::Radix => "the digits or the exponent have another radix or base",
+            WriteError::TooLarge => "the literal is too large for its kind",
             WriteError::Negative => "no literal has the sign '-'",
             WriteError::Fraction => "literals are integers, and the number is not whole",
             WriteError::Exponent => "no literal has an exponent, and this one does not move the point by whole digits",
@@ -435,6 +650,7 @@ impl fmt::Display for WriteError {
             WriteError::Special => "no literal is NaN or infinity, and no spelling is read back as it",
             WriteError::Long => "without an exponent, the text has more than 800 bytes",
             WriteError::Buffer(length) => return write!(f, "the text has {length} bytes"),
+            WriteError::ReadBack => "the text is read as another number",
         })
     }
 }

@@ -10,6 +10,9 @@ pub trait Float: Copy {
     /// Returns the float with these bits, which are not those of a NaN.
     fn from_magnitude(bits: u64) -> Self;
 
+    /// Returns the float with the value of an `f32`.
+    fn from_single(single: f32) -> Self;
+
     /// Returns the float with the other sign.
     fn negated(self) -> Self;
 
@@ -34,6 +37,11 @@ impl Float for f64 {
     #[inline(always)]
     fn from_magnitude(bits: u64) -> f64 {
         f64::from_bits(bits)
+    }
+
+    #[inline(always)]
+    fn from_single(single: f32) -> f64 {
+        f64::from(single)
     }
 
     #[inline(always)]
@@ -66,6 +74,11 @@ impl Float for f32 {
     #[inline(always)]
     fn from_magnitude(bits: u64) -> f32 {
         f32::from_bits(bits as u32)
+    }
+
+    #[inline(always)]
+    fn from_single(single: f32) -> f32 {
+        single
     }
 
     #[inline(always)]

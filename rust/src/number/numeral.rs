@@ -3,6 +3,7 @@
 //! Numbers with a sign, by their value or by their digits.
 
 use crate::digit::char_to_digit;
+use crate::number::word::add_all;
 
 /// A number without a sign.
 #[derive(Debug, Clone, Copy, PartialEq, Eq, Hash)]
@@ -76,6 +77,15 @@ impl Numeral<'_> {
             Magnitude::Word(word) if word as u128 <= most => Some(word as u128),
             Magnitude::Word(_) => None,
             Magnitude::Digits(bytes, radix) => wide_size(bytes, radix, most),
+        }
+    }
+
+    /// Returns the number without its sign, modulo `2 ^ 64`.
+    #[must_use]
+    pub const fn low_bits(&self) -> u64 {
+        match self.magnitude {
+            Magnitude::Word(word) => word,
+            Magnitude::Digits(bytes, radix) => add_all(0, bytes, radix),
         }
     }
 

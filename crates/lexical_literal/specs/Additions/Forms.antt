@@ -1,5 +1,5 @@
 -- What one pass over several forms finds.
-use Rattle.std.specs.Prelude.{ℕ, ◌≡◌, [], ◌∷◌, false, if◌then◌else◌, nat_lt, IfErr, IfOk, IfSome, IsErr, IsNone, IsSomeAnd, List, Option, Some, None, Result, All, slice_get}
+use Rattle.std.specs.Prelude.{ℕ, ◌≡◌, ◌+◌, [], ◌∷◌, false, if◌then◌else◌, nat_lt, IfErr, IfOk, IfSome, IsErr, IsNone, IsSomeAnd, List, Option, Some, None, Result, All, slice_get}
 use Rattle.lexical_util.specs.Roles.{signs}
 use Rattle.lexical_util.specs.declared.feature_format.roles.Role.{Role}
 use Rattle.lexical_literal.specs.Additions.Longest.{IsCountedFront, IsStopped}
@@ -12,6 +12,11 @@ use Rattle.lexical_literal.specs.declared.read.Found.{Found}
 use Rattle.lexical_literal.specs.declared.plain.At.{At}
 use Rattle.lexical_literal.specs.declared.list.Form.{Form}
 
+-- `sign_size text` is the length of the sign with which `text` begins.
+abbrev pub sign_size : List ℕ → ℕ
+sign_size [] = 0
+sign_size (byte ∷ text) = if signs byte then 1 else 0
+
 -- `greater size best form found` is `best`, or `found` of the form with the index `form` if its `size` is greater.
 abbrev pub greater : {X : Type 0} → (X → ℕ) → Option (ℕ × X) → ℕ → X → Option (ℕ × X)
 greater size None form found = Some (form, found)
@@ -20,6 +25,11 @@ greater size (Some best) form found = if nat_lt (size best.1) (size found) then 
 -- `further furthest form stop` is `furthest`, or the form with the index `form` if it goes further, to `stop`.
 abbrev pub further : Option (ℕ × At) → ℕ → At → Option (ℕ × At)
 further furthest form stop = greater (λ (stop : At). stop.size) furthest form stop
+
+-- `further_on sign furthest form stop` is the same, but `furthest` where `stop` is not beyond the first byte behind a sign with the
+-- length `sign`.
+abbrev pub further_on : ℕ → Option (ℕ × At) → ℕ → At → Option (ℕ × At)
+further_on sign furthest form stop = if nat_lt (sign + 1) stop.size then further furthest form stop else furthest
 
 -- `longer longest form found` is the front `longest`, or that of the form with the index `form` if it has a longer one.
 abbrev pub longer : Option (ℕ × Found) → ℕ → Option Found → Option (ℕ × Found)
@@ -31,11 +41,6 @@ longer longest form (Some found) = greater (λ (found : Found). found.size) long
 pub record IsFoundForm (forms : List Form) (text : List ℕ) (result : Option (ℕ × Read)) : Type 0 where
   pub found : IfSome result (λ found. IsFirst forms text found.0 found.1)
   pub none : IsNone result → NoForm forms text
-
--- `sign_size text` is the length of the sign with which `text` begins.
-abbrev pub sign_size : List ℕ → ℕ
-sign_size [] = 0
-sign_size (byte ∷ text) = if signs byte then 1 else 0
 
 -- `PlaysNoRole m byte` holds if `byte` plays no role, and is not the zero of a prefix.
 pub record PlaysNoRole (m : Notation) (byte : ℕ) : Type 0 where

@@ -1,5 +1,5 @@
 -- What is read of a text part after part.
-use Rattle.std.specs.Prelude.{ℕ, ◌≡◌, ◌<◌, ◌≤◌, ◌+◌, ◌-◌, ◌%◌, ◌^◌, ◌==◌, ◌&&◌, if◌then◌else◌, Bool, not, IsTrue, List, [], ◌∷◌, None, Some, true, false, drop, bit_and}
+use Rattle.std.specs.Prelude.{ℕ, ◌≡◌, ◌<◌, ◌≤◌, ◌+◌, ◌-◌, ◌%◌, ◌^◌, ◌==◌, ◌&&◌, ◌||◌, nat_le, nat_lt, if◌then◌else◌, Bool, not, IsTrue, List, [], ◌∷◌, None, Some, true, false, drop, bit_and}
 use Rattle.std.specs.Prelude.{get_or, length, take}
 use Rattle.std.specs.Int.Digits.{number_from_digits_after}
 use Rattle.lexical_util.specs.Digits.{digit_of}
@@ -13,7 +13,7 @@ use Rattle.lexical_util.specs.declared.format_flags.Part.TheVariants as parts
 use Rattle.lexical_literal.specs.Groups.{has_size, has_sizes}
 use Rattle.lexical_util.specs.Record.{Record}
 use Rattle.lexical_literal.specs.Notation.{Notation, is_same, kept, number_of, radix_of, set_of_role}
-use Rattle.lexical_literal.specs.Additions.Summary.{Cuts, add_more, after_mark, cuts_of, digits_piece, has_digit, is_run, is_signed}
+use Rattle.lexical_literal.specs.Additions.Summary.{Cuts, add_more, after_mark, awaits_integer, cuts_of, digits_piece, has_digit, implies, is_run, is_signed}
 use Rattle.lexical_literal.specs.Additions.Summary.{lacks_prefix, no_cuts, part_of, piece_of, scan, start, step, takes, tally}
 use Rattle.lexical_literal.specs.declared.plain.At.{At}
 use Rattle.lexical_literal.specs.declared.plain.Opening.{Opening}
@@ -96,9 +96,25 @@ pub record IsSign (m : Notation) (text : List ℕ) (part : Part) (size sign : �
   pub on : IsReadOn m text (at_stage size (fresh part)) (piece_of part roles.Sign) (at_stage (size + sign) (behind_sign part sign))
   pub signed : is_signed m part (behind_sign part sign) ≡ true
 
--- `is_free m stage` is true if no base prefix is required that has not been read.
+-- `needs_first m` is true if a condition of `m` is on the first digit, and `is_first m digit` if these conditions allow `digit`.
+abbrev pub needs_first : Notation → Bool
+needs_first m = m.condition conditions.LeadingZero || m.condition conditions.DecimalFirstDigit
+
+abbrev pub is_first : Notation → ℕ → Bool
+is_first m digit = implies (m.condition conditions.LeadingZero) (digit == 48) && implies (m.condition conditions.DecimalFirstDigit) (nat_le digit 57)
+
+-- `is_free m stage` is true if no base prefix and no first digit is required that has not been read.
 abbrev pub is_free : Notation → Stage → Bool
-is_free m stage = not (m.condition conditions.BasePrefix && lacks_prefix stage)
+is_free m stage = not (m.condition conditions.BasePrefix && lacks_prefix stage) && not (needs_first m && awaits_integer stage)
+
+-- `has_first m text size` is true if no condition of `m` is on the first digit, or if they allow the one behind the first `size` bytes.
+abbrev pub has_first : Notation → List ℕ → ℕ → Bool
+has_first m text size = not (needs_first m)
+    || (nat_lt size (length text) && (m.digit parts.Integer (get_or text size 0) && is_first m (get_or text size 0)))
+
+-- `may_read m text size stage` is true if no base prefix is required, and if the first digit that is required follows.
+abbrev pub may_read : Notation → List ℕ → ℕ → Stage → Bool
+may_read m text size stage = is_free m stage || (not (m.condition conditions.BasePrefix) && has_first m text size)
 
 -- `between text from end` has the bytes of `text` from the index `from` to `end`.
 abbrev pub between : List ℕ → ℕ → ℕ → List ℕ
@@ -155,6 +171,6 @@ pub record IsOpened (m : Notation) (text : List ℕ) (opening : Opening) : Type 
   pub size : opening.size ≡ opening.sign + opening.prefix
   pub at : IsAt m text (at_stage opening.size opening.stage) (cuts_of (counts_of (integer_sizes opening.sign opening.prefix 0) 0 0 0 0))
   pub signed : is_signed m parts.Integer opening.stage ≡ true
-  pub free : is_free m opening.stage ≡ true
+  pub first : may_read m text opening.size opening.stage ≡ true
   pub none : has_digit opening.stage ≡ false
   pub inside : part_of opening.stage ≡ parts.Integer

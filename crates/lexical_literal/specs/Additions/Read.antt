@@ -1,5 +1,5 @@
 -- The parts of a literal by their lengths, and the sums of their digits.
-use Rattle.std.specs.Prelude.{ℕ, ◌≡◌, ◌+◌, ◌%◌, ◌^◌, ◌++◌, IsTrue, List, Option, drop, take}
+use Rattle.std.specs.Prelude.{ℕ, ◌≡◌, ◌+◌, ◌%◌, ◌^◌, ◌++◌, Bool, if◌then◌else◌, IsTrue, List, Option, Some, None, drop, take}
 use Rattle.lexical_util.specs.Layout as layout
 use Rattle.lexical_util.specs.Record.{Record, raw, effective_exponent_radix}
 use Rattle.lexical_literal.specs.Literal.{Literal, Reads}
@@ -76,6 +76,10 @@ pub record IsMantissa (r : Record) (text : List ℕ) (s : Sizes) (run : Run) : T
   pub sum : run.sum % 2 ^ 64 ≡ number (r.byte layout.mantissa_radix)
       ((cut text (cuts_of (counts_of s 0 0 0 0))).integer ++ (cut text (cuts_of (counts_of s 0 0 0 0))).fraction) % 2 ^ 64
   pub fraction : s.places ≡ places (r.byte layout.mantissa_radix) (cut text (cuts_of (counts_of s 0 0 0 0))).fraction
+
+-- `given has n` is `Some n` if `has` is true, and `None` otherwise.
+abbrev pub given : Bool → ℕ → Option ℕ
+given has n = if has then Some n else None
 
 -- `IsMade word text c m n e` holds if `text` is a literal of a syntax with the format `word`, if its parts have the lengths `c`, and if
 -- `m` and `e` are its mantissa and its exponent if they are short, and `n` is the number of its fraction digits.

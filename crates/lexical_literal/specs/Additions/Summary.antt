@@ -1,5 +1,5 @@
 -- What has been read of a number, changed by one byte.
-use Rattle.std.specs.Prelude.{ℕ, Bool, true, false, not, ◌==◌, ◌&&◌, ◌||◌, if◌then◌else◌, ◌+◌, ◌≡◌, length, slice_index, List, [], ◌∷◌, Option, Some, None}
+use Rattle.std.specs.Prelude.{ℕ, Bool, true, false, not, ◌==◌, ◌&&◌, ◌||◌, if◌then◌else◌, nat_le, ◌+◌, ◌≡◌, length, slice_index, List, [], ◌∷◌, Option, Some, None}
 use Rattle.lexical_util.specs.Layout as layout
 use Rattle.lexical_util.specs.Layout.{separators_in}
 use Rattle.lexical_util.specs.Roles.{signs}
@@ -193,15 +193,23 @@ is_negative parts.Exponent plus role = false
 is_negative part plus roles.Sign = not plus
 is_negative part plus role = false
 
+-- `leads fits role` is true if a byte with the role `role` is a sign, or a digit that fits if `fits` is true.
+abbrev pub leads : Bool → Role → Bool
+leads fits roles.Sign = true
+leads fits roles.Digit = fits
+leads fits _ = false
+
 -- `no_condition` is true of no condition.
 abbrev pub no_condition : Condition → Bool
 no_condition c = false
 
--- `admits C s plus zero role` is true if the conditions `C` let a byte with the role `role` follow.
-abbrev pub admits : (Condition → Bool) → Summary → Bool → Bool → Role → Bool
-admits C s plus zero role =
-    implies (C conditions.BasePrefix && lacks_prefix s.stage) (leads_to_prefix s.stage zero role)
-    && not (C conditions.NegativeSign && is_negative (part_of s.stage) plus role)
+-- `admits C s byte role` is true if the conditions `C` let `byte` follow, which has the role `role`.
+abbrev pub admits : (Condition → Bool) → Summary → ℕ → Role → Bool
+admits C s byte role =
+    implies (C conditions.BasePrefix && lacks_prefix s.stage) (leads_to_prefix s.stage (byte == 48) role)
+    && (not (C conditions.NegativeSign && is_negative (part_of s.stage) (byte == 43) role)
+    && (implies (C conditions.LeadingZero && awaits_integer s.stage) (leads (byte == 48) role)
+    && implies (C conditions.DecimalFirstDigit && awaits_integer s.stage) (leads (nat_le byte 57) role)))
 
 -- `finishes C s` is true if the conditions `C` let a literal end.
 abbrev pub finishes : (Condition → Bool) → Summary → Bool
@@ -242,17 +250,17 @@ after s zero roles.Point = record s { stage = after_point (has_digit s.stage); g
 after s zero roles.Exponent = record s { stage = stages.Mark; gap = false }
 after s zero roles.Suffix = record s { ended = true }
 
--- `move_by C m s plus zero role` is the summary after a byte with this role, or `None` if no literal of the format of `m` and
+-- `move_by C m s byte role` is the summary after `byte`, which has this role, or `None` if no literal of the format of `m` and
 -- the conditions `C` begins so.
-abbrev pub move_by : (Condition → Bool) → Notation → Summary → Bool → Bool → Option Role → Option Summary
-move_by C m s plus zero None = None
-move_by C m s plus zero (Some role) =
-    if not s.ended && (takes m s plus role && admits C s plus zero role) then Some (after s zero role) else None
+abbrev pub move_by : (Condition → Bool) → Notation → Summary → ℕ → Option Role → Option Summary
+move_by C m s byte None = None
+move_by C m s byte (Some role) =
+    if not s.ended && (takes m s (byte == 43) role && admits C s byte role) then Some (after s (byte == 48) role) else None
 
 -- `step_by C m s byte` is the summary after one more byte, or `None` if no such literal begins so, and `step m s byte` if no
 -- literal of `m` does.
 abbrev pub step_by : (Condition → Bool) → Notation → Summary → ℕ → Option Summary
-step_by C m s byte = move_by C m s (byte == 43) (byte == 48) (role_at m (part_of s.stage) byte)
+step_by C m s byte = move_by C m s byte (role_at m (part_of s.stage) byte)
 
 abbrev pub step : Notation → Summary → ℕ → Option Summary
 step m s byte = step_by m.condition m s byte

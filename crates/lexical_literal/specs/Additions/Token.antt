@@ -1,11 +1,12 @@
 -- What one pass over several forms finds of a token.
 use Rattle.std.specs.Prelude.{ℕ, ◌≡◌, ◌+◌, ◌-◌, ◌==◌, ◌&&◌, ◌||◌, not, Bool, if◌then◌else◌, nat_lt, List, Option, Some, None, All, IsSomeAnd}
-use Rattle.std.specs.Prelude.{◌≤◌, drop, get_or, length, slice_get, take}
+use Rattle.std.specs.Prelude.{◌≤◌, ◌<◌, drop, get_or, length, slice_get, take}
 use Rattle.std.specs.Borrow.{Bor}
 use Rattle.lexical_literal.specs.Additions.Longest.{IsMeasured}
 use Rattle.lexical_literal.specs.Cause.{is_in}
 use Rattle.lexical_literal.specs.FormList.{FormList}
-use Rattle.lexical_literal.specs.Front.{NoLiteral}
+use Rattle.lexical_literal.specs.Forms.{HasFront}
+use Rattle.lexical_literal.specs.Front.{IsFront, NoLiteral}
 use Rattle.lexical_literal.specs.Suffix.{suffix_size}
 use Rattle.lexical_literal.specs.declared.suffix.Suffixes.{Suffixes}
 use Rattle.lexical_literal.specs.Token.{IsBest, IsCandidate, IsChosen, NoCandidate, gives_back, is_shorter}
@@ -72,3 +73,26 @@ abbrev pub suffixed : Option (Bor Suffixes) → Bool → List ℕ → Found → 
 suffixed suffixes needs text own =
     if needs && (suffix_size suffixes (has_float own.counts) (drop own.size text) == 0) then None
     else Some (record { size = own.size; counts = own.counts; end = own.size + suffix_size suffixes (has_float own.counts) (drop own.size text) })
+
+-- `IsWithin text size form` holds if no literal of `form` begins with more than the first `size` bytes of `text`, and `AreWithin forms text size`
+-- if this holds of each of `forms`. `FrontsWithin text size form` holds if each front of `text` that is a literal has at most `size` bytes.
+abbrev pub IsWithin : Notation → List ℕ → ℕ → Type 0
+IsWithin m text size = (more : ℕ) → size < more → more ≤ length text → IsFront m (take more text) → ⊥
+
+abbrev pub AreWithin : List Form → List ℕ → ℕ → Type 0
+AreWithin forms text size = All (λ form. IsWithin (notation_of form.syntax) text size) forms
+
+abbrev pub FrontsWithin : List ℕ → ℕ → Form → Type 0
+FrontsWithin text size form = (longest : ℕ) → HasFront text form longest → longest ≤ size
+
+-- `IsLeading list t text index form size` holds if `form`, with this index, is the first of the list of which the first `size` bytes of `text` are
+-- a literal, and no literal of a form goes on behind them.
+pub record IsLeading (list : FormList) (t : Tokens) (text : List ℕ) (index : ℕ) (form : Form) (size : ℕ) : Type 0 where
+  pub at : slice_get list.forms index ≡ Some form
+  pub plain : AreWithin list.forms text size
+  pub suffixed : AreWithin t.forms.now text size
+  pub before : (reached : ℕ) × (reached < size) × All (FrontsWithin text reached) (take index list.forms)
+
+-- `has_prefix m text index` is true if a zero and a base prefix are at `index`.
+abbrev pub has_prefix : Notation → List ℕ → ℕ → Bool
+has_prefix m text index = nat_lt (index + 1) (length text) && (get_or text index 0 == 48) && m.prefix (get_or text (index + 1) 0)

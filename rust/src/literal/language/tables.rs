@@ -1,7 +1,7 @@
 //! The forms of each language. The comment of a setter has a text that is accepted or rejected because of the setter.
 
 use super::{Definition, Language};
-use crate::literal::{Form, Forms, Specials, Stop, Suffixes, Syntax, Tokens};
+use crate::literal::{FloatKind, Form, Forms, IntegerKind, Kind, Specials, Stop, Suffixes, Syntax, Tokens};
 use crate::NumberFormatBuilder;
 use core::num::NonZeroU8;
 
@@ -46,6 +46,17 @@ const fn decimal(builder: NumberFormatBuilder) -> Syntax {
 const fn integers(radix: u8, builder: NumberFormatBuilder) -> Syntax {
     let builder = builder.fraction_digit_separator_flags(false).exponent_digit_separator_flags(false);
     unsigned(Syntax::integers(builder.mantissa_radix(radix).build_format_or_panic()))
+}
+
+/// Returns the syntax of octal integers, which begin with a zero: `017` is accepted, and `17` rejected.
+const fn octal(builder: NumberFormatBuilder) -> Syntax {
+    let syntax = integers(8, builder);
+    syntax.with_conditions_or_panic(syntax.conditions().required_leading_zero(true))
+}
+
+/// Returns the same syntax with a first digit that is not a letter: `0FFh` is accepted, and `FFh`, a name, rejected.
+const fn nameless(syntax: Syntax) -> Syntax {
+    syntax.with_conditions_or_panic(syntax.conditions().decimal_first_digit(true))
 }
 
 /// Returns the same syntax with its prefix required: `0x1F` is accepted, and `1F` rejected.
@@ -119,6 +130,33 @@ const NASM: NumberFormatBuilder = separated(b'_')
 /// Digits of NASM behind a prefix.
 const NASM_PREFIXED: NumberFormatBuilder = NASM.integer_leading_digit_separator(true); // accepts `0x_1`
 
+/// Integers of a kind, and floats that are the nearest ones.
+const fn whole(integers: IntegerKind) -> Kind {
+    Kind::new(integers, FloatKind::Nearest).unwrap()
+}
+
+/// Floats of 32 bits.
+const SINGLE: Kind = Kind::new(IntegerKind::Exact, FloatKind::Single).unwrap();
+
+/// Integers of Java with a sign, which are at most `2147483647`, or `0x7FFFFFFF` and then negative; those with `L` have 64 bits.
+const AT_MOST_31: Kind = whole(IntegerKind::AtMost(31));
+const AT_MOST_63: Kind = whole(IntegerKind::AtMost(63));
+const WRAPS_32: Kind = whole(IntegerKind::Wraps(32));
+const WRAPS_64: Kind = whole(IntegerKind::Wraps(64));
+
+/// Integers of OCaml, which have 63 bits.
+const AT_MOST_62: Kind = whole(IntegerKind::AtMost(62));
+const WRAPS_63: Kind = whole(IntegerKind::Wraps(63));
+
+/// Integers of Lua and NASM, of which the last 64 bits count.
+const LAST_64: Kind = whole(IntegerKind::WrapsModulo(64));
+
+/// Integers and reals of Fortran.
+const DEFAULT: Kind = Kind::new(IntegerKind::AtMost(31), FloatKind::Single).unwrap();
+
+/// The suffix of a float of 32 bits, of C and of Kotlin.
+const FLOAT: &[(&[u8], Kind)] = &[(b"f", SINGLE), (b"F", SINGLE)];
+
 /// Words behind integers and floats, in this case.
 const fn words(integers: &'static [&'static [u8]], floats: &'static [&'static [u8]]) -> Suffixes {
     Suffixes::new(integers, floats, &[])
@@ -136,41 +174,79 @@ const C_FLOATS: &[&[u8]] = &[b"f", b"F", b"l", b"L"];
 
 /// What goes on a preprocessing number of C: `1.2.3`, `0xe+1` and `1'`.
 const C_STOPS: &[Stop] = &[Stop::new(b"", b".'", b""), Stop::new(b"eEpP", b"+-", b"")];
-const C_WORDS: Suffixes = Suffixes::new(C_INTEGERS, C_FLOATS, C_STOPS);
+const C_WORDS: Suffixes = Suffixes::new(C_INTEGERS, C_FLOATS, C_STOPS).with_kinds(FLOAT);
 
 /// Suffixes of C++, and of its users: `1_km`.
 const C_PLUS_PLUS_WORDS: Suffixes = C_WORDS.any_word(b"_");
 
+/// Units of CSS: any word, such as `px`. A name may also have `-` and escapes: `1px-x`, `1-x` and `1--x` are refused.
+const CSS_WORDS: Suffixes = Suffixes::new(&[], &[], CSS_STOPS).any_word(&LETTERS);
+const CSS_STOPS: &[Stop] = &[
+    Stop::new(&LETTERS, b"-", b""),
+    Stop::new(b"", b"-", &LETTERS),
+    Stop::new(b"", b"-", b"-\\"),
+    Stop::new(b"", b"\\", b""),
+];
+const LETTERS: [u8; 181] = letters();
+
+/// Returns letters, `_` and the bytes from 128 up.
+const fn letters() -> [u8; 181] {
+    let (mut letters, mut at, mut byte) = ([0; 181], 0, 0);
+    while at < letters.len() {
+        byte += 1;
+        if byte == b'_' || byte.is_ascii_alphabetic() || byte >= 128 {
+            letters[at] = byte;
+            at += 1;
+        }
+    }
+    letters
+}
+
 /// Suffixes of C#, in either case.
 const C_SHARP_INTEGERS: &[&[u8]] = &[b"u", b"l", b"ul", b"lu"];
-const C_SHARP_DECIMALS: &[&[u8]] = &[b"u", b"l", b"ul", b"lu", b"f", b"d", b"m"];
+const C_SHARP_DECIMALS: Suffixes =
+    words(&[b"u", b"l", b"ul", b"lu", b"f", b"d", b"m"], &[b"f", b"d", b"m"]).either_case(true).with_kinds(FLOAT);
 
 /// Suffixes of imaginary numbers of Go, and a point that no binary and octal number has: `0b1.`.
 const GO_WORDS: Suffixes = words(&[b"i"], &[b"i"]);
 const GO_POINTLESS: Suffixes = Suffixes::new(&[b"i"], &[], &[Stop::new(b"", b".", b"")]);
 
 /// Suffixes of Java, in either case.
-const JAVA_INTEGERS: Suffixes = words(&[b"l"], &[]).either_case(true);
-const JAVA_FLOATS: Suffixes = words(&[b"f", b"d"], &[b"f", b"d"]).either_case(true);
+const JAVA_DECIMALS: Suffixes = words(&[b"l", b"f", b"d"], &[b"f", b"d"]).either_case(true).with_kinds(&[
+    (b"l", AT_MOST_63),
+    (b"f", SINGLE),
+    (b"d", Kind::EXACT),
+]);
+const JAVA_INTEGERS: Suffixes = words(&[b"l"], &[]).either_case(true).with_kinds(&[(b"l", WRAPS_64)]);
+const JAVA_FLOATS: Suffixes = words(&[b"f", b"d"], &[b"f", b"d"]).either_case(true).with_kinds(FLOAT);
 
 /// The suffix of big integers of JavaScript. A name, which `$` and `\\` may begin, does not follow a number.
 const BIG: Suffixes = Suffixes::new(&[b"n"], &[], &[Stop::new(b"", b"$\\", b"")]);
 
-/// A second point of Julia: `1..2` is no number, and no range.
+/// A second point of Julia and Lua: `1..2` is no number, and no range.
 const JULIA_WORDS: Suffixes = Suffixes::new(&[], &[], &[Stop::new(b"", b".", b"")]);
+const LUA_WORDS: Suffixes = JULIA_WORDS;
 
 /// Suffixes of Kotlin.
 const KOTLIN_INTEGERS: &[&[u8]] = &[b"u", b"U", b"L", b"uL", b"UL"];
-const KOTLIN_DECIMALS: &[&[u8]] = &[b"u", b"U", b"L", b"uL", b"UL", b"f", b"F"];
+const KOTLIN_DECIMALS: Suffixes = words(&[b"u", b"U", b"L", b"uL", b"UL", b"f", b"F"], &[b"f", b"F"]).with_kinds(FLOAT);
 
 /// Suffixes of OCaml, whose names may have `'`.
-const OCAML_WORDS: Suffixes = Suffixes::new(&[b"l", b"L", b"n"], &[], &[Stop::new(b"", b"'", b"")]);
+const OCAML_WORDS: Suffixes = Suffixes::new(&[b"l", b"L", b"n"], &[], &[Stop::new(b"", b"'", b"")]).with_kinds(&[
+    (b"l", WRAPS_32),
+    (b"L", WRAPS_64),
+    (b"n", WRAPS_64),
+]);
+const OCAML_DECIMALS: Suffixes = OCAML_WORDS.with_kinds(&[(b"l", AT_MOST_31), (b"L", AT_MOST_63), (b"n", AT_MOST_63)]);
 
 /// The suffix of imaginary numbers of Python, in either case.
 const PYTHON_WORDS: Suffixes = words(&[b"j"], &[b"j"]).either_case(true);
 
 /// Words of Python that may follow a number: `1if x else 0`.
 const PYTHON_KEYWORDS: &[&[u8]] = &[b"and", b"else", b"for", b"if", b"in", b"is", b"not", b"or"];
+
+/// Suffixes of R, for integers and imaginary numbers.
+const R_WORDS: Suffixes = words(&[b"L", b"i"], &[b"L", b"i"]);
 
 /// Suffixes of Ruby.
 const RUBY_INTEGERS: &[&[u8]] = &[b"r", b"i", b"ri"];
@@ -189,7 +265,7 @@ const RUST_INTEGERS: &[&[u8]] =
 const RUST_DECIMALS: &[&[u8]] = &[
     b"u8", b"u16", b"u32", b"u64", b"u128", b"usize", b"i8", b"i16", b"i32", b"i64", b"i128", b"isize", b"f32", b"f64",
 ];
-const RUST_WORDS: Suffixes = words(RUST_DECIMALS, &[b"f32", b"f64"]);
+const RUST_WORDS: Suffixes = words(RUST_DECIMALS, &[b"f32", b"f64"]).with_kinds(&[(b"f32", SINGLE)]);
 const RUST_PREFIXED_WORDS: Suffixes = Suffixes::new(RUST_INTEGERS, &[], POINT_AND_DIGIT);
 
 /// Tokens whose last point belongs to what follows: `1..2` and `1.max(2)`.
@@ -197,25 +273,32 @@ const POINTS_BACK: Tokens = Tokens::new(&[], &[]).gives_points_back(true);
 
 languages! {
     /// Ada's decimal literals (Reference Manual 2012, 2.4.1). A format cannot accept based literals, such as `16#FF#`, or
-    /// accept `1.0E-3` but reject `1E-3`.
-    ADA = { "decimal": decimal(separated(b'_')
-        .required_digits(true) // rejects `.5`, `1.`, `1e` and `.`
-    ) };
+    /// accept `1.0E-3` and `1E3` but reject `1E-3`, which the first form does not write.
+    ADA = {
+        "decimal": decimal(separated(b'_')
+            .required_digits(true) // rejects `.5`, `1.`, `1e` and `.`
+            .no_exponent_without_fraction(true) // rejects `1e3`, not `1.0e3`
+        ),
+        "integer with an exponent": decimal(separated(b'_')
+            .required_digits(true) // rejects `.5`, `1.`, `1e` and `.`
+        ),
+    };
 
     /// C's integer and floating constants (C23, 6.4.4.1 and 6.4.4.2). A format cannot accept `1u`, `1L` and `1.0f`.
     C = {
         "decimal": decimal(C.no_integer_leading_zeros(true)) => C_WORDS, // rejects `08`, not `08.5`
-        "octal": integers(8, C) => C_WORDS,
+        "octal": octal(C) => C_WORDS,
         "hexadecimal": prefixed(b'x', 16, C) => C_WORDS,
         "binary": prefixed(b'b', 2, C) => C_WORDS,
         "hexadecimal float": binary_floats(b'x', 16, C.required_exponent_notation(true)) => C_WORDS, // rejects `0x1.8`
     } => Tokens::new(&[], &[]);
 
-    /// CSS's numbers, with signs (CSS Syntax Module Level 3, 4.3.12). A format cannot accept a unit, as in `10px` and `5%`.
+    /// CSS's numbers, with signs (CSS Syntax Module Level 3, 4.3.12). A format cannot accept a unit, as in `10px` and `5%`. A
+    /// token has a word as its unit, but neither `%` nor what follows `-` behind a digit: of `1p2-x`, it is `1p2`.
     CSS = { "decimal": numbers(b'e', b'.', NumberFormatBuilder::new()
         .no_special(true) // rejects `NaN` and `inf`
         .required_fraction_digits(true) // rejects `1.`, not `.5`
-    ) };
+    ) => CSS_WORDS } => Tokens::new(&[], &[]);
 
     /// Numbers in CSV, as German spreadsheets write cells of the format `#.##0,00` (RFC 4180): `1.234,50`. The
     /// cause of `0.123` is its leading zero, since its groups are right.
@@ -229,7 +312,7 @@ languages! {
     /// of users.
     C_PLUS_PLUS = {
         "decimal": decimal(C.no_integer_leading_zeros(true)) => C_PLUS_PLUS_WORDS, // rejects `08`, not `08.5`
-        "octal": integers(8, C) => C_PLUS_PLUS_WORDS,
+        "octal": octal(C) => C_PLUS_PLUS_WORDS,
         "hexadecimal": prefixed(b'x', 16, C) => C_PLUS_PLUS_WORDS,
         "binary": prefixed(b'b', 2, C) => C_PLUS_PLUS_WORDS,
         "hexadecimal float": binary_floats(b'x', 16, C.required_exponent_notation(true)) => C_PLUS_PLUS_WORDS, // rejects `0x1.8`
@@ -237,7 +320,7 @@ languages! {
 
     /// C#'s integer and real literals (C# standard, 6.4.5.3 and 6.4.5.4). A format cannot accept `1L`, `1f` and `1m`.
     C_SHARP = {
-        "decimal": decimal(JAVA.required_fraction_digits(true)) => words(C_SHARP_DECIMALS, &[b"f", b"d", b"m"]).either_case(true), // rejects `1.`, not `.5`
+        "decimal": decimal(JAVA.required_fraction_digits(true)) => C_SHARP_DECIMALS, // rejects `1.`, not `.5`
         "hexadecimal": prefixed(b'x', 16, JAVA.integer_leading_digit_separator(true)) => words(C_SHARP_INTEGERS, &[]).either_case(true), // accepts `0x_1F`
         "binary": prefixed(b'b', 2, JAVA.integer_leading_digit_separator(true)) => words(C_SHARP_INTEGERS, &[]).either_case(true), // accepts `0b_1`
     } => Tokens::new(&[], &[]);
@@ -251,19 +334,23 @@ languages! {
         "hexadecimal": prefixed(b'x', 16, separated(b'_').case_sensitive_base_prefix(true)), // rejects `0X1F`
         "octal": prefixed(b'o', 8, separated(b'_').case_sensitive_base_prefix(true)), // rejects `0O17`
         "binary": prefixed(b'b', 2, separated(b'_').case_sensitive_base_prefix(true)), // rejects `0B1`
-    };
+    } => POINTS_BACK;
 
     /// Fortran's signed integers and reals (ISO/IEC 1539-1:2018, 7.4.3). A format cannot accept a kind, as in `1.0_8`, or
-    /// binary, octal and hexadecimal constants, such as `Z'FF'`. Fortran rounds `0.1`, but not `0.1d0`, to single precision.
+    /// binary, octal and hexadecimal constants, such as `Z'FF'`. Integers have at most 31 bits, and `0.1`, but not `0.1d0`, is
+    /// an `f32`.
     FORTRAN = {
-        "decimal": numbers(b'e', b'.', NumberFormatBuilder::new().no_special(true)), // rejects `NaN` and `inf`
-        "double precision": numbers(b'd', b'.', NumberFormatBuilder::new().no_special(true)),
+        "decimal": numbers(b'e', b'.', NumberFormatBuilder::new().no_special(true)); DEFAULT, // rejects `NaN` and `inf`
+        "double precision": numbers(b'd', b'.', NumberFormatBuilder::new()
+            .no_special(true)
+            .required_exponent_notation(true) // rejects `1.0`, which the first form reads
+        ),
     };
 
     /// Go's integer and floating-point literals (Language Specification). A format cannot accept `1i`.
     GO = {
         "decimal": decimal(separated(b'_').no_integer_leading_zeros(true)) => GO_WORDS, // rejects `08`, not `08.5`
-        "octal": integers(8, separated(b'_')) => GO_POINTLESS,
+        "octal": octal(separated(b'_')) => GO_POINTLESS,
         "hexadecimal": prefixed(b'x', 16, GO_PREFIXED) => GO_WORDS,
         "octal, 0o": prefixed(b'o', 8, GO_PREFIXED) => GO_POINTLESS,
         "binary": prefixed(b'b', 2, GO_PREFIXED) => GO_POINTLESS,
@@ -291,15 +378,16 @@ languages! {
         ),
         "octal": prefixed(b'o', 8, JAVA.integer_leading_digit_separator(true)), // accepts `0o_17`
         "binary": prefixed(b'b', 2, JAVA.integer_leading_digit_separator(true)), // accepts `0b_1`
-    };
+    } => POINTS_BACK;
 
     /// Java's integer and floating-point literals (Language Specification 21, 3.10.1 and 3.10.2). A format cannot accept
-    /// `1L`, `1f` and `1d`. In Java, a hexadecimal, octal or binary integer from 2^31 on is negative: `0xffffffff` is -1.
+    /// `1L`, `1f` and `1d`. Values are those of `int` or, with `L`, of `long`: a hexadecimal, octal or binary integer from 2^31 on
+    /// is negative, as `0xffffffff`, which is -1. `2147483648`, which is lawful behind the operator `-` alone, is too large.
     JAVA = {
-        "decimal": decimal(JAVA.no_integer_leading_zeros(true)) => words(&[b"l", b"f", b"d"], &[b"f", b"d"]).either_case(true), // rejects `08`, not `08.5`
-        "octal": integers(8, JAVA) => JAVA_INTEGERS,
-        "hexadecimal": prefixed(b'x', 16, JAVA) => JAVA_INTEGERS,
-        "binary": prefixed(b'b', 2, JAVA) => JAVA_INTEGERS,
+        "decimal": decimal(JAVA.no_integer_leading_zeros(true)) => JAVA_DECIMALS; AT_MOST_31, // rejects `08`, not `08.5`
+        "octal": octal(JAVA) => JAVA_INTEGERS; WRAPS_32,
+        "hexadecimal": prefixed(b'x', 16, JAVA) => JAVA_INTEGERS; WRAPS_32,
+        "binary": prefixed(b'b', 2, JAVA) => JAVA_INTEGERS; WRAPS_32,
         "hexadecimal float": binary_floats(b'x', 16, JAVA.required_exponent_notation(true)) => JAVA_FLOATS, // rejects `0x1.8`
     } => Tokens::new(
         const { &[Form::new("float, leading zeros", integers(10, JAVA)).with_suffixes(const { &JAVA_FLOATS })] },
@@ -307,7 +395,7 @@ languages! {
     );
 
     /// JavaScript's numeric literals in strict code (ECMA-262, Numeric Literals). A format cannot accept `1n`. JavaScript
-    /// rounds integers to doubles: `9007199254740993` is 9007199254740992 there.
+    /// makes integers doubles, which it rounds from 2^53 on: take their values as `f64`.
     JAVASCRIPT = {
         "decimal": decimal(without_zeros(separated(b'_'))) => BIG,
         "hexadecimal": prefixed(b'x', 16, separated(b'_')) => BIG,
@@ -318,11 +406,10 @@ languages! {
     /// JSON's numbers (RFC 8259, 6. Numbers).
     JSON = { "decimal": signed(decimal(without_zeros(TOKENS).required_digits(true))) }; // rejects `.5`, `1.`, `1e` and `.`
 
-    /// Julia's integers and floats (Manual 1.11, Integers and Floating-Point Numbers). Julia rounds `0.1f0`, but not `0.1`, to
-    /// single precision.
+    /// Julia's integers and floats (Manual 1.11, Integers and Floating-Point Numbers). `0.1f0`, but not `0.1`, is an `f32`.
     JULIA = {
         "decimal": decimal(JULIA) => JULIA_WORDS,
-        "32 bits": unsigned(numbers(b'f', b'.', JULIA.case_sensitive_exponent(true))), // accepts `1f3`, not `1F3`
+        "32 bits": unsigned(numbers(b'f', b'.', JULIA.case_sensitive_exponent(true))); SINGLE, // accepts `1f3`, not `1F3`
         "hexadecimal": prefixed(b'x', 16, JULIA.case_sensitive_base_prefix(true)), // rejects `0X1F`
         "octal": prefixed(b'o', 8, JULIA.case_sensitive_base_prefix(true)), // rejects `0O17`
         "binary": prefixed(b'b', 2, JULIA.case_sensitive_base_prefix(true)), // rejects `0B1`
@@ -338,77 +425,78 @@ languages! {
         "decimal": decimal(JAVA
             .required_fraction_digits(true) // rejects `1.`, not `.5`
             .no_integer_leading_zeros(true) // rejects `01`, not `01.0`
-        ) => words(KOTLIN_DECIMALS, &[b"f", b"F"]),
+        ) => KOTLIN_DECIMALS,
         "hexadecimal": prefixed(b'x', 16, JAVA) => words(KOTLIN_INTEGERS, &[]),
         "binary": prefixed(b'b', 2, JAVA) => words(KOTLIN_INTEGERS, &[]),
     } => POINTS_BACK;
 
-    /// Lua's integers and floats (Reference Manual 5.4, 3.1). In Lua, a decimal integer from 2^63 on is a float, and a
-    /// hexadecimal one keeps its last 64 bits: `0xffffffffffffffff` is -1.
+    /// Lua's integers and floats (Reference Manual 5.4, 3.1). In Lua, a decimal integer from 2^63 on is a float: take its
+    /// value as an `f64`. A hexadecimal one keeps its last 64 bits: `0xffffffffffffffff` is -1.
     LUA = {
-        "decimal": decimal(TOKENS),
-        "hexadecimal": binary_floats(b'x', 16, TOKENS),
-    };
+        "decimal": decimal(TOKENS) => LUA_WORDS,
+        "hexadecimal": binary_floats(b'x', 16, TOKENS) => LUA_WORDS; LAST_64,
+    } => Tokens::new(&[], &[]);
 
     /// NASM's numeric constants (NASM manual, Numeric Constants and Floating-Point Constants). A format cannot accept `$0c8`,
-    /// `0x_`, `0._` and `1e_`, which have separators alone, or `0h.` and `0op7`, which have no digit; or reject `ffh`, which is a
-    /// name. NASM keeps the last 64 bits of an integer: `0x10000000000000000` is 0 there.
+    /// `0x_`, `0._` and `1e_`, which have separators alone, or `0h.` and `0op7`, which have no digit. NASM keeps the last 64 bits
+    /// of an integer, with a sign: `0x10000000000000001` is 1, and `0xffffffffffffffff` -1.
     NASM = {
         "decimal": decimal(NASM
             .required_integer_digits(true) // rejects `.5`, not `1.`
             .required_exponent_digits(false) // accepts `1e`
-        ),
-        "decimal, d": suffixed(b'd', 10, NASM),
-        "decimal, t": suffixed(b't', 10, NASM),
-        "hexadecimal, h": suffixed(b'h', 16, NASM),
-        "hexadecimal, x": suffixed(b'x', 16, NASM),
-        "octal, o": suffixed(b'o', 8, NASM),
-        "octal, q": suffixed(b'q', 8, NASM),
-        "binary, b": suffixed(b'b', 2, NASM),
-        "binary, y": suffixed(b'y', 2, NASM),
+        ); LAST_64,
+        "decimal, d": suffixed(b'd', 10, NASM); LAST_64,
+        "decimal, t": suffixed(b't', 10, NASM); LAST_64,
+        "hexadecimal, h": nameless(suffixed(b'h', 16, NASM)); LAST_64, // rejects `ffh`
+        "hexadecimal, x": nameless(suffixed(b'x', 16, NASM)); LAST_64, // rejects `ffx`
+        "octal, o": suffixed(b'o', 8, NASM); LAST_64,
+        "octal, q": suffixed(b'q', 8, NASM); LAST_64,
+        "binary, b": suffixed(b'b', 2, NASM); LAST_64,
+        "binary, y": suffixed(b'y', 2, NASM); LAST_64,
         "decimal, 0d": required_prefix(decimal(NASM_PREFIXED
             .base_prefix(NonZeroU8::new(b'd')) // accepts `0d1.5`
             .required_exponent_digits(false) // accepts `0d1e`
-        )),
+        )); LAST_64,
         "decimal, 0t": required_prefix(decimal(NASM_PREFIXED
             .base_prefix(NonZeroU8::new(b't')) // accepts `0t1.5`
             .required_exponent_digits(false) // accepts `0t1e`
-        )),
-        "hexadecimal, 0h": binary_floats(b'h', 16, NASM_PREFIXED),
-        "hexadecimal, 0x": binary_floats(b'x', 16, NASM_PREFIXED),
-        "octal, 0o": binary_floats(b'o', 8, NASM_PREFIXED),
-        "octal, 0q": binary_floats(b'q', 8, NASM_PREFIXED),
-        "binary, 0b": binary_floats(b'b', 2, NASM_PREFIXED),
-        "binary, 0y": binary_floats(b'y', 2, NASM_PREFIXED),
+        )); LAST_64,
+        "hexadecimal, 0h": binary_floats(b'h', 16, NASM_PREFIXED); LAST_64,
+        "hexadecimal, 0x": binary_floats(b'x', 16, NASM_PREFIXED); LAST_64,
+        "octal, 0o": binary_floats(b'o', 8, NASM_PREFIXED); LAST_64,
+        "octal, 0q": binary_floats(b'q', 8, NASM_PREFIXED); LAST_64,
+        "binary, 0b": binary_floats(b'b', 2, NASM_PREFIXED); LAST_64,
+        "binary, 0y": binary_floats(b'y', 2, NASM_PREFIXED); LAST_64,
     };
 
     /// OCaml's integers and floats (Manual 5.2, 11.1 Lexical conventions). A format cannot accept `1._`, whose fraction has a
-    /// separator alone, or `1l`, `1L` and `1n`. In OCaml, an integer has 63 bits, and `0x7fffffffffffffff` is -1.
+    /// separator alone, or `1l`, `1L` and `1n`. An integer has 63 bits, so `0x7fffffffffffffff` is -1.
+    /// `4611686018427387904`, which is lawful behind the operator `-` alone, is too large.
     OCAML = {
         "decimal": decimal(RUST
             .required_integer_digits(true) // rejects `.5`, not `1.`
             .fraction_leading_digit_separator(true) // accepts `1._5`, not `_1` or `1e_5`
-        ) => OCAML_WORDS,
+        ) => OCAML_DECIMALS; AT_MOST_62,
         "hexadecimal": binary_floats(b'x', 16, RUST
             .required_integer_digits(true) // rejects `0x.8`, not `0x1.`
             .fraction_leading_digit_separator(true) // accepts `0x1._8`, not `0x_1`
-        ) => OCAML_WORDS,
-        "octal": prefixed(b'o', 8, RUST) => OCAML_WORDS,
-        "binary": prefixed(b'b', 2, RUST) => OCAML_WORDS,
+        ) => OCAML_WORDS; WRAPS_63,
+        "octal": prefixed(b'o', 8, RUST) => OCAML_WORDS; WRAPS_63,
+        "binary": prefixed(b'b', 2, RUST) => OCAML_WORDS; WRAPS_63,
     } => Tokens::new(&[], &[]);
 
     /// PHP's integers and floats (Manual, 8.1 and later, Integers and Floating point numbers). In PHP, an integer from 2^63 on is
     /// a float.
     PHP = {
         "decimal": decimal(separated(b'_').no_integer_leading_zeros(true)), // rejects `08`, not `08.5`
-        "octal": integers(8, separated(b'_')),
+        "octal": octal(separated(b'_')),
         "hexadecimal": prefixed(b'x', 16, separated(b'_')),
         "octal, 0o": prefixed(b'o', 8, separated(b'_')),
         "binary": prefixed(b'b', 2, separated(b'_')),
-    };
+    } => Tokens::new(&[], &[]);
 
     /// Python's integers and floats (Language Reference 3.12, 2.4.5 and 2.4.6). A format cannot accept `00` and reject `01`,
-    /// or accept `1j`.
+    /// or accept `1j`. CPython takes the `0o` of `0or x` for a prefix, and refuses it: its token here is `0`.
     PYTHON = {
         "decimal": decimal(separated(b'_').no_integer_leading_zeros(true)) => PYTHON_WORDS, // rejects `01`, not `01.0`
         "hexadecimal": prefixed(b'x', 16, GO_PREFIXED),
@@ -422,15 +510,15 @@ languages! {
     /// R's numeric constants (R Language Definition 4.2, 10.3.1). A format cannot accept `1L` and `1i`. In R, all are doubles:
     /// `9007199254740993` is 9007199254740992 there.
     R = {
-        "decimal": decimal(TOKENS),
-        "hexadecimal": prefixed(b'x', 16, TOKENS),
-        "hexadecimal float": binary_floats(b'x', 16, TOKENS.required_exponent_notation(true)), // rejects `0x1.8`
-    };
+        "decimal": decimal(TOKENS) => R_WORDS,
+        "hexadecimal": prefixed(b'x', 16, TOKENS) => R_WORDS,
+        "hexadecimal float": binary_floats(b'x', 16, TOKENS.required_exponent_notation(true)) => R_WORDS, // rejects `0x1.8`
+    } => Tokens::new(&[], &[]);
 
     /// Ruby's integers and floats (ISO/IEC 30170:2012, 8.7.6.2), with signs. A format cannot accept `1r` and `1i`.
     RUBY = {
         "decimal": signed(decimal(without_zeros(RUBY).required_digits(true))) => RUBY_WORDS, // rejects `.5`, `1.`, `1e` and `.`
-        "octal": signed(integers(8, RUBY)) => RUBY_WORDS,
+        "octal": signed(octal(RUBY)) => RUBY_WORDS,
         "hexadecimal": signed(prefixed(b'x', 16, RUBY)) => RUBY_WORDS,
         "octal, 0o": signed(prefixed(b'o', 8, RUBY)) => RUBY_WORDS,
         "binary": signed(prefixed(b'b', 2, RUBY)) => RUBY_WORDS,
@@ -445,7 +533,8 @@ languages! {
     .gives_points_back(true);
 
     /// Rust's integers and floats (Reference, Integer literals and Floating-point literals). A format cannot accept the
-    /// suffixes in `0x1F_u8` and `1f32`.
+    /// suffixes in `0x1F_u8` and `1f32`. The token of `0b1.` is `0b1`, but rustc takes the point if neither a second one nor a
+    /// name follows, and refuses it.
     RUST = {
         "decimal": decimal(RUST
             .required_integer_digits(true) // rejects `.5`
@@ -518,7 +607,7 @@ languages! {
             .required_exponent_sign(true) // rejects `1.5e3`
             .no_exponent_without_fraction(true) // rejects `1e+3`, not `1.e+3`
         ),
-        "octal": signed(integers(8, YAML_1_1)),
+        "octal": signed(octal(YAML_1_1)),
         "hexadecimal": signed(prefixed(b'x', 16, YAML_1_1
             .case_sensitive_base_prefix(true) // rejects `0X1F`
             .integer_leading_digit_separator(true) // accepts `0x_1F`

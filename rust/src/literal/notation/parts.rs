@@ -45,8 +45,12 @@ pub(super) fn literal(pool: &Pool, grammar: Grammar) -> Expression<'_> {
     let [fraction, ..] = runs(pool, grammar, Part::Fraction, [prefix, digit]);
     let fraction = fraction.when(is_float).named("Fraction");
     let point = pool.byte(|it| steps::is_point(grammar, it));
-    let [integer, strict, led] = runs(pool, grammar, Part::Integer, [prefix, digit]);
+    let [integer, strict, led, begun] = runs(pool, grammar, Part::Integer, [prefix, digit]);
+    let is_first = |it| conditions.has(it) && !conditions.has(Condition::BasePrefix);
     let number = match leading_zeros(grammar) {
+        _ if is_first(Condition::LeadingZero) || is_first(Condition::DecimalFirstDigit) => {
+            numbers(grammar, [prefix, begun, point, fraction, exponent])
+        }
         [false, false] => front + numbers(grammar, [front.times(0, Some(0)), integer, point, fraction, exponent]),
         [true, false] => front + floats(grammar, [integer, point, fraction, exponent]) | strict,
         [zeros, true] => numbers(grammar, [front, strict, point, fraction, exponent]) | led.when(!zeros),
@@ -55,9 +59,9 @@ pub(super) fn literal(pool: &Pool, grammar: Grammar) -> Expression<'_> {
     sign(Part::Integer).required(view.required_mantissa_sign()) + number + suffix
 }
 
-/// Returns the digits of a part with its separators, those without a leading zero or behind the prefix, and those with
-/// a leading zero.
-fn runs<'a>(pool: &'a Pool, grammar: Grammar, part: Part, [prefix, digit]: [Expression<'a>; 2]) -> [Expression<'a>; 3] {
+/// Returns the digits of a part with its separators, those without a leading zero or behind the prefix, those with a
+/// leading zero, and those that begin with a digit that the conditions allow or behind the prefix.
+fn runs<'a>(pool: &'a Pool, grammar: Grammar, part: Part, [prefix, digit]: [Expression<'a>; 2]) -> [Expression<'a>; 4] {
     let separator = pool.byte(|it| is_separator(grammar, it));
     let exactly = |size| digit.times(size, Some(size));
     // What is in groups, and what is behind its first digit.
@@ -82,7 +86,17 @@ fn runs<'a>(pool: &'a Pool, grammar: Grammar, part: Part, [prefix, digit]: [Expr
     let zero = before + pool.byte(|it| it == b'0');
     let first = prefix + before + digit | before + pool.byte(|it| it != b'0' && is_digit(grammar, part, it));
     let led = zero + between.required(false) + (digits(1) | rest) + after;
-    [before + (digits(1) | whole) + after, (first + (digits(0) | rest) | zero) + after, led]
+    let is_begun = |it| {
+        (it == b'0' || !grammar.conditions.has(Condition::LeadingZero))
+            && (it <= b'9' || !grammar.conditions.has(Condition::DecimalFirstDigit))
+    };
+    let begun = prefix + before + digit | pool.byte(|it| is_begun(it) && is_digit(grammar, part, it));
+    [
+        before + (digits(1) | whole) + after,
+        (first + (digits(0) | rest) | zero) + after,
+        led,
+        begun + (digits(0) | rest) + after,
+    ]
 }
 
 /// Returns the numbers whose integer is `integer`, and the floats that have none behind `front`.

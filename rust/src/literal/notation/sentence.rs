@@ -57,6 +57,8 @@ pub(super) fn write(syntax: Syntax, f: &mut Formatter<'_>) -> fmt::Result {
         (!view.no_special(), format_args!("{}NaN", if view.case_sensitive_special() { "case-sensitive " } else { "" })),
         (zeros, format_args!("no leading zeros{}", if float_zeros { "" } else { " in integers" })),
         (float_zeros && !zeros, format_args!("no leading zeros in floats")),
+        (conditions.has(Condition::LeadingZero), format_args!("leading zero required")),
+        (conditions.has(Condition::DecimalFirstDigit), format_args!("first digit decimal")),
         (has_exponent && view.required_exponent_notation(), format_args!("exponent required")),
         (has_exponent && view.case_sensitive_exponent() && exponent.is_ascii_alphabetic(), format_args!("no `{}`", shown(exponent ^ 32))),
         (view.case_sensitive_base_prefix() && prefix.is_ascii_alphabetic(), format_args!("no `0{}`", shown(prefix ^ 32))),

@@ -2,23 +2,72 @@
 
 //! The value of a literal as a value of a float type.
 
+use crate::literal::kind::FloatKind;
 use crate::literal::literal::Literal;
-use crate::literal::read::Parts;
-use crate::literal::value::integer::ValueErrorKind;
+use crate::literal::value::integer::{integer_numeral, ValueErrorKind};
+use crate::literal::value::kind::{fewer, is_exact, Worth};
 use crate::number::decimal::{decimal_to_float, digits_to_float};
 use crate::number::float::Float;
 use crate::number::leading::{push_all, saturating, Leading};
-use crate::number::parts::{bits_of, count, raised_bits};
+use crate::number::parts::{bits_of, raised_bits};
 use crate::word::FormatView;
 
-/// Returns the value of a literal as a value of a float type: rounded once to the nearest float, or to the even one if two
-/// are as near. The value is infinite if it is that large. Its sign is that of the literal, also for 0.
+/// Returns the value of a literal by its kind as a value of a float type: rounded once to the nearest float, or to the even one
+/// if two are as near. The value is infinite if it is that large. Its sign is that of the literal, also for 0.
 ///
 /// # Errors
 ///
-/// If the mantissa radix and the exponent base are neither both 10 nor both powers of two, of any literal.
+/// If the mantissa radix and the exponent base are neither both 10 nor both powers of two, of any literal, or if an integer is
+/// too large for its kind.
 #[inline(always)]
 pub fn to_float<F: Float>(literal: &Literal) -> Result<F, ValueErrorKind> {
+    let kind = literal.kind();
+    if is_exact(kind.integers()) || literal.is_float() {
+        float_of_kind(kind.floats(), literal)
+    } else {
+        whole_float(&{ *literal })
+    }
+}
+
+// Returns the nearest float, or the nearest `f32` if floats are single.
+#[inline(always)]
+fn float_of_kind<F: Float>(kind: FloatKind, literal: &Literal) -> Result<F, ValueErrorKind> {
+    match kind {
+        FloatKind::Nearest => nearest_float(literal),
+        FloatKind::Single => match nearest_single(&{ *literal }) {
+            Ok(single) => Ok(F::from_single(single)),
+            Err(error) => Err(error),
+        },
+    }
+}
+
+// Returns the nearest `f32`, in one copy.
+#[cold]
+#[inline(never)]
+fn nearest_single(literal: &Literal) -> Result<f32, ValueErrorKind> {
+    nearest_float(literal)
+}
+
+// Returns the float nearest to what an integer of a kind that is not exact is worth.
+#[cold]
+fn whole_float<F: Float>(literal: &Literal) -> Result<F, ValueErrorKind> {
+    if !supports_floats(literal.format()) {
+        return Err(ValueErrorKind::UnsupportedRadix);
+    }
+    let Some(numeral) = integer_numeral(literal) else { unreachable!() };
+    match fewer(literal.kind().integers(), &numeral) {
+        Some(Worth { negative, size }) => Ok(signed(digits_to_float(size, 0, false, 0), negative)),
+        None => Err(ValueErrorKind::out_of_range(numeral.negative)),
+    }
+}
+
+/// Returns the float nearest to the number that a literal represents, whatever its kind is, or to the even one if two are as near.
+///
+/// # Errors
+///
+/// If the mantissa radix and the exponent base are neither both 10 nor both powers of two.
+#[inline(always)]
+pub fn nearest_float<F: Float>(literal: &Literal) -> Result<F, ValueErrorKind> {
     let size = if has_decimal_floats(literal.format()) {
         decimal_size(literal)
     } else if let Some(bits) = binary_size(F::DOUBLE, &{ *literal }) {
@@ -29,9 +78,10 @@ pub fn to_float<F: Float>(literal: &Literal) -> Result<F, ValueErrorKind> {
     Ok(signed(size, literal.is_negative()))
 }
 
-// Returns a float with a sign.
+/// Returns a float, or the same with the sign `-` if `negative` is true.
+#[must_use]
 #[inline(always)]
-pub(crate) fn signed<F: Float>(size: F, negative: bool) -> F {
+pub fn signed<F: Float>(size: F, negative: bool) -> F {
     if negative {
         size.negated()
     } else {
@@ -55,7 +105,7 @@ const fn has_decimal_floats(format: FormatView) -> bool {
 
 // Returns the number that the exponent digits of a literal represent, or `2 ^ 90` if that is less.
 #[inline(always)]
-const fn exponent_of(literal: &Literal) -> u128 {
+pub(crate) const fn exponent_of(literal: &Literal) -> u128 {
     match literal.scale() {
         Some(exponent) => exponent as u128,
         None => saturating(literal.cut().exponent, literal.format().exponent_radix()),
@@ -105,48 +155,4 @@ const fn leading_of(literal: &Literal, radix: u32) -> Leading {
             push_all(integer, radix, parts.fraction)
         }
     }
-}
-
-/// Returns the value of a literal of `format` with these parts as a value of a float type, as [`to_float`] does. It is `None` if
-/// the mantissa radix and the exponent base are neither both 10 nor both powers of two.
-#[inline(always)]
-pub fn parts_to_float<F: Float>(format: FormatView, parts: &Parts) -> Option<F> {
-    let size = if has_decimal_floats(format) {
-        decimal_parts(format, parts)
-    } else if let Some(bits) = binary_parts(F::DOUBLE, format, parts) {
-        F::from_magnitude(bits)
-    } else {
-        return None;
-    };
-    Some(signed(size, is_minus(parts.sign)))
-}
-
-// Returns whether a sign is a minus sign.
-const fn is_minus(sign: &[u8]) -> bool {
-    matches!(sign, [b'-', ..])
-}
-
-// Returns the float nearest to a decimal literal with these parts, without its sign.
-#[inline(always)]
-fn decimal_parts<F: Float>(format: FormatView, parts: &Parts) -> F {
-    let exponent = saturating(parts.exponent, format.exponent_radix());
-    decimal_to_float(parts.integer, parts.fraction, is_minus(parts.exponent_sign), exponent)
-}
-
-// Returns the bits of the float nearest to a literal with these parts, without its sign, or `None` if a radix is not a power of two.
-fn binary_parts(double: bool, format: FormatView, parts: &Parts) -> Option<u64> {
-    let radix = format.mantissa_radix();
-    let Some(radix_bits) = bits_of(radix) else {
-        return None;
-    };
-    let base = format.exponent_base();
-    let Some(base_bits) = bits_of(base) else {
-        return None;
-    };
-    let integer = push_all(Leading::ZERO, radix, parts.integer);
-    let leading = push_all(integer, radix, parts.fraction);
-    let places = count(parts.fraction, radix) as u64;
-    let negative = is_minus(parts.exponent_sign);
-    let exponent = saturating(parts.exponent, format.exponent_radix());
-    Some(raised_bits(double, leading, radix_bits, places, negative, exponent, base_bits))
 }

@@ -3,6 +3,7 @@
 //! The value of a literal as a value of an integer type.
 
 use crate::literal::literal::Literal;
+use crate::literal::value::kind::counted;
 use crate::number::integer::Integer;
 use crate::number::numeral::{Magnitude, Numeral};
 
@@ -34,23 +35,40 @@ impl ValueErrorKind {
     }
 }
 
-/// Returns the value of a literal as a value of an integer type. The value of `-0` is 0.
+/// Returns the value of a literal by its kind as a value of an integer type. The value of `-0` is 0.
 ///
 /// # Errors
 ///
-/// If the literal has a decimal point or an exponent, or if its value is not in the range of the type, returns which.
+/// If the literal has a decimal point or an exponent, if it is too large for its kind, or if its value is not in the range of
+/// the type, returns which.
 #[inline(always)]
 pub fn to_integer<T: Integer>(literal: &Literal) -> Result<T, ValueErrorKind> {
+    match own_numeral(literal) {
+        Err(error) => Err(error),
+        Ok(numeral) => match T::from_numeral(&numeral) {
+            Some(value) => Ok(value),
+            None => Err(ValueErrorKind::out_of_range(numeral.negative)),
+        },
+    }
+}
+
+/// Returns the sign and the number of what an integer is worth by its kind, or why it is worth none.
+///
+/// # Errors
+///
+/// If the literal has a decimal point or an exponent, or if it is too large for its kind, returns which.
+#[inline(always)]
+pub(crate) const fn own_numeral<'a>(literal: &Literal<'a>) -> Result<Numeral<'a>, ValueErrorKind> {
     let Some(numeral) = integer_numeral(literal) else {
         return Err(ValueErrorKind::Float);
     };
-    match T::from_numeral(&numeral) {
-        Some(value) => Ok(value),
+    match counted(literal.kind().integers(), numeral) {
+        Some(own) => Ok(own),
         None => Err(ValueErrorKind::out_of_range(numeral.negative)),
     }
 }
 
-// Returns the sign and the number of a literal, or `None` if it has a decimal point or an exponent.
+/// Returns the sign and the number of a literal, or `None` if it has a decimal point or an exponent.
 #[inline(always)]
 pub(crate) const fn integer_numeral<'a>(literal: &Literal<'a>) -> Option<Numeral<'a>> {
     if literal.is_float() {

@@ -31,7 +31,7 @@ fn split_last(number: u128, radix: u32) -> (u128, u32) {
 }
 
 // Writes the digits of a number to the end of a buffer, and returns them.
-fn characters(buffer: &mut [u8; 128], number: u128, radix: u32) -> &[u8] {
+pub(crate) fn characters(buffer: &mut [u8; 128], number: u128, radix: u32) -> &[u8] {
     let mut left = number;
     let mut start = 128;
     while left > 0 {
@@ -45,7 +45,7 @@ fn characters(buffer: &mut [u8; 128], number: u128, radix: u32) -> &[u8] {
 
 // Writes the decimal digits of a number to the end of a buffer, and returns them. Two at a time take less time.
 #[inline(always)]
-fn decimals(buffer: &mut [u8; 20], number: u64) -> &[u8] {
+pub(crate) fn decimals(buffer: &mut [u8; 20], number: u64) -> &[u8] {
     let mut left = number;
     let mut start = 20;
     while left >= 10 {
@@ -138,7 +138,7 @@ fn put_zeros<S: Sink>(sink: &mut S, zeros: u128, count: u128, run: &Run) -> u128
 // Writes digits in groups, and zeros before them if there are fewer than the run has at least.
 fn put_padded<S: Sink>(sink: &mut S, padded: &Padded, run: &Run) {
     let count = padded.count(run.radix);
-    let missing = (run.least as u128).saturating_sub(count);
+    let missing = run.least.saturating_sub(count);
     let zeros = missing + padded.before as u128;
     let left = put_zeros(sink, zeros, missing + count, run);
     let left = put_digits(sink, padded.first, left, run);
@@ -168,7 +168,7 @@ fn put_bytes<S: Sink>(sink: &mut S, bytes: &[u8], run: &Run) {
 
 // Writes uppercase digits as `put_padded` does.
 fn put_characters<S: Sink>(sink: &mut S, bytes: &[u8], run: &Run) {
-    if run.pattern.higher == 0 && !run.pattern.lowercase && run.least <= bytes.len() {
+    if run.pattern.higher == 0 && !run.pattern.lowercase && run.least <= bytes.len() as u128 {
         sink.put_all(bytes);
     } else {
         put_bytes(sink, bytes, run);
@@ -184,7 +184,32 @@ fn put_number<S: Sink>(sink: &mut S, number: u128, run: &Run) {
     }
 }
 
+// Returns whether the first of the digits among bytes is decimal.
+fn begins_decimal(bytes: &[u8], radix: u32) -> bool {
+    let mut index = 0;
+    while index < bytes.len() {
+        if let Some(digit) = char_to_digit(bytes[index], radix) {
+            return digit < 10;
+        }
+        index += 1;
+    }
+    false
+}
+
 impl<'a> Padded<'a> {
+    // Returns whether the first digit is decimal.
+    fn begins_decimal(&self, radix: u32) -> bool {
+        if self.before > 0 {
+            true
+        } else if count(self.first, radix) > 0 {
+            begins_decimal(self.first, radix)
+        } else if count(self.second, radix) > 0 {
+            begins_decimal(self.second, radix)
+        } else {
+            self.after > 0
+        }
+    }
+
     // Returns the digits among bytes, without zeros around them.
     #[inline(always)]
     pub(crate) const fn of(bytes: &'a [u8]) -> Padded<'a> {
@@ -208,6 +233,26 @@ impl<'a> Padded<'a> {
     }
 }
 
+impl Source<'_> {
+    // Returns the number of digits.
+    pub(crate) fn count(&self, radix: u32) -> u128 {
+        match self {
+            Source::Bytes(bytes) => count(bytes, radix) as u128,
+            Source::Number(number) => characters(&mut [0; 128], *number, radix).len() as u128,
+            Source::Padded(padded) => padded.count(radix),
+        }
+    }
+
+    // Returns whether the first digit is decimal.
+    pub(crate) fn begins_decimal(&self, radix: u32) -> bool {
+        match self {
+            Source::Bytes(bytes) => begins_decimal(bytes, radix),
+            Source::Number(number) => begins_decimal(characters(&mut [0; 128], *number, radix), radix),
+            Source::Padded(padded) => padded.begins_decimal(radix),
+        }
+    }
+}
+
 impl Run<'_> {
     // Returns the number of digits if there can be zeros around them, and 0 otherwise.
     pub(crate) fn count(&self) -> u128 {
@@ -219,12 +264,7 @@ impl Run<'_> {
 
     // Returns the number of digits that are written.
     pub(crate) fn length(&self) -> u128 {
-        let count = match &self.source {
-            Source::Bytes(bytes) => count(bytes, self.radix) as u128,
-            Source::Number(number) => characters(&mut [0; 128], *number, self.radix).len() as u128,
-            Source::Padded(padded) => padded.count(self.radix),
-        };
-        count.max(self.least as u128)
+        self.source.count(self.radix).max(self.least)
     }
 
     // Writes the digits.

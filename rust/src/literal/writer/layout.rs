@@ -57,6 +57,10 @@ pub struct Style {
     pub keep_leading_zeros: bool,
     /// Whether there is an exponent.
     pub exponent: ExponentStyle,
+    /// How many digits the fraction of a float has, to which it is rounded. For `None`, as many as its value needs.
+    pub decimals: Option<u8>,
+    /// Whether a float has a point with a digit behind it, also before an exponent, as in `1.0e16`.
+    pub point: bool,
 }
 
 impl Style {
@@ -71,6 +75,8 @@ impl Style {
         min_digits: 0,
         keep_leading_zeros: false,
         exponent: ExponentStyle::AsNumber,
+        decimals: None,
+        point: false,
     };
 }
 
@@ -80,6 +86,8 @@ impl Style {
 pub enum WriteError {
     /// The number is NaN or infinity, which no literal is. No spelling is read back as this value.
     Special,
+    /// The literal is too large for its kind, and so has no value.
+    TooLarge,
     /// The number is below 0, or -0, and no literal has the sign `-`.
     Negative,
     /// The number is not whole, and the literals of the syntax are integers.
@@ -95,6 +103,8 @@ pub enum WriteError {
     Long,
     /// A limit: the buffer is too short for the text, which has this number of bytes.
     Buffer(usize),
+    /// A list of forms reads the text as another number, or not at all.
+    ReadBack,
 }
 
 /// The exponent of a number.
@@ -183,8 +193,8 @@ const fn base_byte(condition: bool, byte: u8) -> Option<u8> {
 }
 
 // Returns 1 if `condition` is true, and 0 otherwise.
-const fn one_if(condition: bool) -> usize {
-    condition as usize
+const fn one_if(condition: bool) -> u128 {
+    condition as u128
 }
 
 // Returns the number of digits of a source, or 0 if it is not bytes, so that it has no zeros to be kept.
@@ -297,7 +307,7 @@ impl<'a> Amount<'a> {
         Run {
             source: lean(self.integer, radix),
             radix,
-            least: self.least_digits(format, style, prefix, float),
+            least: self.least_digits(format, conditions, style, prefix, float),
             pattern: integer_pattern(format, conditions, style),
         }
     }
@@ -335,21 +345,53 @@ impl<'a> Amount<'a> {
         format.required_integer_digits() || has_digits(self.integer, radix) || !has_digits(self.fraction(), radix)
     }
 
+    // Returns how many integer digits there are with the zero that the conditions require before them, or 0 if they require
+    // none.
+    #[inline]
+    fn led_digits(&self, radix: u32, conditions: Conditions, prefix: bool) -> u128 {
+        if prefix || !(conditions.has(Condition::LeadingZero) || conditions.has(Condition::DecimalFirstDigit)) {
+            0
+        } else {
+            self.count_led(radix, conditions)
+        }
+    }
+
+    // Returns the same where there is no prefix.
+    #[cold]
+    fn count_led(&self, radix: u32, conditions: Conditions) -> u128 {
+        let digits = lean(self.integer, radix);
+        let needs_zero = conditions.has(Condition::LeadingZero);
+        let needs_decimal = conditions.has(Condition::DecimalFirstDigit);
+        if needs_zero || (needs_decimal && !digits.begins_decimal(radix)) {
+            digits.count(radix) + 1
+        } else {
+            0
+        }
+    }
+
     // Returns how many integer digits are written at least, behind a base prefix or not, of a float or not.
     #[inline]
-    fn least_digits(&self, format: FormatView, style: Style, prefix: bool, float: bool) -> usize {
-        let zero = one_if(self.has_zero(format));
+    fn least_digits(
+        &self,
+        format: FormatView,
+        conditions: Conditions,
+        style: Style,
+        prefix: bool,
+        float: bool,
+    ) -> u128 {
+        let radix = format.mantissa_radix();
+        let zero = one_if(self.has_zero(format)).max(self.led_digits(radix, conditions, prefix));
         let forbidden = if float { format.no_float_leading_zeros() } else { format.no_integer_leading_zeros() };
         if forbidden && !prefix {
             return zero;
         }
-        let kept = if style.keep_leading_zeros { kept_digits(self.integer, format.mantissa_radix()) } else { 0 };
-        zero.max(kept.max(style.min_digits as usize))
+        let kept = if style.keep_leading_zeros { kept_digits(self.integer, radix) } else { 0 };
+        zero.max((kept as u128).max(style.min_digits as u128))
     }
 
     // Returns the fraction digits, if there are any.
     #[inline]
-    fn fraction(&self) -> Source<'a> {
+    pub(crate) fn fraction(&self) -> Source<'a> {
         match self.fraction {
             Some(source) => source,
             None => Source::Number(0),

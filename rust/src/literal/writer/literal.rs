@@ -13,7 +13,7 @@ use crate::literal::writer::run::Source;
 use crate::number::numeral::{Magnitude, Numeral};
 use crate::word::FormatView;
 
-/// Returns how a literal is written as a literal of `syntax`.
+/// Returns how a literal is written as a literal of `syntax`: the number that it represents, whatever its kind is.
 ///
 /// # Errors
 ///
@@ -86,6 +86,12 @@ fn is_unwanted(wish: ExponentStyle, exponent: &Numeral) -> bool {
 // Returns how a literal is written whose point stays where it is, or why it cannot be.
 fn keep<'a>(format: FormatView, parts: &Parts<'a>, syntax: &Syntax, style: Style) -> Result<Layout<'a>, WriteError> {
     let amount = amount_of(format, parts, syntax.format().view())?;
+    lay_out(&amount, syntax, style)
+}
+
+// Returns how a number is written, or why it is not. Programs have one copy of this.
+#[inline(never)]
+fn lay_out<'a>(amount: &Amount<'a>, syntax: &Syntax, style: Style) -> Result<Layout<'a>, WriteError> {
     amount.lay_out(syntax, style)
 }
 
@@ -96,17 +102,22 @@ fn move_point<'a>(
     syntax: &Syntax,
     style: Style,
 ) -> Result<Layout<'a>, WriteError> {
-    let places = moved_by(format, parts, is_whole(syntax))?;
-    let amount = moved(parts, format.mantissa_radix(), places);
-    shorten(&amount, syntax, style)
+    let (radix, whole) = (format.mantissa_radix(), is_whole(syntax));
+    let by = moved_by(format, parts, whole)?;
+    let amount = moved(parts, radix, by.places);
+    if by.factor == 1 {
+        shorten(&amount, syntax, style)
+    } else {
+        Err(odd_error(whole, amount.times(radix, by.factor)))
+    }
 }
 
 // Returns how a number is written whose point has moved, or why it is not.
 fn shorten<'a>(amount: &Amount<'a>, syntax: &Syntax, style: Style) -> Result<Layout<'a>, WriteError> {
-    match amount.lay_out(syntax, Style::PLAIN) {
+    match lay_out(amount, syntax, Style::PLAIN) {
         Err(error) => Err(error),
         Ok(plain) if plain.is_long() => Err(WriteError::Long),
-        Ok(_) => amount.lay_out(syntax, style),
+        Ok(_) => lay_out(amount, syntax, style),
     }
 }
 
@@ -117,30 +128,42 @@ fn change_radix<'a>(
     syntax: &Syntax,
     style: Style,
 ) -> Result<Layout<'a>, WriteError> {
-    let places = match moved_by(format, parts, is_whole(syntax)) {
-        Ok(places) => places,
-        Err(error) => return Err(radix_error(error)),
+    let whole = is_whole(syntax);
+    let by = match moved_by(format, parts, whole) {
+        Ok(by) => by,
+        Err(error) => return Err(or_limit(whole, WriteError::Radix, error)),
     };
-    let amount = moved(parts, format.mantissa_radix(), places);
-    write_number(&amount, format.mantissa_radix(), syntax, style)
+    let radix = format.mantissa_radix();
+    let amount = moved(parts, radix, by.places);
+    write_number(amount.negative, amount.times(radix, by.factor), syntax, style)
 }
 
-// Returns how the number is written that an amount without an exponent represents in a radix, or why it is not.
-fn write_number<'a>(amount: &Amount<'a>, radix: u32, syntax: &Syntax, style: Style) -> Result<Layout<'a>, WriteError> {
-    if amount.fraction.is_some() {
-        return Err(if is_whole(syntax) { WriteError::Fraction } else { WriteError::Radix });
-    }
-    match amount.integer.size(radix) {
-        Some(size) => Amount::of_size(amount.negative, size).lay_out(syntax, style),
-        None => Err(WriteError::Radix),
+// Returns how a number is written that is `size` as a whole number, or why it is not.
+pub(crate) fn write_number<'a>(
+    negative: bool,
+    size: Result<u128, WriteError>,
+    syntax: &Syntax,
+    style: Style,
+) -> Result<Layout<'a>, WriteError> {
+    match size {
+        Ok(size) => lay_out(&Amount::of_size(negative, size), syntax, style),
+        Err(error) => Err(or_limit(is_whole(syntax), WriteError::Radix, error)),
     }
 }
 
-// Returns why a number of another radix is not written, whose point does not move because of `error`.
-const fn radix_error(error: WriteError) -> WriteError {
+// Returns why a number is not written that is not whole, or has more than 128 bits.
+const fn or_limit(whole: bool, limit: WriteError, error: WriteError) -> WriteError {
     match error {
-        WriteError::Fraction => WriteError::Fraction,
-        _ => WriteError::Radix,
+        WriteError::Fraction if whole => WriteError::Fraction,
+        _ => limit,
+    }
+}
+
+// Returns why a number is not written that is `size` as a whole number, where no literal has its exponent.
+const fn odd_error(whole: bool, size: Result<u128, WriteError>) -> WriteError {
+    match size {
+        Ok(_) => WriteError::Exponent,
+        Err(error) => or_limit(whole, WriteError::Exponent, error),
     }
 }
 

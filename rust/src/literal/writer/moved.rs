@@ -56,7 +56,7 @@ fn size_after(front: u128, bytes: &[u8], radix: u32) -> Option<u128> {
 }
 
 // Returns a number with as many zeros behind its digits as `places`, or `None` if it has more than 128 bits.
-fn shifted(number: u128, radix: u32, places: usize) -> Option<u128> {
+pub(crate) fn shifted(number: u128, radix: u32, places: usize) -> Option<u128> {
     if number == 0 {
         return Some(0);
     }
@@ -176,23 +176,65 @@ pub(crate) fn exponent_of<'a>(format: FormatView, parts: &Parts<'a>) -> Numeral<
     Numeral { negative: false, magnitude: Magnitude::Digits(parts.exponent, format.exponent_radix()) }
 }
 
-// Returns by how many digits the point moves. Only whole numbers can be written if `whole` is true.
-pub(crate) fn moved_by(format: FormatView, parts: &Parts, whole: bool) -> Result<usize, WriteError> {
+// How the point of a number moves in place of the exponent.
+#[derive(Debug, Clone, Copy)]
+pub(crate) struct Move {
+    // By how many digits the point moves.
+    pub(crate) places: usize,
+    // By what the number is multiplied then. It is 1 if the point moves by whole digits in place of the exponent.
+    pub(crate) factor: u32,
+}
+
+// Returns how the point moves. Only whole numbers can be written if `whole` is true.
+pub(crate) fn moved_by(format: FormatView, parts: &Parts, whole: bool) -> Result<Move, WriteError> {
     let radix = format.mantissa_radix();
     let exponent = exponent_of(format, parts).as_u128();
     if is_zero(parts.integer, radix) && is_zero(parts.fraction, radix) || exponent == Some(0) {
-        return Ok(0);
+        return Ok(Move { places: 0, factor: 1 });
     }
     let Some(exponent) = exponent else {
         return Err(too_far(whole, parts));
     };
-    let factors = factors(format.exponent_base(), radix);
-    if factors == 0 || exponent % factors != 0 {
+    let base = format.exponent_base();
+    let factors = factors(base, radix);
+    if factors == 0 {
         return Err(WriteError::Exponent);
     }
-    let places = exponent / factors;
+    let (digits, rest) = (exponent / factors, exponent % factors);
+    let (places, power) =
+        if is_minus(parts.exponent_sign) && rest > 0 { (digits + 1, factors - rest) } else { (digits, rest) };
     if places > usize::MAX as u128 {
         return Err(too_far(whole, parts));
     }
-    Ok(places as usize)
+    Ok(Move { places: places as usize, factor: base.pow(power as u32) })
+}
+
+impl Amount<'_> {
+    // Returns a number without an exponent times a factor, as a whole number. It is `Fraction` if it is not whole, and `Radix`
+    // if it has more than 128 bits.
+    pub(crate) fn times(&self, radix: u32, factor: u32) -> Result<u128, WriteError> {
+        let fraction = self.fraction();
+        if fraction.count(radix) > 1 {
+            return Err(WriteError::Fraction);
+        }
+        let product = last_digit(fraction, radix) * factor as u128;
+        if product % radix as u128 != 0 {
+            return Err(WriteError::Fraction);
+        }
+        let Some(size) = self.integer.size(radix) else {
+            return Err(WriteError::Radix);
+        };
+        let Some(whole) = size.checked_mul(factor as u128) else {
+            return Err(WriteError::Radix);
+        };
+        match whole.checked_add(product / radix as u128) {
+            Some(sum) => Ok(sum),
+            None => Err(WriteError::Radix),
+        }
+    }
+}
+
+// Returns the digit of a source that has at most one, or 0 if it has none.
+fn last_digit(source: Source, radix: u32) -> u128 {
+    source.size(radix).unwrap_or(0)
 }

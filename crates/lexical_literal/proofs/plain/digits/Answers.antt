@@ -4,7 +4,7 @@ use Rattle.lexical_util.specs.Record.{raw}
 use Rattle.lexical_util.specs.declared.format_flags.Part.{Part}
 use Rattle.lexical_literal.specs.Notation.{radix_of}
 use Rattle.lexical_literal.specs.Additions.Sizes.{steps_of}
-use Rattle.lexical_literal.specs.Additions.Plain.{HasRoles, IsDigitAt, IsReadOn, IsRunOn, at_stage, is_free}
+use Rattle.lexical_literal.specs.Additions.Plain.{HasRoles, IsDigitAt, IsReadOn, IsRunOn, at_stage, may_read}
 use Rattle.lexical_literal.specs.Additions.Summary.{awaits_integer, digits_of, digits_piece, has_digit, is_signed, part_of}
 use Rattle.lexical_literal.specs.declared.plain.Run.{Run}
 use Rattle.lexical_literal.specs.declared.steps.Stage.{Stage}
@@ -18,7 +18,7 @@ use Rattle.lexical_literal.proofs.plain.digits.Goals.{else-text-begun-eq48-via-t
 use Rattle.lexical_literal.proofs.plain.digits.Goals.{else-text-begun-eq48-via-else-text-begun-eq48}
 
 first_digit : (g : Grammar) (text : List ℕ) (part : Part) (none one last : Run) (v : ℕ) (stage : Stage) (leads : Bool) → HasRoles (steps_of g)
-    → part_of none.stage ≡ part → has_digit none.stage ≡ false → is_signed (steps_of g) part none.stage ≡ true → is_free (steps_of g) none.stage ≡ true
+    → part_of none.stage ≡ part → has_digit none.stage ≡ false → is_signed (steps_of g) part none.stage ≡ true → may_read (steps_of g) text none.size none.stage ≡ true
     → IsDigitAt (radix_of (raw g.word) part) text none.size v → one ≡ pushed (radix_of (raw g.word) part) none v 1
     → ((get_or text none.size 0 == 48) && awaits_integer none.stage) ≡ leads → (if leads then stages.Bare else digits_of part) ≡ stage
     → IsRunOn (steps_of g) (radix_of (raw g.word) part) text part (record one { stage = stage }) last
@@ -44,7 +44,7 @@ returns-then-awaits_integer-clause-run c =
     let naught : (get_or text c.args.begun.size 0 == 48) ≡ true = ap (λ b. b == 48) c.if-text-begun-eq48.true in
     let begun : awaits_integer c.args.begun.stage ≡ true = sym c.awaits_integer.ensures ∙ c.if-awaits_integer.true in
     first_digit g text part _ c.push-one.result c.behind_zero.result c.in-Some.value stages.Bare true c.requires.ready.roles c.requires.part c.requires.none
-    c.requires.signed c.requires.free c.in-Some.ensures.some c.push-one.ensures (λ j. naught j && begun j) refl
+    c.requires.signed c.requires.first c.in-Some.ensures.some c.push-one.ensures (λ j. naught j && begun j) refl
     (subst (λ part. IsRunOn (steps_of g) (radix_of (raw g.word) part) text part (record c.push-one.result { stage = stages.Bare }) c.behind_zero.result)
     (sym (awaited_part c.args.begun.stage begun) ∙ c.requires.part) c.behind_zero.ensures.run)
 
@@ -57,5 +57,5 @@ returns-else-text-begun-eq48-clause-run c =
       | else-text-begun-eq48-via-else-text-begun-eq48 w ↦ no_zero (get_or text c.args.begun.size 0) _ w.if-text-begun-eq48.false
     ] in
     first_digit c.args.grammar text c.args.part _ c.push-one.result c.groups.result c.in-Some.value c.digits_of-stage.result false c.requires.ready.roles
-    c.requires.part c.requires.none c.requires.signed c.requires.free c.in-Some.ensures.some c.push-one.ensures other (sym c.digits_of-stage.ensures)
+    c.requires.part c.requires.none c.requires.signed c.requires.first c.in-Some.ensures.some c.push-one.ensures other (sym c.digits_of-stage.ensures)
     c.groups.ensures.run

@@ -1,8 +1,18 @@
 -- What comes before the digits.
+use Rattle.std.proofs.Common.{sym, subst, ◌∙◌}
+use Rattle.lexical_literal.specs.Additions.Plain.{IsOpened}
 use Rattle.lexical_literal.specs.Additions.Sizes.{steps_of}
-use Rattle.lexical_literal.proofs.JoinLemmas.{opened_prefix}
+use Rattle.lexical_literal.specs.declared.steps.Stage.{Stage}
+use Rattle.lexical_literal.proofs.JoinLemmas.{opened, opened_prefix}
 use Rattle.lexical_literal.proofs.plain.open.Goals as goal
 
 pub returns-then-reads_prefix : goal.returns-then-reads_prefix
 returns-then-reads_prefix c = opened_prefix (steps_of c.args.grammar) c.args.text.now c.requires.ready.roles c.args.sign c.requires.sign
     (c.reads_prefix.ensures.on c.if-reads_prefix.true)
+
+pub returns-then-has_first : goal.returns-then-has_first
+returns-then-has_first c =
+    let m = steps_of c.args.grammar in
+    let sign = c.args.sign in
+    subst (λ (stage : Stage). IsOpened m c.args.text.now (record { sign = sign; prefix = 0; size = sign; stage = stage })) (sym c.behind_sign.ensures)
+    (opened m c.args.text.now sign c.requires.sign (sym c.has.ensures ∙ c.if-not-has.true) (sym c.has_first.ensures ∙ c.if-has_first.true))

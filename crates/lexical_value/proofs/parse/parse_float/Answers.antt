@@ -1,21 +1,28 @@
--- The format is that of the syntax.
-use Rattle.std.proofs.Common.{◌≡◌, ◌||◌, subst, false}
+-- The format is that of the syntax, and the kind is exact.
+use Rattle.std.proofs.Common.{◌≡◌, ◌||◌, Ok, Err, subst, false}
 use Rattle.lexical_util.specs.Record.{raw}
 use Rattle.lexical_number.specs.Binary.{format_of}
 use Rattle.lexical_value.specs.Float.{is_binary, is_decimal, nearest}
-use Rattle.lexical_value.proofs.FloatLemmas.{not_true}
+use Rattle.lexical_value.specs.Kind.{float_worth}
+use Rattle.lexical_value.proofs.KindLemmas.{exact_float, exact_radix}
 use Rattle.lexical_value.proofs.parse.parse_float.Goals as goal
 
 pub returns-in-Ok-to_float-clause-value : goal.returns-in-Ok-to_float-clause-value
 returns-in-Ok-to_float-clause-value g c =
     let read = c.in-Ok.ensures.found in
     let l = c.in-Ok.literal.literal in
+    let f = format_of g.F.Float.DOUBLE in
     let value = g.F.Float.value c.in-Ok-to_float.value in
-    (l, read.1, subst (λ w. value ≡ nearest (format_of g.F.Float.DOUBLE) (raw w) l) read.0 c.in-Ok-to_float.ensures.value)
+    let is = exact_float f (raw c.in-Ok.literal.format) l value
+    (subst (λ kind. float_worth kind f (raw c.in-Ok.literal.format) l ≡ Ok value) c.in-Ok.ensures.kind c.in-Ok-to_float.ensures.value) in
+    (l, read.1, subst (λ w. value ≡ nearest f (raw w) l) read.0 is)
 
 pub returns-in-Err-to_float-clause-value : goal.returns-in-Err-to_float-clause-value
 returns-in-Err-to_float-clause-value g c =
     let read = c.in-Ok.ensures.found in
-    let supported = c.in-Err-to_float.ensures.supported in
-    let unsupported = subst (λ w. (is_decimal (raw w) || is_binary (raw w)) ≡ false) read.0 (not_true _ supported.0) in
-    (c.in-Ok.literal.literal, read.1, unsupported, c.in-Err-to_float.ensures.error)
+    let l = c.in-Ok.literal.literal in
+    let f = format_of g.F.Float.DOUBLE in
+    let is = exact_radix f (raw c.in-Ok.literal.format) l c.in-Err-to_float.kind
+    (subst (λ kind. float_worth kind f (raw c.in-Ok.literal.format) l ≡ Err c.in-Err-to_float.kind) c.in-Ok.ensures.kind
+    c.in-Err-to_float.ensures.error) in
+    (l, read.1, subst (λ w. (is_decimal (raw w) || is_binary (raw w)) ≡ false) read.0 is.0, is.1)

@@ -14,7 +14,7 @@ returns g c start text has =
     let values = padded_values run.radix padded in
     let zeros : List ℕ = replicate (c.saturating_sub-missing.result + padded.before) 0 in
     let missing : c.saturating_sub-missing.result ≡ run.least - length values =
-    c.saturating_sub-missing.ensures ∙ ap (λ k. run.least - k) c.count-count.ensures in
+    c.saturating_sub-missing.ensures ∙ ap (λ k. run.least - k) c.count-count.ensures.count in
     let digits : zeros ++ rest ≡ at_least run.least values =
     ap (λ zeros. zeros ++ rest) (sym (replicate-append-replicate c.saturating_sub-missing.result padded.before 0))
     ∙ append_assoc (replicate c.saturating_sub-missing.result 0) (replicate padded.before 0) rest ∙ ap (λ k. replicate k 0 ++ values) missing in
@@ -26,7 +26,7 @@ returns g c start text has =
     let before = length-replicate {A = ℕ} padded.before 0 in
     let whole = length-append zeros rest in
     let part = length-append {A = ℕ} (replicate padded.before 0) rest in
-    let count = c.count-count.ensures in
+    let count = c.count-count.ensures.count in
     subst (λ it. g.S.Sink.has start c.put_zeros.new.sink it)
     (padded_text run.pattern text zeros (digits_in run.radix padded.first.now) (digits_in run.radix padded.second.now) (replicate padded.after 0)
     (c.saturating_sub-missing.result + c.count-count.result) c.put_zeros-left.result c.put_digits-left.result c.put_digits-left-2.result

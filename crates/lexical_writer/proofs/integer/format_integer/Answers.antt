@@ -1,12 +1,8 @@
 -- Each integer is laid out, and its value is that of the integer.
-use Rattle.std.proofs.Common.{ℕ, ℤ, ◌≡◌, ◌<◌, ◌*◌, ◌&&◌, ◌||◌, append-nil, refl, Bool, true, false, Some}
+use Rattle.std.proofs.Common.{ℕ, ℤ, ◌≡◌, ◌<◌, ◌&&◌, ◌||◌, refl, Bool, true, false, Some}
 use Rattle.std.proofs.Common.{suc, zero, Result, Ok, Err, IfOk, IfErr, subst, sym, ap, ◌∙◌, arith}
-use Rattle.std.proofs.Math.Nat.{pow-zero}
-use Rattle.std.proofs.lemmas.Int.Digits.{number_digits_of}
-use Rattle.std.specs.Int.Digits.{digits_of, number_from_digits}
 use Rattle.lexical_util.specs.Layout as layouts
 use Rattle.lexical_util.specs.Record.{raw}
-use Rattle.lexical_util.specs.declared.format_flags.Part.TheVariants as parts
 use Rattle.lexical_literal.specs.Literal.{is_float}
 use Rattle.lexical_literal.specs.Syntax.{IsSyntax}
 use Rattle.lexical_literal.specs.declared.syntax.Grammar.{Grammar}
@@ -14,8 +10,8 @@ use Rattle.lexical_number.specs.Numeral.{with_sign}
 use Rattle.lexical_value.specs.Integer.{IsInteger}
 use Rattle.lexical_writer.specs.Layout.{HasNumber, HasValue, IsLaidOut, IsWhole, has_exponent, has_point, literal_of, needs_exponent, number_of_size}
 use Rattle.lexical_writer.specs.Layout.{wants_exponent, whole, whole_refusal}
-use Rattle.lexical_writer.proofs.LiteralLemmas.{float_if, radixes}
-use Rattle.lexical_writer.proofs.PlainLemmas.{same_worth}
+use Rattle.lexical_writer.proofs.LiteralLemmas.{float_if}
+use Rattle.lexical_writer.proofs.PlainLemmas.{has_value}
 use Rattle.lexical_writer.specs.declared.layout.Layout.{Layout}
 use Rattle.lexical_writer.specs.declared.layout.Style.{Style}
 use Rattle.lexical_writer.specs.declared.layout.WriteError.{WriteError}
@@ -52,17 +48,7 @@ returns-clause-error h c =
 -- Its value is that of the integer.
 value : (g : Grammar) (negative : Bool) (n : ℕ) (z : ℤ) → with_sign negative n ≡ z → IsSyntax g → (result : Result Layout WriteError)
     → IfOk result (λ layout. HasNumber g (number_of_size negative n) (literal_of layout)) → IfOk result (λ layout. HasValue (raw g.word) (literal_of layout) z)
-value g negative n z is lawful (Ok layout) has =
-    let radix = (raw g.word).byte layouts.mantissa_radix in
-    let two = (radixes g.word lawful.lawful parts.Integer).0 in
-    record {
-      size = n;
-      sign = sym is ∙ ap (λ sign. with_sign sign n) (sym has.sign);
-      fraction = same_worth g (number_of_size negative n) n 1
-          (ap (λ k. k * 1) (ap (number_from_digits radix) (append-nil (digits_of radix n)) ∙ number_digits_of radix n two)
-          ∙ sym (ap (λ p. n * p) (pow-zero radix)))
-          refl two (literal_of layout) has ∙ omega arith;
-    }
+value g negative n z is lawful (Ok layout) has = has_value g negative n z is lawful (literal_of layout) has
 value g negative n z is lawful (Err error) has = tt
 
 no_exponent : (needs wants allows : Bool) → needs ≡ false → wants ≡ false → (false || (needs || (wants && allows))) ≡ false

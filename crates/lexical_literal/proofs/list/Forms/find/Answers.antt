@@ -31,7 +31,7 @@ loop-form-preserved c = All-more (λ g. NoLiteral (notation_of g.syntax) c.args.
     c.index-self-form.result c.loop-form-test.true c.loop-form.invariant (elim c.if-not-excludes.branch [
       | then-not-excludes+else-is_whole+in_default w ↦ w.lengths.ensures.none (none_else _ w.in_default.not-Some)
       | else-not-excludes w ↦ subst (λ (g : Grammar). NoLiteral (notation_of g) c.args.text.now) c.grammar.ensures.value
-          (c.excludes.ensures w.if-not-excludes.false)
+          (c.excludes.ensures.none w.if-not-excludes.false)
     ]) where
       none_else : {X : Type 0} (o : Option X) → ((x : X) → o ≡ Some x → ⊥) → IsNone o
       none_else None not = refl

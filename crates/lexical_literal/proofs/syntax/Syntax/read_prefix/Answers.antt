@@ -1,6 +1,7 @@
 -- A text of which no front is a literal is none.
 use Rattle.std.proofs.Common.{ap, is_some}
 use Rattle.std.proofs.lemmas.Bool.{false≢true}
+use Rattle.lexical_literal.specs.Read.{Read}
 use Rattle.lexical_literal.proofs.FormLemmas.{none_whole}
 use Rattle.lexical_literal.proofs.PieceLemmas.{front_cut, front_read}
 use Rattle.lexical_literal.proofs.syntax.Syntax.read_prefix.Goals as goal
@@ -19,6 +20,7 @@ pub returns-in-Some : goal.returns-in-Some
 returns-in-Some c = record {
   found = front_read c.args.self.now c.args.text.now c.front_of.result.now c.in-Some.found.size c.in-Some.found.counts c.front_of.ensures
       (c.front-found.ensures.longest c.in-Some.found c.in-Some.is) c.summed-literal.result c.summed-literal.ensures;
+  kind = ap (λ (r : Read). r.kind) c.summed-literal.ensures;
   none = λ err. absurd (false≢true err);
   error = tt;
 }

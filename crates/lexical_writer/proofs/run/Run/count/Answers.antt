@@ -9,5 +9,5 @@ pub returns-in-Padded : goal.returns-in-Padded
 returns-in-Padded c =
     let run = c.args.self.now in
     let longer = run_longer run.pattern run.least (values_of run.radix run.source) in
-    let count = c.count.ensures ∙ sym (ap (λ (source : Source). length (values_of run.radix source)) c.in-Padded.is) in
+    let count = c.count.ensures.count ∙ sym (ap (λ (source : Source). length (values_of run.radix source)) c.in-Padded.is) in
     omega (arith, count, longer)

@@ -1,0 +1,266 @@
+-- Tokens that are found by reading the forms of a list once.
+use Rattle.std.proofs.Common.{ℕ, ◌≡◌, ◌||◌, Bool, true, false, if◌then◌else◌, ◌<◌, ◌≤◌, ◌+◌, ◌-◌, inl, inr, List, [], ◌∷◌, ◌++◌, Option, Some, None, All, IsSomeAnd, IsTrue}
+use Rattle.std.proofs.Common.{length, take, drop, get_or, slice_get, append-nil, refl, sym, subst, ap, ◌∙◌, arith}
+use Rattle.std.specs.Borrow.{Bor}
+use Rattle.std.proofs.lemmas.Bool.{false≢true}
+use Rattle.std.proofs.lemmas.Bool.Decides.{nat_tests}
+use Rattle.std.proofs.lemmas.List.{drop-take, get_or-take, get_or_append_left, length-append, length-take-le, take-take}
+use Rattle.std.proofs.lemmas.List.Elements.{All-more}
+use Rattle.std.proofs.lemmas.Option.{slice_get-get_or, slice_get_within}
+use Rattle.lexical_literal.specs.Additions.Forms.{PlaysNoRole, sign_size}
+use Rattle.lexical_literal.specs.Additions.Longest.{IsMeasured}
+use Rattle.lexical_literal.specs.Additions.Read.{AreSums, HasSums, before_exponent, cut}
+use Rattle.lexical_literal.specs.Additions.Summary.{Cuts, HasLengths}
+use Rattle.lexical_literal.specs.Additions.Token.{FrontsWithin, IsLeading, IsPicked, IsWithin, has_float, has_prefix}
+use Rattle.lexical_literal.specs.Cause.{is_in}
+use Rattle.lexical_literal.specs.FormList.{FormList}
+use Rattle.lexical_literal.specs.Forms.{ReadsForm}
+use Rattle.lexical_literal.specs.Front.{IsFront, IsValidUpTo, NoLiteral}
+use Rattle.lexical_literal.specs.Literal.{Literal, Reads, is_float, text_of}
+use Rattle.lexical_literal.specs.Notation.{Notation, notation_of}
+use Rattle.lexical_literal.specs.Suffix.{any_word_size, begins, is_stopped, is_word_byte, kind_with, longest_word, suffix_size, word_size}
+use Rattle.lexical_literal.specs.Token.{IsCandidate, IsToken, gives_back, is_shorter}
+use Rattle.lexical_literal.specs.declared.list.Form.{Form}
+use Rattle.lexical_literal.specs.declared.list.Tokens.{Tokens}
+use Rattle.lexical_literal.specs.declared.plain.Sums.{Sums}
+use Rattle.lexical_literal.specs.declared.steps.Piece.TheVariants as pieces
+use Rattle.lexical_literal.specs.declared.suffix.Suffixes.{Suffixes}
+use Rattle.lexical_literal.specs.declared.syntax.Condition.TheVariants as conditions
+use Rattle.lexical_literal.specs.declared.token.Candidate.{Candidate}
+use Rattle.lexical_literal.specs.declared.token.Token.{Token}
+use Rattle.lexical_util.specs.Record.{Record}
+use Rattle.lexical_literal.proofs.ExcludeLemmas.{BeginsPrefixed, no_role_excludes, prefix_begins}
+use Rattle.lexical_literal.proofs.FormLemmas.{all_at}
+use Rattle.lexical_literal.proofs.TokenLemmas.{float_is, some_is, token_is}
+
+-- A suffix is in the word with which the text begins.
+begins_within : (either : Bool) (word text : List ℕ) → begins either word text ≡ true → length word ≤ word_size text
+begins_within either [] text is = omega arith
+begins_within either (letter ∷ word) [] is = grind arith
+begins_within either (letter ∷ word) (byte ∷ text) is = let less = begins_within either word text in grind arith
+
+longest_within : (either : Bool) (words : List (Bor (List ℕ))) (text : List ℕ) → longest_word either words text ≤ word_size text
+longest_within either [] text = omega arith
+longest_within either (word ∷ words) text =
+    let rest = longest_within either words text in let own = begins_within either word.now text in grind arith
+
+any_within : (begin text : List ℕ) → any_word_size begin text ≤ word_size text
+any_within begin [] = omega arith
+any_within begin (byte ∷ text) = grind arith
+
+pub suffix_within : (suffixes : Option (Bor Suffixes)) (float : Bool) (text : List ℕ) → suffix_size suffixes float text ≤ word_size text
+suffix_within None float text = omega arith
+suffix_within (Some it) float text =
+    let any = any_within it.now.any.now text in
+    let floats = longest_within it.now.either_case it.now.floats.now text in
+    let integers = longest_within it.now.either_case it.now.integers.now text in grind arith
+
+-- A word ends where no byte of a word follows.
+word_within : (text : List ℕ) (index end : ℕ) → index ≤ end → is_in is_word_byte (slice_get text end) ≡ false
+    → index + word_size (drop index text) ≤ end
+word_within [] ℕ.zero end order none = omega arith
+word_within [] (ℕ.suc index) end order none = omega (arith, order)
+word_within (byte ∷ text) ℕ.zero ℕ.zero order none = grind arith
+word_within (byte ∷ text) ℕ.zero (ℕ.suc end) order none = let rest = word_within text 0 end (omega arith) none in grind arith
+word_within (byte ∷ text) (ℕ.suc index) ℕ.zero order none = omega (arith, order)
+word_within (byte ∷ text) (ℕ.suc index) (ℕ.suc end) order none = let rest = word_within text index end (omega (arith, order)) none in omega (arith, rest)
+
+pub no_suffix : (suffixes : Option (Bor Suffixes)) (float : Bool) (text : List ℕ) → is_in is_word_byte (slice_get text 0) ≡ false
+    → 0 ≡ suffix_size suffixes float text
+no_suffix suffixes float text none =
+    let word = word_within text 0 0 (omega arith) none in let suffix = suffix_within suffixes float text in omega (arith, word, suffix)
+
+-- The bytes of a front are those of the text.
+front_byte : (text rest : List ℕ) (more index : ℕ) → more ≤ length text → index < more → get_or (take more text ++ rest) index 0 ≡ get_or text index 0
+front_byte text rest more index within below =
+    get_or_append_left (take more text) rest 0 index (omega (arith, below, within, length-take-le more text within))
+    ∙ get_or-take more text index 0 below
+
+front_sign : (text rest : List ℕ) (more : ℕ) → more ≤ length text → 0 < more → sign_size (take more text ++ rest) ≡ sign_size text
+front_sign [] rest more within some = omega (arith, within, some)
+front_sign (byte ∷ text) rest ℕ.zero within some = omega (arith, some)
+front_sign (byte ∷ text) rest (ℕ.suc more) within some = refl
+
+as_front : (m : Notation) (text : List ℕ) (l : Literal) → Reads m l text → IsFront m text
+as_front m text l reads = record { more = []; literal = l; reads = record { whole = append-nil text ∙ reads.whole; literal = reads.literal } }
+
+module _ (m : Notation) (text : List ℕ) where
+  -- No literal goes on behind a byte that plays no role.
+  over : (size : ℕ) → size < length text → PlaysNoRole m (get_or text size 0) → IsWithin m text size
+  over size inside none more below within front =
+      let long : size < length (take more text ++ front.more) = omega (arith, below, length-append (take more text) front.more, length-take-le more text within) in
+      no_role_excludes m (take more text ++ front.more) size long
+      (subst (PlaysNoRole m) (sym (front_byte text front.more more size within below)) none) front.literal front.reads
+
+  pub over_byte : (size byte : ℕ) → slice_get text size ≡ Some byte → PlaysNoRole m byte → IsWithin m text size
+  over_byte size byte at none =
+      let inside = slice_get_within text size byte at in
+      over size inside (subst (PlaysNoRole m) (some_is _ _ (sym at ∙ slice_get-get_or text size 0 inside)) none)
+
+  -- A literal with a required prefix begins with it.
+  module _ (required : IsTrue (m.condition conditions.BasePrefix)) (lacks : has_prefix m text (sign_size text) ≡ false) where
+    not_begun : (more : ℕ) (rest : List ℕ) → sign_size text + 1 < more → more ≤ length text → BeginsPrefixed m (take more text ++ rest) → ⊥
+    not_begun more rest below within is =
+        let sign = front_sign text rest more within (omega (arith, below)) in
+        let zero : get_or text (sign_size text) 0 ≡ 48 =
+        sym (front_byte text rest more (sign_size text) within (omega (arith, below))) ∙ ap (λ n. get_or (take more text ++ rest) n 0) (sym sign) ∙ is.zero in
+        let prefix : m.prefix (get_or text (sign_size text + 1) 0) ≡ true =
+        ap m.prefix (sym (front_byte text rest more (sign_size text + 1) within below) ∙ ap (λ n. get_or (take more text ++ rest) (n + 1) 0) (sym sign)) ∙ is.prefix in
+        grind (arith, nat_tests)
+
+    pub lacking_within : IsWithin m text (sign_size text + 1)
+    lacking_within more below within front =
+        not_begun more front.more below within (prefix_begins m front.literal (take more text ++ front.more) front.reads required)
+
+    pub lacking_more : (size : ℕ) → sign_size text < size → IsWithin m text size
+    lacking_more size sign more below = lacking_within more (omega (arith, sign, below))
+
+-- A form of which no literal goes on behind `size` bytes has no longer front.
+pub fronts_within : (text : List ℕ) (size : ℕ) (form : Form) → IsWithin (notation_of form.syntax) text size → FrontsWithin text size form
+fronts_within text size form is n front =
+    let within = front.1.within in
+    let longer = λ (past : size < n). is n past within (as_front (notation_of form.syntax) (take n text) front.0 front.1.reads) in grind arith
+
+-- A literal that stops at `stop` has no longer front.
+pub stopped_within : (text : List ℕ) (form : Form) (stop : ℕ) → IsValidUpTo (notation_of form.syntax) text stop → FrontsWithin text stop form
+stopped_within text form stop is = fronts_within text stop form is.no_longer
+
+pub before_stop : (text : List ℕ) (form : Form) (stop : ℕ) → IsValidUpTo (notation_of form.syntax) text stop
+    → NoLiteral (notation_of form.syntax) (take stop text) → FrontsWithin text (stop - 1) form
+before_stop text form stop is none n front =
+    let low = stopped_within text form stop is n front in
+    let other = λ (same : n ≡ stop). none front.0 (subst (λ k. Reads (notation_of form.syntax) front.0 (take k text)) same front.1.reads) in
+    grind arith
+
+more_within : (text : List ℕ) (form : Form) (a b : ℕ) → a ≤ b → FrontsWithin text a form → FrontsWithin text b form
+more_within text form a b less is n front = let own = is n front in omega (arith, own, less)
+
+-- One form more.
+pub fronts_more : (forms : List Form) (text : List ℕ) (i : ℕ) (d : Form) (old new : ℕ) → i < length forms → old ≤ new
+    → All (FrontsWithin text old) (take i forms) → FrontsWithin text new (get_or forms i d) → All (FrontsWithin text new) (take (i + 1) forms)
+fronts_more forms text i d old new inside less before own = All-more (FrontsWithin text new) forms i d inside
+    (λ k e below. more_within text (get_or (take i forms) k e) old new less (before k e below)) own
+
+less_or_same : (b : Bool) (n : ℕ) → (if b then n - 1 else n) ≤ n
+less_or_same true n = omega arith
+less_or_same false n = omega arith
+
+shorter : (s e a b : ℕ) → s < a → e ≤ b → is_shorter s e a b ≡ true
+shorter s e a b less end = grind (arith, nat_tests)
+
+no_longer : (s e a b : ℕ) → s ≤ a → e ≤ b → is_shorter a b s e ≡ false
+no_longer s e a b less end = grind (arith, nat_tests)
+
+no_word_of : (a b : Bool) → (a || b) ≡ false → a ≡ false
+no_word_of a b none = grind arith
+
+-- The token of a form that is the first with a literal behind which no literal goes on.
+module _ (list : FormList) (t : Tokens) (text : List ℕ) (index : ℕ) (form : Form) (counts : List ℕ) (size : ℕ)
+    (is : IsLeading list t text index form size) (within : size ≤ length text)
+    (measured : IsMeasured (notation_of form.syntax) (take size text) counts)
+    (kept : gives_back t.gives_points_back (notation_of form.syntax) text size ≡ false) where
+  module _ (more : ℕ) (more_is : more ≡ suffix_size form.suffixes (has_float counts) (drop size text)) (inside : size + more ≤ length text)
+      (ended : is_stopped form.suffixes text (size + more) ≡ false) where
+    no_word : is_in is_word_byte (slice_get text (size + more)) ≡ false
+    no_word = no_word_of _ _ ended
+
+    -- Each candidate ends at the same byte, or before.
+    candidate_within : (needs : Bool) (g : Form) (bound : ℕ) → FrontsWithin text bound g → bound ≤ size → (s e : ℕ)
+        → IsCandidate t.gives_points_back needs text g s e → (s ≤ bound) × (e ≤ size + more)
+    candidate_within needs g bound fronts below s e other =
+        let longest = fronts other.longest other.front in
+        let part = less_or_same (gives_back t.gives_points_back (notation_of g.syntax) text other.longest) other.longest in
+        let size_is = other.size_is in
+        let low : s ≤ bound = omega (arith, longest, part, size_is) in
+        let suffix = suffix_within g.suffixes (is_float other.literal) (drop s text) in
+        let word = word_within text s (size + more) (omega (arith, low, below)) no_word in
+        let end = other.end_is in
+        (low, omega (arith, suffix, word, end))
+
+    own : IsWithin (notation_of form.syntax) text size
+    own = all_at (λ form. IsWithin (notation_of form.syntax) text size) list.forms index form is.at is.plain
+
+    candidate : IsCandidate t.gives_points_back false text form size (size + more)
+    candidate = record {
+      longest = size;
+      front = (
+        measured.literal.0,
+        record {
+          within = within;
+          reads = measured.literal.1;
+          no_longer = λ n past inside l reads. own n past inside (as_front (notation_of form.syntax) (take n text) l reads);
+        },
+      );
+      size_is = ap (λ b. if b then size - 1 else size) (sym kept);
+      literal = measured.literal.0;
+      reads = measured.literal.1;
+      end_is = ap (λ n. size + n) more_is ∙ ap (λ b. size + suffix_size form.suffixes b (drop size text))
+          (float_is measured.literal.0 counts (measured.counted measured.literal.0 measured.literal.1));
+      suffixed = λ needed. absurd (false≢true needed);
+    }
+
+    abbrev found : Candidate
+    found = record { size = size; counts = counts; end = size + more }
+
+    picked : IsPicked list t text index form found
+    picked = record {
+      chosen = inl (record {
+        at = is.at;
+        best = record {
+          here = subst (λ o. IsSomeAnd o (λ form. IsCandidate t.gives_points_back false text form size (size + more))) (sym is.at) candidate;
+          before = λ k d below s e other.
+              let less = is.before.1 in
+              let at = candidate_within false (get_or (take index list.forms) k d) is.before.0 (is.before.2 k d below) (omega (arith, less)) s e other in
+              shorter s e size (size + more) (let low = at.0 in omega (arith, low, less)) at.1;
+          others = λ k d below s e other.
+              let at = candidate_within false (get_or list.forms k d) size (fronts_within text size (get_or list.forms k d) (is.plain k d below))
+              (omega arith) s e other in
+              no_longer s e size (size + more) at.0 at.1;
+        };
+        others = λ k d below s e other.
+            let at = candidate_within true (get_or t.forms.now k d) size (fronts_within text size (get_or t.forms.now k d) (is.suffixed k d below))
+            (omega arith) s e other in
+            no_longer s e size (size + more) at.0 at.1;
+      });
+      measured = measured;
+      order = omega arith;
+      within = inside;
+    }
+
+    pub leading_token : (token : Token) → token.form ≡ index → ReadsForm (take size text) token.literal form
+        → token.literal.kind ≡ kind_with form.suffixes token.suffix.now form.kind → token.suffix.now ≡ take more (drop size text) → token.rest.now ≡ drop (size + more) text → IsToken list t text token
+    leading_token token same literal kind suffix rest = token_is list t text index form found picked token same literal kind
+        (suffix ∙ ap (λ n. take n (drop size text)) (let sum : more ≡ size + more - size = omega arith in sum)) rest
+        (inr (λ k d below ahead. is.plain k d below ahead.size (let further = ahead.further in omega (arith, further)) ahead.valid.within ahead.valid.front, ended))
+
+-- The sums of the digits of a front are those of its parts in the text.
+piece_same : (text : List ℕ) (size a k : ℕ) → a + k ≤ size → take k (drop a (take size text)) ≡ take k (drop a text)
+piece_same text size a k less =
+    let split : size ≡ a + (size - a) = omega (arith, less) in
+    ap (λ n. take k (drop a (take n text))) split ∙ ap (take k) (drop-take a (size - a) text) ∙ take-take k (size - a) (drop a text) (omega (arith, less))
+
+total : (l : Literal) (c : Cuts) → HasLengths l c → before_exponent c + c pieces.Exponent ≤ length (text_of l)
+total l c has =
+    let a = has.sign in let b = has.prefix in let d = has.integer in let e = has.point in let f = has.fraction in
+    let g = has.exponent_character in let h = has.exponent_sign in let i = has.exponent in
+    let z = length-append l.exponent l.suffix in
+    let y = length-append l.exponent_sign (l.exponent ++ l.suffix) in
+    let x = length-append l.exponent_character (l.exponent_sign ++ (l.exponent ++ l.suffix)) in
+    let w = length-append l.fraction (l.exponent_character ++ (l.exponent_sign ++ (l.exponent ++ l.suffix))) in
+    let v = length-append l.point (l.fraction ++ (l.exponent_character ++ (l.exponent_sign ++ (l.exponent ++ l.suffix)))) in
+    let u = length-append l.integer (l.point ++ (l.fraction ++ (l.exponent_character ++ (l.exponent_sign ++ (l.exponent ++ l.suffix))))) in
+    let t = length-append l.prefix (l.integer ++ (l.point ++ (l.fraction ++ (l.exponent_character ++ (l.exponent_sign ++ (l.exponent ++ l.suffix)))))) in
+    let s = length-append l.sign (l.prefix ++ (l.integer ++ (l.point ++ (l.fraction ++ (l.exponent_character ++ (l.exponent_sign ++ (l.exponent ++ l.suffix))))))) in
+    omega (arith, a, b, d, e, f, g, h, i, s, t, u, v, w, x, y, z)
+
+pub sums_of_front : (r : Record) (text : List ℕ) (size : ℕ) (c : Cuts) (sums : Sums) → (m : Notation) (l : Literal) → size ≤ length text
+    → Reads m l (take size text) → HasLengths l c → AreSums r (cut text c) sums → AreSums r (cut (take size text) c) sums
+sums_of_front r text size c sums m l within reads has is =
+    let short : length (text_of l) ≡ size = ap length (sym reads.whole) ∙ length-take-le size text within in
+    let all = total l c has in
+    let i : (cut text c).integer ≡ (cut (take size text) c).integer = sym (piece_same text size _ _ (omega (arith, all, short))) in
+    let f : (cut text c).fraction ≡ (cut (take size text) c).fraction = sym (piece_same text size _ _ (omega (arith, all, short))) in
+    let e : (cut text c).exponent ≡ (cut (take size text) c).exponent = sym (piece_same text size _ _ (omega (arith, all, short))) in
+    subst (λ x. HasSums r (cut (take size text) c).integer (cut (take size text) c).fraction x sums) e
+    (subst (λ x. HasSums r (cut (take size text) c).integer x (cut text c).exponent sums) f
+    (subst (λ x. HasSums r x (cut text c).fraction (cut text c).exponent sums) i is))

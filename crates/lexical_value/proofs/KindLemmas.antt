@@ -1,0 +1,59 @@
+-- The lowest bits of a number, and what literals of the exact kind are worth.
+use Rattle.std.proofs.Common.{ℕ, ◌≡◌, ◌+◌, ◌-◌, ◌%◌, ◌^◌, ◌≤◌, ◌||◌, Bool, true, false, not, if◌then◌else◌, min, Result, Ok, Err, arith, ap, refl, subst, sym}
+use Rattle.std.proofs.Math.Pow.{mod-mod-pow}
+use Rattle.std.proofs.lemmas.Bool.{false≢true}
+use Rattle.std.specs.Float.{Float, Format}
+use Rattle.lexical_util.specs.Record.{Record}
+use Rattle.lexical_literal.specs.Kind.{exact, width}
+use Rattle.lexical_literal.specs.Literal.{Literal}
+use Rattle.lexical_literal.specs.declared.kind.IntegerKind.TheVariants as integers
+use Rattle.lexical_value.specs.Float.{is_binary, is_decimal, nearest}
+use Rattle.lexical_value.specs.Integer.{IsNoInteger}
+use Rattle.lexical_value.specs.Kind.{IsNotWorth, float_worth}
+use Rattle.lexical_value.specs.declared.integer.ValueErrorKind.{ValueErrorKind}
+use Rattle.lexical_value.specs.declared.integer.ValueErrorKind.TheVariants as kinds
+
+-- Fewer bits are the lowest of 64 bits.
+low : (n w : ℕ) → w ≤ 64 → n % 2 ^ 64 % 2 ^ w ≡ n % 2 ^ w
+low n w most = let all : 64 - w + w ≡ 64 = omega (arith, most) in
+    subst (λ k. n % 2 ^ k % 2 ^ w ≡ n % 2 ^ w) all (mod-mod-pow n (64 - w) w)
+
+pub lowest_bits : (n bits : ℕ) → n % 2 ^ 64 % 2 ^ width bits ≡ n % 2 ^ width bits
+lowest_bits n bits = low n (width bits) (omega arith)
+
+-- A literal of the exact kind is worth the number that it represents.
+pub exact_error : (least largest : ℕ) (r : Record) (l : Literal) (error : ValueErrorKind) → IsNotWorth integers.Exact least largest r l error
+    → IsNoInteger least largest r l error
+exact_error least largest r l kinds.Float is = is
+exact_error least largest r l kinds.TooLarge is = (is.0, is.1.0, is.1.1)
+exact_error least largest r l kinds.TooSmall is = (is.0, is.1.0, is.1.1)
+exact_error least largest r l kinds.UnsupportedRadix is = is
+exact_error least largest r l kinds.Special is = is
+
+abbrev value_of : Float → Result Float ValueErrorKind → Float
+value_of x (Ok value) = value
+value_of x (Err error) = x
+
+abbrev error_of : ValueErrorKind → Result Float ValueErrorKind → ValueErrorKind
+error_of e (Ok value) = e
+error_of e (Err error) = error
+
+abbrev is_ok : Result Float ValueErrorKind → Bool
+is_ok (Ok value) = true
+is_ok (Err error) = false
+
+abbrev chosen : Bool → Float → Result Float ValueErrorKind
+chosen known x = if not known then Err kinds.UnsupportedRadix else Ok x
+
+pub exact_float : (f : Format) (r : Record) (l : Literal) (x : Float) → float_worth exact f r l ≡ Ok x → x ≡ nearest f r l
+exact_float f r l x same = go (is_decimal r || is_binary r) same where
+  go : (known : Bool) → chosen known (nearest f r l) ≡ Ok x → x ≡ nearest f r l
+  go true same = λ i. value_of x (sym same i)
+  go false same = absurd (false≢true (ap is_ok same))
+
+pub exact_radix : (f : Format) (r : Record) (l : Literal) (error : ValueErrorKind) → float_worth exact f r l ≡ Err error
+    → ((is_decimal r || is_binary r) ≡ false) × (error ≡ kinds.UnsupportedRadix)
+exact_radix f r l error same = go (is_decimal r || is_binary r) same where
+  go : (known : Bool) → chosen known (nearest f r l) ≡ Err error → (known ≡ false) × (error ≡ kinds.UnsupportedRadix)
+  go true same = absurd (false≢true (ap is_ok (sym same)))
+  go false same = (refl, λ i. error_of error (sym same i))

@@ -1,0 +1,14 @@
+-- The lowest bits of a number are those of its lowest 64 bits.
+use Rattle.std.proofs.Common.{ℕ, ◌%◌, ◌^◌, Some, ap, ◌∙◌, sym}
+use Rattle.lexical_literal.specs.Kind.{width, worth, wrapped}
+use Rattle.lexical_number.specs.Numeral.{size_of}
+use Rattle.lexical_value.proofs.KindLemmas.{lowest_bits}
+use Rattle.lexical_value.proofs.kind.fewer.Goals as goal
+
+pub returns-in-WrapsModulo : goal.returns-in-WrapsModulo
+returns-in-WrapsModulo c _ =
+    let bits = c.in-WrapsModulo.bits in
+    let numeral = c.args.numeral.now in
+    ap Some (c.wrapped-in-WrapsModulo.ensures ∙ ap (wrapped (width bits) numeral.negative)
+    (c.lowest.ensures ∙ ap (λ n. n % 2 ^ width bits) c.low_bits.ensures ∙ lowest_bits (size_of numeral) bits))
+    ∙ ap (λ kind. worth kind numeral.negative (size_of numeral)) (sym c.in-WrapsModulo.is)

@@ -1,0 +1,115 @@
+//! What an integer is worth by its kind.
+
+ghost use Rattle.std.specs.Prelude.{◌≡◌, ◌-◌, ◌%◌, ◌^◌, ◌<◌, ◌≤◌, false, option_map};
+ghost use Rattle.lexical_literal.specs.Kind.{width, worth, wrapped};
+ghost use Rattle.lexical_number.specs.Numeral.{size_of};
+ghost use Rattle.lexical_number.specs.declared.numeral.Numeral.{Numeral};
+ghost use Rattle.lexical_value.specs.Kind.{is_exact};
+
+use lexical_literal::kind::IntegerKind;
+use lexical_number::numeral::{Magnitude, Numeral};
+
+// An integer of up to 64 bits and its sign.
+#[derive(Clone, Copy)]
+pub(crate) struct Worth {
+    pub(crate) negative: bool,
+    pub(crate) size: u64,
+}
+
+// Returns whether integers are the number that their digits represent.
+#[inline(always)]
+pub(crate) const fn is_exact(kind: IntegerKind) -> bool
+    ensures { result ≡ is_exact kind }
+{
+    matches!(kind, IntegerKind::Exact)
+}
+
+// Returns what an integer is worth by its kind, or `None` if it is too large.
+#[inline(always)]
+pub(crate) const fn counted<'a>(kind: IntegerKind, numeral: Numeral<'a>) -> Option<Numeral<'a>>
+    ensures { option_map (λ (own : Numeral). (own.negative, size_of own)) result ≡ worth kind numeral.entry.negative (size_of numeral.entry) }
+{
+    if is_exact(kind) {
+        return Some(numeral);
+    }
+    match fewer(kind, &numeral) {
+        Some(Worth { negative, size }) => Some(Numeral {
+            negative,
+            magnitude: Magnitude::Word(size),
+        }),
+        None => None,
+    }
+}
+
+// Returns the same for a kind that is not exact.
+#[cold]
+#[inline(never)]
+pub(crate) const fn fewer(kind: IntegerKind, numeral: &Numeral) -> Option<Worth>
+    ensures { is_exact kind ≡ false
+        → option_map (λ own. (own.negative, own.size)) result ≡ worth kind numeral.now.negative (size_of numeral.now) }
+{
+    let negative = numeral.negative;
+    match kind {
+        IntegerKind::Exact => None,
+        IntegerKind::AtMost(bits) => match numeral.size(most(bits), most(bits)) {
+            Some(size) => Some(Worth { negative, size }),
+            None => None,
+        },
+        IntegerKind::Wraps(bits) => match numeral.size(most(bits), most(bits)) {
+            Some(size) => Some(wrapped(bits, negative, size)),
+            None => None,
+        },
+        IntegerKind::WrapsModulo(bits) => {
+            Some(wrapped(bits, negative, lowest(bits, numeral.low_bits())))
+        }
+    }
+}
+
+// Returns `2 ^ bits`. No kind has more than 64 bits.
+const fn power(bits: u8) -> u128
+    ensures value { result ≡ 2 ^ width bits }
+    ensures within { result ≤ 2 ^ 64 }
+{
+    let width = if bits < 64 { bits } else { 64 };
+    1 << width
+}
+
+// Returns `2 ^ (bits - 1)`.
+const fn half(bits: u8) -> u64
+    ensures value { result ≡ 2 ^ (width bits - 1) }
+    ensures some { 1 ≤ result }
+{
+    let width = if bits < 64 { bits } else { 64 };
+    1 << width.saturating_sub(1)
+}
+
+// Returns the greatest number of so many bits.
+const fn most(bits: u8) -> u64
+    ensures { result ≡ 2 ^ width bits - 1 }
+{
+    (power(bits) - 1) as u64
+}
+
+// Returns the number of the lowest `bits` bits of `number`.
+const fn lowest(bits: u8, number: u64) -> u64
+    ensures { result ≡ number % 2 ^ width bits }
+{
+    (number as u128 % power(bits)) as u64
+}
+
+// Returns an integer of so many bits, one of which is its sign.
+const fn wrapped(bits: u8, negative: bool, size: u64) -> Worth
+    requires { size < 2 ^ width bits }
+    ensures { (result.negative, result.size) ≡ wrapped (width bits) negative size }
+{
+    let half = half(bits);
+    let most = if negative { half } else { half - 1 };
+    if size <= most {
+        Worth { negative, size }
+    } else {
+        Worth {
+            negative: !negative,
+            size: (power(bits) - size as u128) as u64,
+        }
+    }
+}

@@ -1,0 +1,63 @@
+// Made by rust/tools/erase.py from crates/lexical_literal/src/kind.rt: change that file.
+
+//! Kinds of numbers: what the digits of a literal are worth in a language whose integers have few bits, or whose floats are
+//! single.
+
+/// What integers are worth, by the number that their digits represent. Numbers of bits are from 1 to 64.
+#[derive(Debug, Clone, Copy, PartialEq, Eq, Hash)]
+#[non_exhaustive]
+pub enum IntegerKind {
+    /// The number itself.
+    Exact,
+    /// The number itself, which has at most so many bits. From `2 ^ bits` on, it is too large.
+    AtMost(u8),
+    /// An integer of so many bits, one of which is its sign: from `2 ^ (bits - 1)` on, `2 ^ bits` less than the number. From
+    /// `2 ^ bits` on, the number is too large.
+    Wraps(u8),
+    /// The same, by the lowest bits of the number, however large it is.
+    WrapsModulo(u8),
+}
+
+/// What floats are worth.
+#[derive(Debug, Clone, Copy, PartialEq, Eq, Hash)]
+#[non_exhaustive]
+pub enum FloatKind {
+    /// The nearest value of the type that is asked for.
+    Nearest,
+    /// The nearest `f32`, also as an `f64`. So are integers of the kind [`IntegerKind::Exact`] as floats.
+    Single,
+}
+
+/// What the literals of a form, or of a suffix, are worth: the kind of its integers, and of its floats.
+#[derive(Debug, Clone, Copy, PartialEq, Eq, Hash)]
+pub struct Kind {
+    integers: IntegerKind,
+    floats: FloatKind,
+}
+
+impl Kind {
+    /// Literals are worth the number that they represent.
+    pub const EXACT: Kind = Kind { integers: IntegerKind::Exact, floats: FloatKind::Nearest };
+
+    /// Returns the kind with these kinds of integers and of floats, or `None` if a number of bits is 0 or above 64.
+    #[must_use]
+    pub const fn new(integers: IntegerKind, floats: FloatKind) -> Option<Kind> {
+        match integers {
+            IntegerKind::Exact | IntegerKind::AtMost(1..=64) => Some(Kind { integers, floats }),
+            IntegerKind::Wraps(1..=64) | IntegerKind::WrapsModulo(1..=64) => Some(Kind { integers, floats }),
+            _ => None,
+        }
+    }
+
+    /// Returns the kind of integers.
+    #[must_use]
+    pub const fn integers(self) -> IntegerKind {
+        self.integers
+    }
+
+    /// Returns the kind of floats.
+    #[must_use]
+    pub const fn floats(self) -> FloatKind {
+        self.floats
+    }
+}

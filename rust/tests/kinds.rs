@@ -1,0 +1,180 @@
+//! What literals are worth by the kind of their form and of their suffix. Expected values are those of javac, OCaml, NASM, Lua and
+//! gfortran, and otherwise of Rust's own integers.
+
+use peltzivar::format::{Part, STANDARD};
+use peltzivar::literal::{
+    FloatKind, Form, Forms, IntegerKind, Kind, Language, Literal, Style, Syntax, ValueErrorKind, WriteError,
+};
+use peltzivar::{Format, NumberFormatBuilder};
+
+/// A language, a token, and the integer that it is, or none if it is too large.
+const INTEGERS: &[(Language, &str, Option<i128>)] = &[
+    (Language::JAVA, "2147483647", Some(2147483647)),
+    (Language::JAVA, "2147483648", None),
+    (Language::JAVA, "3000000000", None),
+    (Language::JAVA, "3000000000L", Some(3000000000)),
+    (Language::JAVA, "9223372036854775807l", Some(9223372036854775807)),
+    (Language::JAVA, "9223372036854775808L", None),
+    (Language::JAVA, "0x7fffffff", Some(2147483647)),
+    (Language::JAVA, "0x80000000", Some(-2147483648)),
+    (Language::JAVA, "0xffff_ffff", Some(-1)),
+    (Language::JAVA, "0x00000000ffffffff", Some(-1)),
+    (Language::JAVA, "0x100000000", None),
+    (Language::JAVA, "0xffffffffL", Some(4294967295)),
+    (Language::JAVA, "0x8000000000000000L", Some(-9223372036854775808)),
+    (Language::JAVA, "0xffffffffffffffffL", Some(-1)),
+    (Language::JAVA, "0x10000000000000000L", None),
+    (Language::JAVA, "037777777777", Some(-1)),
+    (Language::JAVA, "0b11111111111111111111111111111110", Some(-2)),
+    (Language::OCAML, "4611686018427387903", Some(4611686018427387903)),
+    (Language::OCAML, "4611686018427387905", None),
+    (Language::OCAML, "0x3fffffffffffffff", Some(4611686018427387903)),
+    (Language::OCAML, "0x4000000000000000", Some(-4611686018427387904)),
+    (Language::OCAML, "0x7fffffffffffffff", Some(-1)),
+    (Language::OCAML, "0x8000000000000000", None),
+    (Language::OCAML, "0xffffffffl", Some(-1)),
+    (Language::OCAML, "0xffffffffL", Some(4294967295)),
+    (Language::OCAML, "2147483647l", Some(2147483647)),
+    (Language::NASM, "0ffffffffffffffffh", Some(-1)),
+    (Language::NASM, "18446744073709551616", Some(0)),
+    (Language::NASM, "0x10000000000000001", Some(1)),
+    (Language::NASM, "340282366920938463463374607431768211455", Some(-1)),
+    (Language::LUA, "0xffffffffffffffff", Some(-1)),
+    (Language::LUA, "0x100080000000000001", Some(36028797018963969)),
+    (Language::LUA, "9223372036854775808", Some(9223372036854775808)),
+    (Language::FORTRAN, "2147483647", Some(2147483647)),
+    (Language::FORTRAN, "2147483648", None),
+    (Language::JAVASCRIPT, "9007199254740993", Some(9007199254740993)),
+    (Language::RUST, "0xffffffffffffffff", Some(18446744073709551615)),
+];
+
+/// A language, a token, and the float that it is.
+const FLOATS: &[(Language, &str, f64)] = &[
+    (Language::JAVA, "0.1", 0.1),
+    (Language::JAVA, "0.1d", 0.1),
+    (Language::JAVA, "0.1f", 0.1_f32 as f64),
+    (Language::JAVA, "16777217f", 16777216.0),
+    (Language::JAVA, "16777217d", 16777217.0),
+    (Language::JAVA, "08f", 8.0),
+    // Rounded to a double first, it would be between two singles, and then the lower one.
+    (Language::JAVA, "1.000000059604644775390626f", 1.0000001_f32 as f64),
+    (Language::JAVA, "0x1.0000010000000000000001p0f", 1.0000001_f32 as f64),
+    (Language::JAVA, "0xffffffff", -1.0),
+    (Language::OCAML, "0x7fffffffffffffff", -1.0),
+    (Language::NASM, "0x10000000000000001", 1.0),
+    (Language::LUA, "9223372036854775808", 9223372036854775808.0),
+    (Language::LUA, "0x1p64", 18446744073709551616.0),
+    (Language::FORTRAN, "0.1", 0.1_f32 as f64),
+    (Language::FORTRAN, "1.000000059604644775390626", 1.0000001_f32 as f64),
+    (Language::FORTRAN, "-1.5e39", f64::NEG_INFINITY),
+    (Language::FORTRAN, "16777217.0", 16777216.0),
+    (Language::FORTRAN, "16777217", 16777217.0),
+    (Language::FORTRAN, "0.1d0", 0.1),
+    (Language::JULIA, "0.1f0", 0.1_f32 as f64),
+    (Language::C, "0.1F", 0.1_f32 as f64),
+    (Language::RUST, "0.1f32", 0.1_f32 as f64),
+    (Language::KOTLIN, "16777217f", 16777216.0),
+];
+
+/// Returns the literal that a token begins with, of a language that has no tokens the whole text.
+fn literal(language: Language, text: &str) -> Literal<'_> {
+    match language.token(text) {
+        Ok(token) => token.literal,
+        Err(_) => language.read(text).unwrap().literal().unwrap(),
+    }
+}
+
+#[test]
+fn values_are_those_of_the_language() {
+    for (language, text, wanted) in INTEGERS {
+        let literal = literal(*language, text);
+        assert_eq!(literal.to_i128().ok(), *wanted, "{language}: {text}");
+        assert_eq!(i128::try_from(literal).map_err(|it| it.kind()), wanted.ok_or(ValueErrorKind::TooLarge), "{text}");
+        assert_eq!(literal.to_f64().ok(), wanted.map(|it| it as f64), "{language}: {text}");
+    }
+    for (language, text, wanted) in FLOATS {
+        let literal = literal(*language, text);
+        assert_eq!(literal.to_f64(), Ok(*wanted), "{language}: {text}");
+        assert_eq!(literal.to_f32(), Ok(*wanted as f32), "{language}: {text}");
+        if literal.radix(Part::Integer) == 16 {
+            assert_eq!(literal.binary_to_f64(), Ok(*wanted), "{language}: {text}");
+        }
+    }
+    // It is below 0, in each call alike.
+    assert_eq!(Language::JAVA.parse::<u32>("0xffffffff").unwrap_err().to_string(), "below 0, the least u32");
+    assert_eq!(Language::JAVA.parse_prefix::<i64>("0xffffffff;"), Ok((-1, &b";"[..])));
+    let error = Language::JAVA.parse::<i64>("3000000000").unwrap_err();
+    assert_eq!(error.to_string(), "above 2147483647, the largest number of its form");
+    assert!(Language::JAVA.read("3000000000").unwrap().to_f64().is_nan());
+    let digits = Language::JAVA.read("0xffffffff").unwrap().literal().unwrap();
+    assert_eq!(digits.plain().unwrap().to_string(), "ffffffff");
+}
+
+#[test]
+fn each_number_of_bits_has_its_limits() {
+    const HEXADECIMAL: Syntax = Syntax::integers(NumberFormatBuilder::new().mantissa_radix(16).build_format_or_panic());
+    let of = |integers| Kind::new(integers, FloatKind::Nearest).unwrap();
+    for bits in 1..=64 {
+        let (most, wraps, modulo) =
+            (IntegerKind::AtMost(bits), IntegerKind::Wraps(bits), IntegerKind::WrapsModulo(bits));
+        let power = 1_u128 << bits;
+        for number in [0, 1, power / 2 - 1, power / 2, power - 1, power, power + 1, 3 * power + power / 2, u128::MAX] {
+            for sign in ["", "-"] {
+                let text = format!("{sign}{number:X}");
+                let signed = (if sign.is_empty() { number } else { number.wrapping_neg() }) as i128;
+                let low = signed << (128 - u32::from(bits)) >> (128 - u32::from(bits));
+                let fits = |value: i128| (number < power).then_some(value);
+                for (kind, wanted) in [(most, fits(signed)), (wraps, fits(low)), (modulo, Some(low))] {
+                    let literal = HEXADECIMAL.read(&text).unwrap().with_kind(of(kind));
+                    assert_eq!(literal.to_i128().ok(), wanted, "{kind:?}: {text}");
+                    assert_eq!(literal.to_i64().ok(), wanted.and_then(|it| it.try_into().ok()), "{kind:?}: {text}");
+                    assert_eq!(literal.to_f64().ok(), wanted.map(|it| it as f64), "{kind:?}: {text}");
+                    assert_eq!(literal.binary_to_f32().ok(), wanted.map(|it| it as f32), "{kind:?}: {text}");
+                }
+            }
+        }
+    }
+    for bits in [0, 65, 255] {
+        for integers in [IntegerKind::AtMost(bits), IntegerKind::Wraps(bits), IntegerKind::WrapsModulo(bits)] {
+            assert_eq!(Kind::new(integers, FloatKind::Single), None);
+        }
+    }
+}
+
+#[test]
+fn a_form_of_ones_own_has_a_kind() {
+    const BYTE: Kind = Kind::new(IntegerKind::Wraps(8), FloatKind::Single).unwrap();
+    let syntax = Syntax::new_or_panic(Format::of::<STANDARD>(), b'e', b'.');
+    let forms = [Form::new("", syntax).with_kind(BYTE)];
+    let forms = Forms::new(&forms).unwrap();
+    assert_eq!((forms.parse::<i8>("200"), forms.parse::<i8>("-200")), (Ok(-56), Ok(56)));
+    assert_eq!(forms.parse::<f64>("0.1"), Ok(0.1_f32.into()));
+    assert_eq!((syntax.parse::<f64>("0.1"), syntax.parse("200")), (Ok(0.1), Ok(200)));
+    let error = forms.parse::<i64>("-256").unwrap_err();
+    assert_eq!(error.to_string(), "below -255, the least number of its form");
+    assert_eq!(error.span(), 0..4);
+    assert_ne!(forms.read("1").unwrap().literal(), syntax.read("1").ok());
+}
+
+/// What is written has the value, and not the digits.
+#[test]
+fn values_are_written() {
+    #[rustfmt::skip]
+    let rows = [
+        (Language::JAVA, "0xffffffff", Language::RUBY, Ok("-1")),
+        (Language::JAVA, "0xffffffff", Language::C, Err(WriteError::Negative)),
+        (Language::JAVA, "0x7fffffff", Language::C, Ok("2147483647")),
+        (Language::JAVA, "3000000000", Language::C, Err(WriteError::TooLarge)),
+        (Language::JAVA, "3000000000L", Language::C, Ok("3000000000")),
+        (Language::NASM, "0x10000000000000001", Language::C, Ok("1")),
+        (Language::FORTRAN, "0.1", Language::PYTHON, Ok("0.10000000149011612")),
+        (Language::FORTRAN, "0.50", Language::PYTHON, Ok("0.50")),
+        (Language::FORTRAN, "0.1d0", Language::PYTHON, Ok("0.1e0")),
+        (Language::JAVA, "0.1f", Language::JAVASCRIPT, Ok("0.10000000149011612")),
+        (Language::FORTRAN, "1e39", Language::PYTHON, Err(WriteError::Special)),
+    ];
+    for (source, text, target, wanted) in rows {
+        let written = target.forms()[0].syntax().format_literal(&literal(source, text), Style::PLAIN);
+        assert_eq!(written.map(|it| it.to_string()), wanted.map(str::to_string), "{source}: {text}");
+    }
+}
