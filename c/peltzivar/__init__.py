@@ -804,8 +804,8 @@ class LiteralError(ValueError):
     """Raised if a text is not a literal. `str` returns the cause as a sentence, and `full_sentence` names the flags and
     conditions to blame, too. If the cause is mended, another may follow.
 
-    `valid_up_to` is the length of the longest beginning of the text that some literal begins with. If it is the
-    length of the text, characters are missing. `span` is the first index and the end of the characters to show, maybe
+    `text` is what was to be read. `valid_up_to` is the length of the longest beginning of it that some literal begins
+    with. If it is the length of the text, characters are missing. `span` is the first index and the end of the characters to show, maybe
     none, as in `text[slice(*span)]`. `kind` is the kind of the cause, and `part` the part of a separator or of
     missing digits. `mask` has the flags to blame as bits of a word, and `conditions` the names of conditions. A wrong
     byte and missing digits blame none. `error` is the cause as one of the errors of the parsers of Rust's crate
@@ -1297,7 +1297,8 @@ class Literal(Generic[AnyStr]):
 
     @property
     def value(self) -> Union[int, float]:
-        """The value: an int if the literal is an integer, and otherwise a float."""
+        """The value: an int if the literal is an integer, and otherwise a float. Raises ValueError if it is too large for the
+        kind of its form, as 3000000000 is for the decimal integers of JAVA."""
         return float(self) if self._found.is_float else int(self)
 
     def __int__(self) -> int:
@@ -1445,7 +1446,7 @@ class Column:
 
 
 class ColumnError(ValueError):
-    """Raised if a cell is wrong. `column` has the values of the others, and all wrong cells. `str` names the first."""
+    """Raised if a cell is wrong. `column` has the values of the others, and all wrong cells. `str` shows the first."""
 
     def __init__(self, column: Column) -> None:
         super().__init__(column)
@@ -1453,7 +1454,8 @@ class ColumnError(ValueError):
 
     def __str__(self) -> str:
         first, *others = self.column.wrong[:2]
-        return f"cell {first.index}: {first}" + f", the first of {len(self.column.wrong)} wrong cells" * len(others)
+        shown = f"cell {first.index}, {reprlib.repr(first.text)}: {first}"
+        return shown + f", the first of {len(self.column.wrong)} wrong cells" * len(others)
 
 
 class _Wrong(Sequence[WrongCell]):
@@ -1555,32 +1557,35 @@ class _Reader:
             '3'
 
         Takes an int, a float, a Decimal, a `Literal`, or an object with `__index__` or `__float__`, as those of numpy,
-        but no bool. Of a float, the digits are those of `repr`; a Fraction is exact. A `Literal` keeps its exponent, and a Decimal has one
-        from 1E+401 on and below 1E-400. Where no exponent is allowed, the point moves, and the text has at most 800
-        bytes.
+        but no bool. Without `decimals`, the digits of a float are those of `repr`, and a Fraction is exact. A `Literal`
+        keeps its exponent, and a Decimal has one from 1E+401 on and below 1E-400. Where no exponent is allowed, the
+        point moves, and the text has at most 800 bytes.
 
         The other arguments are wishes: what the syntax forbids is not done, and what it requires is. `group` and
         `fraction_group` are the numbers of digits in a group of the integer, counted from the right, and of the
-        fraction, counted from the left. If the syntax has a size, this replaces them, also None, for which there are no
-        groups otherwise, but not 0, for which there are none. `without_base` leaves out the base prefix and the base
+        fraction, counted from the left. If the syntax has a size, its groups are written, unless the number is 0,
+        for no groups. Without a size, None is no groups, too. `without_base` leaves out the base prefix and the base
         suffix. `lowercase` writes digits in lowercase, and `min_digits` at least so many integer digits, with zeros
         before the others. `keep_leading_zeros` keeps those of a `Literal` whose point does not move. `exponent` is
-        "never", for a point that moves in place of an exponent, "always", or a number from which on, and below minus
-        which, an exponent is kept, and otherwise moves the point. With `point`, a float has a point with a digit behind
-        it, also before an exponent. `decimals` rounds a float to so many digits behind the point, as `format(value,
-        ".2f")` does: to the nearest, or to the even one if two are as near.
+        "never", for a point that moves in place of an exponent, "always", or a number n: an exponent that is at least n
+        or at most -n is kept, and another moves the point. With `point`, a float has a point with a digit behind it,
+        also before an exponent. `decimals` rounds to so many digits behind the point, as `format(value, ".2f")` does: to
+        the nearest, or to the even one if two are as near. In radix 10, it does so with each number, a `Literal` by its
+        `value`, and otherwise with floats alone.
 
-            >>> prices.format_number(1234.5, group=3, decimals=2)
-            '1.234,50'
+            >>> prices.format_number(1234.5, group=3, decimals=2), prices.format_number(7, decimals=2)
+            ('1.234,50', '7,00')
 
         Of several forms, as those of a Language, that is taken whose text all of them read as the same integer, or the same
         float. Forms of the radix of a `Literal` are asked first, then decimal ones, and then the others. If there is none,
-        the error is that of the first.
+        the error is that of the first. An int that no form of integers can have is written as a float that is nearest to
+        it: `languages.JAVA.format_number(3000000000)` is 0xB2D05E00p0.
 
-        Raises ValueError for NaN and infinity without a spelling, for a Fraction that no decimal number is equal to, for a sign `-` if no literal has one, for a number that is not whole if
-        literals are integers, for an int if each literal has an exponent, for an int of more than 4300 digits in radix
-        10, as `str` does, for another mantissa radix than that of the syntax, which is 10 for a float and a Decimal, if
-        the number is not whole or has more than 128 bits, and, of a float, for another exponent base.
+        Raises ValueError for NaN and infinity without a spelling, for a Fraction that no decimal number is equal to, for
+        a sign `-` if no literal has one, for a number that is not whole if literals are integers, for an int if each
+        literal has an exponent, for an int of more than 4300 digits in radix 10, as `str` does, for another mantissa
+        radix than that of the syntax, which is 10 for a float and a Decimal, if the number is not whole or has more than
+        128 bits, and, of a float, for another exponent base.
         """
         sizes = ((group, "group"), (fraction_group, "fraction_group"))
         groups = (0 if size is None else _number(name, size, 255, "a number from 0 to 254") or 255 for size, name in sizes)
@@ -1595,7 +1600,10 @@ class _Reader:
         if isinstance(self, _Several) and isinstance(value, float) and not math.isfinite(value):
             spelling = Spelling.NAN if math.isnan(value) else Spelling.INF
             return cast(str, self.specials.format(next(iter(self._named.values())), Special("-" if value < 0 else "", spelling)))
-        name, number, _literal = _writing(value, self._fields.mantissa_radix if isinstance(self, Syntax) else 10)
+        radix = self._fields.mantissa_radix if isinstance(self, Syntax) else 10
+        if decimals is not None and radix == 10 and not isinstance(value, float):
+            value = _rounded(value, places)
+        name, number, _literal = _writing(value, radix)
         if isinstance(self, Syntax):
             return _written(getattr(_library, name), self._by, number, style)
         return _written(getattr(_library, f"forms_{name}"), self._forms, number, style)
@@ -1706,6 +1714,8 @@ def _texts_of(cells: Any) -> Tuple[bytes, Any, Tuple[int, ...], Callable[[int], 
         parts = [*texts]
         for at in missing:
             parts[at] = empty
+        for at, it in enumerate(parts):
+            _typed(f"cell {at}", it, type(empty))
         joined = empty.join(parts)
     if isinstance(joined, str):
         parts = parts if joined.isascii() else [it.encode("utf-8", "surrogatepass") for it in parts]
@@ -1733,6 +1743,7 @@ _FACTORS = {2**twos * 5**fives: (twos, fives) for twos in range(6) for fives in 
 _MOST_DIGITS = 10**6
 _TOO_LONG = "the exact value has more than 10^6 digits"
 _EXACT = Context(_MOST_DIGITS, Emin=MIN_EMIN, Emax=MAX_EMAX, traps=[InvalidOperation, Rounded])
+_ROUNDED = Context(_MOST_DIGITS, Emin=MIN_EMIN, Emax=MAX_EMAX, traps=[InvalidOperation])
 # Numbers that are neither long nor far from 1.
 _NEAR = Context(400, Emin=-999, Emax=999, traps=[InvalidOperation, Rounded, Overflow, Subnormal])
 
@@ -1877,7 +1888,8 @@ class Syntax(_Reader):
         attributes of a `Syntax`: `exponent`, `point` and its conditions. A setting has the form that `Edit` takes, and
         a setting of `exponent` or `point` that of `base_prefix`. If both are `none`, or None, literals are integers,
         and one alone is refused: for floats without an exponent, keep its character and set `no_exponent_notation`. A
-        setting that is blank or begins with `#` is skipped. A setting overrides those before it.
+        setting that is blank or begins with `#` is skipped. A setting overrides those before it. A digit separator that
+        no flag allows is dropped, and `notes_of` reports it: set a flag, such as `integer_internal_digit_separator`, too.
         """
         text, made = _lines(settings), _Syntax()
         if problems := _library.read_settings(text, len(text), made):
@@ -2038,6 +2050,18 @@ def _writing(value: Any, radix: int) -> Tuple[str, Any, Optional[Literal[Any]]]:
     return "format_literal", literal._found, literal
 
 
+def _rounded(value: Any, places: int) -> Any:
+    """Returns a number with so many digits behind the point or, if the library rounds it, as a float. A Literal is what it is
+    worth."""
+    value = value.value if isinstance(value, Literal) else value
+    if isinstance(value, Fraction):
+        return _EXACT.scaleb(Decimal(round(value * 10**places)).copy_sign(value.numerator), -places)
+    if hasattr(type(value), "__index__") and not isinstance(value, bool):
+        value = Decimal(operator.index(value))
+    is_finite = isinstance(value, Decimal) and value.is_finite()
+    return _ROUNDED.quantize(value, Decimal(1).scaleb(-places)) if is_finite else value
+
+
 def _decimal_of(value: Fraction) -> Decimal:
     twos = (value.denominator & -value.denominator).bit_length() - 1
     rest, fives = value.denominator >> twos, 0
@@ -2157,7 +2181,7 @@ class _Several(_Reader):
 
 @dataclass(frozen=True)
 class Kind:
-    """What the literals of a form are worth. Without arguments, it is the number that they represent.
+    """How the values of literals of a form are computed. Without arguments, they are the numbers as they are written.
 
     From 2^at_most on, an integer is too large. From 2^(wraps - 1) on, it is 2^wraps less, and too large from 2^wraps on or,
     if `modulo` is true, its lowest bits count. A float is the nearest one of 32 bits if `single` is true. Raises ValueError
@@ -2201,9 +2225,9 @@ class Forms(_Several, Mapping[str, Syntax]):
 
     The first form of which a text is a literal decides its parts and its value, so the order matters. If it is a literal
     of none, a spelling may match, by the flags of the first form. A LiteralError is that of the form for which most of
-    the text is right. The syntaxes are had by their names, as in `forms["hexadecimal"]`. `kinds` has the kinds of forms,
-    by their names, and is that of `forms` if these are `Forms`. Raises ValueError if there are no forms or more than 64, if two have the same name, or if there is a
-    kind of no form.
+    the text is right. `forms["hexadecimal"]` is the syntax with this name. `kinds` has the kinds of forms, by
+    their names, and is that of `forms` if these are `Forms`. Raises ValueError if there are no forms or more than 64, if
+    two have the same name, or if there is a kind of no form.
     """
 
     def __init__(

@@ -302,6 +302,9 @@ class Literals(unittest.TestCase):
             (1e16, {"point": True}, "1.0e16"),
         ):
             self.assertEqual(grouped.format_number(number, **style), text)
+        for number in (7, -(10**20), Decimal("1234.505"), Decimal("-0.004"), 2.675, 1e22):
+            self.assertEqual(Syntax.of().format_number(number, decimals=2), format(number, ".2f"))
+        self.assertEqual([grouped.format_number(it, decimals=2) for it in (Fraction(-1, 300), Language.C.read("0x10"))], ["-0.00", "16.00"])
         self.assertEqual(hexadecimal.format_number(171, lowercase=True), "0xab")
         self.assertEqual(hexadecimal.format_number(grouped.read("255")), "0xFF")
         specials = Specials(nan="nan", inf="nan", infinity="inf")
@@ -529,7 +532,7 @@ WRONG = [
     ("Format().check_options('e', b'')", ValueError, f"point is {BYTE}: b''"),
     ("Syntax.of('radix=16\\nradix=2')", ValueError, "a setting is one line: 'radix=16\\nradix=2'"),
     ("Language.JSON.column('12')", TypeError, "cells is a sequence of texts, not str"),
-    ("Language.JSON.column([1])", TypeError, "sequence item 0: expected str instance, int found"),
+    ("Language.JSON.column([1])", TypeError, "cell 0 is a str, not int"),
     ("Language.JSON.column([], complex)", TypeError, "type is float, int or one of the formats d, f, q and Q, which is that of out: <class 'complex'>, ''"),
     ("Language.JSON.column(['1'], out=bytearray(8))", TypeError, "type is float, int or one of the formats d, f, q and Q, which is that of out: <class 'float'>, 'B'"),
     ("Language.JSON.column(['1'], out=array('d'))", ValueError, "out has the shape (0,), and there are 1 cells"),

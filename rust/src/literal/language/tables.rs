@@ -273,7 +273,7 @@ const POINTS_BACK: Tokens = Tokens::new(&[], &[]).gives_points_back(true);
 
 languages! {
     /// Ada's decimal literals (Reference Manual 2012, 2.4.1). A format cannot accept based literals, such as `16#FF#`, or
-    /// accept `1.0E-3` and `1E3` but reject `1E-3`, which the first form does not write.
+    /// accept `1.0E-3` and `1E3` but reject `1E-3`. So `1E-3` is read here, but the first form never writes it.
     ADA = {
         "decimal": decimal(separated(b'_')
             .required_digits(true) // rejects `.5`, `1.`, `1e` and `.`
@@ -294,18 +294,18 @@ languages! {
     } => Tokens::new(&[], &[]);
 
     /// CSS's numbers, with signs (CSS Syntax Module Level 3, 4.3.12). A format cannot accept a unit, as in `10px` and `5%`. A
-    /// token has a word as its unit, but neither `%` nor what follows `-` behind a digit: of `1p2-x`, it is `1p2`.
+    /// token has a word as its unit. It ends before `%`, and before a `-` that follows a digit: of `1p2-x`, it is `1p2`.
     CSS = { "decimal": numbers(b'e', b'.', NumberFormatBuilder::new()
         .no_special(true) // rejects `NaN` and `inf`
         .required_fraction_digits(true) // rejects `1.`, not `.5`
     ) => CSS_WORDS } => Tokens::new(&[], &[]);
 
-    /// Numbers in CSV, as German spreadsheets write cells of the format `#.##0,00` (RFC 4180): `1.234,50`. The
-    /// cause of `0.123` is its leading zero, since its groups are right.
+    /// Numbers in CSV, as German spreadsheets write cells of the format `#.##0,00` (RFC 4180): `1.234,50`.
+    /// `0.123` is refused for its leading zero, since its groups are right.
     CSV_DE = { "decimal": grouped(numbers(b'e', b',', SPREADSHEET.digit_separator(NonZeroU8::new(b'.')))) };
 
-    /// Numbers in CSV, as English spreadsheets write cells of the format `#,##0.00`, in quotes (RFC 4180): `"1,234.50"`. A
-    /// format cannot accept the minus sign U+2212 of Gnumeric: replace it by `-`.
+    /// Numbers in CSV, as English spreadsheets write cells of the format `#,##0.00`, in quotes (RFC 4180): `"1,234.50"`.
+    /// Remove the quotes, as CSV readers do. A format cannot accept the minus sign U+2212 of Gnumeric: replace it by `-`.
     CSV_EN = { "decimal": grouped(numbers(b'e', b'.', SPREADSHEET.digit_separator(NonZeroU8::new(b',')))) };
 
     /// C++'s integer and floating literals (C++17, 5.13.2 and 5.13.4). A format cannot accept `1u`, `1L`, `1.0f` and suffixes
@@ -325,7 +325,7 @@ languages! {
         "binary": prefixed(b'b', 2, JAVA.integer_leading_digit_separator(true)) => words(C_SHARP_INTEGERS, &[]).either_case(true), // accepts `0b_1`
     } => Tokens::new(&[], &[]);
 
-    /// Elixir's integers and floats (Syntax reference 1.14, Numbers). Numbers from 1.8e308 on are refused there.
+    /// Elixir's integers and floats (Syntax reference 1.14, Numbers). Elixir refuses numbers from 1.8e308 on, which are infinity here.
     ELIXIR = {
         "decimal": decimal(separated(b'_')
             .required_digits(true) // rejects `.5`, `1.`, `1e` and `.`
@@ -382,7 +382,7 @@ languages! {
 
     /// Java's integer and floating-point literals (Language Specification 21, 3.10.1 and 3.10.2). A format cannot accept
     /// `1L`, `1f` and `1d`. Values are those of `int` or, with `L`, of `long`: a hexadecimal, octal or binary integer from 2^31 on
-    /// is negative, as `0xffffffff`, which is -1. `2147483648`, which is lawful behind the operator `-` alone, is too large.
+    /// is negative, as `0xffffffff`, which is -1. `2147483648`, which is lawful only after the operator `-`, is too large.
     JAVA = {
         "decimal": decimal(JAVA.no_integer_leading_zeros(true)) => JAVA_DECIMALS; AT_MOST_31, // rejects `08`, not `08.5`
         "octal": octal(JAVA) => JAVA_INTEGERS; WRAPS_32,
@@ -471,7 +471,7 @@ languages! {
 
     /// OCaml's integers and floats (Manual 5.2, 11.1 Lexical conventions). A format cannot accept `1._`, whose fraction has a
     /// separator alone, or `1l`, `1L` and `1n`. An integer has 63 bits, so `0x7fffffffffffffff` is -1.
-    /// `4611686018427387904`, which is lawful behind the operator `-` alone, is too large.
+    /// `4611686018427387904`, which is lawful only after the operator `-`, is too large.
     OCAML = {
         "decimal": decimal(RUST
             .required_integer_digits(true) // rejects `.5`, not `1.`
