@@ -33,7 +33,6 @@ PLACES = {
     "lexical_flags": LIBRARY,
     "lexical_builder": LIBRARY,
     "lexical_util": LIBRARY,
-    "lexical_number": ("src/number", "crate", "crate::number", "core"),
     "lexical_literal": ("src/literal", "crate", "crate::literal", "core"),
     "lexical_writer": ("src/literal/writer", "crate", "crate::literal::writer", "core"),
     "lexical_value": ("src/literal/value", "crate", "crate::literal::value", "core"),
@@ -162,7 +161,7 @@ REPLACED += [
     ("lexical_literal/src/literal.rt", "pub const fn places(&self)", "pub(crate) const fn places(&self)"),
     ("lexical_literal/src/literal.rt", "pub const fn scale(&self)", "pub(crate) const fn scale(&self)"),
     # A syntax that is not lawful can have any radix.
-    ("lexical_number/src/word.rt", "MOST[radix as usize] as usize", "if radix <= 36 { MOST[radix as usize] as usize } else { 0 }"),
+    ("lexical_literal/src/word.rt", "MOST[radix as usize] as usize", "if radix <= 36 { MOST[radix as usize] as usize } else { 0 }"),
     # Programs have one copy of these.
     ("lexical_literal/src/list.rt", "syntax.begin(false, text, false);\n                if syntax.is_whole(text, counted) {\n                    return Some", "syntax.begin_any(text, false);\n                if syntax.is_whole(text, counted) {\n                    return Some"),
     ("lexical_literal/src/list.rt", "self.begin(false, text, false)", "self.begin_any(text, false)"),
@@ -327,7 +326,7 @@ def renamed(text, root, own, std):
     """Returns the text with the paths and names of plain Rust."""
     text = re.sub(r"\bcrate::", f"{own}::", text)
     text = re.sub(r"\blexical_(base|flags|builder|util)\b(?=::)", root, text)
-    text = re.sub(r"\blexical_(literal|number)\b(?=::)", rf"{root}::\1", text)
+    text = re.sub(r"\blexical_literal\b(?=::)", f"{root}::literal", text)
     text = re.sub(r"\blexical_value\b(?=::)", f"{root}::literal::value", text)
     text = re.sub(r"\bstd::", f"{std}::", text)
     text = re.sub(rf"\b{root}::({'|'.join(MODULES)})\b", lambda m: f"{root}::{MODULES[m[1]]}", text)

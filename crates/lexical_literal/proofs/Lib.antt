@@ -1,4 +1,6 @@
 -- Lemmas.
+pub mod WordLemmas
+pub mod DigitLemmas
 pub mod RunLemmas
 mod ScanLemmas
 mod StepLemmas

@@ -11,9 +11,9 @@ use Rattle.std.specs.Float.{NotNan}
 use Rattle.lexical_util.specs.Layout as layout
 use Rattle.lexical_util.specs.Record.{Record, effective_exponent_base, effective_exponent_radix}
 use Rattle.lexical_literal.specs.Literal.{Literal, is_minus}
-use Rattle.lexical_number.specs.Binary.{raised_down, raised_up}
-use Rattle.lexical_number.specs.Leading.{IsCutTo, Leads}
-use Rattle.lexical_number.specs.Number.{number, places}
+use Rattle.lexical_value.specs.Binary.{raised_down, raised_up}
+use Rattle.lexical_value.specs.Leading.{IsCutTo, Leads}
+use Rattle.lexical_literal.specs.Number.{number, places}
 use Rattle.lexical_literal.specs.Read.{mantissa}
 use Rattle.lexical_value.specs.Value.{denominator, numerator}
 

@@ -18,8 +18,8 @@ use Rattle.lexical_util.specs.Record.{Record, raw, effective_exponent_base, effe
 use Rattle.lexical_literal.specs.Literal.{Literal, is_minus}
 use Rattle.lexical_literal.specs.Read.{exponent, mantissa}
 use Rattle.lexical_literal.specs.declared.syntax.Grammar.{Grammar}
-use Rattle.lexical_number.specs.Binary.{format_of, raised_down, raised_up}
-use Rattle.lexical_number.specs.Number.{digits_in, number}
+use Rattle.lexical_value.specs.Binary.{format_of, raised_down, raised_up}
+use Rattle.lexical_literal.specs.Number.{digits_in, number}
 use Rattle.lexical_value.specs.Float.{is_binary, is_decimal, nearest}
 use Rattle.lexical_value.specs.Value.{denominator, numerator, power, scale}
 use Rattle.lexical_writer.specs.Digits.{size_of, values_of}

@@ -18,7 +18,7 @@ use crate::digits::{only_if, put_if_any, without_zeros};
 use crate::run::{Pattern, Run, Source};
 use crate::sink::{Sink, Window};
 use lexical_literal::syntax::{Condition, Conditions, Options, Syntax};
-use lexical_number::parts::count;
+use lexical_literal::word::count;
 use lexical_util::format::{NumberFormat, base_prefix, base_suffix, digit_separator};
 use lexical_util::laws::byte_facts;
 

@@ -13,11 +13,26 @@ use crate::literal::{
 pub(crate) mod float;
 pub(crate) mod integer;
 pub(crate) mod kind;
+pub(crate) mod number {
+    pub(crate) mod big;
+    pub(crate) mod binary;
+    pub(crate) mod decimal;
+    pub(crate) mod float;
+    pub(crate) mod integer;
+    pub(crate) mod leading;
+    pub(crate) mod long;
+    #[allow(clippy::manual_range_contains, reason = "as it is proved")]
+    pub(crate) mod nearest;
+    pub(crate) mod numeral;
+    pub(crate) mod scaling;
+    pub(crate) mod powers;
+    pub(crate) mod shortest;
+}
 
 pub use integer::ValueErrorKind;
 
-use crate::number::decimal::{decimal_to_bits, digits_to_bits};
-use crate::number::float::Float;
+use number::decimal::{decimal_to_bits, digits_to_bits};
+use number::float::Float;
 use float::{binary_size, exponent_of, nearest_float, to_float};
 use integer::{integer_numeral, own_numeral, to_integer};
 

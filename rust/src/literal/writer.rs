@@ -5,8 +5,8 @@ use core::str;
 
 use crate::literal::value::Other;
 use crate::literal::{Forms, Literal, Sign, Special, Specials, Spelling, Syntax};
-use crate::number::float::Float;
-use crate::number::integer::Integer;
+use crate::literal::value::number::float::Float;
+use crate::literal::value::number::integer::Integer;
 
 #[allow(
     clippy::exhaustive_structs,

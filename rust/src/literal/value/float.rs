@@ -6,10 +6,10 @@ use crate::literal::kind::FloatKind;
 use crate::literal::literal::Literal;
 use crate::literal::value::integer::{integer_numeral, ValueErrorKind};
 use crate::literal::value::kind::{fewer, is_exact, Worth};
-use crate::number::decimal::{decimal_to_float, digits_to_float};
-use crate::number::float::Float;
-use crate::number::leading::{push_all, saturating, Leading};
-use crate::number::parts::{bits_of, raised_bits};
+use crate::literal::value::number::decimal::{decimal_to_float, digits_to_float};
+use crate::literal::value::number::float::Float;
+use crate::literal::value::number::leading::{push_all, saturating, Leading};
+use crate::literal::value::number::scaling::{bits_of, raised_bits};
 use crate::word::FormatView;
 
 /// Returns the value of a literal by its kind as a value of a float type: rounded once to the nearest float, or to the even one

@@ -8,12 +8,12 @@ use crate::literal::literal::Literal;
 use crate::literal::syntax::{Condition, Syntax};
 use crate::literal::value::float::to_float;
 use crate::literal::value::integer::{own_numeral, to_integer};
+use crate::literal::value::number::float::Float;
+use crate::literal::value::number::integer::Integer;
 use crate::literal::writer::float::format_float;
 use crate::literal::writer::float_digits::FloatDigits;
 use crate::literal::writer::layout::{Style, WriteError};
 use crate::literal::writer::literal::{format_literal, write_number};
-use crate::number::float::Float;
-use crate::number::integer::Integer;
 
 /// A number that a list of forms is asked to write.
 pub trait Writable {

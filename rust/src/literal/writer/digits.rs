@@ -3,9 +3,9 @@
 //! Runs of digits are written.
 
 use crate::digit::{char_to_digit, digit_to_char, digit_to_char_const};
+use crate::literal::word::count;
 use crate::literal::writer::run::{Padded, Pattern, Run, Source};
 use crate::literal::writer::sink::Sink;
-use crate::number::parts::count;
 
 // Returns what follows the zeros that the digits among bytes begin with.
 pub(crate) fn without_zeros(bytes: &[u8], radix: u32) -> &[u8] {

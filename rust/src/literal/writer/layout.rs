@@ -3,10 +3,10 @@
 //! Numbers are laid out as literals.
 
 use crate::literal::syntax::{Condition, Conditions, Options, Syntax};
+use crate::literal::word::count;
 use crate::literal::writer::digits::{only_if, put_if_any, without_zeros};
 use crate::literal::writer::run::{Pattern, Run, Source};
 use crate::literal::writer::sink::{Sink, Window};
-use crate::number::parts::count;
 use crate::word::{base_prefix, base_suffix, digit_separator, FormatView};
 
 /// How many digits a group has. Where the format does not allow separators between digits, there are no groups.

@@ -4,7 +4,7 @@ use Rattle.core.specs.Dec2flt.Rounding.{IsNearestBits}
 use Rattle.lexical_util.specs.Layout as layout
 use Rattle.lexical_util.specs.Record.{effective_exponent_base, raw}
 use Rattle.lexical_literal.specs.Read.{exponent, mantissa}
-use Rattle.lexical_number.specs.Binary.{format_of}
+use Rattle.lexical_value.specs.Binary.{format_of}
 use Rattle.lexical_value.proofs.FloatLemmas.{by_bits, of_value}
 use Rattle.lexical_value.proofs.float.binary_size.Goals as goal
 

@@ -2,7 +2,7 @@
 use Rattle.std.proofs.Common.{ℕ, ◌≡◌, ◌*◌, ◌^◌, ap, arith, subst, sym, ◌∙◌}
 use lib.Ieee.{low, prec, round}
 use lib.Ieee.Exact.{HasValue}
-use Rattle.lexical_number.specs.Binary.{format_of}
+use Rattle.lexical_value.specs.Binary.{format_of}
 use Rattle.lexical_writer.proofs.FloatLemmas.{exact}
 use Rattle.lexical_writer.proofs.float.is_exact.Goals as goal
 

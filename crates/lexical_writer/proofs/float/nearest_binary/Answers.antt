@@ -2,7 +2,7 @@
 use Rattle.std.proofs.Common.{◌≡◌, ◌*◌, ◌^◌, ◌≤◌, arith, false, subst, ◌∙◌}
 use Rattle.std.specs.Prelude.{from_bits}
 use lib.Ieee.{hid, ones, round}
-use Rattle.lexical_number.specs.Binary.{format_of}
+use Rattle.lexical_value.specs.Binary.{format_of}
 use Rattle.lexical_value.proofs.FloatLemmas.{leads_all}
 use Rattle.lexical_writer.proofs.float.nearest_binary.Goals as goal
 

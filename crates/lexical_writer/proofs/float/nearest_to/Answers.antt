@@ -1,6 +1,6 @@
 -- The radix and the base are powers of one number.
 use Rattle.std.proofs.Common.{sym, ◌∙◌}
-use Rattle.lexical_number.specs.Binary.{format_of}
+use Rattle.lexical_value.specs.Binary.{format_of}
 use Rattle.lexical_writer.proofs.FloatLemmas.{same_scales}
 use Rattle.lexical_writer.proofs.float.nearest_to.Goals as goal
 
