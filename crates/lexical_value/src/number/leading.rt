@@ -50,7 +50,7 @@ const fn push(leading: Leading, radix: u32, digit: u32) -> Leading
 
 /// Returns the leading digits after those of `bytes`. Other bytes are skipped.
 #[must_use]
-pub const fn push_all(leading: Leading, radix: u32, bytes: &[u8]) -> Leading
+pub(crate) const fn push_all(leading: Leading, radix: u32, bytes: &[u8]) -> Leading
     requires small { leading.digits ≤ 2 ^ 90 * radix }
     requires room { leading.dropped ≤ 2 ^ 65 }
     ensures value { (n : ℕ) → Leads radix n leading.digits leading.more leading.dropped
@@ -71,7 +71,7 @@ pub const fn push_all(leading: Leading, radix: u32, bytes: &[u8]) -> Leading
 
 /// Returns the number that the digits among `bytes` represent in `radix`, or `2 ^ 90` if that is less.
 #[must_use]
-pub const fn saturating(bytes: &[u8], radix: u32) -> u128
+pub(crate) const fn saturating(bytes: &[u8], radix: u32) -> u128
     ensures { result ≡ min (number radix bytes.now) (2 ^ 90) }
 {
     let digits = push_all(Leading::ZERO, radix, bytes).digits;

@@ -106,7 +106,7 @@ const fn leading_word(digits: u128, more: bool) -> (u64, bool, u64) {
 /// Returns the bits of the float nearest to `digits * 2 ^ up / 2 ^ down`, or to a number that is above this, if `more` is
 /// true, and below the same with `digits + 1`.
 #[must_use]
-pub const fn nearest_bits(double: bool, digits: u128, more: bool, up: u128, down: u128) -> u64 {
+pub(crate) const fn nearest_bits(double: bool, digits: u128, more: bool, up: u128, down: u128) -> u64 {
     if digits == 0 {
         return 0;
     }

@@ -32,7 +32,7 @@ const fn push(leading: Leading, radix: u32, digit: u32) -> Leading {
 
 /// Returns the leading digits after those of `bytes`. Other bytes are skipped.
 #[must_use]
-pub const fn push_all(leading: Leading, radix: u32, bytes: &[u8]) -> Leading {
+pub(crate) const fn push_all(leading: Leading, radix: u32, bytes: &[u8]) -> Leading {
     let mut leading = leading;
     let mut index = 0;
     while index < bytes.len() {
@@ -46,7 +46,7 @@ pub const fn push_all(leading: Leading, radix: u32, bytes: &[u8]) -> Leading {
 
 /// Returns the number that the digits among `bytes` represent in `radix`, or `2 ^ 90` if that is less.
 #[must_use]
-pub const fn saturating(bytes: &[u8], radix: u32) -> u128 {
+pub(crate) const fn saturating(bytes: &[u8], radix: u32) -> u128 {
     let digits = push_all(Leading::ZERO, radix, bytes).digits;
     if digits < 1 << 90 {
         digits
