@@ -50,10 +50,6 @@ not_nan f s num den value is = subst T (sym (ap (λ x. not (is_nan x)) is ∙ ap
 pub by_bits : (radix bits n digits dropped : ℕ) (more : Bool) → radix ≡ 2 ^ bits → Leads radix n digits more dropped → Leads (2 ^ bits) n digits more dropped
 by_bits radix bits n digits dropped more is = subst (λ r. Leads r n digits more dropped) is
 
-pub not_true : (b : Bool) → (b ≡ true → false ≡ true) → b ≡ false
-not_true true apart = sym (apart refl)
-not_true false apart = refl
-
 -- A number of one word is led by itself.
 pub leads_all : (radix n : ℕ) → 1 ≤ radix → n < 2 ^ 64 → Leads radix n n false 0
 leads_all radix n some small = record {

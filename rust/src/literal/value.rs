@@ -24,17 +24,17 @@ pub(crate) mod number {
     #[allow(clippy::manual_range_contains, reason = "as it is proved")]
     pub(crate) mod nearest;
     pub(crate) mod numeral;
-    pub(crate) mod scaling;
     pub(crate) mod powers;
+    pub(crate) mod scaling;
     pub(crate) mod shortest;
 }
 
 pub use integer::ValueErrorKind;
 
-use number::decimal::{decimal_to_bits, digits_to_bits};
-use number::float::Float;
 use float::{binary_size, exponent_of, nearest_float, to_float};
 use integer::{integer_numeral, own_numeral, to_integer};
+use number::decimal::{decimal_to_bits, digits_to_bits};
+use number::float::Float;
 
 /// A type that can be [parsed][Syntax::parse]: each integer type of Rust, `f64` and `f32`, and a type of your own.
 ///

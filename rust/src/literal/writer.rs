@@ -3,10 +3,10 @@
 use core::fmt::{self, Write};
 use core::str;
 
-use crate::literal::value::Other;
-use crate::literal::{Forms, Literal, Sign, Special, Specials, Spelling, Syntax};
 use crate::literal::value::number::float::Float;
 use crate::literal::value::number::integer::Integer;
+use crate::literal::value::Other;
+use crate::literal::{Forms, Literal, Sign, Special, Specials, Spelling, Syntax};
 
 #[allow(
     clippy::exhaustive_structs,
