@@ -136,7 +136,13 @@ const fn leading_word(digits: u128, more: bool) -> (u64, bool, u64)
 /// Returns the bits of the float nearest to `digits * 2 ^ up / 2 ^ down`, or to a number that is above this, if `more` is
 /// true, and below the same with `digits + 1`.
 #[must_use]
-pub(crate) const fn nearest_bits(double: bool, digits: u128, more: bool, up: u128, down: u128) -> u64
+pub(crate) const fn nearest_bits(
+    double: bool,
+    digits: u128,
+    more: bool,
+    up: u128,
+    down: u128,
+) -> u64
     requires more { more ≡ true → 2 ^ 55 ≤ digits }
     requires scale { (up < 2 ^ 120) × (down < 2 ^ 120) }
     ensures { (num den : ℕ) → 0 < den → IsCutTo (num * 2 ^ down) digits more (den * 2 ^ up) → IsNearestBits (format_of double) num den result }
