@@ -25,8 +25,8 @@ lowest_bits n bits = low n (width bits) (omega arith)
 pub exact_error : (least largest : ℕ) (r : Record) (l : Literal) (error : ValueErrorKind) → IsNotWorth integers.Exact least largest r l error
     → IsNoInteger least largest r l error
 exact_error least largest r l kinds.Float is = is
-exact_error least largest r l kinds.TooLarge is = is
-exact_error least largest r l kinds.TooSmall is = is
+exact_error least largest r l kinds.TooLarge (whole, (sign, above)) = (whole, sign, above)
+exact_error least largest r l kinds.TooSmall (whole, (sign, below)) = (whole, sign, below)
 exact_error least largest r l kinds.UnsupportedRadix is = is
 exact_error least largest r l kinds.Special is = is
 
