@@ -76,9 +76,6 @@ TEST_FORMS = [
 
 # Texts that plain Rust replaces: the end of the path, the text, and the replacement.
 REPLACED = [
-    # Conditions parse numbers, too.
-    ("edits/settings.rt", "fn byte_from_number(", "pub(crate) fn byte_from_number("),
-    ("edits.rt", "settings::{Fault, likeness,", "settings::{Fault, byte_from_number, likeness,"),
     # LLVM gathers entries of 32 bits, and inserts entries of 8 bits one by one.
     ("digit.rt", "const VALUES: [u8; 256] = [", "const VALUES: [u32; 256] = ["),
     ("digit.rt", "VALUES[c as usize] as u32", "VALUES[c as usize]"),
