@@ -139,7 +139,7 @@ fn tokens_end_where_scanners_end_them() {
         assert_eq!((text.len() - token.rest.len()).to_string(), size, "{row}");
         count += 1;
     }
-    assert!(count >= 600, "{count}");
+    assert!(count >= 1400, "{count}");
 }
 
 #[test]
