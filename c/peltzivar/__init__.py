@@ -2276,10 +2276,11 @@ class Language(_Several, _Named):
         `1p2`. Forms: decimal.
 
     CSV_DE: Numbers in CSV, as German spreadsheets write cells of the format `#.##0,00` (RFC 4180): `1.234,50`. The
-        cause of `0.123` is its leading zero, since its groups are right. Forms: decimal.
+        cause of `0.123` is its leading zero, since its groups are right. LibreOffice reads `-0` as 0. Forms: decimal.
 
     CSV_EN: Numbers in CSV, as English spreadsheets write cells of the format `#,##0.00`, in quotes (RFC 4180):
-        `"1,234.50"`. A format cannot accept the minus sign U+2212 of Gnumeric: replace it by `-`. Forms: decimal.
+        `"1,234.50"`. A format cannot accept the minus sign U+2212 of Gnumeric: replace it by `-`. LibreOffice reads
+        `-0` as 0. Forms: decimal.
 
     C_PLUS_PLUS: C++'s integer and floating literals (C++17, 5.13.2 and 5.13.4). A format cannot accept `1u`, `1L`,
         `1.0f` and suffixes of users. Forms: decimal; octal; hexadecimal; binary; hexadecimal float.
@@ -2355,7 +2356,8 @@ class Language(_Several, _Named):
         second one nor a name follows, and refuses it. Forms: decimal; with a point at the end; hexadecimal; octal;
         binary.
 
-    SQL: SQL's signed numeric literals (ISO/IEC 9075-2:2016, 5.3 `<literal>`). Forms: decimal.
+    SQL: SQL's signed numeric literals (ISO/IEC 9075-2:2016, 5.3 `<literal>`). PostgreSQL reads `-0.0` as 0. Forms:
+        decimal.
 
     SWIFT: Swift's numeric literals, with the sign `-` (The Swift Programming Language, Lexical Structure). Forms:
         decimal; hexadecimal; octal; binary; hexadecimal float.

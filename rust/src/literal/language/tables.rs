@@ -301,11 +301,11 @@ languages! {
     ) => CSS_WORDS } => Tokens::new(&[], &[]);
 
     /// Numbers in CSV, as German spreadsheets write cells of the format `#.##0,00` (RFC 4180): `1.234,50`. The
-    /// cause of `0.123` is its leading zero, since its groups are right.
+    /// cause of `0.123` is its leading zero, since its groups are right. LibreOffice reads `-0` as 0.
     CSV_DE = { "decimal": grouped(numbers(b'e', b',', SPREADSHEET.digit_separator(NonZeroU8::new(b'.')))) };
 
     /// Numbers in CSV, as English spreadsheets write cells of the format `#,##0.00`, in quotes (RFC 4180): `"1,234.50"`. A
-    /// format cannot accept the minus sign U+2212 of Gnumeric: replace it by `-`.
+    /// format cannot accept the minus sign U+2212 of Gnumeric: replace it by `-`. LibreOffice reads `-0` as 0.
     CSV_EN = { "decimal": grouped(numbers(b'e', b'.', SPREADSHEET.digit_separator(NonZeroU8::new(b',')))) };
 
     /// C++'s integer and floating literals (C++17, 5.13.2 and 5.13.4). A format cannot accept `1u`, `1L`, `1.0f` and suffixes
@@ -551,7 +551,7 @@ languages! {
         "binary": prefixed(b'b', 2, RUST_PREFIXED) => RUST_PREFIXED_WORDS,
     } => POINTS_BACK;
 
-    /// SQL's signed numeric literals (ISO/IEC 9075-2:2016, 5.3 `<literal>`).
+    /// SQL's signed numeric literals (ISO/IEC 9075-2:2016, 5.3 `<literal>`). PostgreSQL reads `-0.0` as 0.
     SQL = { "decimal": numbers(b'e', b'.', NumberFormatBuilder::new().no_special(true)) }; // rejects `NaN` and `inf`
 
     /// Swift's numeric literals, with the sign `-` (The Swift Programming Language, Lexical Structure).
