@@ -15,7 +15,7 @@ import tempfile
 # long the token is that a text begins with.
 Compiler = collections.namedtuple("Compiler", "command source head unit tail printing signed scanner", defaults=[None, False, None])
 GCC = "-pedantic-errors -fmax-errors=0 -fno-diagnostics-show-caret -fdiagnostics-column-unit=byte -o out"
-SCANNER = [sys.executable, "../scanners/gcc.py"]
+SCANNERS = "../scanners"
 C = "", '_Static_assert(sizeof(\n{text}\n), "");\n', "int main(void) {}\n"
 SHOW = "show(\n{text}\n);\n"
 PRINT_C = """#include <stdio.h>
@@ -49,14 +49,15 @@ impl Show for f64 { fn show(it: f64) { println!("d{:016x}", it.to_bits()) } }
 fn main() {
 """, "Show::show(\n{text}\n);\n", "}\n"
 COMPILERS = {
-    "gcc": [Compiler(f"gcc -std=c2x {GCC}", "a.c", *C, PRINT_C, scanner=[*SCANNER, "gcc -x c -std=c2x"])],
+    "gcc": [Compiler(f"gcc -std=c2x {GCC}", "a.c", *C, PRINT_C, scanner=[sys.executable, f"{SCANNERS}/gcc.py", "gcc -x c -std=c2x"])],
     "g++": [Compiler(f"g++ -std=c++17 -D_Static_assert=static_assert {GCC}", "a.cc", *C, PRINT_CC,
-                     scanner=[*SCANNER, "g++ -x c++ -std=c++17"])],
+                     scanner=[sys.executable, f"{SCANNERS}/gcc.py", "g++ -x c++ -std=c++17"])],
     "gnat": [Compiler("gnatmake -f -q -o out -gnatf -gnatm999999 -gnatws", "a.adb", *ADA, PRINT_ADA)],
     "gfortran": [Compiler(f"gfortran -std=f2018 {GCC}", "a.f90", *FORTRAN, PRINT_FORTRAN, signed=True)],
     "nasm": [Compiler("nasm -f bin -o out", "a.asm", "bits 64\n", "mov rax, {text}\n\n\n", "", "q"),
              Compiler("nasm -f bin -o out", "a.asm", "bits 64\n", "mov rax, __float64__({text})\n\n\n", "", "d")],
-    "rustc": [Compiler("rustc --error-format=short -o out", "a.rs", *RUST, PRINT_RUST)],
+    "rustc": [Compiler("rustc --error-format=short -o out", "a.rs", *RUST, PRINT_RUST,
+                       scanner=[sys.executable, f"{SCANNERS}/rust.py"])],
     "kotlinc": [Compiler("kotlinc -d out", "a.kt", "", "const val number{i} =\n{text}\n\n", "", "javap -constants out/AKt.class",
                          scanner=["java", "-cp", "/usr/share/kotlin/kotlinc/lib/*", "KotlinTokens.java"])],
 }
