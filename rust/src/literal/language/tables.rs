@@ -230,6 +230,7 @@ const LUA_WORDS: Suffixes = JULIA_WORDS;
 /// Suffixes of Kotlin.
 const KOTLIN_INTEGERS: &[&[u8]] = &[b"u", b"U", b"L", b"uL", b"UL"];
 const KOTLIN_DECIMALS: Suffixes = words(&[b"u", b"U", b"L", b"uL", b"UL", b"f", b"F"], &[b"f", b"F"]).with_kinds(FLOAT);
+const KOTLIN_FLOATS: Suffixes = words(&[b"f", b"F"], &[]).with_kinds(FLOAT);
 
 /// Suffixes of OCaml, whose names may have `'`.
 const OCAML_WORDS: Suffixes = Suffixes::new(&[b"l", b"L", b"n"], &[], &[Stop::new(b"", b"'", b"")]).with_kinds(&[
@@ -428,7 +429,10 @@ languages! {
         ) => KOTLIN_DECIMALS,
         "hexadecimal": prefixed(b'x', 16, JAVA) => words(KOTLIN_INTEGERS, &[]),
         "binary": prefixed(b'b', 2, JAVA) => words(KOTLIN_INTEGERS, &[]),
-    } => POINTS_BACK;
+    } => Tokens::new(
+        const { &[Form::new("float, leading zeros", integers(10, JAVA)).with_suffixes(const { &KOTLIN_FLOATS })] },
+        &[],
+    ).gives_points_back(true);
 
     /// Lua's integers and floats (Reference Manual 5.4, 3.1). In Lua, a decimal integer from 2^63 on is a float: take its
     /// value as an `f64`. A hexadecimal one keeps its last 64 bits: `0xffffffffffffffff` is -1.
