@@ -128,7 +128,6 @@ pub struct Reason {
 /// [`Reason::breaks`] returns whether a word breaks a rule because of a reason, and [`Reason::mask`] returns the bits
 /// that a reason blames.
 #[must_use]
-#[inline]
 pub const fn reasons(format: u128) -> [Option<Reason>; MAX_REASONS] {
     let separator = named(Byte::DigitSeparator, flags::digit_separator(format));
     let prefix = named(Byte::BasePrefix, flags::base_prefix(format));
