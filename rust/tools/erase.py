@@ -167,7 +167,10 @@ REPLACED += [
     ("lexical_literal/src/list.rt", "syntax.begin(false, text, false);\n                if syntax.is_whole(text, counted) {\n                    return Some", "syntax.begin_any(text, false);\n                if syntax.is_whole(text, counted) {\n                    return Some"),
     ("lexical_literal/src/list.rt", "self.begin(false, text, false)", "self.begin_any(text, false)"),
     ("lexical_literal/src/read.rt", "self.begin(false, text, true)", "self.begin_any(text, true)"),
+    ("lexical_literal/src/read.rt", "self.step(text, stop, last)", "self.step_any(text, stop, last)"),
+    ("lexical_literal/src/read.rt", "self.step(text, at, last)", "self.step_any(text, at, last)"),
     # Texts that are refused need it alone, and one copy is enough for all calls.
+    ("lexical_literal/src/read.rt", "    const fn step(&self, text: &[u8], at: At", "    pub(crate) const fn step(&self, text: &[u8], at: At"),
     ("lexical_literal/src/read.rt", "#[inline(always)]\n    pub(crate) const fn stop(", "#[inline(never)]\n    pub(crate) const fn stop("),
     # A decimal literal need not be in memory where another one would be.
     ("lexical_value/src/float.rt", "binary_size(F::DOUBLE, literal)", "binary_size(F::DOUBLE, &{ *literal })"),

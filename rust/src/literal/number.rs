@@ -5,10 +5,12 @@ use core::{iter::FusedIterator, slice};
 
 use crate::digit::char_to_valid_digit_const;
 use crate::format_flags::Part;
+use crate::literal::groups::Group;
 use crate::literal::plain::{At, Counted};
 use crate::literal::read::Found;
 use crate::literal::steps::{is_complete, step};
 use crate::literal::{Literal, ReadError, Syntax};
+use crate::word::Role;
 
 impl Syntax {
     /// Returns the exponent character, or `None` if literals are integers.
@@ -93,6 +95,12 @@ impl Syntax {
     #[inline(never)]
     pub(crate) const fn begin_any(&self, text: &[u8], fronts: bool) -> Counted {
         self.begin(false, text, fronts)
+    }
+
+    // Returns what `step` returns, in one copy.
+    #[inline(never)]
+    pub(crate) const fn step_any(&self, text: &[u8], at: At, group: Group) -> Option<(Role, At, Group)> {
+        self.step(text, at, group)
     }
 
     // Returns what `read` returns, where `at` has been read.
