@@ -142,7 +142,13 @@ REPLACED += [
     ("list.rt", "#[derive(Clone, Copy)]\npub struct Tokens ", "#[derive(Debug, Clone, Copy, PartialEq, Eq, Hash)]\npub struct Tokens "),
     ("suffix.rt", "#[derive(Clone, Copy)]\npub struct Stop ", "#[derive(Debug, Clone, Copy, PartialEq, Eq, Hash)]\npub struct Stop "),
     ("suffix.rt", "#[derive(Clone, Copy)]\npub struct Suffixes ", "#[derive(Debug, Clone, Copy, PartialEq, Eq, Hash)]\npub struct Suffixes "),
+    # The library for C shows them.
+    ("suffix.rt", "    last: &'static [u8],\n    next: &'static [u8],\n    second: &'static [u8],\n}", "    pub(crate) last: &'static [u8],\n    pub(crate) next: &'static [u8],\n    pub(crate) second: &'static [u8],\n}"),
+    *[("suffix.rt", f"\n    {it}: {of},\n", f"\n    pub(crate) {it}: {of},\n") for it, of in (
+        ("integers", "&'static [&'static [u8]]"), ("floats", "&'static [&'static [u8]]"), ("either_case", "bool"), ("any", "&'static [u8]"),
+        ("stops", "&'static [Stop]"), ("kinds", "&'static [(&'static [u8], Kind)]"))],
     ("token.rt", "#[derive(Drop)]", "#[derive(Debug, Clone, Copy, PartialEq, Eq, Hash)] #[non_exhaustive]"),
+    ("token.rt", "#[inline(always)]\n    const fn leading<", "#[cfg_attr(not(peltzivar_small), inline(always))]\n    const fn leading<"),
     ("token.rt", "fn token<'t>(&self", "fn token_bytes<'t>(&self"),
     ("list.rt", "#[derive(Drop)]\npub struct", "#[derive(Debug, Clone, Copy, PartialEq, Eq, Hash)]\npub struct"),
     ("list.rt", "#[derive(Drop)]\npub enum", "#[derive(Debug, Clone, Copy, PartialEq, Eq, Hash)]\npub enum"),
@@ -167,10 +173,11 @@ REPLACED += [
     ("lexical_literal/src/list.rt", "syntax.begin(false, text, false);\n                if syntax.is_whole(text, counted) {\n                    return Some", "syntax.begin_any(text, false);\n                if syntax.is_whole(text, counted) {\n                    return Some"),
     ("lexical_literal/src/list.rt", "self.begin(false, text, false)", "self.begin_any(text, false)"),
     ("lexical_literal/src/read.rt", "self.begin(false, text, true)", "self.begin_any(text, true)"),
+    ("lexical_literal/src/read.rt", "let counted = plain(grammar, decimal, text, fronts);", "let counted = crate::number::plain_any(grammar, text, fronts);"),
     ("lexical_literal/src/read.rt", "self.step(text, stop, last)", "self.step_any(text, stop, last)"),
     ("lexical_literal/src/read.rt", "self.step(text, at, last)", "self.step_any(text, at, last)"),
     # Texts that are refused need it alone, and one copy is enough for all calls.
-    ("lexical_literal/src/read.rt", "    const fn step(&self, text: &[u8], at: At", "    pub(crate) const fn step(&self, text: &[u8], at: At"),
+    ("lexical_literal/src/read.rt", "#[inline(always)]\n    const fn step(&self", "#[cfg_attr(not(peltzivar_small), inline(always))]\n    pub(crate) const fn step(&self"),
     ("lexical_literal/src/read.rt", "#[inline(always)]\n    pub(crate) const fn stop(", "#[inline(never)]\n    pub(crate) const fn stop("),
     # A decimal literal need not be in memory where another one would be.
     ("lexical_value/src/float.rt", "binary_size(F::DOUBLE, literal)", "binary_size(F::DOUBLE, &{ *literal })"),

@@ -6,11 +6,19 @@ use core::{iter::FusedIterator, slice};
 use crate::digit::char_to_valid_digit_const;
 use crate::format_flags::Part;
 use crate::literal::groups::Group;
-use crate::literal::plain::{At, Counted};
+use crate::literal::plain::{plain, At, Counted};
 use crate::literal::read::Found;
 use crate::literal::steps::{is_complete, step};
+use crate::literal::syntax::Grammar;
 use crate::literal::{Literal, ReadError, Syntax};
 use crate::word::Role;
+
+// Returns what `plain` returns for any syntax. The library for C, which sets `peltzivar_small`, has one copy.
+#[cfg_attr(peltzivar_small, inline(never))]
+#[cfg_attr(not(peltzivar_small), inline(always))]
+pub(crate) const fn plain_any(grammar: Grammar, text: &[u8], fronts: bool) -> Counted {
+    plain(grammar, false, text, fronts)
+}
 
 impl Syntax {
     /// Returns the exponent character, or `None` if literals are integers.

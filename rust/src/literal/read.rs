@@ -68,7 +68,7 @@ impl Syntax {
             return plain(self.usual_grammar(), decimal, text, fronts);
         }
         let grammar = self.as_grammar();
-        let counted = plain(grammar, decimal, text, fronts);
+        let counted = crate::literal::number::plain_any(grammar, text, fronts);
         if has_sizes(grammar) {
             sized(self.as_grammar(), text, counted)
         } else {
@@ -135,7 +135,7 @@ impl Syntax {
     }
 
     // Returns the role of the byte that follows, and what has been read with it, or `None` if reading stops at `at`.
-    #[inline(always)]
+    #[cfg_attr(not(peltzivar_small), inline(always))]
     pub(crate) const fn step(&self, text: &[u8], at: At, group: Group) -> Option<(Role, At, Group)> {
         let grammar = self.as_grammar();
         let At { size, read } = at;

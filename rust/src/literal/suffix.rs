@@ -9,9 +9,9 @@ use crate::literal::read::byte_at;
 /// others comes second. A list that is empty asks for nothing.
 #[derive(Debug, Clone, Copy, PartialEq, Eq, Hash)]
 pub struct Stop {
-    last: &'static [u8],
-    next: &'static [u8],
-    second: &'static [u8],
+    pub(crate) last: &'static [u8],
+    pub(crate) next: &'static [u8],
+    pub(crate) second: &'static [u8],
 }
 
 impl Stop {
@@ -26,12 +26,12 @@ impl Stop {
 /// The suffixes of a form: words that belong to a number directly behind it, such as `u8`, and stops.
 #[derive(Debug, Clone, Copy, PartialEq, Eq, Hash)]
 pub struct Suffixes {
-    integers: &'static [&'static [u8]],
-    floats: &'static [&'static [u8]],
-    either_case: bool,
-    any: &'static [u8],
-    stops: &'static [Stop],
-    kinds: &'static [(&'static [u8], Kind)],
+    pub(crate) integers: &'static [&'static [u8]],
+    pub(crate) floats: &'static [&'static [u8]],
+    pub(crate) either_case: bool,
+    pub(crate) any: &'static [u8],
+    pub(crate) stops: &'static [Stop],
+    pub(crate) kinds: &'static [(&'static [u8], Kind)],
 }
 
 impl Suffixes {

@@ -113,7 +113,7 @@ impl<'a> Forms<'a> {
 
     // Returns the token that `text` begins with, if reading the forms of the list once tells it. If `excluding` is true, a form of
     // which no literal goes on behind the first byte and the sign is not asked.
-    #[inline(always)]
+    #[cfg_attr(not(peltzivar_small), inline(always))]
     const fn leading<'t>(&self, tokens: &Tokens, text: &'t [u8], excluding: bool) -> Option<Token<'t>> {
         let sign = sign_size(text);
         let mut reached = sign;
