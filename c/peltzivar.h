@@ -409,7 +409,7 @@ typedef struct {
 /* Several forms of numbers, such as `10`, `0x1F` and `0b1`: an array of `count` forms, the spellings of special values, and
  * the rules for tokens, or null. The first form of which a text is a literal decides its parts and its value. If it is one of
  * none, a spelling may match, by the flags of the first form. To make your own, set the first three members and, if the list
- * has tokens, the fifth, and check each syntax with peltzivar_check_syntax. Or copy the forms of a language, which last as
+ * has tokens, the last one, and check each syntax with peltzivar_check_syntax. Or copy the forms of a language, which last as
  * long as the program, and change any of these members of the copy. Only such forms have a `language`, which is otherwise
  * null. */
 typedef struct {
@@ -417,8 +417,8 @@ typedef struct {
     size_t count; /* from 1 to PELTZIVAR_FORMS_MAX */
     peltzivar_specials specials;
     const void *language;
-    const peltzivar_tokens *tokens;
     uint64_t reserved[2];
+    const peltzivar_tokens *tokens;
 } peltzivar_forms;
 /* The largest number of forms and, for peltzivar_forms_token, of all words, of all kinds of suffixes, and of all stops. Suffixes
  * count once for forms that follow one another and point to the same ones. */
@@ -481,11 +481,12 @@ PELTZIVAR_MUST_USE bool peltzivar_forms_read_special(
 /* TOKENS */
 
 /* A token: its literal, with the kind that its form and its suffix give it, the bytes of its suffix, which are none if it
- * has none, and its length. Forms of peltzivar_tokens have the indices behind the others. */
+ * has none, its length, and what follows. Forms of peltzivar_tokens have the indices behind the others. */
 typedef struct {
     peltzivar_literal literal;
     peltzivar_span suffix;
     size_t size;
+    const char *rest;
 } peltzivar_token;
 
 /* Reads the number that a text of len bytes begins with, as a lexer does: the longest literal of a form with the longest of

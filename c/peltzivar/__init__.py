@@ -44,7 +44,7 @@ import reprlib
 import sys
 from array import array
 from ctypes import CDLL, POINTER, PyDLL, Structure, byref, c_bool, c_char_p, c_double, c_float, c_int64, c_size_t
-from ctypes import addressof, c_uint8, c_uint32, c_uint64, c_void_p, create_string_buffer, sizeof
+from ctypes import addressof, c_uint8, c_uint32, c_uint64, c_void_p, create_string_buffer, pointer, sizeof
 from dataclasses import dataclass, field
 from decimal import MAX_EMAX, MIN_EMIN, Context, Decimal, DecimalException, InvalidOperation, Overflow, Rounded, Subnormal
 from enum import Enum
@@ -58,8 +58,8 @@ from typing import SupportsFloat, SupportsIndex, Tuple, Type, TypeVar, Union, ca
 
 __all__ = ["STANDARD", "Byte", "Column", "ColumnError", "Edit", "Error", "Format", "FormatError", "FormatView", "Forms"]
 __all__ += ["Kind", "Language", "Literal", "LiteralError", "Note", "OptionsError", "Part", "Parts", "ReadErrorKind", "Reason", "ReasonsError"]
-__all__ += ["Role", "Rule", "Separators", "Setter", "SettingsError", "Special", "Specials", "Spelling", "Syntax", "Value"]
-__all__ += ["WrongCell", "languages", "notes_of"]
+__all__ += ["Role", "Rule", "Separators", "Setter", "SettingsError", "Special", "Specials", "Spelling", "Suffixes", "Syntax"]
+__all__ += ["Token", "Tokens", "Value", "WrongCell", "languages", "notes_of"]
 
 class _Named(Enum):
     def __str__(self) -> str:
@@ -247,6 +247,8 @@ class ReadErrorKind(_Named):
     CASE = 3
     BYTE = 4
     MISSING = 5
+    SUFFIX = 6
+    POINT = 7
 
 
 class Spelling(_Named):
@@ -352,6 +354,37 @@ class _Special(Structure):
     ]
 
 
+class _SuffixKind(Structure):
+    _fields_ = [
+        ("word", c_char_p),
+        ("integer_kind", c_uint8),
+        ("integer_bits", c_uint8),
+        ("float_kind", c_uint8),
+    ]
+
+
+class _Stop(Structure):
+    _fields_ = [
+        ("last", c_char_p),
+        ("next", c_char_p),
+        ("second", c_char_p),
+    ]
+
+
+class _Suffixes(Structure):
+    _fields_ = [
+        ("integers", c_char_p),
+        ("floats", c_char_p),
+        ("any", c_char_p),
+        ("kinds", POINTER(_SuffixKind)),
+        ("kind_count", c_size_t),
+        ("stops", POINTER(_Stop)),
+        ("stop_count", c_size_t),
+        ("either_case", c_bool),
+        ("reserved", c_uint8 * 7),
+    ]
+
+
 class _Form(Structure):
     _fields_ = [
         ("name", c_char_p),
@@ -359,7 +392,18 @@ class _Form(Structure):
         ("integer_kind", c_uint8),
         ("integer_bits", c_uint8),
         ("float_kind", c_uint8),
-        ("reserved", c_uint8 * 13),
+        ("reserved", c_uint8 * 5),
+        ("suffixes", POINTER(_Suffixes)),
+    ]
+
+
+class _Tokens(Structure):
+    _fields_ = [
+        ("forms", POINTER(_Form)),
+        ("count", c_size_t),
+        ("following", c_char_p),
+        ("gives_points_back", c_bool),
+        ("reserved", c_uint8 * 7),
     ]
 
 
@@ -369,7 +413,17 @@ class _Forms(Structure):
         ("count", c_size_t),
         ("specials", _Specials),
         ("language", c_void_p),
-        ("reserved", c_uint64 * 3),
+        ("reserved", c_uint64 * 2),
+        ("tokens", POINTER(_Tokens)),
+    ]
+
+
+class _Token(Structure):
+    _fields_ = [
+        ("literal", _Literal),
+        ("suffix", _Span),
+        ("size", c_size_t),
+        ("rest", c_char_p),
     ]
 
 
@@ -447,6 +501,7 @@ _CALLS: Dict[str, Tuple[Any, List[Any]]] = {
     "forms_read": (c_bool, [c_void_p, c_char_p, c_size_t, POINTER(_Literal), POINTER(_ReadError)]),
     "forms_read_prefix": (c_bool, [c_void_p, c_char_p, c_size_t, POINTER(_Literal), POINTER(_ReadError)]),
     "forms_read_special": (c_bool, [c_void_p, c_char_p, c_size_t, POINTER(_Special)]),
+    "forms_token": (c_bool, [c_void_p, c_char_p, c_size_t, POINTER(_Token), POINTER(_ReadError)]),
     "parse_i64": (c_uint8, [c_void_p, c_char_p, c_size_t, POINTER(c_int64), POINTER(_ReadError)]),
     "parse_u64": (c_uint8, [c_void_p, c_char_p, c_size_t, POINTER(c_uint64), POINTER(_ReadError)]),
     "parse_f64": (c_uint8, [c_void_p, c_char_p, c_size_t, POINTER(c_double), POINTER(_ReadError)]),
@@ -828,23 +883,25 @@ class LiteralError(ValueError):
         """Makes all attributes when the first is asked for."""
         if name not in LiteralError.__annotations__:
             raise AttributeError(name)
-        (owner, self.text, stopped), why = self.args, _Explanation()
+        (owner, self.text, stopped, *is_token), why = self.args, _Explanation()
         _library.explain(stopped, why)
         text, self.valid_up_to = self.text, stopped.valid_up_to
         index = self.valid_up_to
         calls = _library.read_error_text, _library.read_error_full_text
         self.sentence, self.full_sentence = (_text(it, stopped) for it in calls)
-        if not (isinstance(text, bytes) or text[index : index + 1].isascii()):
+        if not (isinstance(text, bytes) or text[index : index + 1].isascii()) and why.kind == ReadErrorKind.BYTE.value:
             self.sentence = self.full_sentence = f"unexpected character {text[index]!r}"
         self.part = Part(why.part) if why.part != _NO_PART else None
-        self.span, self.kind, self.mask = (why.span.start, why.span.end), ReadErrorKind(why.kind), _joined(why.mask)
+        # A token is read as UTF-8, and other texts up to the first character that is not ASCII.
+        end = _characters(text, why.span.end) if is_token and isinstance(text, str) else why.span.end
+        self.span, self.kind, self.mask = (why.span.start, end), ReadErrorKind(why.kind), _joined(why.mask)
         self.conditions = tuple(it for bit, it in enumerate(_CONDITIONS) if why.conditions >> bit & 1)
-        self.error, self.form = Error(why.code), [*owner._named][stopped.form]
+        self.error, self.form = Error(why.code), owner._listed[stopped.form][0]
         return vars(self)[name]
 
     def __reduce__(self) -> Tuple[Any, ...]:
         """Returns what reads the text again."""
-        return _Reader._refusal, self.args[:2]
+        return _Several._token_refusal if self.args[3:] else _Reader._refusal, self.args[:2]
 
     def __repr__(self) -> str:
         return f"LiteralError({self.sentence!r})"
@@ -1252,7 +1309,7 @@ class Literal(Generic[AnyStr]):
     Literals are equal if their formats, their parts and their kinds are equal, as in Rust.
     """
 
-    __slots__ = ("_owner", "_text", "_found", "_data")
+    __slots__ = ("_owner", "_text", "_found", "_data", "_suffix")
     __match_args__ = ("syntax", "text")
 
     def __init__(self, *arguments: object) -> None:
@@ -1262,21 +1319,24 @@ class Literal(Generic[AnyStr]):
         self._owner, self._found = owner, found
         self._text: AnyStr = text
         self._data = data  # `found` points to it.
+        self._suffix: Optional[AnyStr] = None  # That of a token.
         return self
 
     @property
     def syntax(self) -> Syntax:
         """The syntax, which is that of a form of a language if `Language.read` has read the text."""
-        return cast(Syntax, [*self._owner._named.values()][self._found.form])
+        return cast(Syntax, self._owner._listed[self._found.form][1])
 
     @property
     def form(self) -> str:
         """The name of the form of a language, such as `hexadecimal`. It is empty if `Syntax.read` has read the text."""
-        return str([*self._owner._named][self._found.form])
+        return str(self._owner._listed[self._found.form][0])
 
     @property
     def kind(self) -> Kind:
-        """The kind of the form."""
+        """The kind of the form or, of a token, of its suffix if that has one."""
+        if self._suffix is not None:
+            return cast(Kind, cast(Any, self._owner)._kind_with(self.form, self._suffix))
         return Kind._of(_Forms.from_address(self._owner._forms.value).forms[self._found.form])
 
     @property
@@ -1400,7 +1460,8 @@ class Literal(Generic[AnyStr]):
         return text.decode() if isinstance(text, bytes) else text
 
     def __repr__(self) -> str:
-        return f"{self._owner!r}.read({self._text!r})"
+        whole = self._text if self._suffix is None else self._text + self._suffix
+        return f"{self._owner!r}." + (f"read({whole!r})" if self._suffix is None else f"token({whole!r}).literal")
 
     def __eq__(self, other: object) -> bool:
         if not isinstance(other, Literal):
@@ -1415,6 +1476,8 @@ class Literal(Generic[AnyStr]):
 
     def __reduce__(self) -> Tuple[Any, ...]:
         """Returns what reads the text again."""
+        if self._suffix is not None:
+            return _Several._literal_of, (self._owner, self._text + self._suffix)
         return type(self._owner).read, (self._owner, self._text)
 
 
@@ -1486,6 +1549,11 @@ class _Reader:
     _forms: Any
     _named: Any  # The syntaxes of the forms, by their names.
     read: Any
+
+    @property
+    def _listed(self) -> List[Tuple[str, Any]]:
+        """The names and the syntaxes of the forms, and then of those that need a suffix."""
+        return [*self._named.items()]
 
     @functools.cached_property
     def _plains(self) -> List[Optional[Tuple[Optional[bytes], bytes]]]:
@@ -2052,6 +2120,26 @@ def _decimal_of(value: Fraction) -> Decimal:
 _DECIMALS = Syntax(Format())
 
 
+def _bytes_of(text: object) -> bytes:
+    """Returns a text as bytes, of UTF-8 if it is a string."""
+    return text.encode("utf-8", "surrogatepass") if isinstance(text, str) else _typed("a text", text, bytes, "a str or bytes")
+
+
+def _characters(text: str, size: int) -> int:
+    """Returns the number of characters in the first bytes of a text."""
+    return len(_bytes_of(text)[:size].decode("utf-8", "surrogatepass")) if not text.isascii() else size
+
+
+def _string(text: str) -> bytes:
+    """Returns a string as one of C, of UTF-8. A surrogate stands for a byte that is not."""
+    return _typed("a string", text, str).encode("utf-8", "surrogateescape")
+
+
+def _shown(text: Optional[bytes]) -> str:
+    """Returns a string of C."""
+    return (text or b"").decode("utf-8", "surrogateescape")
+
+
 def _readable(text: object) -> bytes:
     """Returns a text as bytes, up to the first character that is not ASCII, for which it has a byte that is not."""
     try:
@@ -2154,6 +2242,58 @@ class _Several(_Reader):
             raise self._refusal(text)
         return number
 
+    def token(self, text: AnyStr) -> Token[AnyStr]:
+        """Returns the number that a text begins with as a token, as a lexer reads it: the longest literal of a form with the
+        longest of its suffixes. Raises LiteralError if a form goes on behind the number without an end, if what follows may
+        not, or if there is no number, and ValueError if there are no rules for tokens, or too many words. Special values are
+        names, and no tokens.
+
+            >>> languages.RUST.token("1..2").rest, languages.C.token("10L;").suffix, languages.PYTHON.token("1if x").literal.value
+            ('..2', 'L', 1)
+            >>> languages.JAVA.token("1.5u99")
+            Traceback (most recent call last):
+            peltzivar.LiteralError: unknown suffix
+        """
+        found, data = _Token(), _bytes_of(text)
+        if not _library.forms_token(self._forms, data, len(data), found, None):
+            raise self._token_refusal(text)
+        size, end = found.literal.size, found.size
+        if isinstance(text, str):
+            end = _characters(text, end)
+        literal: Literal[AnyStr] = Literal.__new__(Literal)
+        literal._set(self, text[:size], found.literal, data)
+        literal._suffix = text[size:end]
+        return Token(literal, text[size:end], text[end:])
+
+    def _token_refusal(self, text: Union[str, bytes]) -> ValueError:
+        """Returns why a text does not begin with a token."""
+        stopped, data = _ReadError(), _bytes_of(text)
+        _library.forms_token(self._forms, data, len(data), None, stopped)
+        if not _library.explain(stopped, _Explanation()):
+            return ValueError(_text(_library.read_error_text, stopped))
+        return LiteralError(self, text, stopped, "token")
+
+    def _literal_of(self, text: AnyStr) -> Literal[AnyStr]:
+        """Returns the literal of a token."""
+        return self.token(text).literal
+
+    def _kind_with(self, form: str, suffix: Union[str, bytes]) -> Kind:
+        """Returns the kind of the numbers of a form with a suffix."""
+        forms: Any = getattr(self, "forms", self)
+        forms = forms if form in forms else forms.tokens.forms
+        word, own = _shown(_bytes_of(suffix)), forms.suffixes.get(form, Suffixes())
+        found = [kind for it, kind in own.kinds if it == word or own.either_case and it.lower() == word.lower()]
+        return cast(Kind, (found or [forms.kinds.get(form, Kind())])[0])
+
+
+@dataclass(frozen=True)
+class Token(Generic[AnyStr]):
+    """A number that a text begins with, its suffix, which is empty if it has none, and what follows."""
+
+    literal: Literal[AnyStr]
+    suffix: AnyStr
+    rest: AnyStr
+
 
 @dataclass(frozen=True)
 class Kind:
@@ -2183,9 +2323,64 @@ class Kind:
         return number, self.at_most or self.wraps or 0, int(self.single)
 
     @classmethod
-    def _of(cls, form: _Form) -> Kind:
+    def _of(cls, form: Union[_Form, _SuffixKind]) -> Kind:
         number, bits = form.integer_kind, form.integer_bits
         return cls(bits if number == 1 else None, bits if number > 1 else None, number == 3, bool(form.float_kind))
+
+
+@dataclass(frozen=True)
+class Suffixes:
+    """The suffixes of a form, which only `token` reads: words directly behind `integers` and `floats`, with spaces between
+    them, in this case or in either one. Words have letters, digits, `_` and characters that are not ASCII. Any word that
+    begins with a character of `any` is a suffix, too, as in `1_km`. `kinds` has the kinds of numbers by their suffixes, a dict
+    or pairs. A number is not a token if it is at one of the `stops`: if it ends in a character of the first string, one of the
+    second follows, and then one of the third. An empty string asks for nothing.
+
+        >>> words = Suffixes("u8 i8", "f32", kinds={"f32": Kind(single=True)}, stops=[("", ".", "0123456789")])
+        >>> forms = Forms([("number", Syntax(Format()))], suffixes={"number": words}, tokens=Tokens())
+        >>> token = forms.token("7u8;")
+        >>> token.literal.value, token.suffix, token.rest, forms.token("0.1f32").literal.value
+        (7, 'u8', ';', 0.10000000149011612)
+    """
+
+    integers: str = ""
+    floats: str = ""
+    any: str = ""
+    kinds: Any = ()
+    stops: Any = ()
+    either_case: bool = False
+
+    def __post_init__(self) -> None:
+        pairs = self.kinds.items() if isinstance(self.kinds, Mapping) else self.kinds
+        object.__setattr__(self, "kinds", tuple((_typed("a word", it, str), _typed("a kind", kind, Kind)) for it, kind in pairs))
+        object.__setattr__(self, "stops", tuple(tuple(_typed("a stop", it, str) for it in stop) for stop in self.stops))
+        if any(len(stop) != 3 for stop in self.stops):
+            raise ValueError(f"a stop has three strings: {self.stops}")
+        [_string(it) for it in (self.integers, self.floats, self.any)]
+
+    def _structure(self) -> _Suffixes:
+        kinds = [_SuffixKind(_string(it), *kind._numbers()) for it, kind in self.kinds]
+        stops = [_Stop(*map(_string, stop)) for stop in self.stops]
+        words = map(_string, (self.integers, self.floats, self.any))
+        listed = (_SuffixKind * len(kinds))(*kinds), (_Stop * len(stops))(*stops)
+        return _Suffixes(*words, listed[0], len(kinds), listed[1], len(stops), self.either_case)
+
+    @classmethod
+    def _of(cls, it: _Suffixes) -> Suffixes:
+        kinds = [(_shown(own.word), Kind._of(own)) for own in it.kinds[: it.kind_count]]
+        stops = [(_shown(own.last), _shown(own.next), _shown(own.second)) for own in it.stops[: it.stop_count]]
+        return cls(_shown(it.integers), _shown(it.floats), _shown(it.any), kinds, stops, it.either_case)
+
+
+@dataclass(frozen=True)
+class Tokens:
+    """The rules by which a list has tokens: forms that need a suffix, which only `token` takes, such as `08f` in Java, words
+    that may follow a number directly, with spaces between them, such as `else` in `1else`, and whether a point at the end of a
+    number is none of its characters if another point or a word follows, as in `1..2` and `1.max(2)`."""
+
+    forms: Optional[Forms] = None
+    following: str = ""
+    gives_points_back: bool = False
 
 
 class Forms(_Several, Mapping[str, Syntax]):
@@ -2202,8 +2397,9 @@ class Forms(_Several, Mapping[str, Syntax]):
     The first form of which a text is a literal decides its parts and its value, so the order matters. If it is a literal
     of none, a spelling may match, by the flags of the first form. A LiteralError is that of the form for which most of
     the text is right. The syntaxes are had by their names, as in `forms["hexadecimal"]`. `kinds` has the kinds of forms,
-    by their names, and is that of `forms` if these are `Forms`. Raises ValueError if there are no forms or more than 64, if two have the same name, or if there is a
-    kind of no form.
+    by their names, `suffixes` the `Suffixes` of forms, and `tokens` the rules for `token`. They are those of `forms` if these
+    are `Forms`. Raises ValueError if there are no forms or more than 64, if two have the same name, or if there is a kind or
+    there are suffixes of no form.
     """
 
     def __init__(
@@ -2214,20 +2410,45 @@ class Forms(_Several, Mapping[str, Syntax]):
         inf: Optional[str] = None,
         infinity: Optional[str] = None,
         kinds: Optional[Mapping[str, Kind]] = None,
+        suffixes: Optional[Mapping[str, Suffixes]] = None,
+        tokens: Optional[Tokens] = None,
     ) -> None:
         pairs = [*(forms.items() if isinstance(forms, Mapping) else forms)]
         self._named = {_typed("a name", name, str): _typed("a form", it, Syntax) for name, it in pairs}
         if not 0 < len(pairs) == len(self) <= _FORMS_MAX:
             raise ValueError(f"there are 1 to {_FORMS_MAX} forms, no two with the same name: {reprlib.repr([it for it, _ in pairs])}")
         self.specials = Specials(nan, inf, infinity)
-        given: Mapping[str, Kind] = forms.kinds if kinds is None and isinstance(forms, Forms) else kinds or {}
-        self.kinds: Dict[str, Kind] = {_typed("a name", name, str): _typed("a kind", it, Kind) for name, it in given.items()}
-        if unknown := [*(self.kinds.keys() - self.keys())]:
-            raise ValueError(f"there is no form with this name: {unknown[0]!r}")
-        of = [(it._by, *self.kinds.get(name, Kind())._numbers()) for name, it in self.items()]
-        listed = (_Form * len(self))(*(_Form(None, *it) for it in of))
+        of: Any = forms if isinstance(forms, Forms) else SimpleNamespace(kinds=None, suffixes=None, tokens=None)
+        self.kinds: Dict[str, Kind] = self._by_form("a kind", of.kinds if kinds is None else kinds, Kind)
+        self.suffixes: Dict[str, Suffixes] = self._by_form("suffixes", of.suffixes if suffixes is None else suffixes, Suffixes)
+        self.tokens: Optional[Tokens] = of.tokens if tokens is None else _typed("tokens", tokens, Tokens)
+        structures = {it: it._structure() for it in self.suffixes.values()}
+        self._kept: List[Any] = [*structures.values()]
+        made = [_Form(None, it._by, *self.kinds.get(name, Kind())._numbers()) for name, it in self.items()]
+        for form, own in zip(made, map(self.suffixes.get, self)):
+            if own is not None:
+                form.suffixes = pointer(structures[own])
+        listed = (_Form * len(self))(*made)
         self._made = _Forms(listed, len(self), self.specials._spellings())
+        if self.tokens is not None:
+            behind = self.tokens.forms._made if self.tokens.forms is not None else _Forms()
+            rules = _Tokens(behind.forms, behind.count, _string(self.tokens.following), self.tokens.gives_points_back)
+            self._made.tokens = pointer(rules)
+            self._kept += [behind, rules]
+        self._kept += made
         self._forms = c_void_p(addressof(self._made))
+
+    def _by_form(self, what: str, given: Optional[Mapping[str, Any]], kind: Type[Typed]) -> Dict[str, Typed]:
+        """Returns what is given for forms."""
+        made = {_typed("a name", name, str): _typed(what, it, kind) for name, it in (given or {}).items()}
+        if unknown := [*(made.keys() - self.keys())]:
+            raise ValueError(f"there is no form with this name: {unknown[0]!r}")
+        return made
+
+    @property
+    def _listed(self) -> List[Tuple[str, Any]]:
+        behind = self.tokens.forms if self.tokens is not None else None
+        return [*self.items(), *(behind.items() if behind is not None else [])]
 
     def __getitem__(self, name: str) -> Syntax:
         return cast(Syntax, self._named[name])
@@ -2240,8 +2461,8 @@ class Forms(_Several, Mapping[str, Syntax]):
 
     def __repr__(self) -> str:
         spelled = "".join(f", {name}={it!r}" for name, it in vars(self.specials).items() if it)
-        kinds = f", kinds={self.kinds!r}" if self.kinds else ""
-        return f"Forms({[*self.items()]}{spelled}{kinds})"
+        more = "".join(f", {name}={it!r}" for name in ("kinds", "suffixes", "tokens") if (it := getattr(self, name)))
+        return f"Forms({[*self.items()]}{spelled}{more})"
 
     def __eq__(self, other: object) -> bool:
         return isinstance(other, Forms) and self._key() == other._key()
@@ -2250,10 +2471,20 @@ class Forms(_Several, Mapping[str, Syntax]):
         return hash(self._key())
 
     def _key(self) -> Tuple[Any, ...]:
-        return *self.items(), self.specials, *(self.kinds.get(it, Kind()) for it in self)
+        own = ((self.kinds.get(it, Kind()), self.suffixes.get(it)) for it in self)
+        return *self.items(), self.specials, *own, self.tokens
 
     def __reduce__(self) -> Tuple[Any, ...]:
-        return functools.partial(Forms, **vars(self.specials), kinds=self.kinds), ([*self.items()],)
+        more = {"kinds": self.kinds, "suffixes": self.suffixes, "tokens": self.tokens}
+        return functools.partial(Forms, **vars(self.specials), **more), ([*self.items()],)
+
+
+def _forms_of(listed: List[_Form], more: Dict[str, Any]) -> Forms:
+    """Returns forms of a language."""
+    named = {it.name.decode(): it for it in listed}
+    kinds = {name: kind for name, it in named.items() if (kind := Kind._of(it)) != Kind()}
+    suffixes = {name: Suffixes._of(it.suffixes.contents) for name, it in named.items() if it.suffixes}
+    return Forms({name: Syntax._of_numbers(it.syntax) for name, it in named.items()}, **more, kinds=kinds, suffixes=suffixes)
 
 
 class Language(_Several, _Named):
@@ -2415,9 +2646,12 @@ class Language(_Several, _Named):
         """The forms of literals, in the order of the documentation, with the spellings of NaN and infinity."""
         made = _Forms.from_address(self._forms.value)
         spelled = {name: it.decode() for name, _ in _Specials._fields_ if (it := getattr(made.specials, name))}
-        listed = [(it.name.decode(), Syntax._of_numbers(it.syntax), Kind._of(it)) for it in made.forms[: made.count]]
-        kinds = {name: kind for name, _, kind in listed if kind != Kind()}
-        forms = Forms([it[:2] for it in listed], **spelled, kinds=kinds)
+        more: Dict[str, Any] = {**spelled}
+        if made.tokens:
+            rules = made.tokens.contents
+            behind = _forms_of(rules.forms[: rules.count], {}) if rules.count else None
+            more["tokens"] = Tokens(behind, _shown(rules.following), rules.gives_points_back)
+        forms = _forms_of(made.forms[: made.count], more)
         forms._forms = self._forms
         return forms
 
@@ -2429,6 +2663,10 @@ class Language(_Several, _Named):
     @property
     def _named(self) -> Any:
         return self.forms._named
+
+    @property
+    def _listed(self) -> List[Tuple[str, Any]]:
+        return self.forms._listed
 
     def __repr__(self) -> str:
         return f"languages.{self.name}"

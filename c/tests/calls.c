@@ -41,7 +41,7 @@ static peltzivar_syntax first_form(const char *name) {
 
 /* Returns `count` forms of an array, without spellings. */
 static peltzivar_forms forms_of(const peltzivar_form *forms, size_t count) {
-    const peltzivar_forms of = {forms, count, {NULL, NULL, NULL}, NULL, {0}};
+    const peltzivar_forms of = {forms, count, {NULL, NULL, NULL}, NULL, {0}, NULL};
     return of;
 }
 
@@ -502,6 +502,33 @@ static void test_languages(void) {
     CHECK(!peltzivar_forms_read_special(language("YAML"), "1", SIZE_MAX, &special) && !peltzivar_forms_read_special(NULL, "-.inf", 5, &special));
 }
 
+/* Tokens by rules in constants, and by those of a language. */
+static void test_tokens(void) {
+    static const peltzivar_suffix_kind kinds[] = {{"u8", PELTZIVAR_INTEGERS_WRAP, 8, PELTZIVAR_FLOATS_NEAREST}};
+    static const peltzivar_stop stops[] = {{"8", "-", NULL}};
+    static const peltzivar_suffixes words = {"u u8", NULL, "k", kinds, 1, stops, 1, true, {0}};
+    static const peltzivar_tokens rules = {NULL, 0, "if in", true, {0}};
+    peltzivar_form form = language("RUST")->forms[0];
+    peltzivar_forms forms = forms_of(&form, 1);
+    peltzivar_token token;
+    peltzivar_read_error error;
+    peltzivar_explanation why;
+    int64_t value = 7;
+    form.suffixes = &words;
+    CHECK(!peltzivar_forms_token(&forms, "1", 1, &token, &error) && WRITES("these forms have no tokens", peltzivar_read_error_text(&error, text, sizeof text)));
+    forms.tokens = &rules;
+    CHECK(peltzivar_forms_token(&forms, "200U8;", 6, &token, &error) && token.size == 5 && *token.rest == ';' && token.suffix.start == 3 && token.suffix.end == 5);
+    CHECK(token.literal.size == 3 && !peltzivar_to_i64(&token.literal, &value) && value == -56);
+    CHECK(peltzivar_forms_token(&forms, "1..2", 4, &token, NULL) && token.size == 1 && peltzivar_forms_token(&forms, "1if", 3, &token, NULL) && token.size == 1);
+    CHECK(peltzivar_forms_token(&forms, "1km ", 4, &token, NULL) && token.literal.size == 1 && token.suffix.end == 3);
+    CHECK(!peltzivar_forms_token(&forms, "1abc", 4, NULL, &error) && error.valid_up_to == 1 && peltzivar_explain(&error, &why));
+    CHECK(why.kind == PELTZIVAR_KIND_SUFFIX && why.span.start == 1 && why.span.end == 4 && why.code == PELTZIVAR_INVALID_DIGIT && why.index == 1);
+    CHECK(!peltzivar_forms_token(&forms, "1u8-", 4, NULL, &error) && peltzivar_explain(&error, &why) && why.kind == PELTZIVAR_KIND_SUFFIX);
+    CHECK(peltzivar_forms_token(language("JAVA"), "08f+", 4, &token, NULL) && token.literal.form == 5 && token.size == 3);
+    CHECK(!strcmp(language("JAVA")->tokens->forms[0].suffixes->floats, "f d") && language("JAVA")->tokens->count == 1 && !language("JSON")->tokens);
+    CHECK(!peltzivar_forms_token(NULL, "1", 1, &token, &error) && !peltzivar_forms_token(&forms, "1", SIZE_MAX, &token, &error));
+}
+
 /* Forms of one's own, at any address. A literal comes before a special value. What a later version may read otherwise is refused. */
 static void test_forms(void) {
     uint8_t memory[81 + 64 * sizeof(peltzivar_form)] = {0};
@@ -663,7 +690,7 @@ static void test_misuse(void) {
 static void *test_all(void *unused) {
     for (int i = 0; i < 5; i++) {
         test_constants(), test_setters(), test_words(), test_syntaxes(), test_errors(), test_groups(), test_values(), test_columns();
-        test_writing(), test_styles(), test_choice(), test_languages(), test_forms(), test_null(), test_misuse();
+        test_writing(), test_styles(), test_choice(), test_languages(), test_forms(), test_tokens(), test_null(), test_misuse();
     }
     return unused;
 }

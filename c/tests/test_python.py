@@ -29,7 +29,7 @@ TOP = TESTS.parent.parent
 sys.path.insert(0, str(TESTS.parent))
 import peltzivar
 from peltzivar import Edit, Error, Format, FormatError, FormatView, Forms, Kind, Language, LiteralError, OptionsError, Part, ReadErrorKind
-from peltzivar import Role, Rule, Setter, SettingsError, Special, Specials, Spelling, Syntax, languages, notes_of
+from peltzivar import Role, Rule, Setter, SettingsError, Special, Specials, Spelling, Suffixes, Syntax, Tokens, languages, notes_of
 
 PAGE = (TOP / "docs/FORMAT.md").read_text()
 EXPLANATIONS = (TOP / "docs/EXPLANATIONS.md").read_text()
@@ -329,6 +329,43 @@ class Literals(unittest.TestCase):
                 else:
                     self.assertEqual(target.format_number(literal, **style), wanted)
 
+    def test_tokens_are_those_of_the_rows(self):
+        back = "RUST KOTLIN SWIFT HASKELL HASKELL_GHC2021 ELIXIR RUBY"
+        for line in (TOP / "rust/tests/tokens.txt").read_text(encoding="utf-8").splitlines():
+            if not line or line.startswith("#"):
+                continue
+            text, names, wanted = line.split(" ; ")
+            for name in (back if names == "BACK" else names).split():
+                # The forms of a language, and the same as forms of one's own.
+                for forms in (Language[name], pickle.loads(pickle.dumps(Language[name].forms))):
+                    with self.subTest(line, name=name):
+                        try:
+                            token = forms.token(text.encode())
+                            self.assertEqual(b"".join((token.literal.text, token.suffix, token.rest)), text.encode())
+                            stated = f"{token.literal}|{token.suffix.decode()}"
+                            self.assertEqual(pickle.loads(pickle.dumps(token.literal)), token.literal)
+                            self.assertEqual(forms.token(text).rest.encode(), token.rest)
+                        except LiteralError as error:
+                            stated = f"{error.span[0]}..{error.span[1]} {error}"
+                        self.assertEqual(stated, wanted)
+
+    def test_rules_of_tokens_are_those_of_the_list(self):
+        words = Suffixes("u uu %", "f", kinds={"f": Kind(single=True)}, stops=[("f", "-", "-")], either_case=True)
+        point = Syntax.of("required_integer_digits=true")
+        for rules, rows in (
+            (Tokens(following="is"), {"1uU": "1|uU", "1.F": "1.|F", "1..F": "1.|", "1uis": "1|u", "1.5f-": "1.5|f", "1%": "1|"}),
+            (Tokens(gives_points_back=True), {"1.F": "1|", "1.is": "1|"}),
+            (Tokens(Forms({"octal": Syntax.of("radix=8", "exponent=none", "point=none")}, suffixes={"octal": Suffixes("o")})), {"17o": "17|o"}),
+        ):
+            forms = Forms({"": point}, suffixes={"": words}, tokens=rules)
+            self.assertEqual({text: "|".join((str((it := forms.token(text)).literal), it.suffix)) for text in rows}, rows)
+        self.assertEqual((forms.token("0.1f").literal.value, forms.token("17o").literal.value, forms.token("17o").literal.form), (0.10000000149011612, 15, "octal"))
+        self.assertRaisesRegex(LiteralError, "unknown suffix", forms.token, "1.5f--")
+        self.assertRaisesRegex(ValueError, "no tokens", Forms({"": point}).token, "1")
+        self.assertRaisesRegex(ValueError, "no form", Forms, {"": point}, suffixes={"x": words})
+        many = Forms({"": point}, suffixes={"": Suffixes(" ".join(f"a{it}" for it in range(257)))}, tokens=Tokens())
+        self.assertRaisesRegex(ValueError, "the forms are", many.token, "1")
+
     def test_forms_write_what_they_read_as_the_same_number(self):
         hexadecimal = Syntax.of("radix=16", "exponent=none", "point=none")
         forms = Forms({"hexadecimal": hexadecimal, "decimal": Syntax(Format())}, nan="nan", inf="inf")
@@ -394,7 +431,8 @@ class Literals(unittest.TestCase):
                 blamed = (*(it.name for it in error.edits), *error.conditions)[: 2 if error.part else 1]
                 causes.add((error.kind, error.part, *blamed, error.full_sentence))
                 self.assertRegex(error.full_sentence, f"^{re.escape(str(error))}{', which .*' + blamed[0] if blamed else ''}")
-        self.assertEqual(({it[0] for it in causes}, {name for it in causes for name in it[2:-1]}), ({*ReadErrorKind}, names))
+        of_tokens = {ReadErrorKind.SUFFIX, ReadErrorKind.POINT}
+        self.assertEqual(({it[0] for it in causes}, {name for it in causes for name in it[2:-1]}), ({*ReadErrorKind} - of_tokens, names))
         for sentences in (descriptions, [it.description for it in Error], [it[-1] for it in causes], [it[:-1] for it in causes]):
             self.assertEqual((len({*sentences}), all(sentences)), (len(sentences), True), sentences)
 

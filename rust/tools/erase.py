@@ -173,7 +173,10 @@ REPLACED += [
     ("lexical_literal/src/list.rt", "syntax.begin(false, text, false);\n                if syntax.is_whole(text, counted) {\n                    return Some", "syntax.begin_any(text, false);\n                if syntax.is_whole(text, counted) {\n                    return Some"),
     ("lexical_literal/src/list.rt", "self.begin(false, text, false)", "self.begin_any(text, false)"),
     ("lexical_literal/src/read.rt", "self.begin(false, text, true)", "self.begin_any(text, true)"),
-    ("lexical_literal/src/read.rt", "let counted = plain(grammar, decimal, text, fronts);", "let counted = crate::number::plain_any(grammar, text, fronts);"),
+    ("token.rt", "it.syntax.begin(false, text, true)", "it.syntax.begin_small(text, true)"),
+    # The library for C has one copy of these.
+    ("reasons.rt", "#[inline(always)]\n#[tactic(auto, unfolding(lexical_flags::specs::Roles::Disjoint))]\nconst fn clash(", "#[cfg_attr(not(peltzivar_small), inline(always))]\nconst fn clash("),
+    ("reasons.rt", "#[inline(always)]\nconst fn reason_for(", "#[cfg_attr(not(peltzivar_small), inline(always))]\nconst fn reason_for("),
     ("lexical_literal/src/read.rt", "self.step(text, stop, last)", "self.step_any(text, stop, last)"),
     ("lexical_literal/src/read.rt", "self.step(text, at, last)", "self.step_any(text, at, last)"),
     # Texts that are refused need it alone, and one copy is enough for all calls.

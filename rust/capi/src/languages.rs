@@ -141,8 +141,8 @@ pub struct Forms {
     count: usize,
     specials: Specials,
     language: *const Forms,
-    tokens: *const Tokens,
     reserved: [u64; 2],
+    tokens: *const Tokens,
 }
 
 // The sizes in the header.
@@ -214,13 +214,13 @@ pub unsafe fn by<R>(forms: *const Forms, then: impl FnOnce(Given<'_>) -> R) -> R
         // SAFETY: only the forms of languages have their own address.
         Some(unsafe { (*forms.cast::<LanguageForms>()).read })
     } else {
-        own(&forms.read_unaligned(), &mut list, None)
+        own(&forms.read_unaligned(), &mut list)
     };
     then(found.as_ref().ok_or(REFUSED))
 }
 
 /// Why forms are refused.
-const REFUSED: &str = "the forms are null, not 1 to 64, or have an unknown kind, too many words or reserved members";
+const REFUSED: &str = "the forms are null, not 1 to 64, or have an unknown kind or reserved members";
 
 /// Returns what `then` returns for the forms with their suffixes and rules for tokens.
 ///
@@ -235,12 +235,14 @@ pub unsafe fn with_tokens<R>(forms: *const Forms, then: impl FnOnce(Given<'_>) -
         return then(Err(REFUSED));
     }
     let given = forms.read_unaligned();
-    let Some(own) = own(&given, &mut list, Some(&mut reader)) else { return then(Err(REFUSED)) };
+    let own = suffixed(given.forms, given.count, &mut list, &mut reader).and_then(literal::Forms::new);
+    let Some(own) = own.filter(|_| given.reserved == [0; 2]) else { return then(Err(REFUSED)) };
     if given.tokens.is_null() {
         return then(Ok(&own));
     }
     let rules = given.tokens.read_unaligned();
-    let needing = forms_of(rules.forms, rules.count, &mut behind, Some(&mut reader));
+    let needing =
+        if rules.count == 0 { Some(&[][..]) } else { suffixed(rules.forms, rules.count, &mut behind, &mut reader) };
     match (needing, reader.words(rules.following)) {
         (Some(needing), Some(following)) if rules.reserved == [0; 7] => {
             let tokens = literal::Tokens::new(needing, following).gives_points_back(rules.gives_points_back != 0);
@@ -256,42 +258,54 @@ pub unsafe fn with_tokens<R>(forms: *const Forms, then: impl FnOnce(Given<'_>) -
 ///
 /// A C caller passes them.
 #[inline(never)]
-unsafe fn own<'a>(
-    it: &Forms,
-    list: &'a mut [MaybeUninit<literal::Form>; MOST],
-    reader: Option<&mut Reader>,
-) -> Option<literal::Forms<'a>> {
+unsafe fn own<'a>(it: &Forms, list: &'a mut [MaybeUninit<literal::Form>; MOST]) -> Option<literal::Forms<'a>> {
     if it.reserved != [0; 2] {
         return None;
     }
-    Some(literal::Forms::new(forms_of(it.forms, it.count, list, reader)?)?.with_specials(it.specials.spellings()))
+    Some(literal::Forms::new(forms_of(it.forms, it.count, list)?)?.with_specials(it.specials.spellings()))
 }
 
-/// Returns an array of forms, with their suffixes if there is a reader, or `None` if they are refused.
+/// Returns an array of forms without their suffixes, or `None` if they are refused.
 ///
 /// # Safety
 ///
 /// A C caller passes them, and the slice is not used after the memory.
-#[inline(never)]
+#[inline(always)]
 unsafe fn forms_of(
     forms: *const Form,
     count: usize,
     list: &mut [MaybeUninit<literal::Form>; MOST],
-    mut reader: Option<&mut Reader>,
 ) -> Option<&'static [literal::Form]> {
-    if count > MOST || forms.is_null() && count != 0 {
+    if count > MOST || forms.is_null() {
         return None;
     }
     for (index, to) in list.iter_mut().take(count).enumerate() {
         let form = forms.add(index).read_unaligned();
         let syntax = Syntax::given(Some(&form.syntax)).filter(|_| form.reserved == [0; 5])?;
-        let mut made = literal::Form::new("", syntax).with_kind(form.kind.kind()?);
-        if let Some(reader) = reader.as_deref_mut() {
-            if let Some(suffixes) = reader.suffixes(form.suffixes)? {
-                made = made.with_suffixes(suffixes);
-            }
+        to.write(literal::Form::new("", syntax).with_kind(form.kind.kind()?));
+    }
+    // SAFETY: so many are written.
+    Some(unsafe { slice::from_raw_parts(list.as_ptr().cast(), count) })
+}
+
+/// Returns the same with their suffixes.
+///
+/// # Safety
+///
+/// As for `forms_of`. The memory of the reader must outlive the use of the slice, too.
+#[inline(never)]
+unsafe fn suffixed(
+    forms: *const Form,
+    count: usize,
+    list: &mut [MaybeUninit<literal::Form>; MOST],
+    reader: &mut Reader,
+) -> Option<&'static [literal::Form]> {
+    forms_of(forms, count, list)?;
+    for (index, to) in list.iter_mut().take(count).enumerate() {
+        if let Some(suffixes) = reader.suffixes(forms.add(index).read_unaligned().suffixes)? {
+            // SAFETY: `forms_of` has written it.
+            to.write(unsafe { to.assume_init() }.with_suffixes(suffixes));
         }
-        to.write(made);
     }
     // SAFETY: so many are written.
     Some(unsafe { slice::from_raw_parts(list.as_ptr().cast(), count) })
@@ -347,8 +361,8 @@ macro_rules! languages {
                         count: COUNT,
                         specials: Specials::of(Language::$NAME, SPELLINGS),
                         language: (&raw const FORMS).cast(),
-                        tokens: if RULES.is_some() { &raw const TOKENS } else { ptr::null() },
                         reserved: [0; 2],
+                        tokens: if RULES.is_some() { &raw const TOKENS } else { ptr::null() },
                     },
                     read: literal::Forms::new_or_panic(&READ).with_specials(SPELLED),
                 };

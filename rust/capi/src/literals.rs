@@ -160,6 +160,7 @@ pub enum Refusal<E> {
 }
 
 impl<E: Display> Display for Refusal<E> {
+    #[inline(never)]
     fn fmt(&self, f: &mut Formatter<'_>) -> fmt::Result {
         match self {
             Refusal::Argument(sentence) => f.write_str(sentence),

@@ -49,12 +49,13 @@ pub struct Tokens {
 // SAFETY: the pointers of constants point to constants.
 unsafe impl Sync for Tokens {}
 
-/// A token: its literal, where its suffix is, and its length.
+/// A token: its literal, where its suffix is, its length, and what follows.
 #[repr(C)]
 pub struct Token<'a> {
     literal: Literal<'a>,
     suffix: Span,
     size: usize,
+    rest: *const u8,
 }
 
 // The sizes and the alignment in the header.
@@ -263,6 +264,7 @@ impl Laid {
             }
         }
         let is_none = self.size == start;
+        self.text[self.size] = 0;
         self.size += 1;
         if is_none {
             ptr::null()
@@ -372,7 +374,8 @@ fn token<'a>(forms: Given<'_>, text: &'a [u8]) -> Result<Token<'a>, (usize, usiz
     match forms.token_bytes(text) {
         Ok(it) => {
             let (size, start) = (text.len() - it.rest.len(), it.literal.as_bytes().len());
-            Ok(Token { literal: Literal::of(it.literal, it.form), suffix: Span { start, end: size }, size })
+            let (literal, rest) = (Literal::of(it.literal, it.form), it.rest.as_ptr());
+            Ok(Token { literal, suffix: Span { start, end: size }, size, rest })
         }
         Err(TokenError::Literal(it)) => Err((it.error.valid_up_to(), it.form, Refusal::Library(it.error))),
         Err(TokenError::UnknownSuffix { form, start, end }) => Err((start, form, Refusal::Suffix { start, end })),

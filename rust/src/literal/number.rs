@@ -6,19 +6,11 @@ use core::{iter::FusedIterator, slice};
 use crate::digit::char_to_valid_digit_const;
 use crate::format_flags::Part;
 use crate::literal::groups::Group;
-use crate::literal::plain::{plain, At, Counted};
+use crate::literal::plain::{At, Counted};
 use crate::literal::read::Found;
 use crate::literal::steps::{is_complete, step};
-use crate::literal::syntax::Grammar;
 use crate::literal::{Literal, ReadError, Syntax};
 use crate::word::Role;
-
-// Returns what `plain` returns for any syntax. The library for C, which sets `peltzivar_small`, has one copy.
-#[cfg_attr(peltzivar_small, inline(never))]
-#[cfg_attr(not(peltzivar_small), inline(always))]
-pub(crate) const fn plain_any(grammar: Grammar, text: &[u8], fronts: bool) -> Counted {
-    plain(grammar, false, text, fronts)
-}
 
 impl Syntax {
     /// Returns the exponent character, or `None` if literals are integers.
@@ -78,7 +70,7 @@ impl Syntax {
     // Returns what `read` returns for any syntax.
     #[inline(never)]
     pub(crate) const fn read_generally<'t>(&self, text: &'t [u8]) -> Result<Literal<'t>, ReadError> {
-        let counted = self.begin(false, text, false);
+        let counted = self.begin_small(text, false);
         if self.is_whole(text, counted) {
             Ok(self.literal(text, counted.counts, counted.sums))
         } else if counted.exact {
@@ -103,6 +95,16 @@ impl Syntax {
     #[inline(never)]
     pub(crate) const fn begin_any(&self, text: &[u8], fronts: bool) -> Counted {
         self.begin(false, text, fronts)
+    }
+
+    // Returns the same, from that copy only in the library for C, which sets `peltzivar_small`.
+    #[inline(always)]
+    pub(crate) const fn begin_small(&self, text: &[u8], fronts: bool) -> Counted {
+        if cfg!(peltzivar_small) {
+            self.begin_any(text, fronts)
+        } else {
+            self.begin(false, text, fronts)
+        }
     }
 
     // Returns what `step` returns, in one copy.

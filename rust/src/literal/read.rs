@@ -68,7 +68,7 @@ impl Syntax {
             return plain(self.usual_grammar(), decimal, text, fronts);
         }
         let grammar = self.as_grammar();
-        let counted = crate::literal::number::plain_any(grammar, text, fronts);
+        let counted = plain(grammar, decimal, text, fronts);
         if has_sizes(grammar) {
             sized(self.as_grammar(), text, counted)
         } else {

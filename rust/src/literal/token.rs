@@ -123,7 +123,7 @@ impl<'a> Forms<'a> {
             if excluding && is_past(it.syntax.as_grammar(), text, sign + 1) {
                 reached = larger(reached, sign + 1);
             } else {
-                let counted = it.syntax.begin(false, text, true);
+                let counted = it.syntax.begin_small(text, true);
                 let size = counted.at.size;
                 if counted.complete
                     && reached < size
