@@ -229,27 +229,28 @@ const REFUSED: &str = "the forms are null, not 1 to 64, or have an unknown kind 
 /// `forms` must be null or forms that a C caller passes.
 pub unsafe fn with_tokens<R>(forms: *const Forms, then: impl FnOnce(Given<'_>) -> R) -> R {
     let (mut list, mut behind) = ([const { MaybeUninit::uninit() }; MOST], [const { MaybeUninit::uninit() }; MOST]);
-    let mut memory = Memory::NEW;
+    let (mut memory, mut tokens) = (Memory::NEW, None);
     let mut reader = Reader::of(&mut memory);
-    if forms.is_null() {
-        return then(Err(REFUSED));
-    }
-    let given = forms.read_unaligned();
-    let own = suffixed(given.forms, given.count, &mut list, &mut reader).and_then(literal::Forms::new);
-    let Some(own) = own.filter(|_| given.reserved == [0; 2]) else { return then(Err(REFUSED)) };
-    if given.tokens.is_null() {
-        return then(Ok(&own));
-    }
-    let rules = given.tokens.read_unaligned();
-    let needing =
-        if rules.count == 0 { Some(&[][..]) } else { suffixed(rules.forms, rules.count, &mut behind, &mut reader) };
-    match (needing, reader.words(rules.following)) {
-        (Some(needing), Some(following)) if rules.reserved == [0; 7] => {
-            let tokens = literal::Tokens::new(needing, following).gives_points_back(rules.gives_points_back != 0);
-            then(Ok(&own.with_tokens(&tokens)))
+    let found = (|| {
+        let given = if forms.is_null() { return None } else { forms.read_unaligned() };
+        let own = suffixed(given.forms, given.count, &mut list, &mut reader).and_then(literal::Forms::new)?;
+        if !given.tokens.is_null() {
+            let rules = given.tokens.read_unaligned();
+            let needing = match rules.count {
+                0 => &[],
+                count => suffixed(rules.forms, count, &mut behind, &mut reader)?,
+            };
+            let made = literal::Tokens::new(needing, reader.words(rules.following)?);
+            tokens = Some(made.gives_points_back(rules.gives_points_back != 0)).filter(|_| rules.reserved == [0; 7]);
+            tokens?;
         }
-        _ => then(Err(REFUSED)),
-    }
+        (given.reserved == [0; 2]).then_some(own)
+    })();
+    let found = match &tokens {
+        Some(tokens) => found.map(|it| it.with_tokens(tokens)),
+        None => found,
+    };
+    then(found.as_ref().ok_or(REFUSED))
 }
 
 /// Returns forms that are not those of a language, or `None` if they are refused.
@@ -270,7 +271,7 @@ unsafe fn own<'a>(it: &Forms, list: &'a mut [MaybeUninit<literal::Form>; MOST]) 
 /// # Safety
 ///
 /// A C caller passes them, and the slice is not used after the memory.
-#[inline(always)]
+#[inline(never)]
 unsafe fn forms_of(
     forms: *const Form,
     count: usize,
@@ -280,9 +281,12 @@ unsafe fn forms_of(
         return None;
     }
     for (index, to) in list.iter_mut().take(count).enumerate() {
-        let form = forms.add(index).read_unaligned();
-        let syntax = Syntax::given(Some(&form.syntax)).filter(|_| form.reserved == [0; 5])?;
-        to.write(literal::Form::new("", syntax).with_kind(form.kind.kind()?));
+        let form = forms.add(index);
+        let (syntax, kind) = ((&raw const (*form).syntax).read_unaligned(), (&raw const (*form).kind).read_unaligned());
+        let reserved = (&raw const (*form).reserved).read_unaligned();
+        let syntax = Syntax::given_at_once(Some(&syntax)).filter(|_| reserved == [0; 5])?;
+        let kind = if kind.is_same(KindNumbers::EXACT) { Kind::EXACT } else { kind.kind()? };
+        to.write(literal::Form::new("", syntax).with_kind(kind));
     }
     // SAFETY: so many are written.
     Some(unsafe { slice::from_raw_parts(list.as_ptr().cast(), count) })

@@ -64,8 +64,14 @@ impl Syntax {
     }
 
     /// Returns the syntax, which may not be lawful, or `None` if there is none or if a later version may read it otherwise.
-    #[inline(always)]
+    #[inline(never)]
     pub fn given(syntax: Option<&Syntax>) -> Option<literal::Syntax> {
+        Syntax::given_at_once(syntax)
+    }
+
+    /// Returns the same in less time.
+    #[inline(always)]
+    pub fn given_at_once(syntax: Option<&Syntax>) -> Option<literal::Syntax> {
         let syntax = syntax?;
         Some(literal::Syntax::unchecked(syntax.format.number(), syntax.options(), syntax.conditions()?))
     }
@@ -289,7 +295,7 @@ unsafe fn number<'a>(
     (text, len, error): (*const u8, usize, Out<ReadError>),
     read: impl FnOnce(&'a [u8]) -> Result<Read<'a>, &'static str>,
 ) -> Option<Number<'a>> {
-    match input(text, len).ok_or("the text has more than PTRDIFF_MAX bytes").and_then(read) {
+    match input(text, len).ok_or(TOO_LONG).and_then(read) {
         Ok(Ok(number)) => return Some(number),
         Ok(Err((why, form))) => error.write(ReadError::at(why.valid_up_to(), form, Refusal::Library(why))),
         Err(sentence) => error.write(ReadError::at(0, 0, Refusal::Argument(sentence))),
@@ -312,6 +318,9 @@ pub unsafe fn whole<'a>(forms: Given<'_>, text: *const u8, len: usize, error: Ou
 fn front<'a>(forms: &literal::Forms<'_>, text: &'a [u8]) -> Read<'a> {
     forms.read_prefix_bytes(text).map(|(it, _)| it).map_err(|it| (it.error, it.form))
 }
+
+/// Why a call refuses a text.
+pub const TOO_LONG: &str = "the text has more than PTRDIFF_MAX bytes";
 
 /// Why a call refuses a syntax.
 const SYNTAX: &str = "peltzivar_check_syntax refuses this syntax";
@@ -345,7 +354,7 @@ calls! {
         syntax: Option<&Syntax>, text: *const u8, len: usize, literal: Out<Literal>, error: Out<ReadError>
     ) -> bool {
         let read = |text| {
-            Syntax::given(syntax).ok_or(SYNTAX).map(|it| it.read_then(text, |read| match read {
+            Syntax::given_at_once(syntax).ok_or(SYNTAX).map(|it| it.read_then(text, |read| match read {
                 Ok(literal) => Ok(Number::Literal { literal, form: 0 }),
                 Err(error) => Err((error, 0)),
             }))
@@ -367,7 +376,7 @@ calls! {
         forms: *const Forms, text: *const u8, len: usize, literal: Out<Literal>, error: Out<ReadError>
     ) -> bool {
         let found = by(forms, |forms| {
-            let bare = forms.map(|it| it.with_specials(Default::default()));
+            let bare = forms.map(|it| it.with_specials(literal::Specials::default()));
             whole(bare.as_ref().map_err(|it| *it), text, len, error)
         });
         write_literal(found, literal)

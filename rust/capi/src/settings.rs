@@ -47,6 +47,7 @@ fn finding(settings: &Settings, index: usize) -> Option<Finding> {
 }
 
 /// Passes the sentence and the lines of a problem or note to `report`, or nothing if there is none with this index.
+#[inline(never)]
 unsafe fn report(text: (*const u8, usize), index: usize, report: Report<'_>) -> usize {
     let mut settings = Settings::new();
     match add_lines(&mut settings, text, Some(index)) {

@@ -2,7 +2,7 @@
 
 use crate::arguments::{input, Out};
 use crate::languages::{form_at, numbers_of, with_tokens, Form, Forms, Given, KindNumbers};
-use crate::literals::{Literal, ReadError, Refusal, Span};
+use crate::literals::{Literal, ReadError, Refusal, Span, TOO_LONG};
 use core::ffi::CStr;
 use core::mem::MaybeUninit;
 use core::{ptr, slice};
@@ -390,7 +390,7 @@ calls! {
     ) -> bool {
         let found = match input(text, len) {
             Some(text) => with_tokens(forms, |forms| token(forms, text)),
-            None => Err((0, 0, Refusal::Argument("the text has more than PTRDIFF_MAX bytes"))),
+            None => Err((0, 0, Refusal::Argument(TOO_LONG))),
         };
         match found {
             Ok(token) => {

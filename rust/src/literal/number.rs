@@ -58,13 +58,24 @@ impl Syntax {
     #[doc(hidden)]
     #[inline(always)]
     pub fn read_then<'t, R>(&self, text: &'t [u8], then: impl FnOnce(Result<Literal<'t>, ReadError>) -> R) -> R {
+        let mut refused = None;
         if self.is_decimal() {
             let counted = self.begin(true, text, false);
             if self.is_whole(text, counted) {
                 return then(Ok(self.literal(text, counted.counts, counted.sums)));
             }
+            refused = counted.exact.then_some(counted.at);
         }
-        then(self.read_generally(text))
+        then(match refused {
+            Some(at) => self.refuse_literal(text, at),
+            None => self.read_generally(text),
+        })
+    }
+
+    // Returns why `text`, of which reading stopped at `at`, is not a literal, for the call above, in one copy.
+    #[inline(never)]
+    const fn refuse_literal<'t>(&self, text: &'t [u8], at: At) -> Result<Literal<'t>, ReadError> {
+        self.refuse(text, at)
     }
 
     // Returns what `read` returns for any syntax.
