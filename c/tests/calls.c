@@ -506,7 +506,7 @@ static void test_languages(void) {
 static void test_tokens(void) {
     static const peltzivar_suffix_kind kinds[] = {{"u8", PELTZIVAR_INTEGERS_WRAP, 8, PELTZIVAR_FLOATS_NEAREST}};
     static const peltzivar_stop stops[] = {{"8", "-", NULL}};
-    static const peltzivar_suffixes words = {"u u8", NULL, "k", kinds, 1, stops, 1, true, {0}};
+    static const peltzivar_suffixes suffixes = {"u u8", NULL, "k", kinds, 1, stops, 1, true, {0}};
     static const peltzivar_tokens rules = {NULL, 0, "if in", true, {0}};
     peltzivar_form form = language("RUST")->forms[0];
     peltzivar_forms forms = forms_of(&form, 1);
@@ -514,7 +514,7 @@ static void test_tokens(void) {
     peltzivar_read_error error;
     peltzivar_explanation why;
     int64_t value = 7;
-    form.suffixes = &words;
+    form.suffixes = &suffixes;
     CHECK(!peltzivar_forms_token(&forms, "1", 1, &token, &error) && WRITES("these forms have no tokens", peltzivar_read_error_text(&error, text, sizeof text)));
     forms.tokens = &rules;
     CHECK(peltzivar_forms_token(&forms, "200U8;", 6, &token, &error) && token.size == 5 && *token.rest == ';' && token.suffix.start == 3 && token.suffix.end == 5);

@@ -179,7 +179,7 @@ const fn shown<const ALL: usize>(
 }
 
 /// Returns the form with an index in two lists.
-pub const fn form_at<'a>(lists: [&'a [literal::Form]; 2], index: usize) -> &'a literal::Form {
+pub const fn form_at(lists: [&[literal::Form]; 2], index: usize) -> &literal::Form {
     if index < lists[0].len() {
         &lists[0][index]
     } else {

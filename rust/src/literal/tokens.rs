@@ -17,6 +17,7 @@ impl Forms<'_> {
     /// Returns the forms that need a suffix, the words that may follow, and whether points are given back, for the library for C.
     #[doc(hidden)]
     #[must_use]
+    #[allow(clippy::type_complexity, reason = "it is for the library for C alone")]
     pub const fn token_rules(&self) -> Option<(&[Form], &[&'static [u8]], bool)> {
         match self.tokens {
             Some(Tokens { forms, following, gives_points_back }) => Some((forms, following, *gives_points_back)),
