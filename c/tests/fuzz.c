@@ -207,8 +207,8 @@ static void test_literals(peltzivar_word word) {
     if (is_read) CHECK_LAWFUL(!memcmp(&literal.sign, &literal_before.sign, offsetof(peltzivar_literal, is_float) - offsetof(peltzivar_literal, sign)));
     if (is_explained) CHECK_LAWFUL(peltzivar_explain(&error_before, &why_normal) && !memcmp(&why, &why_normal, sizeof why));
     /* A lawful syntax as a form reads the same, and a column has the values of its texts. */
-    const peltzivar_form form = {"it", syntax, 0, 0, 0, {0}};
-    const peltzivar_forms forms = {&form, 1, {NULL, NULL, NULL}, NULL, {0}};
+    const peltzivar_form form = {"it", syntax, 0, 0, 0, {0}, NULL};
+    const peltzivar_forms forms = {&form, 1, {NULL, NULL, NULL}, NULL, {0}, NULL};
     const int64_t offsets[] = {0, (int64_t)len, (int64_t)len};
     double values[3] = {7, 7, 7};
     uint8_t status[2];
