@@ -29,6 +29,7 @@ mod BlameLemmas
 mod PartOfLemmas
 mod OneCauseLemmas
 mod ExcludeLemmas
+mod StrangerLemmas
 mod FormLemmas
 mod TokenLemmas
 mod LeadingLemmas
