@@ -1,6 +1,6 @@
 -- A stranger: a byte that plays no role behind the base prefix, and its other case neither.
-use Rattle.std.proofs.Common.{ℕ, ◌≡◌, ◌+◌, ◌*◌, ◌<◌, ◌≤◌, ◌⊎◌, inl, inr, true, false, Bool, None, Some, List, [], ◌∷◌, ◌++◌, length, take, get_or, IsTrue, if◌then◌else◌, ap, refl, sym, subst, ◌∙◌, arith}
-use Rattle.std.specs.Prelude.{◌&&◌, not, slice_get}
+use Rattle.std.proofs.Common.{ℕ, ◌≡◌, ◌+◌, ◌*◌, ◌<◌, ◌≤◌, inl, inr, true, false, Bool, None, Some, List, [], ◌∷◌, ◌++◌, length, take, get_or, IsTrue, if◌then◌else◌, ap, refl, sym, subst, ◌∙◌, arith}
+use Rattle.std.specs.Prelude.{slice_get}
 use Rattle.std.specs.List.{AllByRecursion}
 use Rattle.std.proofs.lemmas.Bool.{cases_lt, false≢true}
 use Rattle.std.proofs.lemmas.Bool.Decides.{nat_tests}
@@ -17,7 +17,7 @@ use Rattle.lexical_util.specs.declared.feature_format.roles.Role.TheVariants as 
 use Rattle.lexical_util.specs.declared.format_flags.Part.{Part}
 use Rattle.lexical_util.specs.declared.format_flags.Part.TheVariants as parts
 use Rattle.lexical_literal.specs.Additions.Forms.{IsNoBetter, IsSpare, IsStranger, sign_size}
-use Rattle.lexical_literal.specs.Cause.{IsCause, IsRefusal, bare, with_rules}
+use Rattle.lexical_literal.specs.Cause.{IsCause, bare, with_rules}
 use Rattle.lexical_literal.specs.Forms.{is_byte, reach}
 use Rattle.lexical_literal.specs.Front.{IsFront, IsValidUpTo, NoLiteral}
 use Rattle.lexical_literal.specs.Literal.{Literal, Reads, is_none_or_one, is_none_or_prefix, text_of}
@@ -26,7 +26,6 @@ use Rattle.lexical_literal.specs.Readings.{AllIn, run_byte}
 use Rattle.lexical_literal.specs.declared.cause.ReadErrorKind.{ReadErrorKind}
 use Rattle.lexical_literal.specs.declared.cause.ReadErrorKind.TheVariants as causes
 use Rattle.lexical_literal.specs.declared.cause.Refusal.{Refusal}
-use Rattle.lexical_literal.specs.declared.syntax.Condition.{Condition}
 use Rattle.lexical_literal.specs.declared.syntax.Grammar.{Grammar}
 use Rattle.lexical_literal.specs.Additions.Summary.{role_at}
 use Rattle.lexical_literal.proofs.ExcludeLemmas.{longer, same_byte, same_sign}
