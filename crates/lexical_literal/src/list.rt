@@ -561,7 +561,7 @@ impl Syntax {
 
     // Returns where reading `text` stops.
     #[cold]
-    fn stop_in(&self, text: &[u8]) -> At
+    pub(crate) fn stop_in(&self, text: &[u8]) -> At
         ensures { IsStopped (notation_of self.now) text.now result }
     {
         let counted = self.begin(false, text, false);
@@ -587,7 +587,7 @@ const fn excludes(grammar: Grammar, text: &[u8], sign: usize) -> bool
 
 // Returns whether `byte` plays no role. Bytes up to `9` are said to play one: most are digits, and a prefix begins with a zero.
 #[inline(always)]
-pub(crate) const fn plays_no_role(grammar: Grammar, byte: u8) -> bool
+const fn plays_no_role(grammar: Grammar, byte: u8) -> bool
     ensures { IsTrue result → PlaysNoRole (notation_of grammar) byte }
 {
     byte > b'9'

@@ -298,7 +298,7 @@ const fn begins(either: bool, word: &[u8], text: &[u8]) -> bool
         [letter, word @ ..] => match text {
             [] => false,
             [byte, text @ ..] => {
-                is_word_byte(*byte) && is_same(either, *letter, *byte) && begins(either, word, text)
+                is_same(either, *letter, *byte) && is_word_byte(*byte) && begins(either, word, text)
             }
         },
     }
@@ -320,17 +320,15 @@ const fn longest_word(either: bool, words: &[&[u8]], text: &[u8]) -> usize
     ensures size { result ≡ longest_word either words.now text.now }
     ensures within { result ≤ length text.now }
 {
-    match words {
-        [] => 0,
-        [word, rest @ ..] => {
-            let size = longest_word(either, rest, text);
-            if begins(either, word, text) && size < word.len() {
-                word.len()
-            } else {
-                size
-            }
+    let mut longest = 0;
+    let mut rest = words;
+    while let [word, more @ ..] = rest {
+        if longest < word.len() && begins(either, word, text) {
+            longest = word.len();
         }
+        rest = more;
     }
+    longest
 }
 
 // Returns whether the word with which `text` begins is one of `words`.

@@ -390,7 +390,7 @@ impl Syntax {
 
     // Returns where reading `text` stops.
     #[cold]
-    const fn stop_in(&self, text: &[u8]) -> At {
+    pub(crate) const fn stop_in(&self, text: &[u8]) -> At {
         let counted = self.begin_any(text, false);
         self.reach(text, counted)
     }
@@ -410,7 +410,7 @@ const fn excludes(grammar: Grammar, text: &[u8], sign: usize) -> bool {
 
 // Returns whether `byte` plays no role. Bytes up to `9` are said to play one: most are digits, and a prefix begins with a zero.
 #[inline(always)]
-pub(crate) const fn plays_no_role(grammar: Grammar, byte: u8) -> bool {
+const fn plays_no_role(grammar: Grammar, byte: u8) -> bool {
     byte > b'9' && matches!(role_at(grammar, Part::Integer, byte), None) && !is_digit(grammar, Part::Exponent, byte)
 }
 

@@ -216,7 +216,7 @@ const fn begins(either: bool, word: &[u8], text: &[u8]) -> bool {
         [] => true,
         [letter, word @ ..] => match text {
             [] => false,
-            [byte, text @ ..] => is_word_byte(*byte) && is_same(either, *letter, *byte) && begins(either, word, text),
+            [byte, text @ ..] => is_same(either, *letter, *byte) && is_word_byte(*byte) && begins(either, word, text),
         },
     }
 }
@@ -232,17 +232,15 @@ const fn is_same(either: bool, letter: u8, byte: u8) -> bool {
 
 // Returns the length of the longest of `words` with which `text` begins, or 0 if it begins with none.
 const fn longest_word(either: bool, words: &[&[u8]], text: &[u8]) -> usize {
-    match words {
-        [] => 0,
-        [word, rest @ ..] => {
-            let size = longest_word(either, rest, text);
-            if begins(either, word, text) && size < word.len() {
-                word.len()
-            } else {
-                size
-            }
+    let mut longest = 0;
+    let mut rest = words;
+    while let [word, more @ ..] = rest {
+        if longest < word.len() && begins(either, word, text) {
+            longest = word.len();
         }
+        rest = more;
     }
+    longest
 }
 
 // Returns whether the word with which `text` begins is one of `words`.
