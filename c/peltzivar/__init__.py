@@ -2351,9 +2351,8 @@ class Language(_Several, _Named):
         Forms: decimal; octal; hexadecimal; octal, 0o; binary; decimal, 0d.
 
     RUST: Rust's integers and floats (Reference, Integer literals and Floating-point literals). A format cannot accept
-        the suffixes in `0x1F_u8` and `1f32`. The token of `0b1.` is `0b1`, but rustc takes the point if neither a
-        second one nor a name follows, and refuses it. Forms: decimal; with a point at the end; hexadecimal; octal;
-        binary.
+        the suffixes in `0x1F_u8` and `1f32`. At the end of a text, the token of `0b1.` is `0b1`, but rustc takes the
+        point, and refuses it. Forms: decimal; with a point at the end; hexadecimal; octal; binary.
 
     SQL: SQL's signed numeric literals (ISO/IEC 9075-2:2016, 5.3 `<literal>`). Forms: decimal.
 

@@ -266,7 +266,24 @@ const RUST_DECIMALS: &[&[u8]] = &[
     b"u8", b"u16", b"u32", b"u64", b"u128", b"usize", b"i8", b"i16", b"i32", b"i64", b"i128", b"isize", b"f32", b"f64",
 ];
 const RUST_WORDS: Suffixes = words(RUST_DECIMALS, &[b"f32", b"f64"]).with_kinds(&[(b"f32", SINGLE)]);
-const RUST_PREFIXED_WORDS: Suffixes = Suffixes::new(RUST_INTEGERS, &[], POINT_AND_DIGIT);
+const RUST_PREFIXED_WORDS: Suffixes = Suffixes::new(RUST_INTEGERS, &[], POINT_AND_NO_NAME);
+
+/// A decimal point before a byte that is neither a second one nor begins a name.
+const POINT_AND_NO_NAME: &[Stop] = &[Stop::new(b"", b".", &NO_NAME)];
+const NO_NAME: [u8; 74] = no_name();
+
+/// Returns the bytes that are neither a point nor what a name begins with.
+const fn no_name() -> [u8; 74] {
+    let (mut bytes, mut at, mut byte) = ([0; 74], 0, 0);
+    while at < bytes.len() {
+        if byte != b'.' && byte != b'_' && !byte.is_ascii_alphabetic() {
+            bytes[at] = byte;
+            at += 1;
+        }
+        byte += 1;
+    }
+    bytes
+}
 
 /// Tokens whose last point belongs to what follows: `1..2` and `1.max(2)`.
 const POINTS_BACK: Tokens = Tokens::new(&[], &[]).gives_points_back(true);
@@ -533,8 +550,8 @@ languages! {
     .gives_points_back(true);
 
     /// Rust's integers and floats (Reference, Integer literals and Floating-point literals). A format cannot accept the
-    /// suffixes in `0x1F_u8` and `1f32`. The token of `0b1.` is `0b1`, but rustc takes the point if neither a second one nor a
-    /// name follows, and refuses it.
+    /// suffixes in `0x1F_u8` and `1f32`. At the end of a text, the token of `0b1.` is `0b1`, but rustc takes the point, and
+    /// refuses it.
     RUST = {
         "decimal": decimal(RUST
             .required_integer_digits(true) // rejects `.5`
