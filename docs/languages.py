@@ -35,12 +35,12 @@ def documented():
 
 
 def forms():
-    """Returns the rows of each language: a form, a sentence on the numbers that it reads, and its kind."""
+    """Returns the rows of each language: a form, a sentence on the numbers that it reads, its kind and its suffixes."""
     printed = subprocess.run(["cargo", "run", "-q", "--example", "languages"], cwd=TOP, stdout=subprocess.PIPE, text=True, check=True)
     rows = {}
     for line in printed.stdout.splitlines():
-        language, form, sentence, kind, *_ = line.split("\t")
-        rows.setdefault(language, []).append(f"| {form} | {sentence.replace('|', chr(92) + '|')} | {kind} |\n")
+        language, form, sentence, kind, words, *_ = line.split("\t")
+        rows.setdefault(language, []).append(f"| {form} | {sentence.replace('|', chr(92) + '|')} | {kind} | {words} |\n")
     return rows
 
 
@@ -56,7 +56,7 @@ def made():
     about, compared = documented(), tools()
     for name, rows in forms().items():
         by = "with " + " and ".join(compared[name]) if name in compared else "with a table of its grammar"
-        yield f"\n## {name}\n\n{about[name]}\nCompared {by}.\n\n| Form | Reads | Values |\n|---|---|---|\n{''.join(rows)}"
+        yield f"\n## {name}\n\n{about[name]}\nCompared {by}.\n\n| Form | Reads | Values | Suffixes |\n|---|---|---|---|\n{''.join(rows)}"
 
 
 def main():

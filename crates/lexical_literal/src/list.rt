@@ -146,6 +146,22 @@ impl Tokens {
             ..self
         }
     }
+
+    /// Returns the forms that need a suffix.
+    #[must_use]
+    pub const fn forms(&self) -> &'static [Form]
+        ensures { result ≡ self.now.forms }
+    {
+        self.forms
+    }
+
+    /// Returns the words that may follow a number directly.
+    #[must_use]
+    pub const fn following(&self) -> &'static [&'static [u8]]
+        ensures { result ≡ self.now.following }
+    {
+        self.following
+    }
 }
 
 /// The forms of numbers, at least one, the spellings of NaN and infinity, and how tokens are read. The first form of which a text
@@ -260,6 +276,14 @@ impl<'a> Forms<'a> {
         ensures { result ≡ self.now.specials }
     {
         self.specials
+    }
+
+    /// Returns the rules for tokens, if there are any.
+    #[must_use]
+    pub const fn tokens(&self) -> Option<&'a Tokens>
+        ensures { result ≡ self.now.tokens }
+    {
+        self.tokens
     }
 
     /// Returns the number that `text` is: a literal of the first form of which it is one, or otherwise a special value.

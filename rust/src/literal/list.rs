@@ -89,6 +89,18 @@ impl Tokens {
     pub const fn gives_points_back(self, gives: bool) -> Tokens {
         Tokens { gives_points_back: gives, ..self }
     }
+
+    /// Returns the forms that need a suffix.
+    #[must_use]
+    pub const fn forms(&self) -> &'static [Form] {
+        self.forms
+    }
+
+    /// Returns the words that may follow a number directly.
+    #[must_use]
+    pub const fn following(&self) -> &'static [&'static [u8]] {
+        self.following
+    }
 }
 
 /// The forms of numbers, at least one, the spellings of NaN and infinity, and how tokens are read. The first form of which a text
@@ -160,6 +172,12 @@ impl<'a> Forms<'a> {
     #[must_use]
     pub const fn specials(&self) -> Specials<'a> {
         self.specials
+    }
+
+    /// Returns the rules for tokens, if there are any.
+    #[must_use]
+    pub const fn tokens(&self) -> Option<&'a Tokens> {
+        self.tokens
     }
 
     /// Returns the number that `text` is: a literal of the first form of which it is one, or otherwise a special value.

@@ -64,6 +64,30 @@ impl Suffixes {
         Suffixes { kinds, ..self }
     }
 
+    /// Returns the words that may be behind integers.
+    #[must_use]
+    pub const fn integers(&self) -> &'static [&'static [u8]] {
+        self.integers
+    }
+
+    /// Returns the words that may be behind floats.
+    #[must_use]
+    pub const fn floats(&self) -> &'static [&'static [u8]] {
+        self.floats
+    }
+
+    /// Returns whether the words may be in either case.
+    #[must_use]
+    pub const fn is_either_case(&self) -> bool {
+        self.either_case
+    }
+
+    /// Returns the bytes of which any word that begins with one is a suffix.
+    #[must_use]
+    pub const fn begins_any_word(&self) -> &'static [u8] {
+        self.any
+    }
+
     // Returns the length of the longest suffix with which `text` begins, or 0 if there is none.
     const fn size(&self, float: bool, text: &[u8]) -> usize {
         let size = any_word_size(self.any, text);
