@@ -85,7 +85,12 @@ mod suffix;
 #[allow(clippy::redundant_pattern_matching, reason = "as it is proved")]
 mod syntax;
 mod text;
-#[allow(clippy::implicit_saturating_sub, clippy::manual_is_ascii_check, reason = "as it is proved")]
+#[allow(
+    clippy::implicit_saturating_sub,
+    clippy::manual_is_ascii_check,
+    clippy::redundant_pattern_matching,
+    reason = "as it is proved"
+)]
 mod token;
 mod tokens;
 mod value;
