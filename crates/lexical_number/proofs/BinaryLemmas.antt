@@ -5,10 +5,12 @@ use mathlib.Core.Logic.{inl, inr}
 use mir.Val.{bool_byte}
 use native.Mathlib.Omega.{arith}
 use native.Mathlib.Nat.{eq-zero-or-pos, mul-pos, mod-eq_of_lt, mod-lt, lt_of_mul-lt-mul_right, mul-le-mul_right, eq_of_mul-eq-mul_right}
-use native.Mathlib.Nat.{div-add-mod', div-eq_of_lt}
-use lib.Pow.{pow_pos, pow-add, shl_lt}
-use lib.Ieee.{Format, hid, prec, low}
+use native.Mathlib.Nat.{div-add-mod', div-eq_of_lt, le_of_eq, le_of_mul-le-mul_right, le_trans, mul-le-mul_left}
+use lib.Dec.{lit≤}
+use lib.Pow.{pow_pos, pow_mono, pow-add, shl_lt}
+use lib.Ieee.{Format, hid, ones, prec, low}
 use Rattle.core.specs.Dec2flt.Rounding.{scaled_bits, IsNearestBits, IsCut, IsJustAbove, IsSignificand, IsWithin}
+use Rattle.core.proofs.dec2flt.Extremes.{nearest_of_huge, nearest_of_tiny}
 use Rattle.core.proofs.dec2flt.Patterns.{shape}
 use Rattle.core.proofs.dec2flt.RoundingLemmas.{nearest_tie, nearest_above}
 use Rattle.core.proofs.dec2flt.Settle.{lies_above, rounds_down, rounds_up, significand_of}
@@ -121,3 +123,39 @@ to_top a j s k from below is =
     let least : 2 ^ k ≡ 2 ^ j * 2 ^ s = ap (λ k. 2 ^ k) {x = k} {y = j + s} (omega arith) ∙ pow-add 2 j s in
     let most : 2 ^ (suc j + s) ≡ 2 ^ suc k = ap (λ k. 2 ^ k) {x = suc j + s} {y = suc k} (omega arith) in
     (omega (arith, least, mul-le-mul_right (2 ^ s) from), omega (arith, most, shl_lt (suc j) s below))
+
+-- A number far above all floats, and one far below them.
+module _ (f : Format) (num den word up down : ℕ) {more : Bool} (D : 0 < den) (cut : IsCutTo (num * 2 ^ down) word more (den * 2 ^ up)) where
+  pub far_above : 0 < word → down + 2000 < up → IsNearestBits f num den (ones f * hid f)
+  far_above W far =
+      let ten : 10 ^ 309 ≤ 2 ^ 1027 = lit≤ tt in
+      let top : 10 ^ 309 * 2 ^ down ≤ 2 ^ up = le_trans (mul-le-mul_right (2 ^ down) ten) (le_trans (le_of_eq (sym (pow-add 2 1027 down))) (pow_mono (omega arith))) in
+      let unit : den * (10 ^ 309 * 2 ^ down) ≤ den * 2 ^ up = mul-le-mul_left den top in
+      let least : 1 * (den * 2 ^ up) ≤ word * (den * 2 ^ up) = mul-le-mul_right (den * 2 ^ up) W in
+      nearest_of_huge f num den D (le_of_mul-le-mul_right {k = 2 ^ down} (omega (arith, unit, least, cut.from)) (pow_pos down))
+
+  pub far_below : word < 2 ^ 64 → up + 2000 < down → IsNearestBits f num den 0
+  far_below W far =
+      let ten : 10 ^ 343 ≤ 2 ^ 1140 = lit≤ tt in
+      let top : 10 ^ 343 * 2 ^ up ≤ 2 ^ down = le_trans (mul-le-mul_right (2 ^ up) ten) (le_trans (le_of_eq (sym (pow-add 2 1140 up))) (pow_mono (omega arith))) in
+      let number : num * (10 ^ 343 * 2 ^ up) ≤ num * 2 ^ down = mul-le-mul_left num top in
+      let most : (word + 1) * (den * 2 ^ up) ≤ 2 ^ 64 * (den * 2 ^ up) = mul-le-mul_right (den * 2 ^ up) (omega arith) in
+      nearest_of_tiny f num den D (le_of_mul-le-mul_right {k = 2 ^ up} (omega (arith, number, most, cut.below)) (pow_pos up))
+
+-- The same power of two on both sides does not count.
+pub without : {digits : ℕ} {more : Bool} (num den up down both : ℕ) → both ≤ up → both ≤ down → IsCutTo (num * 2 ^ down) digits more (den * 2 ^ up)
+    → IsCutTo (num * 2 ^ (down - both)) digits more (den * 2 ^ (up - both))
+without {digits = digits} {more = more} num den up down both U D cut =
+    let split : (n k : ℕ) → both ≤ k → n * 2 ^ k ≡ n * 2 ^ (k - both) * 2 ^ both =
+    λ n k le. ap (λ k. n * 2 ^ k) {x = k} {y = k - both + both} (omega arith) ∙ omega (arith, ap (λ p. n * p) (pow-add 2 (k - both) both)) in
+    unscaled (2 ^ both) (pow_pos both)
+    (subst (λ n. IsCutTo n digits more (den * 2 ^ (up - both) * 2 ^ both)) (split num down D)
+    (subst (IsCutTo (num * 2 ^ down) digits more) (split den up U) cut))
+
+-- A number of whole digits, by more digits.
+pub lifted : (digits p q z : ℕ) → IsCutTo (digits * 2 ^ p * 2 ^ (q + z)) (digits * 2 ^ z) false (2 ^ q * 2 ^ p)
+lifted digits p q z =
+    let same : digits * 2 ^ p * 2 ^ (q + z) ≡ digits * 2 ^ z * (2 ^ q * 2 ^ p) =
+    ap (λ t. digits * 2 ^ p * t) (pow-add 2 q z) ∙ grind arith in
+    let unit : 0 < 2 ^ q * 2 ^ p = mul-pos (pow_pos q) (pow_pos p) in
+    record { from = omega (arith, same); below = omega (arith, same, unit); some = grind (arith, nat_tests, same) }

@@ -1,6 +1,6 @@
 //! The float nearest to a whole number times a power of two.
 
-ghost use Rattle.std.specs.Prelude.{◌≡◌, ℕ, Bool, true, false, ◌+◌, ◌*◌, ◌/◌, ◌^◌, ◌<◌, ◌≤◌, cond};
+ghost use Rattle.std.specs.Prelude.{◌≡◌, ℕ, Bool, true, false, ◌+◌, ◌*◌, ◌/◌, ◌^◌, ◌<◌, ◌≤◌, cond, min};
 ghost use Rattle.std.specs.Float.{Format};
 ghost use Rattle.std.specs.Float.Ieee.{prec, low, hid, ones};
 ghost use Rattle.core.specs.Dec2flt.Rounding.{scaled_bits, IsNearestBits, IsSignificand, IsCut};
@@ -41,14 +41,14 @@ pub const fn infinity(double: bool) -> u64
 
 // Returns the bits of `significand * 2 ^ exponent` least floats, or those of infinity.
 #[inline(always)]
-const fn scaled_bits(double: bool, significand: u64, exponent: u128) -> u64
+const fn scaled_bits(double: bool, significand: u64, exponent: u64) -> u64
     requires { significand ≤ 2 ^ 53 }
     ensures { result ≡ scaled_bits (format_of double) significand exponent }
 {
     if exponent >= 2047 {
         return infinity(double);
     }
-    let bits = exponent as u64 * hidden(double) + significand;
+    let bits = exponent * hidden(double) + significand;
     let infinity = infinity(double);
     if bits < infinity { bits } else { infinity }
 }
@@ -66,7 +66,7 @@ const fn cut(word: u64, dropped: u64) -> (u64, u64, u64)
 // Returns the bits of the float nearest to a number of which `word` counts units of `2 ^ exponent / 2 ^ dropped` least
 // floats.
 #[inline(always)]
-const fn settle(double: bool, word: u64, more: bool, dropped: u128, exponent: u128) -> u64
+const fn settle(double: bool, word: u64, more: bool, dropped: u64, exponent: u64) -> u64
     requires dropped { 2 ≤ dropped }
     requires kept { IsSignificand (format_of double) (word / 2 ^ dropped) exponent }
     ensures { (num den : ℕ) → 0 < den → IsCutTo (num * 2 ^ low (format_of double) * 2 ^ dropped) word more (den * 2 ^ exponent)
@@ -75,20 +75,19 @@ const fn settle(double: bool, word: u64, more: bool, dropped: u128, exponent: u1
     if dropped > 64 {
         return 0;
     }
-    let (kept, rest, half) = cut(word, dropped as u64);
+    let (kept, rest, half) = cut(word, dropped);
     let rounds_up = (rest > half) | ((rest == half) & (more | (kept % 2 == 1)));
     scaled_bits(double, kept + rounds_up as u64, exponent)
 }
 
 // Returns how many bits to drop, and the exponent.
 #[inline(always)]
-const fn dropped(least: u64, above: u128, below: u128) -> (u128, u128)
-    requires { (least ≤ 128) × (above < 2 ^ 126) × (below < 2 ^ 126) }
+const fn dropped(least: u64, above: u64, below: u64) -> (u64, u64)
+    requires { (least ≤ 64) × (above < 2 ^ 62) × (below < 2 ^ 62) }
     ensures places { above + result.0 ≡ below + result.1 }
     ensures least { least ≤ result.0 }
     ensures normal { 0 < result.1 → result.0 ≡ least }
 {
-    let least = least as u128;
     if above + least >= below {
         (least, above + least - below)
     } else {
@@ -103,15 +102,15 @@ pub(crate) const fn nearest_to_word(
     double: bool,
     word: u64,
     more: bool,
-    up: u128,
-    down: u128,
+    up: u64,
+    down: u64,
 ) -> u64
     requires top { 2 ^ 55 ≤ word }
-    requires scale { (up < 2 ^ 125) × (down < 2 ^ 125) }
+    requires scale { (up < 2 ^ 61) × (down < 2 ^ 61) }
     ensures { (num den : ℕ) → 0 < den → IsCutTo (num * 2 ^ down) word more (den * 2 ^ up) → IsNearestBits (format_of double) num den result }
 {
     let least = 64 - word.leading_zeros() as u64 - precision(double);
-    let (dropped, exponent) = dropped(least, up + lowest(double) as u128, down);
+    let (dropped, exponent) = dropped(least, up + lowest(double), down);
     settle(double, word, more, dropped, exponent)
 }
 
@@ -134,6 +133,13 @@ const fn leading_word(digits: u128, more: bool) -> (u64, bool, u64)
     )
 }
 
+#[inline(always)]
+const fn least(x: u128, y: u128) -> u128
+    ensures { result ≡ min x y }
+{
+    if x < y { x } else { y }
+}
+
 /// Returns the bits of the float nearest to `digits * 2 ^ up / 2 ^ down`, or to a number that is above this, if `more` is
 /// true, and below the same with `digits + 1`.
 #[must_use]
@@ -146,5 +152,19 @@ pub const fn nearest_bits(double: bool, digits: u128, more: bool, up: u128, down
         return 0;
     }
     let (word, more, zeros) = leading_word(digits, more);
-    nearest_to_word(double, word, more, up + 72, down + zeros as u128)
+    let (up, down) = (up + 72, down + zeros as u128);
+    if down + 2000 < up {
+        return infinity(double);
+    }
+    if up + 2000 < down {
+        return 0;
+    }
+    let both = least(up, down);
+    nearest_to_word(
+        double,
+        word,
+        more,
+        (up - both) as u64,
+        (down - both) as u64,
+    )
 }

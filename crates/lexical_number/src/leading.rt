@@ -24,6 +24,18 @@ impl Leading {
         more: false,
         dropped: 0,
     };
+
+    /// Returns all digits of a number as its leading digits.
+    #[must_use]
+    pub const fn whole(number: u64) -> Leading
+        ensures leads { (radix : ℕ) → 1 ≤ radix → Leads radix number result.digits result.more result.dropped }
+        ensures dropped { result.dropped ≡ 0 }
+    {
+        Leading {
+            digits: number as u128,
+            ..Leading::ZERO
+        }
+    }
 }
 
 // Returns the leading digits after one more digit.

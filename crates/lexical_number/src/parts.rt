@@ -6,7 +6,7 @@ ghost use Rattle.lexical_number.specs.Binary.{format_of, is_power_of_two, raised
 ghost use Rattle.lexical_number.specs.Leading.{number_after, Leads};
 ghost use Rattle.lexical_number.specs.Number.{number, places};
 
-use crate::binary::{infinity, nearest_bits};
+use crate::binary::{infinity, nearest_bits, nearest_to_word};
 use crate::leading::Leading;
 use lexical_base::digit::char_is_digit_const;
 
@@ -79,6 +79,47 @@ pub const fn raised_bits(
         exponent * base_bits as u128,
     );
     nearest_bits(double, leading.digits, leading.more, up, down)
+}
+
+/// Returns the bits of the float nearest to `digits` over the radix to the power of `places`, times a power of two with `bits`
+/// bits to the exponent.
+#[must_use]
+#[inline(always)]
+pub const fn raised_word(
+    double: bool,
+    digits: u64,
+    radix_bits: u32,
+    places: u64,
+    negative: bool,
+    exponent: u64,
+    base_bits: u32,
+) -> u64
+    requires radix { (1 ≤ radix_bits) × (radix_bits ≤ 5) }
+    requires base { (1 ≤ base_bits) × (base_bits ≤ 5) }
+    ensures { IsNearestBits (format_of double) (digits * raised_up negative (2 ^ base_bits) exponent)
+        ((2 ^ radix_bits) ^ places * raised_down negative (2 ^ base_bits) exponent) result }
+{
+    if digits == 0 || places >= 1 << 56 || exponent >= 1 << 56 {
+        let leading = Leading::whole(digits);
+        let exponent = exponent as u128;
+        return raised_bits(
+            double, leading, radix_bits, places, negative, exponent, base_bits,
+        );
+    }
+    let (up, down) = scales(
+        0,
+        places as u128 * radix_bits as u128,
+        negative,
+        exponent as u128 * base_bits as u128,
+    );
+    let zeros = digits.leading_zeros() as u64;
+    nearest_to_word(
+        double,
+        digits << zeros,
+        false,
+        up as u64,
+        down as u64 + zeros,
+    )
 }
 
 // Returns the exponents above and below the line of a fraction.

@@ -1,5 +1,5 @@
 -- The lowest bits of a number, and what literals of the exact kind are worth.
-use Rattle.std.proofs.Common.{ℕ, ◌≡◌, ◌+◌, ◌-◌, ◌%◌, ◌^◌, ◌≤◌, ◌||◌, Bool, true, false, not, if◌then◌else◌, min, Result, Ok, Err, arith, ap, refl, subst, sym}
+use Rattle.std.proofs.Common.{ℕ, ◌≡◌, ◌+◌, ◌-◌, ◌%◌, ◌^◌, ◌≤◌, ◌||◌, Bool, true, false, not, if◌then◌else◌, Result, Ok, Err, arith, ap, refl, subst, sym}
 use Rattle.std.proofs.Math.Pow.{mod-mod-pow}
 use Rattle.std.proofs.lemmas.Bool.{false≢true}
 use Rattle.std.specs.Float.{Float, Format}

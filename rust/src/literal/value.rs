@@ -542,8 +542,11 @@ impl Syntax {
     // Returns what `parse` returns for any text.
     #[inline(never)]
     fn parse_generally<T: FromLiteral>(&self, text: &[u8]) -> Result<T, ParseError> {
-        let literal = self.read_generally(text)?;
-        T::from_literal(literal).map_err(|kind| ParseError::Value(ValueError::of::<T>(kind, text.len(), Kind::EXACT)))
+        match self.read_generally(text) {
+            Ok(literal) => value_in_memory::<T>(literal)
+                .map_err(|kind| ParseError::Value(ValueError::of::<T>(kind, text.len(), Kind::EXACT))),
+            Err(error) => Err(error.into()),
+        }
     }
 
     /// Returns the value of the longest literal that `text` begins with, and the rest of `text`, as
@@ -573,6 +576,12 @@ impl Syntax {
     pub const fn supports_floats(&self) -> bool {
         float::supports_floats(self.as_grammar().view())
     }
+}
+
+// Returns the value of a literal that is in memory. Were it inlined, all of the literal would be copied.
+#[inline(never)]
+fn value_in_memory<T: FromLiteral>(literal: Literal<'_>) -> Result<T, ValueErrorKind> {
+    T::from_literal(literal)
 }
 
 impl Number<'_> {

@@ -42,11 +42,11 @@ pub const fn infinity(double: bool) -> u64 {
 
 // Returns the bits of `significand * 2 ^ exponent` least floats, or those of infinity.
 #[inline(always)]
-const fn scaled_bits(double: bool, significand: u64, exponent: u128) -> u64 {
+const fn scaled_bits(double: bool, significand: u64, exponent: u64) -> u64 {
     if exponent >= 2047 {
         return infinity(double);
     }
-    let bits = exponent as u64 * hidden(double) + significand;
+    let bits = exponent * hidden(double) + significand;
     let infinity = infinity(double);
     if bits < infinity {
         bits
@@ -65,19 +65,18 @@ const fn cut(word: u64, dropped: u64) -> (u64, u64, u64) {
 // Returns the bits of the float nearest to a number of which `word` counts units of `2 ^ exponent / 2 ^ dropped` least
 // floats.
 #[inline(always)]
-const fn settle(double: bool, word: u64, more: bool, dropped: u128, exponent: u128) -> u64 {
+const fn settle(double: bool, word: u64, more: bool, dropped: u64, exponent: u64) -> u64 {
     if dropped > 64 {
         return 0;
     }
-    let (kept, rest, half) = cut(word, dropped as u64);
+    let (kept, rest, half) = cut(word, dropped);
     let rounds_up = (rest > half) | ((rest == half) & (more | (kept % 2 == 1)));
     scaled_bits(double, kept + rounds_up as u64, exponent)
 }
 
 // Returns how many bits to drop, and the exponent.
 #[inline(always)]
-const fn dropped(least: u64, above: u128, below: u128) -> (u128, u128) {
-    let least = least as u128;
+const fn dropped(least: u64, above: u64, below: u64) -> (u64, u64) {
     if above + least >= below {
         (least, above + least - below)
     } else {
@@ -88,9 +87,9 @@ const fn dropped(least: u64, above: u128, below: u128) -> (u128, u128) {
 // Returns the bits of the float nearest to `word * 2 ^ up / 2 ^ down`, or to a number that is above this, if `more` is
 // true, and below the same with `word + 1`.
 #[inline(always)]
-pub(crate) const fn nearest_to_word(double: bool, word: u64, more: bool, up: u128, down: u128) -> u64 {
+pub(crate) const fn nearest_to_word(double: bool, word: u64, more: bool, up: u64, down: u64) -> u64 {
     let least = 64 - word.leading_zeros() as u64 - precision(double);
-    let (dropped, exponent) = dropped(least, up + lowest(double) as u128, down);
+    let (dropped, exponent) = dropped(least, up + lowest(double), down);
     settle(double, word, more, dropped, exponent)
 }
 
@@ -103,6 +102,15 @@ const fn leading_word(digits: u128, more: bool) -> (u64, bool, u64) {
     ((lifted >> 72) as u64, more | (lifted % (1 << 72) != 0), zeros)
 }
 
+#[inline(always)]
+const fn least(x: u128, y: u128) -> u128 {
+    if x < y {
+        x
+    } else {
+        y
+    }
+}
+
 /// Returns the bits of the float nearest to `digits * 2 ^ up / 2 ^ down`, or to a number that is above this, if `more` is
 /// true, and below the same with `digits + 1`.
 #[must_use]
@@ -111,5 +119,13 @@ pub const fn nearest_bits(double: bool, digits: u128, more: bool, up: u128, down
         return 0;
     }
     let (word, more, zeros) = leading_word(digits, more);
-    nearest_to_word(double, word, more, up + 72, down + zeros as u128)
+    let (up, down) = (up + 72, down + zeros as u128);
+    if down + 2000 < up {
+        return infinity(double);
+    }
+    if up + 2000 < down {
+        return 0;
+    }
+    let both = least(up, down);
+    nearest_to_word(double, word, more, (up - both) as u64, (down - both) as u64)
 }

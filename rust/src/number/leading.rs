@@ -18,6 +18,12 @@ pub struct Leading {
 impl Leading {
     /// The leading digits of 0.
     pub const ZERO: Leading = Leading { digits: 0, more: false, dropped: 0 };
+
+    /// Returns all digits of a number as its leading digits.
+    #[must_use]
+    pub const fn whole(number: u64) -> Leading {
+        Leading { digits: number as u128, ..Leading::ZERO }
+    }
 }
 
 // Returns the leading digits after one more digit.

@@ -3,7 +3,7 @@
 //! The float nearest to digits with an exponent, if both are in radixes that are powers of two.
 
 use crate::digit::char_is_digit_const;
-use crate::number::binary::{infinity, nearest_bits};
+use crate::number::binary::{infinity, nearest_bits, nearest_to_word};
 use crate::number::leading::Leading;
 
 /// Returns the number of digits of `radix` among `bytes`.
@@ -59,6 +59,29 @@ pub const fn raised_bits(
         exponent * base_bits as u128,
     );
     nearest_bits(double, leading.digits, leading.more, up, down)
+}
+
+/// Returns the bits of the float nearest to `digits` over the radix to the power of `places`, times a power of two with `bits`
+/// bits to the exponent.
+#[must_use]
+#[inline(always)]
+pub const fn raised_word(
+    double: bool,
+    digits: u64,
+    radix_bits: u32,
+    places: u64,
+    negative: bool,
+    exponent: u64,
+    base_bits: u32,
+) -> u64 {
+    if digits == 0 || places >= 1 << 56 || exponent >= 1 << 56 {
+        let leading = Leading::whole(digits);
+        let exponent = exponent as u128;
+        return raised_bits(double, leading, radix_bits, places, negative, exponent, base_bits);
+    }
+    let (up, down) = scales(0, places as u128 * radix_bits as u128, negative, exponent as u128 * base_bits as u128);
+    let zeros = digits.leading_zeros() as u64;
+    nearest_to_word(double, digits << zeros, false, up as u64, down as u64 + zeros)
 }
 
 // Returns the exponents above and below the line of a fraction.
