@@ -179,6 +179,7 @@ REPLACED += [
     ("lexical_value/src/integer.rt", "pub fn integer_numeral", "pub(crate) const fn integer_numeral"),
     ("lexical_value/src/integer.rt", "\nfn magnitude", "\nconst fn magnitude"),
     ("lexical_value/src/float.rt", "pub(crate) fn binary_size", "pub(crate) const fn binary_size"),
+    ("lexical_value/src/float.rt", "\nfn long_binary_size", "\nconst fn long_binary_size"),
     ("lexical_value/src/float.rt", "\nfn leading_of", "\nconst fn leading_of"),
     ("lexical_value/src/float.rt", "\nfn exponent_of", "\npub(crate) const fn exponent_of"),
     ("sink.rt", "#[derive(Drop)]", "#[derive(Debug)]"),

@@ -142,7 +142,7 @@ pub(crate) const fn binary_size(double: bool, literal: &Literal) -> Option<u64> 
 
 // Returns the same where the mantissa or the exponent has many digits.
 #[cold]
-fn long_binary_size(double: bool, literal: &Literal, radix_bits: u32, base_bits: u32) -> u64 {
+const fn long_binary_size(double: bool, literal: &Literal, radix_bits: u32, base_bits: u32) -> u64 {
     let leading = leading_of(literal, literal.format().mantissa_radix());
     let places = literal.places() as u64;
     let negative = literal.has_negative_exponent();
