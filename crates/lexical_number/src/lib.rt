@@ -3,7 +3,7 @@
 //! This crate knows digits and bytes, and nothing of formats and literals. No function allocates memory.
 #![tactic(auto)]
 
-mod big;
+pub mod big;
 pub mod binary;
 pub mod decimal;
 pub mod float;
