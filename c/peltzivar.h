@@ -489,7 +489,8 @@ enum {
  * point does not move. `exponent_from` is the number of PELTZIVAR_STYLE_FROM. With `point`, a float has a point with a digit
  * behind it, also before an exponent. With `has_decimals`, a float is rounded to as many digits behind the point as
  * `decimals`, to the nearest, or to the even one if two are as near, and has no exponent that neither the syntax nor the
- * style requires. */
+ * style requires. With `nearest`, a literal of another radix or base that cannot be written exactly is written by the nearest
+ * double. */
 typedef struct {
     uint8_t group, fraction_group;
     bool without_base, lowercase, keep_leading_zeros;
@@ -498,6 +499,7 @@ typedef struct {
     uint32_t exponent_from;
     bool point, has_decimals;
     uint8_t decimals;
+    bool nearest;
 } peltzivar_style;
 
 /* Whether a number is written. */

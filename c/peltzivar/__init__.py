@@ -386,6 +386,7 @@ class _Style(Structure):
         ("point", c_bool),
         ("has_decimals", c_bool),
         ("decimals", c_uint8),
+        ("nearest", c_bool),
     ]
 
 
@@ -1545,6 +1546,7 @@ class _Reader:
         exponent: Union[int, str, None] = None,
         point: bool = False,
         decimals: Optional[int] = None,
+        nearest: bool = False,
     ) -> str:
         """Returns a number as a literal, or as NaN or infinity of several forms. Reading the text returns the same value.
 
@@ -1568,7 +1570,8 @@ class _Reader:
         "never", for a point that moves in place of an exponent, "always", or a number from which on, and below minus
         which, an exponent is kept, and otherwise moves the point. With `point`, a float has a point with a digit behind
         it, also before an exponent. `decimals` rounds a float to so many digits behind the point, as `format(value,
-        ".2f")` does: to the nearest, or to the even one if two are as near.
+        ".2f")` does: to the nearest, or to the even one if two are as near. With `nearest`, a `Literal` of another radix or
+        base that cannot be written exactly is written by the nearest float.
 
             >>> prices.format_number(1234.5, group=3, decimals=2)
             '1.234,50'
@@ -1591,7 +1594,7 @@ class _Reader:
             wish = (None, "never", "always").index(exponent), 0
         flags_of, least = (_typed(name, flag, bool) for name, flag in flags), _number("min_digits", min_digits)
         places = 0 if decimals is None else _number("decimals", decimals)
-        style = _Style(*groups, *flags_of, least, *wish, _typed("point", point, bool), decimals is not None, places)
+        style = _Style(*groups, *flags_of, least, *wish, _typed("point", point, bool), decimals is not None, places, _typed("nearest", nearest, bool))
         if isinstance(self, _Several) and isinstance(value, float) and not math.isfinite(value):
             spelling = Spelling.NAN if math.isnan(value) else Spelling.INF
             return cast(str, self.specials.format(next(iter(self._named.values())), Special("-" if value < 0 else "", spelling)))

@@ -364,13 +364,14 @@ static bool syntax_of(const char *settings, peltzivar_syntax *syntax) {
 
 /* Returns the style of wishes. */
 static peltzivar_style style_of(const char *wishes) {
-    peltzivar_style style = {0, 0, false, false, false, 0, 0, 0, false, false, 0};
+    peltzivar_style style = {0, 0, false, false, false, 0, 0, 0, false, false, 0, false};
     const char *const group = strstr(wishes, "fraction_group="), *const least = strstr(wishes, "min_digits="), *const power = strstr(wishes, "exponent=");
     if (!strncmp(wishes, "group=", 6)) style.group = wishes[6] == '0' ? PELTZIVAR_NO_GROUPS : (uint8_t)(wishes[6] - '0');
     if (group) style.fraction_group = (uint8_t)(group[15] - '0');
     if (least) style.min_digits = (uint8_t)(least[11] - '0');
     style.without_base = strstr(wishes, "without_base=true") != NULL, style.lowercase = strstr(wishes, "lowercase=true") != NULL;
     style.keep_leading_zeros = strstr(wishes, "keep_leading_zeros=true") != NULL;
+    style.nearest = strstr(wishes, "nearest=true") != NULL;
     if (power) style.exponent = power[9] == 'n' ? PELTZIVAR_STYLE_NEVER : power[9] == 'a' ? PELTZIVAR_STYLE_ALWAYS : PELTZIVAR_STYLE_FROM;
     if (style.exponent == PELTZIVAR_STYLE_FROM) style.exponent_from = (uint32_t)(power[9] - '0');
     return style;
@@ -385,11 +386,11 @@ static void test_styles(void) {
         const char *wanted;
         peltzivar_style style;
     } floats[] = {
-        {1234.005, "1234.01", {0, 0, false, false, false, 0, 0, 0, false, true, 2}},
-        {2.5, "2", {0, 0, false, false, false, 0, 0, 0, false, true, 0}},
-        {-0.004, "-0.00", {0, 0, false, false, false, 0, 0, 0, false, true, 2}},
-        {99999, "1.00e5", {0, 0, false, false, false, 0, PELTZIVAR_STYLE_ALWAYS, 0, false, true, 2}},
-        {1e16, "1.0e16", {0, 0, false, false, false, 0, 0, 0, true, false, 0}},
+        {1234.005, "1234.01", {0, 0, false, false, false, 0, 0, 0, false, true, 2, false}},
+        {2.5, "2", {0, 0, false, false, false, 0, 0, 0, false, true, 0, false}},
+        {-0.004, "-0.00", {0, 0, false, false, false, 0, 0, 0, false, true, 2, false}},
+        {99999, "1.00e5", {0, 0, false, false, false, 0, PELTZIVAR_STYLE_ALWAYS, 0, false, true, 2, false}},
+        {1e16, "1.0e16", {0, 0, false, false, false, 0, 0, 0, true, false, 0, false}},
     };
     FILE *const file = rows ? fopen(rows, "r") : NULL;
     peltzivar_syntax source, target;

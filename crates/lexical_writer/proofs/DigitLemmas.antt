@@ -173,6 +173,9 @@ pub read_back : (radix n : ℕ) (bytes : List ℕ) → 2 ≤ radix → radix ≤
 read_back radix n bytes two small is = ap (digits_in radix) (is ∙ sym (grouped_plain (no_groups false) (digits_of radix n) refl))
     ∙ grouped_digits radix (no_groups false) small (λ some. absurd (omega (arith, some))) (digits_of radix n) (all_below_base_digits_of radix n two)
 
+pub as_many : (radix n : ℕ) (bytes : List ℕ) → bytes ≡ map (character false) (digits_of radix n) → length bytes ≡ length (digits_of radix n)
+as_many radix n bytes is = ap length is ∙ length-map (digits_of radix n) (character false)
+
 -- Enough digits are those that there are.
 pub enough : (least : ℕ) (digits : List ℕ) → least ≤ length digits → at_least least digits ≡ digits
 enough least digits most = ap (λ k. replicate k 0 ++ digits) {x = least - length digits} {y = 0} (omega (arith, most))

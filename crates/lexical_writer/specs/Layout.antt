@@ -115,6 +115,7 @@ plain_style = record {
   exponent = exponents.AsNumber;
   decimals = None;
   point = false;
+  nearest = false;
 }
 
 -- `needs_exponent g` is true if each literal of `g` has an exponent.

@@ -15,7 +15,8 @@ ghost use Rattle.lexical_writer.specs.Choice.{IsReadBack, exact_read, turn};
 use crate::float::format_float;
 use crate::float_digits::FloatDigits;
 use crate::layout::{Style, WriteError};
-use crate::literal::{format_literal, write_number};
+use crate::literal::write_number;
+use crate::near::format_near;
 use lexical_literal::kind::{FloatKind, IntegerKind, Kind};
 use lexical_literal::laws::literal_facts;
 use lexical_literal::list::{Forms, Number};
@@ -162,7 +163,8 @@ impl Writable for Literal<'_> {
     }
 
     fn write(&self, syntax: &Syntax, style: Style, buffer: &mut [u8]) -> Result<usize, WriteError> {
-        Ok(format_literal(self, syntax, style)?.write(buffer))
+        let mut digits = FloatDigits::new();
+        Ok(format_near::<f64>(self, syntax, style, &mut digits)?.write(buffer))
     }
 
     fn is_read_as(&self, literal: &Literal) -> bool {

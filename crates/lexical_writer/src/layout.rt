@@ -71,6 +71,8 @@ pub struct Style {
     pub decimals: Option<u8>,
     /// Whether a float has a point with a digit behind it, also before an exponent, as in `1.0e16`.
     pub point: bool,
+    /// Whether a literal of another radix or base that cannot be written exactly is written by the nearest `f64`.
+    pub nearest: bool,
 }
 
 impl Style {
@@ -87,6 +89,7 @@ impl Style {
         exponent: ExponentStyle::AsNumber,
         decimals: None,
         point: false,
+        nearest: false,
     };
 }
 

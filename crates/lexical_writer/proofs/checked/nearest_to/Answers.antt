@@ -2,7 +2,7 @@
 use Rattle.std.proofs.Common.{sym, ◌∙◌}
 use Rattle.lexical_number.specs.Binary.{format_of}
 use Rattle.lexical_writer.proofs.FloatLemmas.{same_scales}
-use Rattle.lexical_writer.proofs.float.nearest_to.Goals as goal
+use Rattle.lexical_writer.proofs.checked.nearest_to.Goals as goal
 
 pub returns-then-base-eq10-clause-value : goal.returns-then-base-eq10-clause-value
 returns-then-base-eq10-clause-value g c =

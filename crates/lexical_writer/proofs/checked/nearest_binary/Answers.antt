@@ -4,7 +4,7 @@ use Rattle.std.specs.Prelude.{from_bits}
 use lib.Ieee.{hid, ones, round}
 use Rattle.lexical_number.specs.Binary.{format_of}
 use Rattle.lexical_value.proofs.FloatLemmas.{leads_all}
-use Rattle.lexical_writer.proofs.float.nearest_binary.Goals as goal
+use Rattle.lexical_writer.proofs.checked.nearest_binary.Goals as goal
 
 pub from_magnitude-requires : goal.from_magnitude-requires
 from_magnitude-requires g c =

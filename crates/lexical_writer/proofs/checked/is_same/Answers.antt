@@ -3,7 +3,7 @@ use Rattle.std.proofs.Common.{ap, sym, ◌∙◌}
 use Rattle.std.proofs.lemmas.Bool.{eqb-true}
 use Rattle.std.specs.Prelude.{from_bits}
 use Rattle.lexical_number.specs.Binary.{format_of}
-use Rattle.lexical_writer.proofs.float.is_same.Goals as goal
+use Rattle.lexical_writer.proofs.checked.is_same.Goals as goal
 
 pub returns-in-Some-Some : goal.returns-in-Some-Some
 returns-in-Some-Some g c same num den is =

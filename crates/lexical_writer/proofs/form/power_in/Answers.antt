@@ -2,7 +2,7 @@
 use Rattle.std.proofs.Common.{ℕ, ◌≡◌, ◌^◌, ◌∙◌, Bool, true, false, ap, refl, sym}
 use Rattle.std.proofs.Math.Nat.{pow-zero}
 use Rattle.lexical_number.specs.Binary.{raised_down, raised_up}
-use Rattle.lexical_writer.proofs.float.power_in.Goals as goal
+use Rattle.lexical_writer.proofs.form.power_in.Goals as goal
 
 no_up : (negative : Bool) (base e : ℕ) → e ≡ 0 → base ^ 0 ≡ raised_up negative base e
 no_up true base e none = pow-zero base
