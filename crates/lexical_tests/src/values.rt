@@ -344,7 +344,7 @@ fn floats_are_written_as_the_rows_say(rt: HostRuntime) -> Result<(), Fail> {
     let format = Format::new(STANDARD).ok().ok_or("a format")?;
     let syntax = Syntax::new(format, b'e', b'.').ok().ok_or("a syntax")?;
     let mut buffer = [0u8; 32];
-    for &(value, style, wanted) in FLOATS.iter() {
+    for (value, style, wanted) in FLOATS {
         let mut digits = FloatDigits::new();
         match (format_float(&syntax, value, style, &mut digits), wanted) {
             (Ok(layout), Ok(text)) => {
