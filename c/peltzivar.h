@@ -290,7 +290,9 @@ enum {
     PELTZIVAR_KIND_SEPARATOR = 2, /* A digit separator is not allowed here. */
     PELTZIVAR_KIND_CASE = 3, /* A letter has the wrong case. */
     PELTZIVAR_KIND_BYTE = 4, /* A byte cannot follow the bytes before it. */
-    PELTZIVAR_KIND_MISSING = 5 /* Digits are missing. */
+    PELTZIVAR_KIND_MISSING = 5, /* Digits are missing. */
+    PELTZIVAR_KIND_SUFFIX = 6, /* The word behind a number is not a suffix of its form, or a byte follows that may not. */
+    PELTZIVAR_KIND_POINT = 7 /* The decimal point of a number belongs to what follows, and it is none without the point. */
 };
 
 /* Why a text is not a literal. `span` has the bytes to show. If it is empty, it marks the place before `start`. `mask`
@@ -345,17 +347,7 @@ enum { PELTZIVAR_SPELLING_NAN = 1, PELTZIVAR_SPELLING_INF = 2, PELTZIVAR_SPELLIN
 PELTZIVAR_MUST_USE bool peltzivar_read_special(const peltzivar_syntax *syntax, const peltzivar_specials *specials,
     const char *text, size_t len, peltzivar_special *out);
 
-/* A form of numbers, such as `0x1F`: its name, which may be null, its syntax, and its kind, by which the values of its
- * literals are found. FORMAT.md describes kinds: integers have at most integer_bits bits, or wrap at them, and so may be
- * negative, and floats are the nearest single, or else the nearest value of the type. integer_bits is from 1 to 64, or 0
- * for exact integers. Zeros are exact integers and nearest floats. A later version may have other members in `reserved`,
- * so forms are refused if it is not 0. */
-typedef struct {
-    const char *name;
-    peltzivar_syntax syntax;
-    uint8_t integer_kind, integer_bits, float_kind;
-    uint8_t reserved[13];
-} peltzivar_form;
+/* The kinds of integers, and those of floats. */
 enum {
     PELTZIVAR_INTEGERS_EXACT = 0,
     PELTZIVAR_INTEGERS_AT_MOST = 1,
@@ -364,19 +356,74 @@ enum {
 };
 enum { PELTZIVAR_FLOATS_NEAREST = 0, PELTZIVAR_FLOATS_SINGLE = 1 };
 
-/* Several forms of numbers, such as `10`, `0x1F` and `0b1`: an array of `count` forms, and the spellings of special
- * values. The first form of which a text is a literal decides its parts and its value. If it is one of none, a
- * spelling may match, by the flags of the first form. To make your own, set the first three members, and check each
- * syntax with peltzivar_check_syntax. Or copy the forms of a language, which last as long as the program, and
- * change any of these members of the copy. Only such forms have a `language`, which is otherwise null. */
+/* The kind of numbers with a suffix, such as `f`. Numbers with other suffixes have the kind of their form. */
+typedef struct {
+    const char *word;
+    uint8_t integer_kind, integer_bits, float_kind;
+} peltzivar_suffix_kind;
+
+/* Bytes with which a number is not a token: if it ends in one of the bytes of the string `last`, one of `next` follows, and
+ * then one of `second`. A string that is null or empty asks for nothing. */
+typedef struct {
+    const char *last, *next, *second;
+} peltzivar_stop;
+
+/* The suffixes of a form, which only peltzivar_forms_token reads: words directly behind integers and behind floats, in this
+ * case or, with either_case, in either one. A string of words has spaces between them, as in "u8 u16". Words have letters,
+ * digits, `_` and bytes from 128 up, and others are never found. Any word that begins with a byte of the string `any` is a
+ * suffix, too, as in `1_km`. A string may be null. Initialise the reserved bytes with 0. */
+typedef struct {
+    const char *integers, *floats, *any;
+    const peltzivar_suffix_kind *kinds;
+    size_t kind_count;
+    const peltzivar_stop *stops;
+    size_t stop_count;
+    bool either_case;
+    uint8_t reserved[7];
+} peltzivar_suffixes;
+
+/* A form of numbers, such as `0x1F`: its name, which may be null, its syntax, its kind, by which the values of its literals
+ * are found, and its suffixes, or null. FORMAT.md describes kinds: integers have at most integer_bits bits, or wrap at them,
+ * and so may be negative, and floats are the nearest single, or else the nearest value of the type. integer_bits is from 1 to
+ * 64, or 0 for exact integers. Zeros are exact integers and nearest floats. A later version may have other members in
+ * `reserved`, so forms are refused if it is not 0. */
+typedef struct {
+    const char *name;
+    peltzivar_syntax syntax;
+    uint8_t integer_kind, integer_bits, float_kind;
+    uint8_t reserved[5];
+    const peltzivar_suffixes *suffixes;
+} peltzivar_form;
+
+/* The rules by which a list has tokens: an array of `count` forms that need a suffix, which no other call takes, such as
+ * `08f` in Java, words that may follow a number directly, with spaces between them, such as `else` in `1else`, and whether a
+ * point at the end of a number is none of its bytes if another point or a word follows, as in `1..2` and `1.max(2)`. */
+typedef struct {
+    const peltzivar_form *forms;
+    size_t count;
+    const char *following;
+    bool gives_points_back;
+    uint8_t reserved[7];
+} peltzivar_tokens;
+
+/* Several forms of numbers, such as `10`, `0x1F` and `0b1`: an array of `count` forms, the spellings of special values, and
+ * the rules for tokens, or null. The first form of which a text is a literal decides its parts and its value. If it is one of
+ * none, a spelling may match, by the flags of the first form. To make your own, set the first three members and, if the list
+ * has tokens, the last one, and check each syntax with peltzivar_check_syntax. Or copy the forms of a language, which last as
+ * long as the program, and change any of these members of the copy. Only such forms have a `language`, which is otherwise
+ * null. */
 typedef struct {
     const peltzivar_form *forms;
     size_t count; /* from 1 to PELTZIVAR_FORMS_MAX */
     peltzivar_specials specials;
     const void *language;
-    uint64_t reserved[3];
+    uint64_t reserved[2];
+    const peltzivar_tokens *tokens;
 } peltzivar_forms;
+/* The largest number of forms and, for peltzivar_forms_token, of all words, of all kinds of suffixes, and of all stops. Suffixes
+ * count once for forms that follow one another and point to the same ones. */
 #define PELTZIVAR_FORMS_MAX 64
+#define PELTZIVAR_WORDS_MAX 256
 
 /* Returns the forms of the language or file format with a name of len bytes in either case, such as "JSON" or
  * "C_SHARP", or a null pointer if there is none. In Python, `help(peltzivar.Language)` describes each. */
@@ -430,6 +477,25 @@ PELTZIVAR_MUST_USE bool peltzivar_forms_read_prefix(const peltzivar_forms *forms
     peltzivar_literal *literal, peltzivar_read_error *error);
 PELTZIVAR_MUST_USE bool peltzivar_forms_read_special(
     const peltzivar_forms *forms, const char *text, size_t len, peltzivar_special *out);
+
+/* TOKENS */
+
+/* A token: its literal, with the kind that its form and its suffix give it, the bytes of its suffix, which are none if it
+ * has none, its length, and what follows. Forms of peltzivar_tokens have the indices behind the others. */
+typedef struct {
+    peltzivar_literal literal;
+    peltzivar_span suffix;
+    size_t size;
+    const char *rest;
+} peltzivar_token;
+
+/* Reads the number that a text of len bytes begins with, as a lexer does: the longest literal of a form with the longest of
+ * its suffixes, as in `1..2`, `10L;` and `0x1F_u8`. FORMAT.md defines tokens. Special values are names, and no tokens. If
+ * there is a token, writes it to *token and returns true. If a form goes on behind the number without an end, as in `1e+x`,
+ * if what follows may not, as in `1abc`, or if there is no number, writes why to *error and returns false. Also refuses
+ * forms without rules for tokens, as those of SQL and of languages of data, and with more words than PELTZIVAR_WORDS_MAX. */
+PELTZIVAR_MUST_USE bool peltzivar_forms_token(const peltzivar_forms *forms, const char *text, size_t len,
+    peltzivar_token *token, peltzivar_read_error *error);
 
 /* TEXTS AND COLUMNS
  *
@@ -489,7 +555,8 @@ enum {
  * point does not move. `exponent_from` is the number of PELTZIVAR_STYLE_FROM. With `point`, a float has a point with a digit
  * behind it, also before an exponent. With `has_decimals`, a float is rounded to as many digits behind the point as
  * `decimals`, to the nearest, or to the even one if two are as near, and has no exponent that neither the syntax nor the
- * style requires. */
+ * style requires. With `nearest`, a literal of another radix or base that cannot be written exactly is written by the nearest
+ * double. */
 typedef struct {
     uint8_t group, fraction_group;
     bool without_base, lowercase, keep_leading_zeros;
@@ -498,6 +565,7 @@ typedef struct {
     uint32_t exponent_from;
     bool point, has_decimals;
     uint8_t decimals;
+    bool nearest;
 } peltzivar_style;
 
 /* Whether a number is written. */

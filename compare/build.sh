@@ -2,7 +2,7 @@
 # compare/run and bench/run source this file. UPSTREAM names the sources of lexical-util 1.0.7: its folder, or a folder
 # with its files as src--src--NAME.rs.txt. WORK names a folder to build in and keep. By default, it is temporary.
 # PROFILE=default builds with cargo's own release profile: 16 units, and no optimisation across crates. PEERS names a folder
-# of crates, from which the driver takes lexical-core.
+# of crates, from which the driver takes lexical-core and ryu.
 : "${UPSTREAM:?needs the folder of the sources of lexical-util 1.0.7, such as those that cargo vendor fetches}"
 repository=$(cd "$(dirname "${BASH_SOURCE[0]}")/.." && pwd)
 if [ -n "${WORK:-}" ]; then
@@ -57,7 +57,7 @@ driver() {
     "$repository/compare/rows.py" "$work/upstream/src" > "$work/tree/compare/rust/src/rows.rs"
     {
         manifest driver "peltzivar=$work/tree/rust" "upstream=$work/upstream"
-        [ -z "${PEERS:-}" ] || printf 'lexical-core = { version = "0.7.6", features = ["format"] }\n'
+        [ -z "${PEERS:-}" ] || printf 'lexical-core = { version = "0.7.6", features = ["format"] }\nryu = "1.0.2"\n'
         printf '\n[[bin]]\nname = "driver"\npath = "%s/rust/src/main.rs"\n' "$work/tree/$2"
     } > "$work/driver/Cargo.toml"
     local flags="-C target-cpu=$4 -C llvm-args=-x86-branches-within-32B-boundaries --check-cfg=cfg(old,peers) ${5:-}"

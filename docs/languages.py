@@ -19,9 +19,12 @@ HEAD = """# Languages
 `Language` has a constant for each of these languages and files: a name and a list of [forms](FORMAT.md#several-forms).
 `Language::RUST.read("0x1F")` finds the first form of which a text is a number, `parse` its value, and `token` a number
 in [source text](FORMAT.md#tokens), with its suffix, such as the `L` of `1L`, which `read` refuses. C, Python and the
-page have the same lists. The example `languages` prints the syntax of each form, and its settings. Values are those of
-the numbers, unless a form has a [kind](FORMAT.md#kinds). What no format can express is in
-[FORMAT](FORMAT.md#what-a-format-cannot-express).
+explorer have the same lists. `cargo run --example languages -- 0x1F` prints which languages read a text, and without a
+text the syntax of each form. What no format can express is in [FORMAT](FORMAT.md#what-a-format-cannot-express).
+
+A form reads an optional sign, `.5` and `1.` beside `1.5`, and exponents with `e` or `E`, unless its row says otherwise:
+*integers* have neither a point nor an exponent, and a prefix is required. In most languages `-` is an operator, so that
+their numbers have no sign. Values are those of the numbers, unless a form has a [kind](FORMAT.md#kinds).
 
 [languages.py](languages.py) writes this page from the [constants](../rust/src/literal/language/tables.rs). Each language
 of which Debian has a tool is [compared with it](../compare/README.md#languages-and-their-tools).
@@ -35,12 +38,12 @@ def documented():
 
 
 def forms():
-    """Returns the rows of each language: a form, a sentence on the numbers that it reads, and its kind."""
+    """Returns the rows of each language: a form, a sentence on the numbers that it reads, its kind and its suffixes."""
     printed = subprocess.run(["cargo", "run", "-q", "--example", "languages"], cwd=TOP, stdout=subprocess.PIPE, text=True, check=True)
     rows = {}
     for line in printed.stdout.splitlines():
-        language, form, sentence, kind, *_ = line.split("\t")
-        rows.setdefault(language, []).append(f"| {form} | {sentence.replace('|', chr(92) + '|')} | {kind} |\n")
+        language, form, sentence, kind, words, *_ = line.split("\t")
+        rows.setdefault(language, []).append(f"| {form} | {sentence.replace('|', chr(92) + '|')} | {kind} | {words} |\n")
     return rows
 
 
@@ -56,7 +59,7 @@ def made():
     about, compared = documented(), tools()
     for name, rows in forms().items():
         by = "with " + " and ".join(compared[name]) if name in compared else "with a table of its grammar"
-        yield f"\n## {name}\n\n{about[name]}\nCompared {by}.\n\n| Form | Reads | Values |\n|---|---|---|\n{''.join(rows)}"
+        yield f"\n## {name}\n\n{about[name]}\nCompared {by}.\n\n| Form | Reads | Values | Suffixes |\n|---|---|---|---|\n{''.join(rows)}"
 
 
 def main():

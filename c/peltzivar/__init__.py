@@ -44,7 +44,7 @@ import reprlib
 import sys
 from array import array
 from ctypes import CDLL, POINTER, PyDLL, Structure, byref, c_bool, c_char_p, c_double, c_float, c_int64, c_size_t
-from ctypes import addressof, c_uint8, c_uint32, c_uint64, c_void_p, create_string_buffer, sizeof
+from ctypes import addressof, c_uint8, c_uint32, c_uint64, c_void_p, create_string_buffer, pointer, sizeof
 from dataclasses import dataclass, field
 from decimal import MAX_EMAX, MIN_EMIN, Context, Decimal, DecimalException, InvalidOperation, Overflow, Rounded, Subnormal
 from enum import Enum
@@ -58,8 +58,8 @@ from typing import SupportsFloat, SupportsIndex, Tuple, Type, TypeVar, Union, ca
 
 __all__ = ["STANDARD", "Byte", "Column", "ColumnError", "Edit", "Error", "Format", "FormatError", "FormatView", "Forms"]
 __all__ += ["Kind", "Language", "Literal", "LiteralError", "Note", "OptionsError", "Part", "Parts", "ReadErrorKind", "Reason", "ReasonsError"]
-__all__ += ["Role", "Rule", "Separators", "Setter", "SettingsError", "Special", "Specials", "Spelling", "Syntax", "Value"]
-__all__ += ["WrongCell", "languages", "notes_of"]
+__all__ += ["Role", "Rule", "Separators", "Setter", "SettingsError", "Special", "Specials", "Spelling", "Suffixes", "Syntax"]
+__all__ += ["Token", "Tokens", "Value", "WrongCell", "languages", "notes_of"]
 
 class _Named(Enum):
     def __str__(self) -> str:
@@ -247,6 +247,8 @@ class ReadErrorKind(_Named):
     CASE = 3
     BYTE = 4
     MISSING = 5
+    SUFFIX = 6
+    POINT = 7
 
 
 class Spelling(_Named):
@@ -352,6 +354,37 @@ class _Special(Structure):
     ]
 
 
+class _SuffixKind(Structure):
+    _fields_ = [
+        ("word", c_char_p),
+        ("integer_kind", c_uint8),
+        ("integer_bits", c_uint8),
+        ("float_kind", c_uint8),
+    ]
+
+
+class _Stop(Structure):
+    _fields_ = [
+        ("last", c_char_p),
+        ("next", c_char_p),
+        ("second", c_char_p),
+    ]
+
+
+class _Suffixes(Structure):
+    _fields_ = [
+        ("integers", c_char_p),
+        ("floats", c_char_p),
+        ("any", c_char_p),
+        ("kinds", POINTER(_SuffixKind)),
+        ("kind_count", c_size_t),
+        ("stops", POINTER(_Stop)),
+        ("stop_count", c_size_t),
+        ("either_case", c_bool),
+        ("reserved", c_uint8 * 7),
+    ]
+
+
 class _Form(Structure):
     _fields_ = [
         ("name", c_char_p),
@@ -359,7 +392,18 @@ class _Form(Structure):
         ("integer_kind", c_uint8),
         ("integer_bits", c_uint8),
         ("float_kind", c_uint8),
-        ("reserved", c_uint8 * 13),
+        ("reserved", c_uint8 * 5),
+        ("suffixes", POINTER(_Suffixes)),
+    ]
+
+
+class _Tokens(Structure):
+    _fields_ = [
+        ("forms", POINTER(_Form)),
+        ("count", c_size_t),
+        ("following", c_char_p),
+        ("gives_points_back", c_bool),
+        ("reserved", c_uint8 * 7),
     ]
 
 
@@ -369,7 +413,17 @@ class _Forms(Structure):
         ("count", c_size_t),
         ("specials", _Specials),
         ("language", c_void_p),
-        ("reserved", c_uint64 * 3),
+        ("reserved", c_uint64 * 2),
+        ("tokens", POINTER(_Tokens)),
+    ]
+
+
+class _Token(Structure):
+    _fields_ = [
+        ("literal", _Literal),
+        ("suffix", _Span),
+        ("size", c_size_t),
+        ("rest", c_char_p),
     ]
 
 
@@ -386,6 +440,7 @@ class _Style(Structure):
         ("point", c_bool),
         ("has_decimals", c_bool),
         ("decimals", c_uint8),
+        ("nearest", c_bool),
     ]
 
 
@@ -447,6 +502,7 @@ _CALLS: Dict[str, Tuple[Any, List[Any]]] = {
     "forms_read": (c_bool, [c_void_p, c_char_p, c_size_t, POINTER(_Literal), POINTER(_ReadError)]),
     "forms_read_prefix": (c_bool, [c_void_p, c_char_p, c_size_t, POINTER(_Literal), POINTER(_ReadError)]),
     "forms_read_special": (c_bool, [c_void_p, c_char_p, c_size_t, POINTER(_Special)]),
+    "forms_token": (c_bool, [c_void_p, c_char_p, c_size_t, POINTER(_Token), POINTER(_ReadError)]),
     "parse_i64": (c_uint8, [c_void_p, c_char_p, c_size_t, POINTER(c_int64), POINTER(_ReadError)]),
     "parse_u64": (c_uint8, [c_void_p, c_char_p, c_size_t, POINTER(c_uint64), POINTER(_ReadError)]),
     "parse_f64": (c_uint8, [c_void_p, c_char_p, c_size_t, POINTER(c_double), POINTER(_ReadError)]),
@@ -804,8 +860,8 @@ class LiteralError(ValueError):
     """Raised if a text is not a literal. `str` returns the cause as a sentence, and `full_sentence` names the flags and
     conditions to blame, too. If the cause is mended, another may follow.
 
-    `valid_up_to` is the length of the longest beginning of the text that some literal begins with. If it is the
-    length of the text, characters are missing. `span` is the first index and the end of the characters to show, maybe
+    `text` is what was to be read. `valid_up_to` is the length of the longest beginning of it that some literal begins
+    with. If it is the length of the text, characters are missing. `span` is the first index and the end of the characters to show, maybe
     none, as in `text[slice(*span)]`. `kind` is the kind of the cause, and `part` the part of a separator or of
     missing digits. `mask` has the flags to blame as bits of a word, and `conditions` the names of conditions. A wrong
     byte and missing digits blame none. `error` is the cause as one of the errors of the parsers of Rust's crate
@@ -828,23 +884,25 @@ class LiteralError(ValueError):
         """Makes all attributes when the first is asked for."""
         if name not in LiteralError.__annotations__:
             raise AttributeError(name)
-        (owner, self.text, stopped), why = self.args, _Explanation()
+        (owner, self.text, stopped, *is_token), why = self.args, _Explanation()
         _library.explain(stopped, why)
         text, self.valid_up_to = self.text, stopped.valid_up_to
         index = self.valid_up_to
         calls = _library.read_error_text, _library.read_error_full_text
         self.sentence, self.full_sentence = (_text(it, stopped) for it in calls)
-        if not (isinstance(text, bytes) or text[index : index + 1].isascii()):
+        if not (isinstance(text, bytes) or text[index : index + 1].isascii()) and why.kind == ReadErrorKind.BYTE.value:
             self.sentence = self.full_sentence = f"unexpected character {text[index]!r}"
         self.part = Part(why.part) if why.part != _NO_PART else None
-        self.span, self.kind, self.mask = (why.span.start, why.span.end), ReadErrorKind(why.kind), _joined(why.mask)
+        # A token is read as UTF-8, and other texts up to the first character that is not ASCII.
+        end = _characters(text, why.span.end) if is_token and isinstance(text, str) else why.span.end
+        self.span, self.kind, self.mask = (why.span.start, end), ReadErrorKind(why.kind), _joined(why.mask)
         self.conditions = tuple(it for bit, it in enumerate(_CONDITIONS) if why.conditions >> bit & 1)
-        self.error, self.form = Error(why.code), [*owner._named][stopped.form]
+        self.error, self.form = Error(why.code), owner._listed[stopped.form][0]
         return vars(self)[name]
 
     def __reduce__(self) -> Tuple[Any, ...]:
         """Returns what reads the text again."""
-        return _Reader._refusal, self.args[:2]
+        return _Several._token_refusal if self.args[3:] else _Reader._refusal, self.args[:2]
 
     def __repr__(self) -> str:
         return f"LiteralError({self.sentence!r})"
@@ -1252,7 +1310,7 @@ class Literal(Generic[AnyStr]):
     Literals are equal if their formats, their parts and their kinds are equal, as in Rust.
     """
 
-    __slots__ = ("_owner", "_text", "_found", "_data")
+    __slots__ = ("_owner", "_text", "_found", "_data", "_suffix")
     __match_args__ = ("syntax", "text")
 
     def __init__(self, *arguments: object) -> None:
@@ -1262,21 +1320,24 @@ class Literal(Generic[AnyStr]):
         self._owner, self._found = owner, found
         self._text: AnyStr = text
         self._data = data  # `found` points to it.
+        self._suffix: Optional[AnyStr] = None  # That of a token.
         return self
 
     @property
     def syntax(self) -> Syntax:
         """The syntax, which is that of a form of a language if `Language.read` has read the text."""
-        return cast(Syntax, [*self._owner._named.values()][self._found.form])
+        return cast(Syntax, self._owner._listed[self._found.form][1])
 
     @property
     def form(self) -> str:
         """The name of the form of a language, such as `hexadecimal`. It is empty if `Syntax.read` has read the text."""
-        return str([*self._owner._named][self._found.form])
+        return str(self._owner._listed[self._found.form][0])
 
     @property
     def kind(self) -> Kind:
-        """The kind of the form."""
+        """The kind of the form or, of a token, of its suffix if that has one."""
+        if self._suffix is not None:
+            return cast(Kind, cast(Any, self._owner)._kind_with(self.form, self._suffix))
         return Kind._of(_Forms.from_address(self._owner._forms.value).forms[self._found.form])
 
     @property
@@ -1297,7 +1358,8 @@ class Literal(Generic[AnyStr]):
 
     @property
     def value(self) -> Union[int, float]:
-        """The value: an int if the literal is an integer, and otherwise a float."""
+        """The value: an int if the literal is an integer, and otherwise a float. Raises ValueError if it is too large for the
+        kind of its form, as 3000000000 is for the decimal integers of JAVA."""
         return float(self) if self._found.is_float else int(self)
 
     def __int__(self) -> int:
@@ -1400,7 +1462,8 @@ class Literal(Generic[AnyStr]):
         return text.decode() if isinstance(text, bytes) else text
 
     def __repr__(self) -> str:
-        return f"{self._owner!r}.read({self._text!r})"
+        whole = self._text if self._suffix is None else self._text + self._suffix
+        return f"{self._owner!r}." + (f"read({whole!r})" if self._suffix is None else f"token({whole!r}).literal")
 
     def __eq__(self, other: object) -> bool:
         if not isinstance(other, Literal):
@@ -1415,6 +1478,8 @@ class Literal(Generic[AnyStr]):
 
     def __reduce__(self) -> Tuple[Any, ...]:
         """Returns what reads the text again."""
+        if self._suffix is not None:
+            return _Several._literal_of, (self._owner, self._text + self._suffix)
         return type(self._owner).read, (self._owner, self._text)
 
 
@@ -1445,7 +1510,7 @@ class Column:
 
 
 class ColumnError(ValueError):
-    """Raised if a cell is wrong. `column` has the values of the others, and all wrong cells. `str` names the first."""
+    """Raised if a cell is wrong. `column` has the values of the others, and all wrong cells. `str` shows the first."""
 
     def __init__(self, column: Column) -> None:
         super().__init__(column)
@@ -1453,7 +1518,8 @@ class ColumnError(ValueError):
 
     def __str__(self) -> str:
         first, *others = self.column.wrong[:2]
-        return f"cell {first.index}: {first}" + f", the first of {len(self.column.wrong)} wrong cells" * len(others)
+        shown = f"cell {first.index}, {reprlib.repr(first.text)}: {first}"
+        return shown + f", the first of {len(self.column.wrong)} wrong cells" * len(others)
 
 
 class _Wrong(Sequence[WrongCell]):
@@ -1486,6 +1552,11 @@ class _Reader:
     _forms: Any
     _named: Any  # The syntaxes of the forms, by their names.
     read: Any
+
+    @property
+    def _listed(self) -> List[Tuple[str, Any]]:
+        """The names and the syntaxes of the forms, and then of those that need a suffix."""
+        return [*self._named.items()]
 
     @functools.cached_property
     def _plains(self) -> List[Optional[Tuple[Optional[bytes], bytes]]]:
@@ -1545,6 +1616,7 @@ class _Reader:
         exponent: Union[int, str, None] = None,
         point: bool = False,
         decimals: Optional[int] = None,
+        nearest: bool = False,
     ) -> str:
         """Returns a number as a literal, or as NaN or infinity of several forms. Reading the text returns the same value.
 
@@ -1555,32 +1627,36 @@ class _Reader:
             '3'
 
         Takes an int, a float, a Decimal, a `Literal`, or an object with `__index__` or `__float__`, as those of numpy,
-        but no bool. Of a float, the digits are those of `repr`; a Fraction is exact. A `Literal` keeps its exponent, and a Decimal has one
-        from 1E+401 on and below 1E-400. Where no exponent is allowed, the point moves, and the text has at most 800
-        bytes.
+        but no bool. Without `decimals`, the digits of a float are those of `repr`, and a Fraction is exact. A `Literal`
+        keeps its exponent, and a Decimal has one from 1E+401 on and below 1E-400. Where no exponent is allowed, the
+        point moves, and the text has at most 800 bytes.
 
         The other arguments are wishes: what the syntax forbids is not done, and what it requires is. `group` and
         `fraction_group` are the numbers of digits in a group of the integer, counted from the right, and of the
-        fraction, counted from the left. If the syntax has a size, this replaces them, also None, for which there are no
-        groups otherwise, but not 0, for which there are none. `without_base` leaves out the base prefix and the base
+        fraction, counted from the left. If the syntax has a size, its groups are written, unless the number is 0,
+        for no groups. Without a size, None is no groups, too. `without_base` leaves out the base prefix and the base
         suffix. `lowercase` writes digits in lowercase, and `min_digits` at least so many integer digits, with zeros
         before the others. `keep_leading_zeros` keeps those of a `Literal` whose point does not move. `exponent` is
-        "never", for a point that moves in place of an exponent, "always", or a number from which on, and below minus
-        which, an exponent is kept, and otherwise moves the point. With `point`, a float has a point with a digit behind
-        it, also before an exponent. `decimals` rounds a float to so many digits behind the point, as `format(value,
-        ".2f")` does: to the nearest, or to the even one if two are as near.
+        "never", for a point that moves in place of an exponent, "always", or a number n: an exponent that is at least n
+        or at most -n is kept, and another moves the point. With `point`, a float has a point with a digit behind it,
+        also before an exponent. `decimals` rounds to so many digits behind the point, as `format(value, ".2f")` does: to
+        the nearest, or to the even one if two are as near. In radix 10, it does so with each number, a `Literal` by its
+        `value`, and otherwise with floats alone. With `nearest`, a `Literal` of another radix or base that cannot be
+        written exactly is written by the nearest float.
 
-            >>> prices.format_number(1234.5, group=3, decimals=2)
-            '1.234,50'
+            >>> prices.format_number(1234.5, group=3, decimals=2), prices.format_number(7, decimals=2)
+            ('1.234,50', '7,00')
 
         Of several forms, as those of a Language, that is taken whose text all of them read as the same integer, or the same
         float. Forms of the radix of a `Literal` are asked first, then decimal ones, and then the others. If there is none,
-        the error is that of the first.
+        the error is that of the first. An int that no form of integers can have is written as a float that is nearest to
+        it: `languages.JAVA.format_number(3000000000)` is 0xB2D05E00p0.
 
-        Raises ValueError for NaN and infinity without a spelling, for a Fraction that no decimal number is equal to, for a sign `-` if no literal has one, for a number that is not whole if
-        literals are integers, for an int if each literal has an exponent, for an int of more than 4300 digits in radix
-        10, as `str` does, for another mantissa radix than that of the syntax, which is 10 for a float and a Decimal, if
-        the number is not whole or has more than 128 bits, and, of a float, for another exponent base.
+        Raises ValueError for NaN and infinity without a spelling, for a Fraction that no decimal number is equal to, for
+        a sign `-` if no literal has one, for a number that is not whole if literals are integers, for an int if each
+        literal has an exponent, for an int of more than 4300 digits in radix 10, as `str` does, for another mantissa
+        radix than that of the syntax, which is 10 for a float and a Decimal, if the number is not whole or has more than
+        128 bits, and, of a float, for another exponent base.
         """
         sizes = ((group, "group"), (fraction_group, "fraction_group"))
         groups = (0 if size is None else _number(name, size, 255, "a number from 0 to 254") or 255 for size, name in sizes)
@@ -1591,11 +1667,14 @@ class _Reader:
             wish = (None, "never", "always").index(exponent), 0
         flags_of, least = (_typed(name, flag, bool) for name, flag in flags), _number("min_digits", min_digits)
         places = 0 if decimals is None else _number("decimals", decimals)
-        style = _Style(*groups, *flags_of, least, *wish, _typed("point", point, bool), decimals is not None, places)
+        style = _Style(*groups, *flags_of, least, *wish, _typed("point", point, bool), decimals is not None, places, _typed("nearest", nearest, bool))
         if isinstance(self, _Several) and isinstance(value, float) and not math.isfinite(value):
             spelling = Spelling.NAN if math.isnan(value) else Spelling.INF
             return cast(str, self.specials.format(next(iter(self._named.values())), Special("-" if value < 0 else "", spelling)))
-        name, number, _literal = _writing(value, self._fields.mantissa_radix if isinstance(self, Syntax) else 10)
+        radix = self._fields.mantissa_radix if isinstance(self, Syntax) else 10
+        if decimals is not None and radix == 10 and not isinstance(value, float):
+            value = _rounded(value, places)
+        name, number, _literal = _writing(value, radix)
         if isinstance(self, Syntax):
             return _written(getattr(_library, name), self._by, number, style)
         return _written(getattr(_library, f"forms_{name}"), self._forms, number, style)
@@ -1706,6 +1785,8 @@ def _texts_of(cells: Any) -> Tuple[bytes, Any, Tuple[int, ...], Callable[[int], 
         parts = [*texts]
         for at in missing:
             parts[at] = empty
+        for at, it in enumerate(parts):
+            _typed(f"cell {at}", it, type(empty))
         joined = empty.join(parts)
     if isinstance(joined, str):
         parts = parts if joined.isascii() else [it.encode("utf-8", "surrogatepass") for it in parts]
@@ -1733,6 +1814,7 @@ _FACTORS = {2**twos * 5**fives: (twos, fives) for twos in range(6) for fives in 
 _MOST_DIGITS = 10**6
 _TOO_LONG = "the exact value has more than 10^6 digits"
 _EXACT = Context(_MOST_DIGITS, Emin=MIN_EMIN, Emax=MAX_EMAX, traps=[InvalidOperation, Rounded])
+_ROUNDED = Context(_MOST_DIGITS, Emin=MIN_EMIN, Emax=MAX_EMAX, traps=[InvalidOperation])
 # Numbers that are neither long nor far from 1.
 _NEAR = Context(400, Emin=-999, Emax=999, traps=[InvalidOperation, Rounded, Overflow, Subnormal])
 
@@ -1877,7 +1959,8 @@ class Syntax(_Reader):
         attributes of a `Syntax`: `exponent`, `point` and its conditions. A setting has the form that `Edit` takes, and
         a setting of `exponent` or `point` that of `base_prefix`. If both are `none`, or None, literals are integers,
         and one alone is refused: for floats without an exponent, keep its character and set `no_exponent_notation`. A
-        setting that is blank or begins with `#` is skipped. A setting overrides those before it.
+        setting that is blank or begins with `#` is skipped. A setting overrides those before it. A digit separator that
+        no flag allows is dropped, and `notes_of` reports it: set a flag, such as `integer_internal_digit_separator`, too.
         """
         text, made = _lines(settings), _Syntax()
         if problems := _library.read_settings(text, len(text), made):
@@ -2038,6 +2121,18 @@ def _writing(value: Any, radix: int) -> Tuple[str, Any, Optional[Literal[Any]]]:
     return "format_literal", literal._found, literal
 
 
+def _rounded(value: Any, places: int) -> Any:
+    """Returns a number with so many digits behind the point or, if the library rounds it, as a float. A Literal is what it is
+    worth."""
+    value = value.value if isinstance(value, Literal) else value
+    if isinstance(value, Fraction):
+        return _EXACT.scaleb(Decimal(round(value * 10**places)).copy_sign(value.numerator), -places)
+    if hasattr(type(value), "__index__") and not isinstance(value, bool):
+        value = Decimal(operator.index(value))
+    is_finite = isinstance(value, Decimal) and value.is_finite()
+    return _ROUNDED.quantize(value, Decimal(1).scaleb(-places)) if is_finite else value
+
+
 def _decimal_of(value: Fraction) -> Decimal:
     twos = (value.denominator & -value.denominator).bit_length() - 1
     rest, fives = value.denominator >> twos, 0
@@ -2050,6 +2145,26 @@ def _decimal_of(value: Fraction) -> Decimal:
 
 
 _DECIMALS = Syntax(Format())
+
+
+def _bytes_of(text: object) -> bytes:
+    """Returns a text as bytes, of UTF-8 if it is a string."""
+    return text.encode("utf-8", "surrogatepass") if isinstance(text, str) else _typed("a text", text, bytes, "a str or bytes")
+
+
+def _characters(text: str, size: int) -> int:
+    """Returns the number of characters in the first bytes of a text."""
+    return len(_bytes_of(text)[:size].decode("utf-8", "surrogatepass")) if not text.isascii() else size
+
+
+def _string(text: str) -> bytes:
+    """Returns a string as one of C, of UTF-8. A surrogate stands for a byte that is not."""
+    return _typed("a string", text, str).encode("utf-8", "surrogateescape")
+
+
+def _shown(text: Optional[bytes]) -> str:
+    """Returns a string of C."""
+    return (text or b"").decode("utf-8", "surrogateescape")
 
 
 def _readable(text: object) -> bytes:
@@ -2154,10 +2269,62 @@ class _Several(_Reader):
             raise self._refusal(text)
         return number
 
+    def token(self, text: AnyStr) -> Token[AnyStr]:
+        """Returns the number that a text begins with as a token, as a lexer reads it: the longest literal of a form with the
+        longest of its suffixes. Raises LiteralError if a form goes on behind the number without an end, if what follows may
+        not, or if there is no number, and ValueError if there are no rules for tokens, or too many words. Special values are
+        names, and no tokens.
+
+            >>> languages.RUST.token("1..2").rest, languages.C.token("10L;").suffix, languages.PYTHON.token("1if x").literal.value
+            ('..2', 'L', 1)
+            >>> languages.JAVA.token("1.5u99")
+            Traceback (most recent call last):
+            peltzivar.LiteralError: unknown suffix
+        """
+        found, data = _Token(), _bytes_of(text)
+        if not _library.forms_token(self._forms, data, len(data), found, None):
+            raise self._token_refusal(text)
+        size, end = found.literal.size, found.size
+        if isinstance(text, str):
+            end = _characters(text, end)
+        literal: Literal[AnyStr] = Literal.__new__(Literal)
+        literal._set(self, text[:size], found.literal, data)
+        literal._suffix = text[size:end]
+        return Token(literal, text[size:end], text[end:])
+
+    def _token_refusal(self, text: Union[str, bytes]) -> ValueError:
+        """Returns why a text does not begin with a token."""
+        stopped, data = _ReadError(), _bytes_of(text)
+        _library.forms_token(self._forms, data, len(data), None, stopped)
+        if not _library.explain(stopped, _Explanation()):
+            return ValueError(_text(_library.read_error_text, stopped))
+        return LiteralError(self, text, stopped, "token")
+
+    def _literal_of(self, text: AnyStr) -> Literal[AnyStr]:
+        """Returns the literal of a token."""
+        return self.token(text).literal
+
+    def _kind_with(self, form: str, suffix: Union[str, bytes]) -> Kind:
+        """Returns the kind of the numbers of a form with a suffix."""
+        forms: Any = getattr(self, "forms", self)
+        forms = forms if form in forms else forms.tokens.forms
+        word, own = _shown(_bytes_of(suffix)), forms.suffixes.get(form, Suffixes())
+        found = [kind for it, kind in own.kinds if it == word or own.either_case and it.lower() == word.lower()]
+        return cast(Kind, (found or [forms.kinds.get(form, Kind())])[0])
+
+
+@dataclass(frozen=True)
+class Token(Generic[AnyStr]):
+    """A number that a text begins with, its suffix, which is empty if it has none, and what follows."""
+
+    literal: Literal[AnyStr]
+    suffix: AnyStr
+    rest: AnyStr
+
 
 @dataclass(frozen=True)
 class Kind:
-    """What the literals of a form are worth. Without arguments, it is the number that they represent.
+    """How the values of literals of a form are computed. Without arguments, they are the numbers as they are written.
 
     From 2^at_most on, an integer is too large. From 2^(wraps - 1) on, it is 2^wraps less, and too large from 2^wraps on or,
     if `modulo` is true, its lowest bits count. A float is the nearest one of 32 bits if `single` is true. Raises ValueError
@@ -2183,9 +2350,64 @@ class Kind:
         return number, self.at_most or self.wraps or 0, int(self.single)
 
     @classmethod
-    def _of(cls, form: _Form) -> Kind:
+    def _of(cls, form: Union[_Form, _SuffixKind]) -> Kind:
         number, bits = form.integer_kind, form.integer_bits
         return cls(bits if number == 1 else None, bits if number > 1 else None, number == 3, bool(form.float_kind))
+
+
+@dataclass(frozen=True)
+class Suffixes:
+    """The suffixes of a form, which only `token` reads: words directly behind `integers` and `floats`, with spaces between
+    them, in this case or in either one. Words have letters, digits, `_` and characters that are not ASCII. Any word that
+    begins with a character of `any` is a suffix, too, as in `1_km`. `kinds` has the kinds of numbers by their suffixes, a dict
+    or pairs. A number is not a token if it is at one of the `stops`: if it ends in a character of the first string, one of the
+    second follows, and then one of the third. An empty string asks for nothing.
+
+        >>> words = Suffixes("u8 i8", "f32", kinds={"f32": Kind(single=True)}, stops=[("", ".", "0123456789")])
+        >>> forms = Forms([("number", Syntax(Format()))], suffixes={"number": words}, tokens=Tokens())
+        >>> token = forms.token("7u8;")
+        >>> token.literal.value, token.suffix, token.rest, forms.token("0.1f32").literal.value
+        (7, 'u8', ';', 0.10000000149011612)
+    """
+
+    integers: str = ""
+    floats: str = ""
+    any: str = ""
+    kinds: Any = ()
+    stops: Any = ()
+    either_case: bool = False
+
+    def __post_init__(self) -> None:
+        pairs = self.kinds.items() if isinstance(self.kinds, Mapping) else self.kinds
+        object.__setattr__(self, "kinds", tuple((_typed("a word", it, str), _typed("a kind", kind, Kind)) for it, kind in pairs))
+        object.__setattr__(self, "stops", tuple(tuple(_typed("a stop", it, str) for it in stop) for stop in self.stops))
+        if any(len(stop) != 3 for stop in self.stops):
+            raise ValueError(f"a stop has three strings: {self.stops}")
+        [_string(it) for it in (self.integers, self.floats, self.any)]
+
+    def _structure(self) -> _Suffixes:
+        kinds = [_SuffixKind(_string(it), *kind._numbers()) for it, kind in self.kinds]
+        stops = [_Stop(*map(_string, stop)) for stop in self.stops]
+        words = map(_string, (self.integers, self.floats, self.any))
+        listed = (_SuffixKind * len(kinds))(*kinds), (_Stop * len(stops))(*stops)
+        return _Suffixes(*words, listed[0], len(kinds), listed[1], len(stops), self.either_case)
+
+    @classmethod
+    def _of(cls, it: _Suffixes) -> Suffixes:
+        kinds = [(_shown(own.word), Kind._of(own)) for own in it.kinds[: it.kind_count]]
+        stops = [(_shown(own.last), _shown(own.next), _shown(own.second)) for own in it.stops[: it.stop_count]]
+        return cls(_shown(it.integers), _shown(it.floats), _shown(it.any), kinds, stops, it.either_case)
+
+
+@dataclass(frozen=True)
+class Tokens:
+    """The rules by which a list has tokens: forms that need a suffix, which only `token` takes, such as `08f` in Java, words
+    that may follow a number directly, with spaces between them, such as `else` in `1else`, and whether a point at the end of a
+    number is none of its characters if another point or a word follows, as in `1..2` and `1.max(2)`."""
+
+    forms: Optional[Forms] = None
+    following: str = ""
+    gives_points_back: bool = False
 
 
 class Forms(_Several, Mapping[str, Syntax]):
@@ -2201,9 +2423,10 @@ class Forms(_Several, Mapping[str, Syntax]):
 
     The first form of which a text is a literal decides its parts and its value, so the order matters. If it is a literal
     of none, a spelling may match, by the flags of the first form. A LiteralError is that of the form for which most of
-    the text is right. The syntaxes are had by their names, as in `forms["hexadecimal"]`. `kinds` has the kinds of forms,
-    by their names, and is that of `forms` if these are `Forms`. Raises ValueError if there are no forms or more than 64, if two have the same name, or if there is a
-    kind of no form.
+    the text is right. `forms["hexadecimal"]` is the syntax with this name. `kinds` has the kinds of forms, by
+    their names, `suffixes` the `Suffixes` of forms, and `tokens` the rules for `token`. They are those of `forms` if these
+    are `Forms`. Raises ValueError if there are no forms or more than 64, if two have the same name, or if there is a kind or
+    there are suffixes of no form.
     """
 
     def __init__(
@@ -2214,20 +2437,45 @@ class Forms(_Several, Mapping[str, Syntax]):
         inf: Optional[str] = None,
         infinity: Optional[str] = None,
         kinds: Optional[Mapping[str, Kind]] = None,
+        suffixes: Optional[Mapping[str, Suffixes]] = None,
+        tokens: Optional[Tokens] = None,
     ) -> None:
         pairs = [*(forms.items() if isinstance(forms, Mapping) else forms)]
         self._named = {_typed("a name", name, str): _typed("a form", it, Syntax) for name, it in pairs}
         if not 0 < len(pairs) == len(self) <= _FORMS_MAX:
             raise ValueError(f"there are 1 to {_FORMS_MAX} forms, no two with the same name: {reprlib.repr([it for it, _ in pairs])}")
         self.specials = Specials(nan, inf, infinity)
-        given: Mapping[str, Kind] = forms.kinds if kinds is None and isinstance(forms, Forms) else kinds or {}
-        self.kinds: Dict[str, Kind] = {_typed("a name", name, str): _typed("a kind", it, Kind) for name, it in given.items()}
-        if unknown := [*(self.kinds.keys() - self.keys())]:
-            raise ValueError(f"there is no form with this name: {unknown[0]!r}")
-        of = [(it._by, *self.kinds.get(name, Kind())._numbers()) for name, it in self.items()]
-        listed = (_Form * len(self))(*(_Form(None, *it) for it in of))
+        of: Any = forms if isinstance(forms, Forms) else SimpleNamespace(kinds=None, suffixes=None, tokens=None)
+        self.kinds: Dict[str, Kind] = self._by_form("a kind", of.kinds if kinds is None else kinds, Kind)
+        self.suffixes: Dict[str, Suffixes] = self._by_form("suffixes", of.suffixes if suffixes is None else suffixes, Suffixes)
+        self.tokens: Optional[Tokens] = of.tokens if tokens is None else _typed("tokens", tokens, Tokens)
+        structures = {it: it._structure() for it in self.suffixes.values()}
+        self._kept: List[Any] = [*structures.values()]
+        made = [_Form(None, it._by, *self.kinds.get(name, Kind())._numbers()) for name, it in self.items()]
+        for form, own in zip(made, map(self.suffixes.get, self)):
+            if own is not None:
+                form.suffixes = pointer(structures[own])
+        listed = (_Form * len(self))(*made)
         self._made = _Forms(listed, len(self), self.specials._spellings())
+        if self.tokens is not None:
+            behind = self.tokens.forms._made if self.tokens.forms is not None else _Forms()
+            rules = _Tokens(behind.forms, behind.count, _string(self.tokens.following), self.tokens.gives_points_back)
+            self._made.tokens = pointer(rules)
+            self._kept += [behind, rules]
+        self._kept += made
         self._forms = c_void_p(addressof(self._made))
+
+    def _by_form(self, what: str, given: Optional[Mapping[str, Any]], kind: Type[Typed]) -> Dict[str, Typed]:
+        """Returns what is given for forms."""
+        made = {_typed("a name", name, str): _typed(what, it, kind) for name, it in (given or {}).items()}
+        if unknown := [*(made.keys() - self.keys())]:
+            raise ValueError(f"there is no form with this name: {unknown[0]!r}")
+        return made
+
+    @property
+    def _listed(self) -> List[Tuple[str, Any]]:
+        behind = self.tokens.forms if self.tokens is not None else None
+        return [*self.items(), *(behind.items() if behind is not None else [])]
 
     def __getitem__(self, name: str) -> Syntax:
         return cast(Syntax, self._named[name])
@@ -2240,8 +2488,8 @@ class Forms(_Several, Mapping[str, Syntax]):
 
     def __repr__(self) -> str:
         spelled = "".join(f", {name}={it!r}" for name, it in vars(self.specials).items() if it)
-        kinds = f", kinds={self.kinds!r}" if self.kinds else ""
-        return f"Forms({[*self.items()]}{spelled}{kinds})"
+        more = "".join(f", {name}={it!r}" for name in ("kinds", "suffixes", "tokens") if (it := getattr(self, name)))
+        return f"Forms({[*self.items()]}{spelled}{more})"
 
     def __eq__(self, other: object) -> bool:
         return isinstance(other, Forms) and self._key() == other._key()
@@ -2250,10 +2498,20 @@ class Forms(_Several, Mapping[str, Syntax]):
         return hash(self._key())
 
     def _key(self) -> Tuple[Any, ...]:
-        return *self.items(), self.specials, *(self.kinds.get(it, Kind()) for it in self)
+        own = ((self.kinds.get(it, Kind()), self.suffixes.get(it)) for it in self)
+        return *self.items(), self.specials, *own, self.tokens
 
     def __reduce__(self) -> Tuple[Any, ...]:
-        return functools.partial(Forms, **vars(self.specials), kinds=self.kinds), ([*self.items()],)
+        more = {"kinds": self.kinds, "suffixes": self.suffixes, "tokens": self.tokens}
+        return functools.partial(Forms, **vars(self.specials), **more), ([*self.items()],)
+
+
+def _forms_of(listed: List[_Form], more: Dict[str, Any]) -> Forms:
+    """Returns forms of a language."""
+    named = {it.name.decode(): it for it in listed}
+    kinds = {name: kind for name, it in named.items() if (kind := Kind._of(it)) != Kind()}
+    suffixes = {name: Suffixes._of(it.suffixes.contents) for name, it in named.items() if it.suffixes}
+    return Forms({name: Syntax._of_numbers(it.syntax) for name, it in named.items()}, **more, kinds=kinds, suffixes=suffixes)
 
 
 class Language(_Several, _Named):
@@ -2265,21 +2523,22 @@ class Language(_Several, _Named):
     is none. `forms` has the same forms, with the syntax of each by its name, and the spellings of NaN and infinity.
 
     ADA: Ada's decimal literals (Reference Manual 2012, 2.4.1). A format cannot accept based literals, such as
-        `16#FF#`, or accept `1.0E-3` and `1E3` but reject `1E-3`, which the first form does not write. Forms: decimal;
-        integer with an exponent.
+        `16#FF#`, or accept `1.0E-3` and `1E3` but reject `1E-3`. So `1E-3` is read here, but the first form never
+        writes it. Forms: decimal; integer with an exponent.
 
     C: C's integer and floating constants (C23, 6.4.4.1 and 6.4.4.2). A format cannot accept `1u`, `1L` and `1.0f`.
         Forms: decimal; octal; hexadecimal; binary; hexadecimal float.
 
     CSS: CSS's numbers, with signs (CSS Syntax Module Level 3, 4.3.12). A format cannot accept a unit, as in `10px` and
-        `5%`. A token has a word as its unit, but neither `%` nor what follows `-` behind a digit: of `1p2-x`, it is
-        `1p2`. Forms: decimal.
+        `5%`. A token has a word as its unit. It ends before `%`, and before a `-` that follows a digit: of `1p2-x`, it
+        is `1p2`. Forms: decimal.
 
-    CSV_DE: Numbers in CSV, as German spreadsheets write cells of the format `#.##0,00` (RFC 4180): `1.234,50`. The
-        cause of `0.123` is its leading zero, since its groups are right. Forms: decimal.
+    CSV_DE: Numbers in CSV, as German spreadsheets write cells of the format `#.##0,00` (RFC 4180): `1.234,50`. `0.123`
+        is refused for its leading zero, since its groups are right. LibreOffice reads `-0` as 0. Forms: decimal.
 
     CSV_EN: Numbers in CSV, as English spreadsheets write cells of the format `#,##0.00`, in quotes (RFC 4180):
-        `"1,234.50"`. A format cannot accept the minus sign U+2212 of Gnumeric: replace it by `-`. Forms: decimal.
+        `"1,234.50"`. Remove the quotes, as CSV readers do. A format cannot accept the minus sign U+2212 of Gnumeric:
+        replace it by `-`. LibreOffice reads `-0` as 0. Forms: decimal.
 
     C_PLUS_PLUS: C++'s integer and floating literals (C++17, 5.13.2 and 5.13.4). A format cannot accept `1u`, `1L`,
         `1.0f` and suffixes of users. Forms: decimal; octal; hexadecimal; binary; hexadecimal float.
@@ -2287,8 +2546,8 @@ class Language(_Several, _Named):
     C_SHARP: C#'s integer and real literals (C# standard, 6.4.5.3 and 6.4.5.4). A format cannot accept `1L`, `1f` and
         `1m`. Forms: decimal; hexadecimal; binary.
 
-    ELIXIR: Elixir's integers and floats (Syntax reference 1.14, Numbers). Numbers from 1.8e308 on are refused there.
-        Forms: decimal; hexadecimal; octal; binary.
+    ELIXIR: Elixir's integers and floats (Syntax reference 1.14, Numbers). Elixir refuses numbers from 1.8e308 on,
+        which are infinity here. Forms: decimal; hexadecimal; octal; binary.
 
     FORTRAN: Fortran's signed integers and reals (ISO/IEC 1539-1:2018, 7.4.3). A format cannot accept a kind, as in
         `1.0_8`, or binary, octal and hexadecimal constants, such as `Z'FF'`. Integers have at most 31 bits, and `0.1`,
@@ -2306,8 +2565,8 @@ class Language(_Several, _Named):
 
     JAVA: Java's integer and floating-point literals (Language Specification 21, 3.10.1 and 3.10.2). A format cannot
         accept `1L`, `1f` and `1d`. Values are those of `int` or, with `L`, of `long`: a hexadecimal, octal or binary
-        integer from 2^31 on is negative, as `0xffffffff`, which is -1. `2147483648`, which is lawful behind the
-        operator `-` alone, is too large. Forms: decimal; octal; hexadecimal; binary; hexadecimal float.
+        integer from 2^31 on is negative, as `0xffffffff`, which is -1. `2147483648`, which is lawful only after the
+        operator `-`, is too large. Forms: decimal; octal; hexadecimal; binary; hexadecimal float.
 
     JAVASCRIPT: JavaScript's numeric literals in strict code (ECMA-262, Numeric Literals). A format cannot accept `1n`.
         JavaScript makes integers doubles, which it rounds from 2^53 on: take their values as `f64`. Forms: decimal;
@@ -2334,8 +2593,8 @@ class Language(_Several, _Named):
 
     OCAML: OCaml's integers and floats (Manual 5.2, 11.1 Lexical conventions). A format cannot accept `1._`, whose
         fraction has a separator alone, or `1l`, `1L` and `1n`. An integer has 63 bits, so `0x7fffffffffffffff` is -1.
-        `4611686018427387904`, which is lawful behind the operator `-` alone, is too large. Forms: decimal;
-        hexadecimal; octal; binary.
+        `4611686018427387904`, which is lawful only after the operator `-`, is too large. Forms: decimal; hexadecimal;
+        octal; binary.
 
     PHP: PHP's integers and floats (Manual, 8.1 and later, Integers and Floating point numbers). In PHP, an integer
         from 2^63 on is a float. Forms: decimal; octal; hexadecimal; octal, 0o; binary.
@@ -2351,11 +2610,11 @@ class Language(_Several, _Named):
         Forms: decimal; octal; hexadecimal; octal, 0o; binary; decimal, 0d.
 
     RUST: Rust's integers and floats (Reference, Integer literals and Floating-point literals). A format cannot accept
-        the suffixes in `0x1F_u8` and `1f32`. The token of `0b1.` is `0b1`, but rustc takes the point if neither a
-        second one nor a name follows, and refuses it. Forms: decimal; with a point at the end; hexadecimal; octal;
-        binary.
+        the suffixes in `0x1F_u8` and `1f32`. At the end of a text, the token of `0b1.` is `0b1`, but rustc takes the
+        point, and refuses it. Forms: decimal; with a point at the end; hexadecimal; octal; binary.
 
-    SQL: SQL's signed numeric literals (ISO/IEC 9075-2:2016, 5.3 `<literal>`). Forms: decimal.
+    SQL: SQL's signed numeric literals (ISO/IEC 9075-2:2016, 5.3 `<literal>`). PostgreSQL reads `-0.0` as 0. Forms:
+        decimal.
 
     SWIFT: Swift's numeric literals, with the sign `-` (The Swift Programming Language, Lexical Structure). Forms:
         decimal; hexadecimal; octal; binary; hexadecimal float.
@@ -2415,9 +2674,12 @@ class Language(_Several, _Named):
         """The forms of literals, in the order of the documentation, with the spellings of NaN and infinity."""
         made = _Forms.from_address(self._forms.value)
         spelled = {name: it.decode() for name, _ in _Specials._fields_ if (it := getattr(made.specials, name))}
-        listed = [(it.name.decode(), Syntax._of_numbers(it.syntax), Kind._of(it)) for it in made.forms[: made.count]]
-        kinds = {name: kind for name, _, kind in listed if kind != Kind()}
-        forms = Forms([it[:2] for it in listed], **spelled, kinds=kinds)
+        more: Dict[str, Any] = {**spelled}
+        if made.tokens:
+            rules = made.tokens.contents
+            behind = _forms_of(rules.forms[: rules.count], {}) if rules.count else None
+            more["tokens"] = Tokens(behind, _shown(rules.following), rules.gives_points_back)
+        forms = _forms_of(made.forms[: made.count], more)
         forms._forms = self._forms
         return forms
 
@@ -2429,6 +2691,10 @@ class Language(_Several, _Named):
     @property
     def _named(self) -> Any:
         return self.forms._named
+
+    @property
+    def _listed(self) -> List[Tuple[str, Any]]:
+        return self.forms._listed
 
     def __repr__(self) -> str:
         return f"languages.{self.name}"

@@ -41,7 +41,7 @@ static peltzivar_syntax first_form(const char *name) {
 
 /* Returns `count` forms of an array, without spellings. */
 static peltzivar_forms forms_of(const peltzivar_form *forms, size_t count) {
-    const peltzivar_forms of = {forms, count, {NULL, NULL, NULL}, NULL, {0}};
+    const peltzivar_forms of = {forms, count, {NULL, NULL, NULL}, NULL, {0}, NULL};
     return of;
 }
 
@@ -294,8 +294,8 @@ static void test_columns(void) {
 
 /* Numbers are written as literals, and a buffer that is too short has the beginning. */
 static void test_writing(void) {
-    static const peltzivar_style styles[] = {{3, 0, false, false, false, 0, 0, 0, false, false, 0}, {3, 0, true, false, false, 0, 0, 0, false, false, 0}}, bare = {0, 0, true, false, false, 0, 0, 0, false, false, 0};
-    static const peltzivar_style ones = {1, 1, false, false, false, 255, PELTZIVAR_STYLE_ALWAYS, 0, false, false, 0};
+    static const peltzivar_style styles[] = {{3, 0, false, false, false, 0, 0, 0, false, false, 0, false}, {3, 0, true, false, false, 0, 0, 0, false, false, 0, false}}, bare = {0, 0, true, false, false, 0, 0, 0, false, false, 0, false};
+    static const peltzivar_style ones = {1, 1, false, false, false, 255, PELTZIVAR_STYLE_ALWAYS, 0, false, false, 0, false};
     static const peltzivar_i128 least = {0, INT64_MIN}, wide = {1234567, 0};
     const peltzivar_syntax json = first_form("JSON"), english = first_form("CSV_EN"), c = first_form("C");
     char integer[PELTZIVAR_INTEGER_SIZE], real[PELTZIVAR_FLOAT_SIZE];
@@ -364,13 +364,14 @@ static bool syntax_of(const char *settings, peltzivar_syntax *syntax) {
 
 /* Returns the style of wishes. */
 static peltzivar_style style_of(const char *wishes) {
-    peltzivar_style style = {0, 0, false, false, false, 0, 0, 0, false, false, 0};
+    peltzivar_style style = {0, 0, false, false, false, 0, 0, 0, false, false, 0, false};
     const char *const group = strstr(wishes, "fraction_group="), *const least = strstr(wishes, "min_digits="), *const power = strstr(wishes, "exponent=");
     if (!strncmp(wishes, "group=", 6)) style.group = wishes[6] == '0' ? PELTZIVAR_NO_GROUPS : (uint8_t)(wishes[6] - '0');
     if (group) style.fraction_group = (uint8_t)(group[15] - '0');
     if (least) style.min_digits = (uint8_t)(least[11] - '0');
     style.without_base = strstr(wishes, "without_base=true") != NULL, style.lowercase = strstr(wishes, "lowercase=true") != NULL;
     style.keep_leading_zeros = strstr(wishes, "keep_leading_zeros=true") != NULL;
+    style.nearest = strstr(wishes, "nearest=true") != NULL;
     if (power) style.exponent = power[9] == 'n' ? PELTZIVAR_STYLE_NEVER : power[9] == 'a' ? PELTZIVAR_STYLE_ALWAYS : PELTZIVAR_STYLE_FROM;
     if (style.exponent == PELTZIVAR_STYLE_FROM) style.exponent_from = (uint32_t)(power[9] - '0');
     return style;
@@ -385,11 +386,11 @@ static void test_styles(void) {
         const char *wanted;
         peltzivar_style style;
     } floats[] = {
-        {1234.005, "1234.01", {0, 0, false, false, false, 0, 0, 0, false, true, 2}},
-        {2.5, "2", {0, 0, false, false, false, 0, 0, 0, false, true, 0}},
-        {-0.004, "-0.00", {0, 0, false, false, false, 0, 0, 0, false, true, 2}},
-        {99999, "1.00e5", {0, 0, false, false, false, 0, PELTZIVAR_STYLE_ALWAYS, 0, false, true, 2}},
-        {1e16, "1.0e16", {0, 0, false, false, false, 0, 0, 0, true, false, 0}},
+        {1234.005, "1234.01", {0, 0, false, false, false, 0, 0, 0, false, true, 2, false}},
+        {2.5, "2", {0, 0, false, false, false, 0, 0, 0, false, true, 0, false}},
+        {-0.004, "-0.00", {0, 0, false, false, false, 0, 0, 0, false, true, 2, false}},
+        {99999, "1.00e5", {0, 0, false, false, false, 0, PELTZIVAR_STYLE_ALWAYS, 0, false, true, 2, false}},
+        {1e16, "1.0e16", {0, 0, false, false, false, 0, 0, 0, true, false, 0, false}},
     };
     FILE *const file = rows ? fopen(rows, "r") : NULL;
     peltzivar_syntax source, target;
@@ -500,6 +501,33 @@ static void test_languages(void) {
     CHECK(!peltzivar_forms_read(language("YAML"), "-.inf", 5, &literal, &error) && error.valid_up_to == 2 && error.form == 0);
     CHECK(peltzivar_forms_read_special(language("YAML"), "-.inf", 5, &special) && special.spelling == PELTZIVAR_SPELLING_INF && special.sign == '-');
     CHECK(!peltzivar_forms_read_special(language("YAML"), "1", SIZE_MAX, &special) && !peltzivar_forms_read_special(NULL, "-.inf", 5, &special));
+}
+
+/* Tokens by rules in constants, and by those of a language. */
+static void test_tokens(void) {
+    static const peltzivar_suffix_kind kinds[] = {{"u8", PELTZIVAR_INTEGERS_WRAP, 8, PELTZIVAR_FLOATS_NEAREST}};
+    static const peltzivar_stop stops[] = {{"8", "-", NULL}};
+    static const peltzivar_suffixes suffixes = {"u u8", NULL, "k", kinds, 1, stops, 1, true, {0}};
+    static const peltzivar_tokens rules = {NULL, 0, "if in", true, {0}};
+    peltzivar_form form = language("RUST")->forms[0];
+    peltzivar_forms forms = forms_of(&form, 1);
+    peltzivar_token token;
+    peltzivar_read_error error;
+    peltzivar_explanation why;
+    int64_t value = 7;
+    form.suffixes = &suffixes;
+    CHECK(!peltzivar_forms_token(&forms, "1", 1, &token, &error) && WRITES("these forms have no tokens", peltzivar_read_error_text(&error, text, sizeof text)));
+    forms.tokens = &rules;
+    CHECK(peltzivar_forms_token(&forms, "200U8;", 6, &token, &error) && token.size == 5 && *token.rest == ';' && token.suffix.start == 3 && token.suffix.end == 5);
+    CHECK(token.literal.size == 3 && !peltzivar_to_i64(&token.literal, &value) && value == -56);
+    CHECK(peltzivar_forms_token(&forms, "1..2", 4, &token, NULL) && token.size == 1 && peltzivar_forms_token(&forms, "1if", 3, &token, NULL) && token.size == 1);
+    CHECK(peltzivar_forms_token(&forms, "1km ", 4, &token, NULL) && token.literal.size == 1 && token.suffix.end == 3);
+    CHECK(!peltzivar_forms_token(&forms, "1abc", 4, NULL, &error) && error.valid_up_to == 1 && peltzivar_explain(&error, &why));
+    CHECK(why.kind == PELTZIVAR_KIND_SUFFIX && why.span.start == 1 && why.span.end == 4 && why.code == PELTZIVAR_INVALID_DIGIT && why.index == 1);
+    CHECK(!peltzivar_forms_token(&forms, "1u8-", 4, NULL, &error) && peltzivar_explain(&error, &why) && why.kind == PELTZIVAR_KIND_SUFFIX);
+    CHECK(peltzivar_forms_token(language("JAVA"), "08f+", 4, &token, NULL) && token.literal.form == 5 && token.size == 3);
+    CHECK(!strcmp(language("JAVA")->tokens->forms[0].suffixes->floats, "f d") && language("JAVA")->tokens->count == 1 && !language("JSON")->tokens);
+    CHECK(!peltzivar_forms_token(NULL, "1", 1, &token, &error) && !peltzivar_forms_token(&forms, "1", SIZE_MAX, &token, &error));
 }
 
 /* Forms of one's own, at any address. A literal comes before a special value. What a later version may read otherwise is refused. */
@@ -663,7 +691,7 @@ static void test_misuse(void) {
 static void *test_all(void *unused) {
     for (int i = 0; i < 5; i++) {
         test_constants(), test_setters(), test_words(), test_syntaxes(), test_errors(), test_groups(), test_values(), test_columns();
-        test_writing(), test_styles(), test_choice(), test_languages(), test_forms(), test_null(), test_misuse();
+        test_writing(), test_styles(), test_choice(), test_languages(), test_forms(), test_tokens(), test_null(), test_misuse();
     }
     return unused;
 }

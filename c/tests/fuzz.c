@@ -207,8 +207,11 @@ static void test_literals(peltzivar_word word) {
     if (is_read) CHECK_LAWFUL(!memcmp(&literal.sign, &literal_before.sign, offsetof(peltzivar_literal, is_float) - offsetof(peltzivar_literal, sign)));
     if (is_explained) CHECK_LAWFUL(peltzivar_explain(&error_before, &why_normal) && !memcmp(&why, &why_normal, sizeof why));
     /* A lawful syntax as a form reads the same, and a column has the values of its texts. */
-    const peltzivar_form form = {"it", syntax, 0, 0, 0, {0}};
-    const peltzivar_forms forms = {&form, 1, {NULL, NULL, NULL}, NULL, {0}};
+    static const peltzivar_stop stops[] = {{"1", "-.", "1"}};
+    static const peltzivar_suffixes suffixes = {"e ux", "f", "_", NULL, 0, stops, 1, true, {0}};
+    const peltzivar_form form = {"it", syntax, 0, 0, 0, {0}, &suffixes};
+    const peltzivar_tokens rules = {&form, 1, "if", len % 2 == 0, {0}};
+    const peltzivar_forms forms = {&form, 1, {NULL, NULL, NULL}, NULL, {0}, &rules};
     const int64_t offsets[] = {0, (int64_t)len, (int64_t)len};
     double values[3] = {7, 7, 7};
     uint8_t status[2];
@@ -217,6 +220,12 @@ static void test_literals(peltzivar_word word) {
     CHECK_LAWFUL(!is_one == (!is_read || peltzivar_to_f64(&literal, NULL)));
     CHECK(peltzivar_parse_f64_column(&forms, from, offsets, 2, values, status) == (size_t)(!!status[0] + !!status[1]));
     CHECK(is_one == !status[0] && !memcmp(&values[0], &values[2], sizeof values[0]));
+    /* A token is all of a text only if its literal is one. */
+    peltzivar_token token;
+    if (peltzivar_forms_token(&forms, from, len, &token, &error)) {
+        CHECK(token.literal.size <= token.size && token.size <= len && token.rest == from + token.size);
+        CHECK_LAWFUL(token.literal.size < len || is_read);
+    } else CHECK(!peltzivar_explain(&error, &why) || (why.span.start <= why.span.end && why.kind <= 7));
     if (peltzivar_read_prefix(&syntax, from, len, &literal, &error)) {
         const peltzivar_span *const parts = &literal.sign;
         for (int i = 0; i < 9; i++) CHECK(parts[i].start == (i ? parts[i - 1].end : 0) && parts[i].start <= parts[i].end);

@@ -54,10 +54,11 @@ class Columns(unittest.TestCase):
             self.assertEqual(([*map(str, values)], missing), ("1.5 nan nan nan 2.0 nan nan nan nan".split(), (1, 5, 6)))
             self.assertEqual([(it.index, it.text) for it in wrong], [(it, given[it]) for it in (2, 3, 7, 8)])
             self.assertEqual([it.error.span for it in wrong[:2]] + [wrong[-1].index], [(0, 1), (0, 1 if given is cells else 2), 8])
-            self.assertEqual(str(caught.exception), "cell 2: unexpected character 'x', the first of 4 wrong cells")
+            self.assertEqual(str(caught.exception), f"cell 2, {given[2]!r}: unexpected character 'x', the first of 4 wrong cells")
             self.assertEqual((caught.exception.column.missing, str(caught.exception.column.wrong[1])), (missing, "unexpected character '\u00e9'"))
         values, wrong, _ = Language.TOML.column(["1", "1.5", "inf", "99999999999999999999", None], int, errors="coerce", fill=-1)
         self.assertEqual((values.tolist(), [str(it)[:5] for it in wrong]), ([1, -1, -1, -1, -1], ["a flo", "NaN o", "above"]))
+        self.assertRaisesRegex(TypeError, "^cell 1 is a str, not float$", Language.CSV_DE.column, ["1,5", 1.5])
         offsets = array("q", [0, 3, 1, 2])
         self.assertEqual([(it.index, it.text) for it in Language.JSON.column((b"12", offsets), errors="coerce").wrong], [(0, b"12"), (1, b"")])
 
@@ -73,12 +74,13 @@ class Columns(unittest.TestCase):
 
     @unittest.skipUnless(importlib.util.find_spec("pandas"), "pandas")
     def test_the_german_column_of_the_page(self):
-        (code,) = re.findall(r"^(    import numpy.*\n(?:    .*\n)+)", PAGE, re.M)
+        (code,) = re.findall(r"^(    import pandas.*\n(?:    .*\n)+)", PAGE, re.M)
         names = {"file": io.StringIO("name;price\na;1.234,50\nb;\nc;12,3x\n")}
         with contextlib.redirect_stdout(io.StringIO()) as printed:
             exec(textwrap.dedent(code), names)
         self.assertEqual([*map(str, names["frame"]["price"])], ["1234.5", "nan", "nan"])
-        self.assertEqual(printed.getvalue(), "row 2: 12,3x: unexpected character 'x'\n")
+        table = ";name;price\n0;a;1.234,50\n1;b;\n2;c;\n"
+        self.assertEqual(printed.getvalue(), f"row 2: 12,3x: unexpected character 'x'\n{table}\n")
 
     def test_times_of_a_cell_are_these_multiples_of_that_of_float(self):
         json, texts = Language.JSON, ["1", "-17", "1000", "3.25", "-12345.678e-9", "0.5", "1000.5e-3", "9007199254740993"] * 100

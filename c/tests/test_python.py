@@ -29,7 +29,7 @@ TOP = TESTS.parent.parent
 sys.path.insert(0, str(TESTS.parent))
 import peltzivar
 from peltzivar import Edit, Error, Format, FormatError, FormatView, Forms, Kind, Language, LiteralError, OptionsError, Part, ReadErrorKind
-from peltzivar import Role, Rule, Setter, SettingsError, Special, Specials, Spelling, Syntax, languages, notes_of
+from peltzivar import Role, Rule, Setter, SettingsError, Special, Specials, Spelling, Suffixes, Syntax, Tokens, languages, notes_of
 
 PAGE = (TOP / "docs/FORMAT.md").read_text()
 EXPLANATIONS = (TOP / "docs/EXPLANATIONS.md").read_text()
@@ -302,6 +302,9 @@ class Literals(unittest.TestCase):
             (1e16, {"point": True}, "1.0e16"),
         ):
             self.assertEqual(grouped.format_number(number, **style), text)
+        for number in (7, -(10**20), Decimal("1234.505"), Decimal("-0.004"), 2.675, 1e22):
+            self.assertEqual(Syntax.of().format_number(number, decimals=2), format(number, ".2f"))
+        self.assertEqual([grouped.format_number(it, decimals=2) for it in (Fraction(-1, 300), Language.C.read("0x10"))], ["-0.00", "16.00"])
         self.assertEqual(hexadecimal.format_number(171, lowercase=True), "0xab")
         self.assertEqual(hexadecimal.format_number(grouped.read("255")), "0xFF")
         specials = Specials(nan="nan", inf="nan", infinity="inf")
@@ -328,6 +331,43 @@ class Literals(unittest.TestCase):
                     self.assertRaisesRegex(ValueError, errors[wanted[1:]], target.format_number, literal, **style)
                 else:
                     self.assertEqual(target.format_number(literal, **style), wanted)
+
+    def test_tokens_are_those_of_the_rows(self):
+        back = "RUST KOTLIN SWIFT HASKELL HASKELL_GHC2021 ELIXIR RUBY"
+        for line in (TOP / "rust/tests/tokens.txt").read_text(encoding="utf-8").splitlines():
+            if not line or line.startswith("#"):
+                continue
+            text, names, wanted = line.split(" ; ")
+            for name in (back if names == "BACK" else names).split():
+                # The forms of a language, and the same as forms of one's own.
+                for forms in (Language[name], pickle.loads(pickle.dumps(Language[name].forms))):
+                    with self.subTest(line, name=name):
+                        try:
+                            token = forms.token(text.encode())
+                            self.assertEqual(b"".join((token.literal.text, token.suffix, token.rest)), text.encode())
+                            stated = f"{token.literal}|{token.suffix.decode()}"
+                            self.assertEqual(pickle.loads(pickle.dumps(token.literal)), token.literal)
+                            self.assertEqual(forms.token(text).rest.encode(), token.rest)
+                        except LiteralError as error:
+                            stated = f"{error.span[0]}..{error.span[1]} {error}"
+                        self.assertEqual(stated, wanted)
+
+    def test_rules_of_tokens_are_those_of_the_list(self):
+        words = Suffixes("u uu %", "f", kinds={"f": Kind(single=True)}, stops=[("f", "-", "-")], either_case=True)
+        point = Syntax.of("required_integer_digits=true")
+        for rules, rows in (
+            (Tokens(following="is"), {"1uU": "1|uU", "1.F": "1.|F", "1..F": "1.|", "1uis": "1|u", "1.5f-": "1.5|f", "1%": "1|"}),
+            (Tokens(gives_points_back=True), {"1.F": "1|", "1.is": "1|"}),
+            (Tokens(Forms({"octal": Syntax.of("radix=8", "exponent=none", "point=none")}, suffixes={"octal": Suffixes("o")})), {"17o": "17|o"}),
+        ):
+            forms = Forms({"": point}, suffixes={"": words}, tokens=rules)
+            self.assertEqual({text: "|".join((str((it := forms.token(text)).literal), it.suffix)) for text in rows}, rows)
+        self.assertEqual((forms.token("0.1f").literal.value, forms.token("17o").literal.value, forms.token("17o").literal.form), (0.10000000149011612, 15, "octal"))
+        self.assertRaisesRegex(LiteralError, "unknown suffix", forms.token, "1.5f--")
+        self.assertRaisesRegex(ValueError, "no tokens", Forms({"": point}).token, "1")
+        self.assertRaisesRegex(ValueError, "no form", Forms, {"": point}, suffixes={"x": words})
+        many = Forms({"": point}, suffixes={"": Suffixes(" ".join(f"a{it}" for it in range(257)))}, tokens=Tokens())
+        self.assertRaisesRegex(ValueError, "the forms are", many.token, "1")
 
     def test_forms_write_what_they_read_as_the_same_number(self):
         hexadecimal = Syntax.of("radix=16", "exponent=none", "point=none")
@@ -394,7 +434,8 @@ class Literals(unittest.TestCase):
                 blamed = (*(it.name for it in error.edits), *error.conditions)[: 2 if error.part else 1]
                 causes.add((error.kind, error.part, *blamed, error.full_sentence))
                 self.assertRegex(error.full_sentence, f"^{re.escape(str(error))}{', which .*' + blamed[0] if blamed else ''}")
-        self.assertEqual(({it[0] for it in causes}, {name for it in causes for name in it[2:-1]}), ({*ReadErrorKind}, names))
+        of_tokens = {ReadErrorKind.SUFFIX, ReadErrorKind.POINT}
+        self.assertEqual(({it[0] for it in causes}, {name for it in causes for name in it[2:-1]}), ({*ReadErrorKind} - of_tokens, names))
         for sentences in (descriptions, [it.description for it in Error], [it[-1] for it in causes], [it[:-1] for it in causes]):
             self.assertEqual((len({*sentences}), all(sentences)), (len(sentences), True), sentences)
 
@@ -529,7 +570,7 @@ WRONG = [
     ("Format().check_options('e', b'')", ValueError, f"point is {BYTE}: b''"),
     ("Syntax.of('radix=16\\nradix=2')", ValueError, "a setting is one line: 'radix=16\\nradix=2'"),
     ("Language.JSON.column('12')", TypeError, "cells is a sequence of texts, not str"),
-    ("Language.JSON.column([1])", TypeError, "sequence item 0: expected str instance, int found"),
+    ("Language.JSON.column([1])", TypeError, "cell 0 is a str, not int"),
     ("Language.JSON.column([], complex)", TypeError, "type is float, int or one of the formats d, f, q and Q, which is that of out: <class 'complex'>, ''"),
     ("Language.JSON.column(['1'], out=bytearray(8))", TypeError, "type is float, int or one of the formats d, f, q and Q, which is that of out: <class 'float'>, 'B'"),
     ("Language.JSON.column(['1'], out=array('d'))", ValueError, "out has the shape (0,), and there are 1 cells"),

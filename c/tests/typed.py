@@ -6,6 +6,7 @@ from fractions import Fraction
 from typing import Dict, Optional, Sequence, Tuple, Union
 
 from peltzivar import Column, ColumnError, Edit, Error, Format, FormatError, FormatView, Forms, Kind, Literal, LiteralError, Note
+from peltzivar import Suffixes, Token, Tokens
 from peltzivar import OptionsError, Part, Parts, ReadErrorKind, Reason, ReasonsError, Role, Rule, Separators, Setter
 from peltzivar import SettingsError, Special, Specials, Spelling, Syntax, WrongCell, languages, notes_of
 
@@ -54,6 +55,10 @@ forms: Forms = Forms([("", syntax)], nan="NaN", inf=None, infinity="Infinity", k
 kind: Kind = Kind(at_most=7, single=True)
 of_kind: Tuple[Optional[int], Optional[int], bool, bool] = kind.at_most, literal.kind.wraps, kind.modulo, kind.single
 kinds: Dict[str, Kind] = forms.kinds
+suffixes: Suffixes = Suffixes(integers="u8", floats="f", any="_", kinds={"f": kind}, stops=[("", ".", "0")], either_case=True)
+rules: Tokens = Tokens(forms=None, following="if", gives_points_back=True)
+token: Token[str] = Forms({"": syntax}, suffixes={"": suffixes}, tokens=rules).token("1u8;")
+of_token: Tuple[Literal[str], str, str, bytes] = token.literal, token.suffix, token.rest, languages.C.token(b"1L").suffix
 again: Forms = Forms({**languages.C.forms, "own": forms[""]})
 of_forms: Tuple[Union[Literal[bytes], Special], int, Literal[str]] = forms.read(b"1"), again.parse("1", int), again.read_prefix("1")[0]
 column: Column = languages.CSV_DE.column(["1,5", None, "x"], float, errors="coerce", fill=0.5, out=array("d", [7, 7, 7]))

@@ -12,7 +12,7 @@ JAVAC = " ".join(f"--add-exports jdk.compiler/com.sun.tools.javac.{it}=ALL-UNNAM
 OCAMLC = "ocamlc -w -a -I +compiler-libs ocamlcommon.cma"
 TOOLS = {
     "ast": Tool("python3", [PYTHON], f"{PYTHON} --version", "", f"{PYTHON} libraries.py python"),
-    "calc": Tool("libreoffice-calc-nogui", ["soffice"], "soffice --version", "", f"{PYTHON} calc.py"),
+    "calc": Tool("libreoffice-calc-nogui python3-xlrd", ["soffice", f"{PACKAGES}/xlrd"], "soffice --version", "", f"{DEBIAN} calc.py"),
     "elixir": Tool("elixir", ["elixir"], "elixir --version | tail -1", "", "elixir elixir.exs"),
     "g++": Tool("g++", ["g++"], "g++ --version", "", f"{PYTHON} compilers.py g++"),
     "gcc": Tool("gcc", ["gcc"], "gcc --version", "", f"{PYTHON} compilers.py gcc"),
@@ -79,7 +79,8 @@ CELLS = [
         (r"-?([.,][\d.,]+|[\d.,]+[.,])", "a point without digits"),
         (r"-?\d{4,}[.,]\d{3}[\d.,]*", "a first group of four digits"),
     )
-] + [ZERO, Cause("=", r"[\d.,-]{16,}", "more than 15 digits", lambda ours, theirs: math.isclose(ours.double, theirs, rel_tol=6e-15))]
+] + [ZERO, Cause("-", ".*", "a subnormal or infinite number, which the tool has no type for",
+                lambda ours, _: ours.exact != 0 and not 2**-1022 <= abs(ours.double) < math.inf)]
 
 # A language: its name, its tool, the alphabet of the short texts, the separator of the seeds, and what other random texts are
 # near to.
@@ -127,7 +128,7 @@ LANGUAGES = [
         ROUNDED, Cause("=", ".*", "an infinite value, which the tool makes NaN",
                        lambda ours, theirs: ours.double == math.inf and math.isnan(theirs))]),
     Language("OCAML", "ocaml", "018._exp-+b", "_", "1l 1n 1L 1z", [
-        suffix("[g-zG-Z]"), Cause("+", r"\w+\._+([eEpP][+-]?\d[\d_]*)?[g-zG-Z]?", "a fraction of separators alone"),
+        suffix("[lLn]"), Cause("+", r"\w+\._+([eEpP][+-]?\d[\d_]*)?", "a fraction of separators alone"),
         Cause("+", r"[\d_]+", "the least integer without its sign", lambda _, theirs: theirs == -2**62)]),
     Language("PHP", "php", "018._exo-b", "_", "0o17 0O17 0b1", []),
     Language("PYTHON", "ast", "018._exj-+b", "_", "1j 0j", [

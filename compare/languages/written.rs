@@ -1,58 +1,128 @@
 //! The writer of the library. Reads numbers on standard input, one a line, a language and a literal of it, or `f64` and the bits
-//! of one, and prints each in another language: `+`, the value as the judge of the library prints it, and the text; or `-` and why
-//! it is not written, which must be true.
+//! of one, and prints each in another language: `+` and the text, which must be read as the number; or `-` and why it is not
+//! written, which must be true.
 
-use peltzivar::literal::{Condition, Language, Literal, Number, Style, Syntax, WriteError};
+use peltzivar::literal::{Condition, Forms, Kind, Language, Literal, Number, Style, Syntax, WriteError};
 use peltzivar::Part;
 use std::io::{self, BufRead, Write};
 
-/// Returns the syntax that a language is asked first to write numbers of a radix by.
-fn first(language: Language, radix: u32) -> Syntax {
-    let syntaxes = Vec::from_iter(language.forms().into_iter().map(|it| it.syntax()));
-    let has = |radix: u32| syntaxes.iter().find(|it| it.format().mantissa_radix() == radix);
-    *has(radix).or_else(|| has(10)).unwrap_or(&syntaxes[0])
+/// A number that is to be written.
+enum Given<'a> {
+    Float(f64),
+    Literal(Literal<'a>),
 }
 
-/// Panics if `syntax` has no reason to refuse a literal for `error`.
-fn check(literal: &Literal<'_>, syntax: Syntax, error: WriteError) {
-    let format = syntax.format();
-    let radixes = |it: &Literal<'_>| [it.radix(Part::Integer), it.radix(Part::Exponent)];
-    let is_true = match error {
-        WriteError::Negative => {
-            literal.to_f64().is_ok_and(f64::is_sign_negative) && syntax.conditions().has(Condition::NegativeSign)
+/// Returns the integer that a literal is worth: its sign and its size, if a type has it.
+fn integer(literal: &Literal<'_>) -> Option<(bool, u128)> {
+    let signed = i128::try_from(*literal).map(|it| (it < 0, it.unsigned_abs()));
+    signed.or_else(|_| u128::try_from(*literal).map(|it| (false, it))).ok()
+}
+
+/// Returns the bits of the float that a literal is worth.
+fn bits(literal: &Literal<'_>) -> Option<u64> {
+    literal.to_f64().ok().map(f64::to_bits)
+}
+
+impl Given<'_> {
+    /// Returns whether a literal is the same integer or, if either is a float or no type has it, the same float.
+    fn is(&self, literal: &Literal<'_>) -> bool {
+        match self {
+            Given::Float(value) => bits(literal) == Some(value.to_bits()),
+            Given::Literal(own) if own.is_float() || literal.is_float() => {
+                bits(own).is_some() && bits(own) == bits(literal)
+            }
+            Given::Literal(own) => integer(own) == integer(literal) && bits(own) == bits(literal),
         }
-        WriteError::Fraction => literal.is_float() && syntax.point().is_none(),
-        WriteError::Radix =>
-            radixes(literal) != [format.mantissa_radix(), format.exponent_radix()] || literal.is_float(),
-        WriteError::Exponent | WriteError::Long => literal.is_float(),
-        WriteError::TooLarge => literal.to_f64().is_err(),
-        WriteError::Special => literal.to_f64().is_ok_and(f64::is_infinite),
-        // The value is too large for the kinds of the language.
-        WriteError::ReadBack => true,
-        _ => false,
-    };
-    assert!(is_true, "{literal}: {error}");
+    }
+
+    /// Returns the text in a syntax.
+    fn in_syntax(&self, syntax: Syntax) -> Result<String, WriteError> {
+        match self {
+            Given::Float(value) => syntax.format_float(*value, Style::PLAIN).map(|it| it.to_string()),
+            Given::Literal(literal) => syntax.format_literal(literal, Style::PLAIN).map(|it| it.to_string()),
+        }
+    }
+
+    /// Returns the text in a list.
+    fn in_forms(&self, forms: &Forms<'_>) -> Result<String, WriteError> {
+        match self {
+            Given::Float(value) => forms.format_float(*value, Style::PLAIN).map(|it| it.to_string()),
+            Given::Literal(literal) => forms.format_literal(literal, Style::PLAIN).map(|it| it.to_string()),
+        }
+    }
+
+    /// Returns the syntax that is asked first: of the radix of the digits that are written, or else decimal.
+    fn first(&self, forms: &Forms<'_>) -> Syntax {
+        let syntaxes = Vec::from_iter(forms.into_iter().map(|it| it.syntax()));
+        let has = |radix: u32| syntaxes.iter().find(|it| it.format().mantissa_radix() == radix);
+        let radix = match self {
+            Given::Literal(it) if self.is(&it.with_kind(Kind::EXACT)) => it.radix(Part::Integer),
+            _ => 10,
+        };
+        *has(radix).or_else(|| has(10)).unwrap_or(&syntaxes[0])
+    }
+
+    /// Returns whether a syntax has this reason to refuse the number.
+    fn is_reason(&self, syntax: Syntax, error: WriteError) -> bool {
+        let (value, is_float) = match self {
+            Given::Float(value) => (Some(*value), true),
+            Given::Literal(literal) => (literal.to_f64().ok(), literal.is_float()),
+        };
+        let radixes = [syntax.format().mantissa_radix(), syntax.format().exponent_radix()];
+        match error {
+            WriteError::Negative => {
+                value.is_some_and(f64::is_sign_negative) && syntax.conditions().has(Condition::NegativeSign)
+            }
+            WriteError::Fraction => is_float && syntax.point().is_none(),
+            WriteError::Radix => match self {
+                Given::Float(_) => radixes != [10, 10],
+                Given::Literal(it) => is_float || [Part::Integer, Part::Exponent].map(|part| it.radix(part)) != radixes,
+            },
+            WriteError::Exponent | WriteError::Long => is_float,
+            WriteError::TooLarge => value.is_none(),
+            WriteError::Special => value.is_some_and(f64::is_infinite),
+            _ => false,
+        }
+    }
+
+    /// Panics if a list that refuses the number for `error` has a form whose text it reads as the number, or if `error` is not
+    /// that of the form that is asked first: its own reason, or that its text is read as another number.
+    fn check(&self, forms: &Forms<'_>, error: WriteError) {
+        let is_read = |text: &str| matches!(forms.read(text), Ok(Number::Literal { literal, .. }) if self.is(&literal));
+        let texts = forms.into_iter().filter_map(|it| self.in_syntax(it.syntax()).ok());
+        assert!(!texts.clone().any(|text| is_read(&text)), "a form writes what is refused: {error}");
+        let first = self.first(forms);
+        match self.in_syntax(first) {
+            Ok(text) => assert_eq!(error, WriteError::ReadBack, "{text}"),
+            Err(reason) => assert!(error == reason && self.is_reason(first, reason), "{error} for {reason}"),
+        }
+    }
 }
 
 fn main() -> io::Result<()> {
     let language = |name: &str| Language::from_name(name).expect("the name of a language");
-    let target = language(&std::env::args().nth(1).unwrap_or_default());
+    let forms = language(&std::env::args().nth(1).unwrap_or_default()).forms();
     let mut out = io::BufWriter::new(io::stdout().lock());
     for line in io::stdin().lock().lines() {
         let line = line?;
         let (source, text) = line.split_once(' ').expect("a language and a text");
-        let result = if source == "f64" {
-            let bits = u64::from_str_radix(text, 16).expect("bits");
-            target.forms().format_float(f64::from_bits(bits), Style::PLAIN).map(|it| it.to_string())
+        let given = if source == "f64" {
+            Given::Float(f64::from_bits(u64::from_str_radix(text, 16).expect("bits")))
         } else if let Number::Literal { literal, .. } = language(source).read(text).expect("a literal") {
-            let result = target.forms().format_literal(&literal, Style::PLAIN).map(|it| it.to_string());
-            result.inspect_err(|error| check(&literal, first(target, literal.radix(Part::Integer)), *error))
+            Given::Literal(literal)
         } else {
             continue;
         };
-        match result {
-            Ok(text) => writeln!(out, "+ {text}")?,
-            Err(error) => writeln!(out, "- {error}")?,
+        match given.in_forms(forms) {
+            Ok(written) => {
+                let read = forms.read(&written).expect(&line).literal().expect(&line);
+                assert!(given.is(&read), "{line}: {written}");
+                writeln!(out, "+ {written}")?;
+            }
+            Err(error) => {
+                given.check(forms, error);
+                writeln!(out, "- {error}")?;
+            }
         }
     }
     out.flush()

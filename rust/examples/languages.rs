@@ -2,10 +2,10 @@
 //!
 //!     cargo run --example languages -- 0x1F
 //!
-//! Without a text, prints the forms of all languages: the language, the form, a sentence on its numbers, its kind, its syntax
-//! and the settings of its format, with tabs between them.
+//! Without a text, prints the forms of all languages: the language, the form, a sentence on its numbers, its kind, its
+//! suffixes, its syntax and the settings of its format, with tabs between them.
 
-use peltzivar::literal::{FloatKind, IntegerKind, Kind, Language, Number};
+use peltzivar::literal::{FloatKind, Form, IntegerKind, Kind, Language, Number, Suffixes};
 
 fn answer(language: Language, text: &[u8]) -> String {
     let form = |index: usize| language.forms()[index].name();
@@ -34,6 +34,32 @@ fn words(kind: Kind) -> String {
     }
 }
 
+/// Returns the words of suffixes.
+fn suffixes(of: &Suffixes) -> String {
+    let of_integers = of.integers().iter();
+    let mut words = Vec::from_iter(of_integers.chain(of.floats().iter().filter(|it| !of.integers().contains(it))));
+    words.sort();
+    let mut words = Vec::from_iter(words.iter().map(|it| format!("`{}`", String::from_utf8_lossy(it))));
+    if of.is_either_case() {
+        words.push(String::from("in either case"));
+    }
+    match of.begins_any_word() {
+        [] => {}
+        [byte] => words.push(format!("words that begin with `{}`", *byte as char)),
+        _ => words.push(String::from("any word")),
+    }
+    words.join(", ")
+}
+
+/// Prints a form of a language. If `needs` is true, it is one of tokens, and needs a suffix.
+fn print(language: &Language, form: &Form, needs: bool) {
+    let syntax = form.syntax();
+    let settings = Vec::from_iter(syntax.format().edits().map(|edit| edit.to_string()));
+    let (name, sentence, kind) = (form.name(), syntax.sentence(), words(form.kind()));
+    let words = form.suffixes().map(suffixes).unwrap_or_default() + if needs { ", required" } else { "" };
+    println!("{language}\t{name}\t{sentence}\t{kind}\t{words}\t{syntax}\t{}", settings.join(" "));
+}
+
 fn main() {
     if let Some(text) = std::env::args_os().nth(1) {
         for language in Language::ALL {
@@ -42,11 +68,8 @@ fn main() {
         return;
     }
     for language in Language::ALL {
-        for form in language.forms() {
-            let syntax = form.syntax();
-            let settings = Vec::from_iter(syntax.format().edits().map(|edit| edit.to_string()));
-            let (name, sentence, kind) = (form.name(), syntax.sentence(), words(form.kind()));
-            println!("{language}\t{name}\t{sentence}\t{kind}\t{syntax}\t{}", settings.join(" "));
-        }
+        language.forms().into_iter().for_each(|form| print(language, form, false));
+        let tokens = language.forms().tokens().map_or(&[][..], |it| it.forms());
+        tokens.iter().for_each(|form| print(language, form, true));
     }
 }

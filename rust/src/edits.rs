@@ -16,7 +16,7 @@ pub use setters::{
     field_edits_of, ArgumentKind, Edit, FlagSetter, Setter, ALL_SETTERS, FIELD_COUNT, FLAG_COUNT, SETTERS,
 };
 pub use settings::{byte_from_decimal, EditError, EditErrorKind};
-pub(crate) use settings::{byte_from_number, likeness, nearest, Fault};
+pub(crate) use settings::{likeness, nearest, Fault};
 
 /// Calls the setter of `edit` on `builder`, and returns the new builder.
 ///

@@ -20,13 +20,18 @@ impl FormatError {
     }
 
     const fn candidates(&self) -> [Option<Reason>; MAX_REASONS] {
-        let mut all = [None; MAX_REASONS];
-        match (self.rejected, all.first_chunk_mut()) {
-            (Rejected::Word(word), _) => all = reasons(word),
-            (Rejected::Options(word, exponent, point), Some(front)) => *front = options_reasons(word, exponent, point),
-            _ => (),
+        match self.rejected {
+            Rejected::Word(word) => reasons(word),
+            Rejected::Options(word, exponent, point) => {
+                let (own, mut all, mut index) = (options_reasons(word, exponent, point), [None; MAX_REASONS], 0);
+                while index < own.len() {
+                    all[index] = own[index];
+                    index += 1;
+                }
+                all
+            }
+            _ => [None; MAX_REASONS],
         }
-        all
     }
 
     const fn first_reason(&self) -> Option<Reason> {

@@ -99,22 +99,6 @@ pub mod format_flags;
 mod lawful;
 mod lists;
 pub mod literal;
-mod number {
-    pub(crate) mod big;
-    pub(crate) mod binary;
-    pub(crate) mod decimal;
-    pub(crate) mod float;
-    pub(crate) mod integer;
-    pub(crate) mod leading;
-    pub(crate) mod long;
-    #[allow(clippy::manual_range_contains, reason = "as it is proved")]
-    pub(crate) mod nearest;
-    pub(crate) mod numeral;
-    pub(crate) mod parts;
-    pub(crate) mod powers;
-    pub(crate) mod shortest;
-    pub(crate) mod word;
-}
 mod numeral;
 #[doc(hidden)]
 pub mod reasons;

@@ -57,6 +57,7 @@ mod kind;
 mod language;
 #[allow(
     clippy::len_zero,
+    clippy::match_like_matches_macro,
     clippy::redundant_pattern_matching,
     clippy::exhaustive_enums,
     reason = "as it is proved, and numbers are of two kinds"
@@ -85,10 +86,16 @@ mod suffix;
 #[allow(clippy::redundant_pattern_matching, reason = "as it is proved")]
 mod syntax;
 mod text;
-#[allow(clippy::implicit_saturating_sub, clippy::manual_is_ascii_check, reason = "as it is proved")]
+#[allow(
+    clippy::implicit_saturating_sub,
+    clippy::manual_is_ascii_check,
+    clippy::redundant_pattern_matching,
+    reason = "as it is proved"
+)]
 mod token;
 mod tokens;
 mod value;
+mod word;
 mod writer;
 
 pub use cause::{Place, ReadError, ReadErrorKind};

@@ -128,7 +128,6 @@ pub struct Reason {
 /// [`Reason::breaks`] returns whether a word breaks a rule because of a reason, and [`Reason::mask`] returns the bits
 /// that a reason blames.
 #[must_use]
-#[inline]
 pub const fn reasons(format: u128) -> [Option<Reason>; MAX_REASONS] {
     let separator = named(Byte::DigitSeparator, flags::digit_separator(format));
     let prefix = named(Byte::BasePrefix, flags::base_prefix(format));
@@ -192,7 +191,7 @@ pub const fn options_reasons(format: u128, exponent: u8, decimal_point: u8) -> [
 
 // Returns the reason for a cause, if there is one: why a word breaks `rule`, or why it does not accept options if `rule`
 // is `None`.
-#[inline(always)]
+#[cfg_attr(not(peltzivar_small), inline(always))]
 const fn reason_for(format: u128, rule: Option<Rule>, cause: Option<Cause>) -> Option<Reason> {
     match cause {
         Some(cause) => Some(Reason { rule, followers: followers(format, rule), cause, mask: cause.mask(format) }),
@@ -292,7 +291,7 @@ const fn digit_radixes(format: u128, byte: u8) -> Option<Radixes> {
 }
 
 // Returns the cause for two bytes that match the same byte, if they do.
-#[inline(always)]
+#[cfg_attr(not(peltzivar_small), inline(always))]
 const fn clash(format: u128, first: NamedByte, second: NamedByte) -> Option<Cause> {
     if roles_disjoint(first.value, is_cased(format, first.name), second.value, is_cased(format, second.name)) {
         None

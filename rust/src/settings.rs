@@ -296,7 +296,7 @@ impl Name {
     fn parse(self, value: &str) -> Option<u8> {
         match self {
             Name::Field(setter) => setter.parse(value).ok().map(Edit::argument_byte),
-            Name::Option(_) => Setter::DigitSeparator.parse(value).ok().map(Edit::argument_byte),
+            Name::Option(_) => ArgumentKind::OptionalCharacter.parse(value),
             Name::Condition(condition) => condition.parse(value),
         }
     }

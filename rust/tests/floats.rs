@@ -191,23 +191,19 @@ fn a_style_decides_on_the_exponent() {
 fn floats_are_rounded_as_std_rounds_them() {
     let json = Language::JSON.forms()[0].syntax();
     let state = &mut 20_261_130;
-    for _ in 0..20 * count() {
-        let (value, places) = (float::<f64>(state), (next(state) % 24) as u8);
-        let style = Style::PLAIN.decimals(places);
-        let always = style.exponent(ExponentStyle::Always);
-        let [plain, scientific] = [format!("{value:.*}", places.into()), format!("{value:.*e}", places.into())];
-        for (style, wanted) in [(style, plain), (always, scientific)] {
+    for index in 0..20 * count() {
+        let places = if index % 10 == 0 { next(state) % 256 } else { next(state) % 21 };
+        // One more digit than `places`, the last of which is a 5, is a tie.
+        let value = match next(state) % 4 {
+            0 => (next(state) >> (11 + places % 50) | 1) as f64 / 2_f64.powi(places as i32 + 1),
+            _ => float::<f64>(state),
+        };
+        let style = Style::PLAIN.decimals(places as u8);
+        let [plain, scientific] = [format!("{value:.*}", places as usize), format!("{value:.*e}", places as usize)];
+        for (style, wanted) in [(style, plain), (style.exponent(ExponentStyle::Always), scientific)] {
             match json.format_float(value, style) {
                 Ok(text) => assert_eq!(text.to_string(), wanted, "{value:e}"),
-                Err(WriteError::Special) => assert!(!value.is_finite()),
-                // Units of the last digit have fewer than 127 bits, which are 38 digits.
-                Err(error) => {
-                    let small = value.abs() < 1e38 / 10_f64.powi(places.into()) && places < 22;
-                    assert!(
-                        error == WriteError::Radix && !(small && style.exponent == ExponentStyle::AsNumber),
-                        "{value:e}"
-                    );
-                }
+                Err(error) => assert!(error == WriteError::Special && !value.is_finite(), "{value:e}: {error}"),
             }
         }
     }
@@ -230,6 +226,9 @@ fn floats_are_rounded_where_a_style_wishes() {
         (2.5, json, none, "2"),
         (3.5, whole, two, "4"),
         (1e-300, json, two, "0.00"),
+        (1.9e16, json, two, "19000000000000000.00"),
+        (5e-324, json, two, "0.00"),
+        (0.5, c, Style::PLAIN.decimals(0), "0x1p-1"),
         (12.0, c, two, "0x1.80p3"),
         (99999.0, json, two.exponent(ExponentStyle::From(5)), "99999.00"),
         (99999.0, json, two.exponent(ExponentStyle::From(4)), "1.00e5"),
@@ -237,6 +236,16 @@ fn floats_are_rounded_where_a_style_wishes() {
     ] {
         assert_eq!(syntax.format_float(value, style).unwrap().to_string(), wanted);
     }
+    // The text has up to 800 digits.
+    let binary = Format::new(0xC | 2 << 104).unwrap();
+    let binary = Syntax::new(binary, b'e', b'.').unwrap();
+    let text = |value: f64, places| binary.format_float(value, Style::PLAIN.decimals(places)).map(|it| it.to_string());
+    assert_eq!(text(2_f64.powi(600), 199), Ok(format!("1{:0<600}.{:0<199}", "", "")));
+    assert_eq!(text(2_f64.powi(600), 200), Err(WriteError::Long));
+    assert_eq!(
+        json.format_float(f64::MAX, Style::PLAIN.decimals(255)).unwrap().to_string(),
+        format!("{:.255}", f64::MAX)
+    );
 }
 
 #[test]

@@ -42,6 +42,15 @@ fn the_error_is_that_of_the_form_that_goes_furthest() {
     for language in [Language::C, Language::PYTHON] {
         is_refused(language, "09", "decimal", 2, "unexpected leading zero");
     }
+    is_refused(Language::C, "0x1F;", "hexadecimal", 4, "unexpected character ';'");
+    is_refused(Language::C, "0x1Fx", "hexadecimal", 4, "unexpected character 'x'");
+    is_refused(Language::C, "0x1.8;", "hexadecimal float", 5, "unexpected character ';'");
+    is_refused(Language::C, "017;", "decimal", 3, "unexpected character ';'");
+    // The other case of the byte is the exponent character of the second form.
+    let floats = NumberFormatBuilder::new().case_sensitive_exponent(true).build_format_or_panic();
+    let forms = [Syntax::integers(floats), Syntax::new_or_panic(floats, b'e', b'.')].map(|it| Form::new("", it));
+    let error = Forms::new(&forms).unwrap().read("10E5").unwrap_err();
+    assert_eq!((error.form, error.to_string()), (1, "unexpected case of the exponent character".into()));
     is(Language::RUST, "09", "decimal", 9.0);
     is_refused(Language::NASM, "0FF", "hexadecimal, h", 3, "expected the suffix h");
 }

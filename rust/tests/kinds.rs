@@ -56,6 +56,7 @@ const FLOATS: &[(Language, &str, f64)] = &[
     (Language::JAVA, "16777217f", 16777216.0),
     (Language::JAVA, "16777217d", 16777217.0),
     (Language::JAVA, "08f", 8.0),
+    (Language::KOTLIN, "016777217f", 16777216.0),
     // Rounded to a double first, it would be between two singles, and then the lower one.
     (Language::JAVA, "1.000000059604644775390626f", 1.0000001_f32 as f64),
     (Language::JAVA, "0x1.0000010000000000000001p0f", 1.0000001_f32 as f64),

@@ -63,3 +63,31 @@ fn examples_end_as_their_comments_state() {
         assert!(status == Some(wanted) && printed.contains(part), "{example}: {printed}");
     }
 }
+
+/// The modules for serde in RUST compile and run, if the packages are here.
+#[test]
+fn modules_for_serde_keep_values() {
+    let sources = "/usr/share/cargo/registry";
+    let needed = ["serde-1.0.152", "serde_derive-1.0.152", "serde_json-1.0.87"];
+    if let Some(name) = needed.into_iter().find(|name| !Path::new(sources).join(name).is_dir()) {
+        return eprintln!("skipped: {name} is not installed");
+    }
+    let (folder, top) = (Path::new(env!("CARGO_TARGET_TMPDIR")).join("serde"), env!("CARGO_MANIFEST_DIR"));
+    std::fs::create_dir_all(&folder).unwrap();
+    let manifest = format!(
+        "[package]\nname = \"with-serde\"\nedition = \"2024\"\n[[bin]]\nname = \"with-serde\"\npath = {:?}\n[workspace]\n\
+         [dependencies]\npeltzivar.path = {top:?}\nserde = {{ version = \"1\", features = [\"derive\"] }}\nserde_json = \"1\"\n",
+        format!("{top}/tests/serde/program.rs")
+    );
+    std::fs::write(folder.join("Cargo.toml"), manifest).unwrap();
+    let mut command = Command::new(env!("CARGO"));
+    command.current_dir(folder).args([
+        "run",
+        "--quiet",
+        "--offline",
+        "--config",
+        "source.crates-io.replace-with='debian'",
+    ]);
+    let output = command.args(["--config", &format!("source.debian.directory='{sources}'")]).output().expect("cargo");
+    assert!(output.status.success(), "{}", String::from_utf8_lossy(&output.stderr));
+}

@@ -197,6 +197,8 @@ fn style_of(wishes: &str) -> Style {
             ("lowercase", "true") => style.lowercase(),
             ("without_base", "true") => style.without_base(),
             ("keep_leading_zeros", "true") => style.keep_leading_zeros(),
+            ("nearest", "true") => style.nearest(),
+            ("decimals", _) => style.decimals(number.unwrap()),
             ("exponent", "never") => style.exponent(ExponentStyle::Never),
             ("exponent", "always") => style.exponent(ExponentStyle::Always),
             ("exponent", _) => style.exponent(ExponentStyle::From(number.unwrap().into())),

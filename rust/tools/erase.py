@@ -33,7 +33,6 @@ PLACES = {
     "lexical_flags": LIBRARY,
     "lexical_builder": LIBRARY,
     "lexical_util": LIBRARY,
-    "lexical_number": ("src/number", "crate", "crate::number", "core"),
     "lexical_literal": ("src/literal", "crate", "crate::literal", "core"),
     "lexical_writer": ("src/literal/writer", "crate", "crate::literal::writer", "core"),
     "lexical_value": ("src/literal/value", "crate", "crate::literal::value", "core"),
@@ -77,9 +76,6 @@ TEST_FORMS = [
 
 # Texts that plain Rust replaces: the end of the path, the text, and the replacement.
 REPLACED = [
-    # Conditions parse numbers, too.
-    ("edits/settings.rt", "fn byte_from_number(", "pub(crate) fn byte_from_number("),
-    ("edits.rt", "settings::{Fault, likeness,", "settings::{Fault, byte_from_number, likeness,"),
     # LLVM gathers entries of 32 bits, and inserts entries of 8 bits one by one.
     ("digit.rt", "const VALUES: [u8; 256] = [", "const VALUES: [u32; 256] = ["),
     ("digit.rt", "VALUES[c as usize] as u32", "VALUES[c as usize]"),
@@ -142,6 +138,11 @@ REPLACED += [
     ("list.rt", "#[derive(Clone, Copy)]\npub struct Tokens ", "#[derive(Debug, Clone, Copy, PartialEq, Eq, Hash)]\npub struct Tokens "),
     ("suffix.rt", "#[derive(Clone, Copy)]\npub struct Stop ", "#[derive(Debug, Clone, Copy, PartialEq, Eq, Hash)]\npub struct Stop "),
     ("suffix.rt", "#[derive(Clone, Copy)]\npub struct Suffixes ", "#[derive(Debug, Clone, Copy, PartialEq, Eq, Hash)]\npub struct Suffixes "),
+    # The library for C shows them.
+    ("suffix.rt", "    last: &'static [u8],\n    next: &'static [u8],\n    second: &'static [u8],\n}", "    pub(crate) last: &'static [u8],\n    pub(crate) next: &'static [u8],\n    pub(crate) second: &'static [u8],\n}"),
+    *[("suffix.rt", f"\n    {it}: {of},\n", f"\n    pub(crate) {it}: {of},\n") for it, of in (
+        ("integers", "&'static [&'static [u8]]"), ("floats", "&'static [&'static [u8]]"), ("either_case", "bool"), ("any", "&'static [u8]"),
+        ("stops", "&'static [Stop]"), ("kinds", "&'static [(&'static [u8], Kind)]"))],
     ("token.rt", "#[derive(Drop)]", "#[derive(Debug, Clone, Copy, PartialEq, Eq, Hash)] #[non_exhaustive]"),
     ("token.rt", "fn token<'t>(&self", "fn token_bytes<'t>(&self"),
     ("list.rt", "#[derive(Drop)]\npub struct", "#[derive(Debug, Clone, Copy, PartialEq, Eq, Hash)]\npub struct"),
@@ -162,12 +163,20 @@ REPLACED += [
     ("lexical_literal/src/literal.rt", "pub const fn places(&self)", "pub(crate) const fn places(&self)"),
     ("lexical_literal/src/literal.rt", "pub const fn scale(&self)", "pub(crate) const fn scale(&self)"),
     # A syntax that is not lawful can have any radix.
-    ("lexical_number/src/word.rt", "MOST[radix as usize] as usize", "if radix <= 36 { MOST[radix as usize] as usize } else { 0 }"),
+    ("lexical_literal/src/word.rt", "MOST[radix as usize] as usize", "if radix <= 36 { MOST[radix as usize] as usize } else { 0 }"),
     # Programs have one copy of these.
     ("lexical_literal/src/list.rt", "syntax.begin(false, text, false);\n                if syntax.is_whole(text, counted) {\n                    return Some", "syntax.begin_any(text, false);\n                if syntax.is_whole(text, counted) {\n                    return Some"),
     ("lexical_literal/src/list.rt", "self.begin(false, text, false)", "self.begin_any(text, false)"),
     ("lexical_literal/src/read.rt", "self.begin(false, text, true)", "self.begin_any(text, true)"),
+    ("token.rt", "it.syntax.begin(false, text, true)", "it.syntax.begin_small(text, true)"),
+    ("token.rt", "it.syntax.begin(false, front, true)", "it.syntax.begin_small(front, true)"),
+    # The library for C has one copy of these.
+    ("reasons.rt", "#[inline(always)]\n#[tactic(auto, unfolding(lexical_flags::specs::Roles::Disjoint))]\nconst fn clash(", "#[cfg_attr(not(peltzivar_small), inline(always))]\nconst fn clash("),
+    ("reasons.rt", "#[inline(always)]\nconst fn reason_for(", "#[cfg_attr(not(peltzivar_small), inline(always))]\nconst fn reason_for("),
+    ("lexical_literal/src/read.rt", "self.step(text, stop, last)", "self.step_any(text, stop, last)"),
+    ("lexical_literal/src/read.rt", "self.step(text, at, last)", "self.step_any(text, at, last)"),
     # Texts that are refused need it alone, and one copy is enough for all calls.
+    ("lexical_literal/src/read.rt", "#[inline(always)]\n    const fn step(&self", "#[cfg_attr(not(peltzivar_small), inline(always))]\n    pub(crate) const fn step(&self"),
     ("lexical_literal/src/read.rt", "#[inline(always)]\n    pub(crate) const fn stop(", "#[inline(never)]\n    pub(crate) const fn stop("),
     # A decimal literal need not be in memory where another one would be.
     ("lexical_value/src/float.rt", "binary_size(F::DOUBLE, literal)", "binary_size(F::DOUBLE, &{ *literal })"),
@@ -179,6 +188,7 @@ REPLACED += [
     ("lexical_value/src/integer.rt", "pub fn integer_numeral", "pub(crate) const fn integer_numeral"),
     ("lexical_value/src/integer.rt", "\nfn magnitude", "\nconst fn magnitude"),
     ("lexical_value/src/float.rt", "pub(crate) fn binary_size", "pub(crate) const fn binary_size"),
+    ("lexical_value/src/float.rt", "\nfn long_binary_size", "\nconst fn long_binary_size"),
     ("lexical_value/src/float.rt", "\nfn leading_of", "\nconst fn leading_of"),
     ("lexical_value/src/float.rt", "\nfn exponent_of", "\npub(crate) const fn exponent_of"),
     ("sink.rt", "#[derive(Drop)]", "#[derive(Debug)]"),
@@ -327,7 +337,7 @@ def renamed(text, root, own, std):
     """Returns the text with the paths and names of plain Rust."""
     text = re.sub(r"\bcrate::", f"{own}::", text)
     text = re.sub(r"\blexical_(base|flags|builder|util)\b(?=::)", root, text)
-    text = re.sub(r"\blexical_(literal|number)\b(?=::)", rf"{root}::\1", text)
+    text = re.sub(r"\blexical_literal\b(?=::)", f"{root}::literal", text)
     text = re.sub(r"\blexical_value\b(?=::)", f"{root}::literal::value", text)
     text = re.sub(r"\bstd::", f"{std}::", text)
     text = re.sub(rf"\b{root}::({'|'.join(MODULES)})\b", lambda m: f"{root}::{MODULES[m[1]]}", text)

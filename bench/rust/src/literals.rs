@@ -171,6 +171,30 @@ fn written(random: &mut Random) -> Row {
     }
 }
 
+/// Returns a row of writers of floats, of which a half are amounts of money. `theirs` writes one by std.
+#[cfg(not(old))]
+fn floats(random: &mut Random, name: &'static str, decimals: Option<u8>, theirs: fn(&mut String, f64)) -> Row {
+    let values: &[f64] = list(random, 100_000, |random| match random.below(2) {
+        0 => random.below(100_000_000) as f64 / 100.0,
+        _ => (random.next() >> 11) as f64 / (1_u64 << 53) as f64 * 1000.0,
+    });
+    let write = float_writer(decimals);
+    Row {
+        name,
+        calls: values.len(),
+        ours: Box::new(move || values.iter().map(|value| write(*black_box(value)) as u64).sum()),
+        theirs: Box::new(move || {
+            let mut text = String::new();
+            let sizes = values.iter().map(|value| {
+                text.clear();
+                theirs(&mut text, *black_box(value));
+                black_box(&text).len() as u64
+            });
+            sizes.sum()
+        }),
+    }
+}
+
 #[rustfmt::skip]
 pub fn rows() -> Vec<Row> {
     let random = &mut Random::new(20_261_126);
@@ -250,6 +274,13 @@ pub fn rows() -> Vec<Row> {
         "Syntax::parse::<f64>, hexadecimal, over Syntax::read", hexadecimal.float, hexadecimal.reader;
     };
     rows.push(written(random));
+    #[cfg(not(old))]
+    rows.extend([
+        floats(random, "Syntax::format_float, shortest, over Display", None, |text, it| write!(text, "{it}").expect("memory")),
+        floats(random, "Syntax::format_float, decimals(2), over {:.2}", Some(2), |text, it| write!(text, "{it:.2}").expect("memory")),
+    ]);
+    #[cfg(peers)]
+    rows.push(floats(random, "Syntax::format_float, shortest, over ryu", None, |text, it| text.push_str(ryu::Buffer::new().format(it))));
     #[cfg(peers)]
     rows.extend(rows! {
         "Syntax::parse, 1 to 9 digits, over lexical-core", integers.value, integers.peer_integer;

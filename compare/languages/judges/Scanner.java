@@ -1,4 +1,6 @@
-// The judge of Java: the scanner and the parser of javac. Reads texts on standard input, and prints `-`, or `+` and the value.
+// The judge of Java: the scanner and the parser of javac. Reads texts on standard input, and prints `-`, or the length of the
+// number that each begins with and its value, or `-` if no type has it. With the argument `files`, it reads the paths of files,
+// and prints the length of each number of a file and the line from there, or `-` and the path of a wrong file.
 import com.sun.tools.javac.file.JavacFileManager;
 import com.sun.tools.javac.parser.ParserFactory;
 import com.sun.tools.javac.parser.ScannerFactory;
@@ -11,37 +13,67 @@ import java.io.InputStreamReader;
 import java.io.PrintWriter;
 import java.io.Writer;
 import java.net.URI;
+import java.nio.charset.StandardCharsets;
+import java.nio.file.Files;
+import java.nio.file.Path;
+import java.util.EnumSet;
 import javax.tools.JavaFileObject;
 import javax.tools.SimpleJavaFileObject;
 
 class Scanner {
+    static final EnumSet<TokenKind> NUMBERS =
+        EnumSet.of(TokenKind.INTLITERAL, TokenKind.LONGLITERAL, TokenKind.FLOATLITERAL, TokenKind.DOUBLELITERAL);
     static final Context CONTEXT = new Context();
 
-    static String judge(String text) {
+    // Begins to count the errors of a text. Two errors at one place of a source are one.
+    static Log log() {
         var log = Log.instance(CONTEXT);
         log.nerrors = 0;
-        // Two errors at one place of a source are one.
         log.useSource(new SimpleJavaFileObject(URI.create("text"), JavaFileObject.Kind.SOURCE) {
             public CharSequence getCharContent(boolean ignores) { return ""; }
         });
+        return log;
+    }
+
+    static String judge(String text) {
+        var log = log();
         var scanner = ScannerFactory.instance(CONTEXT).newScanner(text, false);
         scanner.nextToken();
-        scanner.nextToken();
-        if (log.nerrors != 0 || scanner.token().kind != TokenKind.EOF) {
-            return "-"; // not one token
+        if (log.nerrors != 0 || !NUMBERS.contains(scanner.token().kind)) {
+            return "-";
         }
-        var tree = ParserFactory.instance(CONTEXT).newParser(text, false, false, false).parseExpression();
-        if (log.nerrors != 0 || !(tree instanceof JCLiteral literal)) {
-            return "-"; // as `08`, whose digits the parser reads
+        int end = scanner.token().endPos;
+        var tree = ParserFactory.instance(CONTEXT).newParser(text.substring(0, end), false, false, false).parseExpression();
+        // The parser reads the digits of `08`.
+        var value = log.nerrors == 0 && tree instanceof JCLiteral it ? it.getValue() : "-";
+        return end + " " + value + (value instanceof Float ? "f" : "");
+    }
+
+    static String numbers(String path) {
+        var log = log();
+        String text;
+        try {
+            text = Files.readString(Path.of(path), StandardCharsets.ISO_8859_1);
+        } catch (java.io.IOException error) {
+            return "- " + path;
         }
-        return literal.getValue() instanceof Number value ? "+ " + value : "-";
+        var found = new StringBuilder();
+        var scanner = ScannerFactory.instance(CONTEXT).newScanner(text, false);
+        for (scanner.nextToken(); scanner.token().kind != TokenKind.EOF; scanner.nextToken()) {
+            var it = scanner.token();
+            if (NUMBERS.contains(it.kind)) {
+                found.append(it.endPos - it.pos).append(' ').append(text.substring(it.pos).lines().findFirst().get()).append('\n');
+            }
+        }
+        return log.nerrors == 0 ? found.toString().stripTrailing() : "- " + path;
     }
 
     public static void main(String[] arguments) throws Exception {
         CONTEXT.put(Log.errKey, new PrintWriter(Writer.nullWriter()));
         JavacFileManager.preRegister(CONTEXT);
-        var out = new PrintWriter(System.out);
-        new BufferedReader(new InputStreamReader(System.in)).lines().forEach(text -> out.println(judge(text)));
+        var out = new PrintWriter(System.out, false, StandardCharsets.ISO_8859_1);
+        var lines = new BufferedReader(new InputStreamReader(System.in)).lines();
+        lines.forEach(line -> out.println(arguments.length == 0 ? judge(line) : numbers(line)));
         out.flush();
     }
 }

@@ -11,9 +11,11 @@ import tempfile
 
 # A compiler: its command and source; the text before all units, the unit of a number, in three lines, and the text after all;
 # the same of a program that prints each number in a line, the type of numbers of an output without a program, or a command
-# that prints the values of constants. A sign belongs to the number if `signed` is true. A lexer says which texts are one token.
-Compiler = collections.namedtuple("Compiler", "command source head unit tail printing signed lexer", defaults=[None, False, None])
+# that prints the values of constants. A sign belongs to the number if `signed` is true. A scanner prints how
+# long the token is that a text begins with.
+Compiler = collections.namedtuple("Compiler", "command source head unit tail printing signed scanner", defaults=[None, False, None])
 GCC = "-pedantic-errors -fmax-errors=0 -fno-diagnostics-show-caret -fdiagnostics-column-unit=byte -o out"
+SCANNERS = "../scanners"
 C = "", '_Static_assert(sizeof(\n{text}\n), "");\n', "int main(void) {}\n"
 SHOW = "show(\n{text}\n);\n"
 PRINT_C = """#include <stdio.h>
@@ -42,19 +44,22 @@ RUST = ("#![allow(overflowing_literals)]\nmacro_rules! number { ($x:literal) => 
         "number! {{\n{text}\n}}\n", "fn main() {}\n")
 PRINT_RUST = """trait Show { fn show(it: Self); }
 impl Show for u128 { fn show(it: u128) { println!("{it}") } }
+impl Show for f32 { fn show(it: f32) { println!("{it:?}f") } }
 impl Show for f64 { fn show(it: f64) { println!("d{:016x}", it.to_bits()) } }
 fn main() {
 """, "Show::show(\n{text}\n);\n", "}\n"
 COMPILERS = {
-    "gcc": [Compiler(f"gcc -std=c2x {GCC}", "a.c", *C, PRINT_C)],
-    "g++": [Compiler(f"g++ -std=c++17 -D_Static_assert=static_assert {GCC}", "a.cc", *C, PRINT_CC)],
+    "gcc": [Compiler(f"gcc -std=c2x {GCC}", "a.c", *C, PRINT_C, scanner=[sys.executable, f"{SCANNERS}/gcc.py", "gcc -x c -std=c2x"])],
+    "g++": [Compiler(f"g++ -std=c++17 -D_Static_assert=static_assert {GCC}", "a.cc", *C, PRINT_CC,
+                     scanner=[sys.executable, f"{SCANNERS}/gcc.py", "g++ -x c++ -std=c++17"])],
     "gnat": [Compiler("gnatmake -f -q -o out -gnatf -gnatm999999 -gnatws", "a.adb", *ADA, PRINT_ADA)],
     "gfortran": [Compiler(f"gfortran -std=f2018 {GCC}", "a.f90", *FORTRAN, PRINT_FORTRAN, signed=True)],
     "nasm": [Compiler("nasm -f bin -o out", "a.asm", "bits 64\n", "mov rax, {text}\n\n\n", "", "q"),
              Compiler("nasm -f bin -o out", "a.asm", "bits 64\n", "mov rax, __float64__({text})\n\n\n", "", "d")],
-    "rustc": [Compiler("rustc --error-format=short -o out", "a.rs", *RUST, PRINT_RUST)],
+    "rustc": [Compiler("rustc --error-format=short -o out", "a.rs", *RUST, PRINT_RUST,
+                       scanner=[sys.executable, f"{SCANNERS}/rust.py"])],
     "kotlinc": [Compiler("kotlinc -d out", "a.kt", "", "const val number{i} =\n{text}\n\n", "", "javap -constants out/AKt.class",
-                         lexer=["java", "-cp", "/usr/share/kotlin/kotlinc/lib/*", "KotlinTokens.java"])],
+                         scanner=["java", "-cp", "/usr/share/kotlin/kotlinc/lib/*", "KotlinTokens.java"])],
 }
 
 
@@ -88,7 +93,7 @@ def values(it, folder, texts):
     if isinstance(it.printing, str):
         left = accepted(it, folder, texts)
         lines = subprocess.run(it.printing.split(), cwd=folder, capture_output=True, text=True).stdout
-        found = re.findall(r"number(\d+) = (\S+?)[dfl]?;", lines)
+        found = re.findall(r"number(\d+) = (\S+?)[dl]?;", lines)
     else:
         left = accepted(it, folder, texts, it.printing)
         lines = subprocess.run([folder / "out"], capture_output=True, text=True).stdout.splitlines() if left else []
@@ -101,9 +106,10 @@ def values(it, folder, texts):
 
 def tokens(it, folder, texts):
     """Returns the indexes of the texts that are one token: with a blank, most others are something else at the first place."""
-    if it.lexer:
-        lines = subprocess.run(it.lexer, input="\n".join([*texts, ""]), capture_output=True, text=True, check=True).stdout.split("\n")
-        left = [i for i in range(len(texts)) if lines[i] == "+"]
+    if it.scanner:
+        given = "".join(f"{text}\n" for text in texts)
+        sizes = subprocess.run(it.scanner, input=given, capture_output=True, text=True, check=True).stdout.split()
+        left = [i for i, (text, size) in enumerate(zip(texts, sizes, strict=True)) if size == str(len(text))]
         return [left[i] for i in accepted(it, folder, [texts[i] for i in left])]
     left = accepted(it, folder, texts)
     first = {i: 2 if it.signed and texts[i][0] in "+-" else 1 for i in left}

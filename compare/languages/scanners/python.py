@@ -1,4 +1,6 @@
-"""The tokenizers of Python. Reads texts on standard input, and prints the length of the number that each begins with, or `-`.
+"""The tokenizers of Python. Reads texts on standard input, and prints the length of the number that each begins with, or `-`. With
+the argument `files`, it reads the paths of files, and prints the length of each number of a file and the line from there, or `-`
+and the path of a wrong file.
 
 The module `tokenize` finds where it ends. The compiler has another tokenizer, which refuses some texts: its error is at the
 number, or at the byte behind it.
@@ -30,5 +32,18 @@ def size(text):
     return len(first.string)
 
 
+def numbers(path):
+    with open(path, encoding="latin-1", newline="\n") as file:
+        lines = file.read().split("\n")
+    try:
+        found = list(tokenize.generate_tokens(iter([f"{line}\n" for line in lines]).__next__))
+        compile("\n".join(lines), path, "exec")
+    except (tokenize.TokenError, SyntaxError, ValueError):
+        return f"- {path}"
+    numbers = (it for it in found if it.type == tokenize.NUMBER)
+    return "\n".join(f"{len(it.string)} {lines[it.start[0] - 1][it.start[1] :]}" for it in numbers)
+
+
+sys.stdout.reconfigure(encoding="latin-1")
 for line in sys.stdin:
-    print(size(line.rstrip("\n")))
+    print((numbers if sys.argv[1:] else size)(line.rstrip("\n")))

@@ -1,4 +1,5 @@
-# The lexer of Ruby. Reads texts on standard input, and prints the length of the number that each begins with, or `-`.
+# The lexer of Ruby. Reads texts on standard input, and prints the length of the number that each begins with, or `-`. With the
+# argument `files`, it reads the paths of files, and prints the length of each number of a file and the line from there.
 require 'ripper'
 $VERBOSE = nil
 NUMBERS = %i[on_int on_float on_rational on_imaginary].freeze
@@ -14,4 +15,16 @@ def size(text)
   wrong ? '-' : end_of
 end
 
-$stdin.each_line(chomp: true) { |text| puts size(text) }
+# A sign belongs to the number, but not to its token.
+def numbers(path)
+  text = File.binread(path)
+  lines = text.lines
+  found = Ripper.lex(text).select { |it| NUMBERS.include?(it[1]) }
+  found.map do |(line, column), _, token|
+    signs = token.start_with?('-', '+') ? 1 : 0
+    "#{token.bytesize - signs} #{lines[line - 1].byteslice(column + signs..).chomp}"
+  end
+end
+
+is_file = !ARGV.empty?
+$stdin.each_line(chomp: true) { |line| puts is_file ? numbers(line) : size(line) }

@@ -1,9 +1,13 @@
-//! The lexer of rustc, as a macro. Reads texts in the file `TEXTS`, and writes the length of the number that each begins with,
-//! or `-`, into the file `SIZES`.
+//! The lexer of rustc, as macros.
 extern crate proc_macro;
 
-use proc_macro::{TokenStream, TokenTree};
+use proc_macro::{Literal, TokenStream, TokenTree};
 use std::fs;
+
+/// Returns what the environment has of a name.
+fn path(name: &str) -> String {
+    std::env::var(name).expect(name)
+}
 
 fn size(text: &str) -> String {
     match text.parse::<TokenStream>().ok().and_then(|it| it.into_iter().next()) {
@@ -12,10 +16,36 @@ fn size(text: &str) -> String {
     }
 }
 
+/// Reads texts in the file `TEXTS`, and writes the length of the number that each begins with, or `-`, into the file `SIZES`.
 #[proc_macro]
 pub fn sizes(_: TokenStream) -> TokenStream {
-    let texts = fs::read_to_string(std::env::var("TEXTS").unwrap()).unwrap();
+    let texts = fs::read_to_string(path("TEXTS")).unwrap();
     let sizes: String = texts.lines().map(|text| size(text) + "\n").collect();
-    fs::write(std::env::var("SIZES").unwrap(), sizes).unwrap();
+    fs::write(path("SIZES"), sizes).unwrap();
+    TokenStream::new()
+}
+
+/// Adds the numbers of a stream.
+fn add(stream: TokenStream, found: &mut Vec<Literal>) {
+    for tree in stream {
+        match tree {
+            TokenTree::Group(it) => add(it.stream(), found),
+            TokenTree::Literal(it) if it.to_string().starts_with(|it: char| it.is_ascii_digit()) => found.push(it),
+            _ => {}
+        }
+    }
+}
+
+/// Writes the length of each number of the source, which is the file `TEXTS`, and the line from there into the file `SIZES`.
+#[proc_macro]
+pub fn numbers(source: TokenStream) -> TokenStream {
+    let text = fs::read_to_string(path("TEXTS")).unwrap();
+    let (lines, mut found) = (Vec::from_iter(text.lines()), Vec::new());
+    add(source, &mut found);
+    let numbers = found.iter().map(|it| {
+        let rest: String = lines[it.span().line() - 1].chars().skip(it.span().column() - 1).collect();
+        format!("{} {rest}\n", it.to_string().len())
+    });
+    fs::write(path("SIZES"), numbers.collect::<String>()).unwrap();
     TokenStream::new()
 }

@@ -1,17 +1,14 @@
 -- Lemmas on the flags of a builder: their bits, how they are moved to and from a word, and how they are written under a
 -- mask. One lemma is on the bytes of a word.
-use Rattle.std.proofs.Common.{ℕ, ◌≡◌, ◌+◌, ◌-◌, ◌*◌, ◌/◌, ◌%◌, ◌^◌, ◌<◌, ◌==◌, min, max, Bool, true, false}
-use Rattle.std.proofs.Common.{if◌then◌else◌, length, map, sum_by, bit_and, bit_or, w32, refl, ap, ◌∙◌, arith}
-use Rattle.std.proofs.Math.Nat.{mod-lt}
-use Rattle.std.proofs.lemmas.Nat.{mod-pow-add, and_mask, or_comm, or_shifted, pow_pos, shr-shr}
+use Rattle.lexical_builder.proofs.Common.{ℕ, ◌≡◌, ◌+◌, ◌-◌, ◌*◌, ◌/◌, ◌%◌, ◌^◌, ◌<◌, ◌==◌, Bool, true, false, if◌then◌else◌, length, sum_by, bit_and, bit_or}
+use Rattle.lexical_builder.proofs.Common.{refl, ap, ◌∙◌, arith, or_comm, or_shifted, pow_pos, nat_tests, part, Flag, bit, flags, builder_bit, flags_in}
+use Rattle.std.proofs.Common.{min, max, map, w32, mod-lt}
+use Rattle.std.proofs.lemmas.Nat.{mod-pow-add, and_mask, shr-shr}
 use Rattle.std.proofs.lemmas.Nat.Bits.{and_high, bit_at-zero, bit_at_or, bit_at_and, bit_at_not}
-use Rattle.std.proofs.lemmas.Bool.Decides.{nat_tests}
-use Rattle.lexical_flags.specs.Layout.{part, Flag, bit, flags, base_flags, digit_separator_flags}
-use Rattle.lexical_flags.specs.Layout as layout
+use Rattle.lexical_flags.specs.Layout.{base_flags, digit_separator_flags}
 use Rattle.lexical_flags.proofs.Packing.{low, high}
 use Rattle.lexical_flags.proofs.Segments.{joined-segments}
-use Rattle.lexical_builder.specs.BuilderBits.{builder_bit}
-use Rattle.lexical_builder.specs.Private.{flags_in}
+use Rattle.lexical_flags.specs.Layout as layout
 
 bit-lt : (n k : ℕ) → part n k 1 < 2
 bit-lt n k = mod-lt _ (omega arith)

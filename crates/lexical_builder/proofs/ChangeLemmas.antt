@@ -1,18 +1,14 @@
 -- Lemmas on the rules of a word with another mantissa radix, and of a word without its digit separator.
-use Rattle.std.proofs.Common.{◌≡◌, ◌≤◌, ℕ, inl, inr, [], ◌∷◌, refl, sym, ap, subst, ◌∙◌, arith}
-use Rattle.std.proofs.lemmas.Bool.Decides.{nat_tests}
+use Rattle.lexical_builder.proofs.Common.{◌≡◌, ℕ, inl, inr, [], ◌∷◌, refl, sym, ap, subst, ◌∙◌, arith, nat_tests, Record, HasBytes, raw, pack}
+use Rattle.lexical_builder.proofs.Common.{trim, Rule, IsRadix, shape_of, raw-pack, pack-clean, trim-same, record_same, FieldsMeet}
+use Rattle.std.proofs.Common.{◌≤◌}
 use Rattle.lexical_base.specs.Digits.{byte_value}
-use Rattle.lexical_flags.specs.Layout as layout
-use Rattle.lexical_flags.specs.Layout.{Byte, shift}
-use Rattle.lexical_flags.specs.Record.{Record, HasBytes, raw, pack, trim, set_byte}
-use Rattle.lexical_flags.specs.declared.format_flags.rule.Rule.{Rule}
-use Rattle.lexical_flags.specs.declared.format_flags.rule.Rule.TheVariants as rules
-use Rattle.lexical_flags.specs.Rules.{IsRadix, IsAbsentOrPunctuation, IsPunctuation, shape_of, Holds}
+use Rattle.lexical_flags.specs.Record.{set_byte}
+use Rattle.lexical_flags.specs.Rules.{IsAbsentOrPunctuation, IsPunctuation, Holds}
 use Rattle.lexical_flags.proofs.NormalRules.{Demands-bare, Demands-trim}
-use Rattle.lexical_flags.proofs.Packing.{raw-pack, pack-clean, trim-same}
-use Rattle.lexical_flags.proofs.RecordLemmas.{record_same}
-use Rattle.lexical_flags.proofs.RuleFieldLemmas.{FieldsMeet}
 use Rattle.lexical_builder.specs.Writes.{write_byte, after}
+use Rattle.lexical_flags.specs.Layout as layout
+use Rattle.lexical_flags.specs.declared.format_flags.rule.Rule.TheVariants as rules
 
 -- `changed word radix` has the fields of `word`, but the mantissa radix `radix`.
 abbrev changed : ℕ → ℕ → Record

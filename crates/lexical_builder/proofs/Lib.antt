@@ -1,3 +1,4 @@
+mod Common
 mod ChangeLemmas
 pub mod OptionByteLemmas
 pub mod WriteLemmas

@@ -1,6 +1,5 @@
 -- A lemma on a byte as an option.
-use Rattle.std.proofs.Common.{ℕ, ◌≡◌, arith}
-use Rattle.std.proofs.lemmas.Bool.Decides.{nat_tests}
+use Rattle.lexical_builder.proofs.Common.{ℕ, ◌≡◌, arith, nat_tests}
 use Rattle.lexical_builder.specs.OptionByte.{byte_of_option, option_of_byte}
 
 -- The byte of the option of a byte is that byte.

@@ -1,15 +1,11 @@
 -- Lemmas that the format of one radix is lawful if and only if the radix is between 2 and 36.
-use Rattle.std.proofs.Common.{ℕ, ◌≡◌, ◌↔◌, ◌<◌, inl, inr, ◌∙◌, refl, sym, subst, arith}
-use Rattle.std.proofs.lemmas.Bool.Decides.{nat_tests}
-use Rattle.lexical_flags.specs.Layout as layout
+use Rattle.lexical_builder.proofs.Common.{ℕ, ◌≡◌, ◌↔◌, ◌<◌, inl, inr, ◌∙◌, refl, sym, subst, arith, nat_tests, effective, Record, HasBytes, raw, pack, Rule}
+use Rattle.lexical_builder.proofs.Common.{IsRadix, shape_of, raw-pack, pack-clean, trim-same, FieldsMeet}
 use Rattle.lexical_flags.specs.Literals.{on_literals}
-use Rattle.lexical_flags.specs.Record.{effective, Record, HasBytes, raw, pack}
-use Rattle.lexical_flags.specs.declared.format_flags.rule.Rule.{Rule}
-use Rattle.lexical_flags.specs.declared.format_flags.rule.Rule.TheVariants as rules
-use Rattle.lexical_flags.specs.Rules.{IsRadix, shape_of, Holds, Lawful}
-use Rattle.lexical_flags.proofs.Packing.{raw-pack, pack-clean, trim-same}
-use Rattle.lexical_flags.proofs.RuleFieldLemmas.{FieldsMeet}
+use Rattle.lexical_flags.specs.Rules.{Holds, Lawful}
 use Rattle.lexical_builder.specs.Writes.{radix_record}
+use Rattle.lexical_flags.specs.Layout as layout
+use Rattle.lexical_flags.specs.declared.format_flags.rule.Rule.TheVariants as rules
 
 -- If a radix is below 256, then each byte of its record is below 256.
 radix-bytes : (radix : ℕ) → radix < 256 → HasBytes (radix_record radix)

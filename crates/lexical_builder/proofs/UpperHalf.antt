@@ -1,11 +1,11 @@
 -- Lemmas on the upper half of a word, joined by `|` from the bytes of a record.
-use Rattle.std.proofs.Common.{ℕ, ◌≡◌, ◌+◌, ◌-◌, ◌*◌, ◌^◌, ◌<◌, [], ◌∷◌, sum_by, bit_or, refl, ap, ◌∙◌, arith}
-use Rattle.std.proofs.lemmas.Nat.{or_comm, or_shifted}
-use Rattle.lexical_flags.specs.Layout.{Byte, bytes, flags, shift}
-use Rattle.lexical_flags.specs.Layout as layout
-use Rattle.lexical_flags.specs.Record.{Record, HasBytes, word_of, flag_bits, trim, pack}
+use Rattle.lexical_builder.proofs.Common.{ℕ, ◌≡◌, ◌+◌, ◌-◌, ◌*◌, ◌^◌, ◌<◌, [], ◌∷◌, sum_by, bit_or, refl, ap, ◌∙◌, arith, or_comm, or_shifted, Byte, flags}
+use Rattle.lexical_builder.proofs.Common.{shift, Record, HasBytes, flag_bits, trim, pack}
+use Rattle.lexical_flags.specs.Layout.{bytes}
+use Rattle.lexical_flags.specs.Record.{word_of}
 use Rattle.lexical_flags.proofs.FlagBits.{flags-lt}
 use Rattle.lexical_flags.proofs.Masks.{or_all}
+use Rattle.lexical_flags.specs.Layout as layout
 
 -- `upper_bits r b` is the byte `b` of `r` at its bits in the upper half.
 abbrev upper_bits : Record → Byte → ℕ

@@ -1,19 +1,13 @@
 -- Lemmas on the record after writes. Two lists of writes one after another have the effect of one joined list.
-use Rattle.std.proofs.Common.{◌≡◌, ℕ, ◌<◌, ◌==◌, List, [], ◌∷◌, ◌++◌, Option, Some, None, unwrap_or, filter_map, refl}
-use Rattle.std.proofs.Common.{sym, ap, subst, ◌∙◌, arith, All, ◌⊎◌, inl, inr}
-use Rattle.std.proofs.lemmas.Bool.Decides.{nat_tests}
+use Rattle.lexical_builder.proofs.Common.{◌≡◌, ℕ, ◌<◌, ◌==◌, [], ◌∷◌, refl, sym, ap, subst, ◌∙◌, arith, inl, inr, nat_tests, Bool, true, false, if◌then◌else◌}
+use Rattle.lexical_builder.proofs.Common.{Flag, Byte, part, bit, flags, Record, HasBytes, record_same, flags_with, write_flags}
+use Rattle.std.proofs.Common.{List, ◌++◌, Option, Some, None, unwrap_or, filter_map, All, ◌⊎◌, ◌&&◌, ◌||◌, filter}
 use Rattle.std.proofs.lemmas.List.Elements.{All-head, All-tail}
-use Rattle.std.proofs.Common.{Bool, true, false, ◌&&◌, ◌||◌, if◌then◌else◌, filter}
 use Rattle.std.proofs.Math.Bool.{or-false}
 use Rattle.std.specs.List.{last_or, cons_option, list_any}
-use Rattle.lexical_flags.specs.Layout.{Flag, Byte, part, bit, shift, flags}
-use Rattle.lexical_flags.specs.Layout as layout
-use Rattle.lexical_flags.specs.Record.{Record, HasBytes}
-use Rattle.lexical_flags.proofs.RecordLemmas.{record_same}
-use Rattle.lexical_builder.specs.Writes.{Write, write_flag, IsLegal, new_record, flag_written, byte_written}
-use Rattle.lexical_builder.specs.Writes.{after}
-use Rattle.lexical_builder.specs.Writes.{SameWrites, flags_with, write_flags, last_flag, last_byte}
+use Rattle.lexical_builder.specs.Writes.{Write, write_flag, IsLegal, new_record, flag_written, byte_written, after, SameWrites, last_flag, last_byte}
 use Rattle.lexical_builder.specs.BuilderBits.{builder_record_of_parts}
+use Rattle.lexical_flags.specs.Layout as layout
 
 -- `left_by h writes d` is the value of a field after `writes`, if the value was `d` and `h` is the value that one write
 -- writes to the field.

@@ -1,7 +1,6 @@
 -- Lemmas that a mask and a shift read a part of a word.
-use Rattle.std.proofs.Common.{ℕ, ◌≡◌, ◌-◌, ◌*◌, ◌/◌, ◌^◌, bit_and, ap, ◌∙◌}
-use Rattle.std.proofs.lemmas.Nat.{and_shr, and_mask, shl-shr}
-use Rattle.lexical_flags.specs.Layout.{part}
+use Rattle.lexical_flags.proofs.Common.{ℕ, ◌≡◌, ◌-◌, ◌*◌, ◌/◌, ◌^◌, bit_and, ap, ◌∙◌, and_mask, part}
+use Rattle.std.proofs.lemmas.Nat.{and_shr, shl-shr}
 
 -- A mask of n bits from bit s up and a shift by s read the n bits of a word from bit s up.
 pub masked_part : (word s n : ℕ) → bit_and word ((2 ^ n - 1) * 2 ^ s) / 2 ^ s ≡ part word s n

@@ -1,14 +1,13 @@
 -- Lemmas on the two cases of a letter, and on the roles that they play.
-use Rattle.std.proofs.Common.{ℕ, [], ◌∷◌, ◌≡◌, ◌≢◌, ◌<◌, ◌⊎◌, ◌∙◌, ◌↔◌, ◌==◌, ◌||◌, ◌&&◌, Bool, true, false}
-use Rattle.std.proofs.Common.{not, IsTrue, bit_or, bit_xor, eqb-true, refl, ap, sym, subst, arith, min, nat_lt}
-use Rattle.std.specs.Prelude.{position, unwrap_or}
-use Rattle.std.proofs.lemmas.Bool.{false≢true, or_parts, agree_below_at}
-use Rattle.std.proofs.lemmas.Bool.Decides.{nat_tests}
+use Rattle.lexical_flags.proofs.Common.{ℕ, [], ◌∷◌, ◌≡◌, ◌≢◌, ◌<◌, ◌⊎◌, ◌∙◌, ◌↔◌, ◌==◌, ◌||◌, ◌&&◌, Bool, true, false, not, IsTrue, bit_or, eqb-true, refl, ap}
+use Rattle.lexical_flags.proofs.Common.{sym, subst, arith, min, nat_lt, false≢true, agree_below_at, nat_tests, Record, effective_exponent_radix, AreDisjoint}
+use Rattle.lexical_flags.proofs.Common.{other_case, digits, signs, format_roles}
+use Rattle.std.proofs.Common.{bit_xor, position, unwrap_or}
+use Rattle.std.proofs.lemmas.Bool.{or_parts}
 use Rattle.lexical_base.specs.Ascii.{letters}
 use Rattle.lexical_base.specs.Digits.{byte_value, digit_characters, uppercase}
+use Rattle.lexical_flags.specs.Roles.{Disjoint, cased}
 use Rattle.lexical_flags.specs.Layout as layout
-use Rattle.lexical_flags.specs.Record.{Record, effective_exponent_radix}
-use Rattle.lexical_flags.specs.Roles.{Disjoint, AreDisjoint, cased, other_case, digits, signs, format_roles}
 use Rattle.lexical_flags.proofs.DisjointLemmas.{Disjoint-at, Disjoint-from}
 
 -- The other case of a letter is the letter with the bit 0x20 flipped.

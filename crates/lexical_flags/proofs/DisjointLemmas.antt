@@ -1,9 +1,7 @@
 -- Lemmas on disjoint sets of bytes.
-use Rattle.std.proofs.Common.{ℕ, ◌≡◌, ◌<◌, ◌↔◌, ◌&&◌, Bool, true, IsTrue, not, sym, subst, ◌∙◌, arith}
-use Rattle.std.specs.List.{list_all, range_with_len}
+use Rattle.lexical_flags.proofs.Common.{ℕ, ◌≡◌, ◌<◌, ◌↔◌, ◌&&◌, Bool, true, IsTrue, not, sym, subst, ◌∙◌, arith, list_all, range_with_len, ByteSet}
 use Rattle.std.proofs.lemmas.List.Sums.{AllPass-from_list_all, list_all-from_AllPass}
 use Rattle.std.proofs.lemmas.List.FromFn.{length-range_with_len, get_or-range_with_len}
-use Rattle.lexical_base.specs.Ascii.{ByteSet}
 use Rattle.lexical_flags.specs.Roles.{Disjoint, are_disjoint}
 
 -- A test of all numbers below n passes if and only if each of these numbers passes.

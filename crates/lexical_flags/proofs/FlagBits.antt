@@ -1,15 +1,10 @@
 -- Lemmas on the flags of a word under a mask, and on the flags of a record joined by `|`.
-use Rattle.std.proofs.Common.{ℕ, ◌≡◌, ◌+◌, ◌*◌, ◌/◌, ◌%◌, ◌^◌, ◌<◌, ◌==◌, true, not, ◌||◌}
-use Rattle.std.proofs.Common.{List, [], ◌∷◌, sum_by, bit_and, bit_or, refl, ap, sym, subst, ◌∙◌, arith}
-use Rattle.std.specs.List.{filter, fold, list_any}
-use Rattle.std.proofs.Math.Nat.{mod-lt}
+use Rattle.lexical_flags.proofs.Common.{ℕ, ◌≡◌, ◌+◌, ◌*◌, ◌/◌, ◌%◌, ◌^◌, ◌<◌, ◌==◌, true, not, ◌||◌, List, [], ◌∷◌, sum_by, bit_and, bit_or, refl, ap, sym}
+use Rattle.lexical_flags.proofs.Common.{subst, ◌∙◌, arith, fold, mod-lt, pow_pos, nat_tests, part, Flag, bit, flags, Record, raw, separator_allowed, HasBytes}
+use Rattle.std.specs.List.{filter, list_any}
 use Rattle.std.proofs.lemmas.List.Sums.{sum_by-cons}
-use Rattle.std.proofs.lemmas.Nat.{pow_pos}
 use Rattle.std.proofs.lemmas.Nat.Bits.{and_pow}
-use Rattle.std.proofs.lemmas.Bool.Decides.{nat_tests}
-use Rattle.lexical_flags.specs.Layout.{part, Flag, bit, flags}
-use Rattle.lexical_flags.specs.Record.{Record, raw, word_of, flag_bits}
-use Rattle.lexical_flags.specs.Record.{separator_allowed, HasBytes}
+use Rattle.lexical_flags.specs.Record.{word_of, flag_bits}
 use Rattle.lexical_flags.specs.Additions.Masks.{mask_of}
 use Rattle.lexical_flags.proofs.Packing.{high, bit_value, bit_value-lt, flag_bits-value, raw-word_of}
 use Rattle.lexical_flags.proofs.Masks.{ascends, and_all, or_all, sum-below}

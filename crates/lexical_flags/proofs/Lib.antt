@@ -1,3 +1,4 @@
+mod Common
 pub mod ByteParts
 pub mod RecordLemmas
 pub mod Segments

@@ -1,13 +1,11 @@
 -- Lemmas on fields that are one above the other, joined by `|` and selected by `&`.
-use Rattle.std.proofs.Common.{ℕ, ◌≡◌, ◌+◌, ◌-◌, ◌*◌, ◌/◌, ◌%◌, ◌^◌, ◌<◌, ◌≤◌, Bool, true, ◌&&◌, leb, List, [], ◌∷◌}
-use Rattle.std.proofs.Common.{sum_by, bit_and, bit_or, refl, ap, sym, ◌∙◌, arith}
-use Rattle.std.specs.Int.Bits.{and_zero_r}
-use Rattle.std.specs.List.{fold}
-use Rattle.std.proofs.Math.Nat.{mul-le-mul_left, mod-eq_of_lt, mod-lt, pow-le-pow_right, lt_of_le_of_lt}
-use Rattle.std.proofs.lemmas.Bool.{leb-true, and_parts}
-use Rattle.std.proofs.lemmas.Nat.{pow-add, pow_pos, shr_split, and_block, and_mask, and_mod, and_le_r, or_comm}
-use Rattle.std.proofs.lemmas.Nat.{or_shifted}
-use Rattle.lexical_flags.specs.Layout.{part}
+use Rattle.lexical_flags.proofs.Common.{ℕ, ◌≡◌, ◌+◌, ◌-◌, ◌*◌, ◌/◌, ◌%◌, ◌^◌, ◌<◌, ◌≤◌, Bool, true, ◌&&◌, List, [], ◌∷◌, sum_by, bit_and, bit_or, refl, ap, sym}
+use Rattle.lexical_flags.proofs.Common.{◌∙◌, arith, and_zero_r, fold, mul-le-mul_left, mod-eq_of_lt, mod-lt, lt_of_le_of_lt, and_parts, pow-add, pow_pos}
+use Rattle.lexical_flags.proofs.Common.{and_mask, and_le_r, part}
+use Rattle.std.proofs.Common.{leb}
+use Rattle.std.proofs.Math.Nat.{pow-le-pow_right}
+use Rattle.std.proofs.lemmas.Bool.{leb-true}
+use Rattle.std.proofs.lemmas.Nat.{shr_split, and_block, and_mod, or_comm, or_shifted}
 
 -- `ascends start width s xs` is true if each field starts at the end of the field before or above it, and the first one
 -- starts at bit s or above.

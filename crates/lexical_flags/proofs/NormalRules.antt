@@ -1,19 +1,14 @@
 -- Lemmas on the rules after filling and trimming. Filled fields satisfy the same rules. Trimmed fields satisfy all
 -- rules that they kept before, and so does a clean word with such fields.
-use Rattle.std.proofs.Common.{◌≡◌, ℕ, ◌⊎◌, ◌↔◌, inl, inr, ◌||◌, true, IsTrue, refl, sym, ap, subst, arith}
-use Rattle.std.proofs.lemmas.Bool.{cases_Bool, cond-false, false≢true}
-use Rattle.std.proofs.lemmas.Bool.Decides.{nat_tests}
-use Rattle.lexical_base.specs.Ascii.{ByteSet, allowed_ascii}
-use Rattle.lexical_base.specs.declared.error.Error.{Error}
+use Rattle.lexical_flags.proofs.Common.{◌≡◌, ℕ, ◌⊎◌, ◌↔◌, inl, inr, ◌||◌, true, IsTrue, refl, sym, ap, subst, arith, false≢true, nat_tests, ByteSet}
+use Rattle.lexical_flags.proofs.Common.{allowed_ascii, Error, IsClean, Record, raw, fill, trim, effective, separator_allowed, signs, digits_of, Rule, IsRadix}
+use Rattle.lexical_flags.proofs.Common.{IsAbsentOrPunctuation, shape_of}
+use Rattle.std.proofs.lemmas.Bool.{cases_Bool, cond-false}
+use Rattle.lexical_flags.specs.Record.{set_byte, SeparatorAllowedOrAbsent}
+use Rattle.lexical_flags.specs.Roles.{Disjoint, cased, prefix, suffix}
+use Rattle.lexical_flags.specs.Rules.{IsPunctuation, Holds, IsErrorOf, Lawful}
 use Rattle.lexical_flags.specs.Layout as layout
-use Rattle.lexical_flags.specs.Layout.{IsClean}
-use Rattle.lexical_flags.specs.Record.{Record, raw, fill, trim, set_byte, effective, separator_allowed}
-use Rattle.lexical_flags.specs.Record.{SeparatorAllowedOrAbsent}
-use Rattle.lexical_flags.specs.Roles.{Disjoint, cased, signs, prefix, suffix}
-use Rattle.lexical_base.specs.Digits.{digits_of}
-use Rattle.lexical_flags.specs.declared.format_flags.rule.Rule.{Rule}
 use Rattle.lexical_flags.specs.declared.format_flags.rule.Rule.TheVariants as rules
-use Rattle.lexical_flags.specs.Rules.{IsRadix, IsAbsentOrPunctuation, IsPunctuation, shape_of, Holds, IsErrorOf, Lawful}
 use Rattle.lexical_flags.proofs.DisjointLemmas.{Disjoint-from}
 use Rattle.lexical_flags.proofs.RuleFieldLemmas.{FieldsMeet}
 use Rattle.lexical_flags.proofs.Packing.{trim-same}

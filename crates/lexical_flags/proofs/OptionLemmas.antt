@@ -1,16 +1,10 @@
 -- Lemmas on an exponent character and a decimal point, in addition to the five roles of a word.
-use Rattle.std.proofs.Common.{ℕ, ◌≡◌, ◌+◌, ◌≤◌, ◌≢◌, ◌⊎◌, ◌==◌, ◌||◌, not, if◌then◌else◌, Bool, true, false, IsTrue}
-use Rattle.std.proofs.Common.{◌↔◌, arith}
-use Rattle.std.specs.List.{AllByRecursion}
-use Rattle.std.proofs.lemmas.Bool.Decides.{nat_tests}
-use Rattle.lexical_base.specs.Ascii.{ByteSet, allowed_ascii}
-use Rattle.lexical_flags.specs.Layout as layout
-use Rattle.lexical_flags.specs.Record.{Record, raw}
-use Rattle.lexical_flags.specs.Roles.{Disjoint, cased, digits, signs, format_roles, five_roles}
+use Rattle.lexical_flags.proofs.Common.{ℕ, ◌≡◌, ◌+◌, ◌≤◌, ◌≢◌, ◌⊎◌, ◌==◌, ◌||◌, not, if◌then◌else◌, Bool, true, false, IsTrue, ◌↔◌, arith, AllByRecursion}
+use Rattle.lexical_flags.proofs.Common.{nat_tests, ByteSet, allowed_ascii, Record, raw, digits, signs, format_roles, five_roles, Error, Success}
+use Rattle.lexical_flags.specs.Roles.{Disjoint, cased}
 use Rattle.lexical_flags.specs.Rules.{IsPunctuation, Lawful}
-use Rattle.lexical_base.specs.declared.error.Error.{Error}
-use Rattle.lexical_base.specs.declared.error.Error.TheVariants.{Success}
 use Rattle.lexical_flags.specs.Options.{OptionsFit, OptionsHaveOneRole, SomeOptionsHaveOneRole, IsOptionsError}
+use Rattle.lexical_flags.specs.Layout as layout
 use Rattle.lexical_flags.proofs.DisjointLemmas.{Disjoint-from, Disjoint-sym}
 use Rattle.lexical_flags.proofs.RoleLemmas.{Disjoint-digits-cased, Disjoint-signs-cased, not_in, no_digit}
 

@@ -1,15 +1,11 @@
 -- Lemmas on packing a record, and on the record of a word.
-use Rattle.std.proofs.Common.{ℕ, ◌≡◌, ◌+◌, ◌*◌, ◌^◌, ◌<◌, ◌==◌, ◌⊎◌, ◌↔◌, Bool}
-use Rattle.std.proofs.Common.{◌-◌, IsTrue, if◌then◌else◌, length, List, [], ◌∷◌}
-use Rattle.std.proofs.Common.{◌++◌, map, sum_by, refl, ap, sym, ◌∙◌, subst, arith}
-use Rattle.std.proofs.Math.Nat.{mod-eq_of_lt, mod-lt}
-use Rattle.std.proofs.lemmas.Nat.{pow_pos}
-use Rattle.std.proofs.lemmas.Bool.Decides.{nat_tests}
-use Rattle.lexical_flags.specs.Layout.{part, Flag, Byte, bit, flags, bytes, base_flags, digit_separator_flags, shift}
-use Rattle.lexical_flags.specs.Layout.{IsClean}
+use Rattle.lexical_flags.proofs.Common.{ℕ, ◌≡◌, ◌+◌, ◌*◌, ◌^◌, ◌<◌, ◌==◌, ◌⊎◌, ◌↔◌, Bool, ◌-◌, IsTrue, if◌then◌else◌, List, [], ◌∷◌, sum_by, refl, ap, sym, ◌∙◌}
+use Rattle.lexical_flags.proofs.Common.{subst, arith, mod-eq_of_lt, mod-lt, pow_pos, nat_tests, part, Flag, Byte, bit, flags, shift, IsClean, Record, raw, fill}
+use Rattle.lexical_flags.proofs.Common.{trim, separator_allowed, HasBytes}
+use Rattle.std.proofs.Common.{length, ◌++◌, map}
+use Rattle.lexical_flags.specs.Layout.{bytes, base_flags, digit_separator_flags}
+use Rattle.lexical_flags.specs.Record.{pack, word_of, byte_bits, IsBuilt}
 use Rattle.lexical_flags.specs.Layout as layout
-use Rattle.lexical_flags.specs.Record.{Record, raw, fill, trim, pack, word_of, byte_bits}
-use Rattle.lexical_flags.specs.Record.{separator_allowed, HasBytes, IsBuilt}
 use Rattle.lexical_flags.proofs.RecordLemmas.{record_same}
 use Rattle.lexical_flags.proofs.Segments.{joined, segments, segments-joined, joined-segments, joined-below, Fit}
 

@@ -1,18 +1,12 @@
 -- Lemmas on the radixes in which a byte is absent or punctuation, by a table of all bytes.
-use Rattle.std.proofs.Common.{◌≡◌, ℕ, ◌+◌, ◌<◌, ◌⊎◌, ◌↔◌, ◌==◌, ◌||◌, not, true, max, nat_lt, if◌then◌else◌, IsTrue}
-use Rattle.std.proofs.Common.{slice_index_or, eqb-true, refl, arith}
-use Rattle.std.proofs.Math.Nat.{mod-lt}
-use Rattle.std.proofs.lemmas.Nat.{pow_pos}
-use Rattle.std.proofs.lemmas.Bool.{agree_below_at}
-use Rattle.std.proofs.lemmas.Bool.Decides.{nat_tests}
-use Rattle.lexical_base.specs.Ascii.{allowed_ascii}
+use Rattle.lexical_flags.proofs.Common.{◌≡◌, ℕ, ◌+◌, ◌<◌, ◌⊎◌, ◌↔◌, ◌==◌, ◌||◌, not, true, nat_lt, if◌then◌else◌, IsTrue, eqb-true, refl, arith, mod-lt}
+use Rattle.lexical_flags.proofs.Common.{pow_pos, agree_below_at, nat_tests, allowed_ascii, Record, raw, signs, IsAbsentOrPunctuation}
+use Rattle.std.proofs.Common.{max, slice_index_or}
 use Rattle.lexical_base.specs.Digits.{byte_value}
 use Rattle.lexical_base.proofs.ValueLemmas.{byte_value-cases}
-use Rattle.lexical_flags.specs.Layout as layout
-use Rattle.lexical_flags.specs.Record.{Record, raw}
-use Rattle.lexical_flags.specs.Roles.{signs}
-use Rattle.lexical_flags.specs.Rules.{IsAbsentOrPunctuation, IsPunctuation}
+use Rattle.lexical_flags.specs.Rules.{IsPunctuation}
 use Rattle.lexical_flags.specs.declared.format_flags.checks.TheConstants.{LIMITS}
+use Rattle.lexical_flags.specs.Layout as layout
 
 -- `limit byte` is the number of radixes in which `byte` is absent or punctuation. These are the radixes below it.
 limit : ℕ → ℕ

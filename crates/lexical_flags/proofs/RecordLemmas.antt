@@ -1,8 +1,6 @@
 -- Lemmas that a record is determined by its flags and bytes.
-use Rattle.std.proofs.Common.{ℕ, ◌≡◌, arith}
-use Rattle.lexical_flags.specs.Layout.{Flag, Byte}
+use Rattle.lexical_flags.proofs.Common.{ℕ, ◌≡◌, arith, Flag, Byte, Record}
 use Rattle.lexical_flags.specs.Layout as layout
-use Rattle.lexical_flags.specs.Record.{Record}
 
 -- Two records with the same flags and bytes are equal.
 pub record_same : (r s : Record) → ((f : Flag) → r.flag f ≡ s.flag f) → ((b : Byte) → r.byte b ≡ s.byte b) → r ≡ s

@@ -1,7 +1,6 @@
 -- A lemma on the test of the reserved bits by one mask.
-use Rattle.std.proofs.Common.{ℕ, ◌≡◌, ◌+◌, ◌-◌, ◌%◌, ◌^◌, ◌↔◌, ◌==◌, IsTrue, eqb-true, eq-eqb, bit_and, arith}
-use Rattle.std.specs.Int.Bits.{and_zero_r}
-use Rattle.lexical_flags.specs.Layout.{IsClean}
+use Rattle.lexical_flags.proofs.Common.{ℕ, ◌≡◌, ◌+◌, ◌-◌, ◌%◌, ◌^◌, ◌↔◌, ◌==◌, IsTrue, eqb-true, bit_and, arith, and_zero_r, IsClean}
+use Rattle.std.proofs.Common.{eq-eqb}
 use Rattle.lexical_flags.specs.declared.format_flags.TheConstants.{RESERVED_MASK}
 use Rattle.lexical_flags.proofs.Masks.{and_block_more}
 use Rattle.lexical_flags.proofs.Packing.{low, high}

@@ -1,21 +1,16 @@
 -- Lemmas that a rule depends only on the bits that it reads.
-use Rattle.std.proofs.Common.{ℕ, ◌≡◌, ◌-◌, ◌*◌, ◌/◌, ◌^◌, ◌==◌, ◌⊎◌, ◌&&◌, ◌||◌, not, true, IsTrue, IsFalse, List, [], ◌∷◌}
-use Rattle.std.proofs.Common.{bit_and, refl, ap, sym, subst, ◌∙◌}
+use Rattle.lexical_flags.proofs.Common.{ℕ, ◌≡◌, ◌-◌, ◌*◌, ◌/◌, ◌^◌, ◌==◌, ◌⊎◌, ◌&&◌, ◌||◌, not, true, IsTrue, List, [], ◌∷◌, bit_and, refl, ap, sym, subst, ◌∙◌}
+use Rattle.lexical_flags.proofs.Common.{allowed_ascii, digits_of, Flag, Byte, part, bit, shift, Record, raw, effective, AreDisjoint, format_roles, signs}
+use Rattle.lexical_flags.proofs.Common.{IsRadix, IsAbsentOrPunctuation, shape_of, list_all, AllByRecursion, and_parts, Rule}
+use Rattle.std.proofs.Common.{IsFalse}
 use Rattle.std.proofs.lemmas.Nat.{and_assoc}
-use Rattle.lexical_base.specs.Ascii.{allowed_ascii}
-use Rattle.lexical_base.specs.Digits.{digits_of}
-use Rattle.lexical_flags.specs.Layout as layout
-use Rattle.lexical_flags.specs.Layout.{Flag, Byte, part, bit, shift}
-use Rattle.lexical_flags.specs.Record.{Record, raw, effective}
-use Rattle.lexical_flags.specs.Roles.{AreDisjoint, cased, format_roles, signs}
-use Rattle.lexical_flags.specs.Rules.{IsRadix, IsPunctuation, IsAbsentOrPunctuation, Shape, radix_in_range, absent_or_punctuation}
-use Rattle.lexical_flags.specs.Rules.{roles_differ, not_both, position_allowed, reserved_zero, shape_of}
+use Rattle.lexical_flags.specs.Roles.{cased}
+use Rattle.lexical_flags.specs.Rules.{IsPunctuation, Shape, radix_in_range, absent_or_punctuation, roles_differ, not_both, position_allowed, reserved_zero}
 use Rattle.lexical_flags.specs.Rules.{Holds, lacks_position}
 use Rattle.std.specs.Bool.{⊤}
-use Rattle.std.specs.List.{list_all, AllByRecursion}
-use Rattle.std.proofs.lemmas.Bool.{and_parts, eqb-true}
+use Rattle.std.proofs.lemmas.Bool.{eqb-true}
 use Rattle.lexical_flags.specs.Additions.RuleFields.{flags_read, bytes_read, mask_read}
-use Rattle.lexical_flags.specs.declared.format_flags.rule.Rule.{Rule}
+use Rattle.lexical_flags.specs.Layout as layout
 use Rattle.lexical_flags.specs.declared.format_flags.rule.Rule.TheVariants as rules
 use Rattle.lexical_flags.proofs.ByteParts.{masked_part}
 use Rattle.lexical_flags.proofs.FlagBits.{flag_test}

@@ -1,18 +1,12 @@
 -- Lemmas that a word is lawful if and only if it satisfies every rule, and that it has one error.
-use Rattle.std.proofs.Common.{◌≡◌, ℕ, ◌≢◌, ◌<◌, ◌↔◌, inl, inr, Bool, true}
-use Rattle.std.proofs.Common.{arith}
-use Rattle.std.proofs.lemmas.Bool.Decides.{nat_tests}
+use Rattle.lexical_flags.proofs.Common.{◌≡◌, ℕ, ◌≢◌, ◌<◌, ◌↔◌, inl, inr, Bool, true, arith, nat_tests, Error, Success, IsClean, Record, raw, AreDisjoint}
+use Rattle.lexical_flags.proofs.Common.{digits, signs, format_roles, five_roles, Rule, IsAbsentOrPunctuation}
 use Rattle.std.proofs.lemmas.List.Elements.{recursion_from_All}
-use Rattle.lexical_base.specs.declared.error.Error.{Error}
-use Rattle.lexical_base.specs.declared.error.Error.TheVariants.{InvalidFlags, Success}
+use Rattle.lexical_base.specs.declared.error.Error.TheVariants.{InvalidFlags}
+use Rattle.lexical_flags.specs.Roles.{Disjoint, cased}
+use Rattle.lexical_flags.specs.Rules.{IsTextOrNone, IsPunctuation, Holds, IsErrorOf, Lawful, flag_rules}
 use Rattle.lexical_flags.specs.Layout as layout
-use Rattle.lexical_flags.specs.Layout.{IsClean}
-use Rattle.lexical_flags.specs.Record.{Record, raw}
-use Rattle.lexical_flags.specs.Roles.{Disjoint, AreDisjoint, cased, digits, signs, format_roles, five_roles}
-use Rattle.lexical_flags.specs.declared.format_flags.rule.Rule.{Rule}
 use Rattle.lexical_flags.specs.declared.format_flags.rule.Rule.TheVariants as rules
-use Rattle.lexical_flags.specs.Rules.{IsAbsentOrPunctuation, IsTextOrNone, IsPunctuation, Holds}
-use Rattle.lexical_flags.specs.Rules.{IsErrorOf, Lawful, flag_rules}
 use Rattle.lexical_flags.proofs.RoleLemmas.{Disjoint-digits-cased, Disjoint-signs-cased, Disjoint-digits-signs, not_in}
 
 -- If a byte is absent or punctuation, and not 0, then it is punctuation.

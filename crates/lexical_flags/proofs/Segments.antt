@@ -1,8 +1,7 @@
 -- Lemmas on a number as segments that are one above the other, given by their widths from the lowest up.
-use Rattle.std.proofs.Common.{ℕ, ◌≡◌, ◌+◌, ◌*◌, ◌/◌, ◌%◌, ◌^◌, ◌<◌, List, [], ◌∷◌, refl, ap, sym, ◌∙◌, add_assoc, arith}
-use Rattle.std.proofs.Math.Nat.{add_comm, mul-le-mul_left}
-use Rattle.std.proofs.lemmas.Nat.{pow-add, shr_high, mod_low, mod-pow-add}
-use Rattle.lexical_flags.specs.Layout.{part}
+use Rattle.lexical_flags.proofs.Common.{ℕ, ◌≡◌, ◌+◌, ◌*◌, ◌/◌, ◌%◌, ◌^◌, ◌<◌, List, [], ◌∷◌, refl, ap, sym, ◌∙◌, arith, mul-le-mul_left, pow-add, part}
+use Rattle.std.proofs.Common.{add_assoc, add_comm}
+use Rattle.std.proofs.lemmas.Nat.{shr_high, mod_low, mod-pow-add}
 
 -- `joined s widths values` is the sum of the values, each times the power of two of its segment. The first segment
 -- starts at bit s.

@@ -90,10 +90,10 @@ module _ (m : Notation) (text : List ℕ) (n : ℕ) (is : IsValidUpTo m text n) 
   abbrev whole : List ℕ
   whole = take n text ++ is.front.more
 
-  same_byte : (i : ℕ) → i < n → get_or whole i 0 ≡ get_or text i 0
+  pub same_byte : (i : ℕ) → i < n → get_or whole i 0 ≡ get_or text i 0
   same_byte i below = get_or_append_left (take n text) is.front.more 0 i (rw (length-take-le n text is.within) below) ∙ get_or-take n text i 0 below
 
-  longer : n ≤ length whole
+  pub longer : n ≤ length whole
   longer = let size = length-take-le n text is.within in let both = length-append (take n text) is.front.more in omega (arith, size, both)
 
   -- It ends before a byte that plays no role.
@@ -104,7 +104,7 @@ module _ (m : Notation) (text : List ℕ) (n : ℕ) (is : IsValidUpTo m text n) 
     | inr near ↦ near
   ]
 
-  same_sign : (text rest : List ℕ) (n : ℕ) → 0 < n → sign_size (take n text ++ rest) ≡ sign_size text ⊎ (text ≡ [])
+  pub same_sign : (text rest : List ℕ) (n : ℕ) → 0 < n → sign_size (take n text ++ rest) ≡ sign_size text ⊎ (text ≡ [])
   same_sign [] rest n some = inr refl
   same_sign (b ∷ text) rest ℕ.zero some = absurd (omega (arith, some))
   same_sign (b ∷ text) rest (ℕ.suc n) some = inl refl

@@ -1,6 +1,6 @@
 -- Several forms: what has been found in the first of them, and what one form more adds.
-use Rattle.std.proofs.Common.{ℕ, ◌≡◌, ◌*◌, ◌⊎◌, inl, inr, nat_lt, Bool, true, false, if◌then◌else◌, ◌<◌, ◌≤◌, ◌+◌, List, Ok, Option, Some, None, All, IsSomeAnd}
-use Rattle.std.proofs.Common.{[], ◌∷◌, length, take, get_or, slice_get, IfSome, IsNone, refl, sym, subst, arith}
+use Rattle.std.proofs.Common.{ℕ, ◌≡◌, ◌*◌, inl, inr, nat_lt, Bool, true, false, if◌then◌else◌, ◌<◌, ◌≤◌, ◌+◌, List, Ok, Option, Some, None, All, IsSomeAnd}
+use Rattle.std.proofs.Common.{[], ◌∷◌, length, take, get_or, slice_get, IfSome, IsNone, refl, sym, subst, ap, arith}
 use Rattle.std.specs.Option.{ForSome}
 use Rattle.std.proofs.Math.Nat.{le_antisymm}
 use Rattle.std.proofs.lemmas.Bool.Decides.{nat_tests}
@@ -8,7 +8,7 @@ use Rattle.std.proofs.lemmas.Bool.{cases_lt, false≢true}
 use Rattle.std.proofs.lemmas.List.{take_all}
 use Rattle.std.proofs.lemmas.List.Elements.{All-more}
 use Rattle.std.proofs.lemmas.Option.{slice_get-get_or, slice_get_within}
-use Rattle.lexical_literal.specs.Additions.Forms.{GoesTo, IsFoundForm, IsFoundFrontForm, IsFurthestForm, further, further_on, greater, longer, sign_size}
+use Rattle.lexical_literal.specs.Additions.Forms.{GoesTo, IsFoundForm, IsFoundFrontForm, IsFurthestForm, IsNoBetter, bound, further, further_on, greater, longer, sign_size}
 use Rattle.lexical_literal.specs.Additions.Longest.{IsCountedFront, IsStopped}
 use Rattle.lexical_literal.specs.Cause.{IsRefusal}
 use Rattle.lexical_literal.specs.declared.cause.Refusal.{Refusal}
@@ -172,6 +172,24 @@ beyond_more text forms i d inside furthest old stop is = go (nat_lt (sign_size t
   go false near = best_stays (beyond text) forms i d inside
       (λ n goes. let most = one_size (notation_of (get_or forms i d).syntax) text n stop.size goes is.valid in grind (arith, nat_tests)) furthest old
 
+-- The best goes beyond that byte.
+pub best_far : (text : List ℕ) (forms : List Form) (i : ℕ) (furthest : Option (ℕ × At)) → IsBest (beyond text) forms i furthest
+    → IfSome furthest (λ best. sign_size text + 1 < best.1.size)
+best_far text forms i None is = tt
+best_far text forms i (Some best) is =
+    let here = some_of (λ g. IsStopped (notation_of g.syntax) text best.1 × (sign_size text + 1 < best.1.size)) (slice_get forms best.0) is.here in here.2.1
+
+-- One form more, which goes no further.
+pub beyond_kept : (text : List ℕ) (forms : List Form) (i : ℕ) (d : Form) → i < length forms
+    → (furthest : Option (ℕ × At)) → IsBest (beyond text) forms i furthest
+    → ((n : ℕ) → GoesTo text (get_or forms i d) n → n ≤ bound (sign_size text) furthest) → IsBest (beyond text) forms (i + 1) furthest
+beyond_kept text forms i d inside None old near = best_stays (beyond text) forms i d inside near None old
+beyond_kept text forms i d inside (Some best) old near = record {
+  here = old.here;
+  before = old.before;
+  others = All-more (λ g. (n : ℕ) → GoesTo text g n × (sign_size text + 1 < n) → n ≤ best.1.size) forms i d inside old.others (λ n is. near n is.0);
+}
+
 -- One form more, with its longest front, or none.
 pub fronts_more : (text : List ℕ) (forms : List Form) (i : ℕ) (d : Form) → i < length forms
     → (longest : Option (ℕ × Found)) → IsBest (fronts text) forms i longest → (found : Option Found)
@@ -249,30 +267,41 @@ module _ (forms : List Form) (text : List ℕ) (i : ℕ) (end : length forms ≤
 
 -- The forms that go up to `size`, of which `first` is the first.
 module _ (forms : List Form) (text : List ℕ) (first size : ℕ) (furthest : IsGreatest (GoesTo text) forms first size) where
-  -- `IsNoBetter g` holds if no error of the form `g` goes further than one that goes up to `size` and whose cause is a wrong byte.
-  abbrev pub IsNoBetter : Form → Type 0
-  IsNoBetter g = (n : ℕ) → Reaches text g n → n ≤ 2 * size
+  -- `IsAtMost most g` holds if no error of the form `g` has a greater reach than `most`.
+  abbrev pub IsAtMost : ℕ → Form → Type 0
+  IsAtMost most g = (n : ℕ) → Reaches text g n → n ≤ most
 
-  pub none_before : All IsNoBetter (take first forms)
-  none_before k d below n reaches = let less = reach_below (get_or (take first forms) k d) text size (furthest.before k d below) n reaches in omega (arith, less)
+  module _ (most : ℕ) (low : 2 * size ≤ most) where
+    pub none_before : All (IsAtMost most) (take first forms)
+    none_before k d below n reaches =
+        let less = reach_below (get_or (take first forms) k d) text size (furthest.before k d below) n reaches in omega (arith, less, low)
 
-  one_more : (form : ℕ) → IsSomeAnd (slice_get forms form) IsNoBetter → All IsNoBetter (take form forms) → All IsNoBetter (take (form + 1) forms)
-  one_more form is before = let here = some_of IsNoBetter (slice_get forms form) is in
-      All-more IsNoBetter forms form here.0 (slice_get_within forms form here.0 here.1) before (here_at IsNoBetter forms form here.0 is)
+    pub one_more : (form : ℕ) → IsSomeAnd (slice_get forms form) (IsAtMost most) → All (IsAtMost most) (take form forms)
+        → All (IsAtMost most) (take (form + 1) forms)
+    one_more form is before = let here = some_of (IsAtMost most) (slice_get forms form) is in
+        All-more (IsAtMost most) forms form here.0 (slice_get_within forms form here.0 here.1) before (here_at (IsAtMost most) forms form here.0 is)
 
-  -- A form that does not go up to `size`.
-  pub elsewhere : (form : ℕ) → IsSomeAnd (slice_get forms form) (λ g. GoesTo text g size → ⊥) → All IsNoBetter (take form forms)
-      → All IsNoBetter (take (form + 1) forms)
-  elsewhere form apart = one_more form (go (slice_get forms form) refl apart) where
-    go : (o : Option Form) → slice_get forms form ≡ o → IsSomeAnd o (λ g. GoesTo text g size → ⊥) → IsSomeAnd o IsNoBetter
-    go None at apart = apart
-    go (Some g) at apart = λ n reaches.
-        let up = all_at (λ g. (other : ℕ) → GoesTo text g other → other ≤ size) forms form g at furthest.others in
-        let less = reach_below g text size (λ k goes. elim (cases_lt k size) [
-          | inl below ↦ below
-          | inr past ↦ absurd (apart (subst (λ k. GoesTo text g k) (le_antisymm (up k goes) past) goes))
-        ]) n reaches in
-        omega (arith, less)
+    -- A form that does not go up to `size`.
+    pub elsewhere : (form : ℕ) → IsSomeAnd (slice_get forms form) (λ g. GoesTo text g size → ⊥) → All (IsAtMost most) (take form forms)
+        → All (IsAtMost most) (take (form + 1) forms)
+    elsewhere form apart = one_more form (go (slice_get forms form) refl apart) where
+      go : (o : Option Form) → slice_get forms form ≡ o → IsSomeAnd o (λ g. GoesTo text g size → ⊥) → IsSomeAnd o (IsAtMost most)
+      go None at apart = apart
+      go (Some g) at apart = λ n reaches.
+          let up = all_at (λ g. (other : ℕ) → GoesTo text g other → other ≤ size) forms form g at furthest.others in
+          let less = reach_below g text size (λ k goes. elim (cases_lt k size) [
+            | inl below ↦ below
+            | inr past ↦ absurd (apart (subst (λ k. GoesTo text g k) (le_antisymm (up k goes) past) goes))
+          ]) n reaches in
+          omega (arith, less, low)
+
+    -- A form whose errors are no better.
+    pub settled : (form : ℕ) → IsSomeAnd (slice_get forms form) (λ g. IsNoBetter (notation_of g.syntax) text size) → All (IsAtMost most) (take form forms)
+        → All (IsAtMost most) (take (form + 1) forms)
+    settled form is = one_more form (go (slice_get forms form) is) where
+      go : (o : Option Form) → IsSomeAnd o (λ g. IsNoBetter (notation_of g.syntax) text size) → IsSomeAnd o (IsAtMost most)
+      go None is = is
+      go (Some g) is = λ n reaches. let less = is reaches.0 reaches.1 in omega (arith, less, low, reaches.2)
 
   -- The error of a form that goes up to `size`.
   module _ (form : ℕ) (error : FormError) (same : error.form ≡ form) (is : IsSomeAnd (slice_get forms error.form) (IsErrorOfForm text error))
@@ -282,6 +311,23 @@ module _ (forms : List Form) (text : List ℕ) (first size : ℕ) (furthest : Is
         let goes = subst (λ k. IsSomeAnd (slice_get forms k) (λ g. GoesTo text g size)) (sym same) valid in
         reach_of here.0 text error.error.refusal size b here.2.refusal (subst (λ o. IsSomeAnd o (λ g. GoesTo text g size)) here.1 goes) byte _
         (error.error.refusal, here.2.refusal, refl)
+
+    pub reach_byte : is_byte error.error.refusal.kind ≡ true → reach error.error.refusal ≡ 2 * size
+    reach_byte byte = let all = reach_is true byte in omega (arith, all)
+
+    pub no_less : 2 * size ≤ reach error.error.refusal
+    no_less = go (is_byte error.error.refusal.kind) (reach_is (is_byte error.error.refusal.kind) refl) where
+      go : (b : Bool) → reach error.error.refusal ≡ 2 * size + (if b then 0 else 1) → 2 * size ≤ reach error.error.refusal
+      go true same = omega (arith, same)
+      go false same = omega (arith, same)
+
+    -- The form itself.
+    pub own_reach : All (IsAtMost (reach error.error.refusal)) (take form forms) → All (IsAtMost (reach error.error.refusal)) (take (form + 1) forms)
+    own_reach = one_more (reach error.error.refusal) no_less form (go (slice_get forms form) (subst (λ k. IsSomeAnd (slice_get forms k) (IsErrorOfForm text error)) same is)) where
+      go : (o : Option Form) → IsSomeAnd o (IsErrorOfForm text error) → IsSomeAnd o (IsAtMost (reach error.error.refusal))
+      go None is = is
+      go (Some g) is = λ n reaches.
+          let one = ap reach (one_refusal (notation_of g.syntax) text reaches.0 error.error.refusal reaches.1 is.refusal) in omega (arith, one, reaches.2)
 
     error_from : All (λ g. (n : ℕ) → Reaches text g n → n < reach error.error.refusal) (take form forms)
         → All (λ g. (n : ℕ) → Reaches text g n → n ≤ reach error.error.refusal) forms → IsFormError forms text error
@@ -295,20 +341,21 @@ module _ (forms : List Form) (text : List ℕ) (first size : ℕ) (furthest : Is
       refusal = is;
     }
 
-    pub other_error : is_byte error.error.refusal.kind ≡ false → All IsNoBetter (take form forms) → IsFormError forms text error
+    pub other_error : is_byte error.error.refusal.kind ≡ false → All (IsAtMost (2 * size)) (take form forms) → IsFormError forms text error
     other_error right before = let size_is = reach_is false right in error_from
         (λ k d below n reaches. let less = before k d below n reaches in omega (arith, less, size_is))
         (λ k d below n reaches. let less = reach_up_to (get_or forms k d) text size (furthest.others k d below) n reaches in omega (arith, less, size_is))
 
-    pub first_error : form ≡ first → is_byte error.error.refusal.kind ≡ true → All IsNoBetter forms → IsFormError forms text error
-    first_error is_first byte others = let size_is = reach_is true byte in error_from
+    pub first_error : form ≡ first → All (IsAtMost (reach error.error.refusal)) forms → IsFormError forms text error
+    first_error is_first others = error_from
         (subst (λ k. All (λ g. (n : ℕ) → Reaches text g n → n < reach error.error.refusal) (take k forms)) (sym is_first)
-        (λ k d below n reaches. let less = reach_below (get_or (take first forms) k d) text size (furthest.before k d below) n reaches in omega (arith, less, size_is)))
-        (λ k d below n reaches. let less = others k d below n reaches in omega (arith, less, size_is))
+        (λ k d below n reaches. let less = reach_below (get_or (take first forms) k d) text size (furthest.before k d below) n reaches in omega (arith, less, no_less)))
+        others
 
     -- Its cause is a wrong byte.
-    pub wrong_byte : is_byte error.error.refusal.kind ≡ true → All IsNoBetter (take form forms) → All IsNoBetter (take (form + 1) forms)
-    wrong_byte byte = one_more form (go (slice_get forms form) (subst (λ k. IsSomeAnd (slice_get forms k) (IsErrorOfForm text error)) same is) valid) where
-      go : (o : Option Form) → IsSomeAnd o (IsErrorOfForm text error) → IsSomeAnd o (λ g. GoesTo text g size) → IsSomeAnd o IsNoBetter
+    pub wrong_byte : (most : ℕ) → 2 * size ≤ most → is_byte error.error.refusal.kind ≡ true → All (IsAtMost most) (take form forms)
+        → All (IsAtMost most) (take (form + 1) forms)
+    wrong_byte most low byte = one_more most low form (go (slice_get forms form) (subst (λ k. IsSomeAnd (slice_get forms k) (IsErrorOfForm text error)) same is) valid) where
+      go : (o : Option Form) → IsSomeAnd o (IsErrorOfForm text error) → IsSomeAnd o (λ g. GoesTo text g size) → IsSomeAnd o (IsAtMost most)
       go None is valid = is
-      go (Some g) is valid = λ n reaches. omega (arith, reach_of g text error.error.refusal size true is.refusal valid byte n reaches)
+      go (Some g) is valid = λ n reaches. let same = reach_of g text error.error.refusal size true is.refusal valid byte n reaches in omega (arith, same, low)

@@ -1,27 +1,29 @@
 -- Tokens that are found by reading the forms of a list once.
-use Rattle.std.proofs.Common.{ℕ, ◌≡◌, ◌||◌, Bool, true, false, if◌then◌else◌, ◌<◌, ◌≤◌, ◌+◌, ◌-◌, inl, inr, List, [], ◌∷◌, ◌++◌, Option, Some, None, All, IsSomeAnd, IsTrue}
+use Rattle.std.proofs.Common.{ℕ, ◌≡◌, ◌==◌, ◌&&◌, ◌||◌, Bool, true, false, if◌then◌else◌, ◌<◌, ◌≤◌, ◌+◌, ◌-◌, inl, inr, List, [], ◌∷◌, ◌++◌, Option, Some, None, All, IsSomeAnd, IsTrue}
 use Rattle.std.proofs.Common.{length, take, drop, get_or, slice_get, append-nil, refl, sym, subst, ap, ◌∙◌, arith}
 use Rattle.std.specs.Borrow.{Bor}
-use Rattle.std.proofs.lemmas.Bool.{false≢true}
+use Rattle.std.proofs.lemmas.Bool.{cases_lt, false≢true}
 use Rattle.std.proofs.lemmas.Bool.Decides.{nat_tests}
 use Rattle.std.proofs.lemmas.List.{drop-take, get_or-take, get_or_append_left, length-append, length-take-le, take-take}
 use Rattle.std.proofs.lemmas.List.Elements.{All-more}
 use Rattle.std.proofs.lemmas.Option.{slice_get-get_or, slice_get_within}
 use Rattle.lexical_literal.specs.Additions.Forms.{PlaysNoRole, sign_size}
-use Rattle.lexical_literal.specs.Additions.Longest.{IsMeasured}
+use Rattle.lexical_literal.specs.Additions.Longest.{IsMeasured, IsStopped}
 use Rattle.lexical_literal.specs.Additions.Read.{AreSums, HasSums, before_exponent, cut}
+use Rattle.lexical_literal.specs.Additions.Sizes.{goes}
 use Rattle.lexical_literal.specs.Additions.Summary.{Cuts, HasLengths}
-use Rattle.lexical_literal.specs.Additions.Token.{FrontsWithin, IsLeading, IsPicked, IsWithin, has_float, has_prefix}
+use Rattle.lexical_literal.specs.Additions.Token.{FrontsWithin, IsLeading, IsNear, IsPicked, IsWithin, has_float, has_prefix}
 use Rattle.lexical_literal.specs.Cause.{is_in}
 use Rattle.lexical_literal.specs.FormList.{FormList}
-use Rattle.lexical_literal.specs.Forms.{ReadsForm}
+use Rattle.lexical_literal.specs.Forms.{HasFront, ReadsForm}
 use Rattle.lexical_literal.specs.Front.{IsFront, IsValidUpTo, NoLiteral}
 use Rattle.lexical_literal.specs.Literal.{Literal, Reads, is_float, text_of}
 use Rattle.lexical_literal.specs.Notation.{Notation, notation_of}
-use Rattle.lexical_literal.specs.Suffix.{any_word_size, begins, is_stopped, is_word_byte, kind_with, longest_word, suffix_size, word_size}
-use Rattle.lexical_literal.specs.Token.{IsCandidate, IsToken, gives_back, is_shorter}
+use Rattle.lexical_literal.specs.Suffix.{any_word_size, begins, byte_before, is_stopped, is_word_byte, kind_with, longest_word, suffix_size, word_size}
+use Rattle.lexical_literal.specs.Token.{IsAhead, IsCandidate, IsToken, gives_back, is_shorter}
 use Rattle.lexical_literal.specs.declared.list.Form.{Form}
 use Rattle.lexical_literal.specs.declared.list.Tokens.{Tokens}
+use Rattle.lexical_literal.specs.declared.plain.At.{At}
 use Rattle.lexical_literal.specs.declared.plain.Sums.{Sums}
 use Rattle.lexical_literal.specs.declared.steps.Piece.TheVariants as pieces
 use Rattle.lexical_literal.specs.declared.suffix.Suffixes.{Suffixes}
@@ -30,7 +32,6 @@ use Rattle.lexical_literal.specs.declared.token.Candidate.{Candidate}
 use Rattle.lexical_literal.specs.declared.token.Token.{Token}
 use Rattle.lexical_util.specs.Record.{Record}
 use Rattle.lexical_literal.proofs.ExcludeLemmas.{BeginsPrefixed, no_role_excludes, prefix_begins}
-use Rattle.lexical_literal.proofs.FormLemmas.{all_at}
 use Rattle.lexical_literal.proofs.TokenLemmas.{float_is, some_is, token_is}
 
 -- A suffix is in the word with which the text begins.
@@ -154,44 +155,150 @@ no_longer s e a b less end = grind (arith, nat_tests)
 no_word_of : (a b : Bool) → (a || b) ≡ false → a ≡ false
 no_word_of a b none = grind arith
 
--- The token of a form that is the first with a literal behind which no literal goes on.
+-- No literal goes on behind more bytes.
+pub within_more : (m : Notation) (text : List ℕ) (a b : ℕ) → a ≤ b → IsWithin m text a → IsWithin m text b
+within_more m text a b less is more below = is more (omega (arith, less, below))
+
+-- The size of a candidate without the point that is given back.
+without_point : (b : Bool) (n size s : ℕ) → s ≡ (if b then n - 1 else n) → n ≤ size + 1 → (n ≡ size + 1 → b ≡ true) → s ≤ size
+without_point true n size s is low given = omega (arith, is, low)
+without_point false n size s is low given = elim (cases_lt size n) [
+  | inl below ↦ absurd (false≢true (given (omega (arith, below, low))))
+  | inr near ↦ omega (arith, is, near)
+]
+
+both : (a b c : Bool) → (a && b && c) ≡ true → (a ≡ true) × (b ≡ true)
+both true true true is = (refl, refl)
+both true true false is = absurd (false≢true is)
+both true false c is = absurd (false≢true is)
+both false b c is = absurd (false≢true is)
+
+-- The byte before the one behind is the byte.
+byte_behind : (text : List ℕ) (size : ℕ) → byte_before text (size + 1) ≡ slice_get text size
+byte_behind text size = go (size + 1 == 0) refl where
+  go : (b : Bool) → (size + 1 == 0) ≡ b → (if b then None else slice_get text (size + 1 - 1)) ≡ slice_get text size
+  go true is = grind (arith, nat_tests)
+  go false is = ap (slice_get text) (let same : size + 1 - 1 ≡ size = omega arith in same)
+
+pub given_point : (back : Bool) (m : Notation) (text : List ℕ) (size : ℕ) → gives_back back m text (size + 1) ≡ true
+    → (back ≡ true) × (is_in m.point (slice_get text size) ≡ true)
+given_point back m text size gives =
+    let parts = both back (is_in m.point (byte_before text (size + 1)))
+    (is_in (λ byte. (byte == 46) || is_word_byte byte) (slice_get text (size + 1))) gives in
+    (parts.0, ap (is_in m.point) (sym (byte_behind text size)) ∙ parts.1)
+
+-- One form more.
+pub near_more : (P : Form → Type 0) (forms : List Form) (but i : ℕ) (r : Form) → i < length forms
+    → ((k : ℕ) (d : Form) → k < i → (k ≡ but → ⊥) → P (get_or forms k d)) → ((i ≡ but → ⊥) → P (get_or forms i r))
+    → (k : ℕ) (d : Form) → k < i + 1 → (k ≡ but → ⊥) → P (get_or forms k d)
+near_more P forms but i r inside old own k d below other = elim (cases_lt k i) [
+  | inl less ↦ old k d less other
+  | inr low ↦
+      let same : i ≡ k = omega (arith, low, below) in
+      let one : get_or forms i r ≡ get_or forms k d =
+      some_is _ _ (sym (slice_get-get_or forms i r inside) ∙ ap (slice_get forms) same ∙ slice_get-get_or forms k d (omega (arith, same, inside))) in
+      subst P one (own (λ is. other (sym same ∙ is)))
+]
+
+-- A literal behind which no literal goes on is the longest front.
+pub front_of : (text : List ℕ) (form : Form) (size : ℕ) → size ≤ length text → (l : Literal) → Reads (notation_of form.syntax) l (take size text)
+    → IsWithin (notation_of form.syntax) text size → HasFront text form size
+front_of text form size within l reads is = (
+  l,
+  record {
+    within = within;
+    reads = reads;
+    no_longer = λ n past inside l reads. is n past inside (as_front (notation_of form.syntax) (take n text) l reads);
+  },
+)
+
+-- The literal before a point that is given back, where reading stops, is that of a candidate.
+abbrev HasLongest : Bool → List ℕ → Form → ℕ → Type 0
+HasLongest back text form size =
+    (longest : ℕ) × HasFront text form longest × (size ≡ (if gives_back back (notation_of form.syntax) text longest then longest - 1 else longest))
+
+pub front_before : (back : Bool) (text : List ℕ) (form : Form) (stop : At) (size : ℕ) → IsStopped (notation_of form.syntax) text stop
+    → stop.size ≡ size + 1 → gives_back back (notation_of form.syntax) text stop.size ≡ true → gives_back back (notation_of form.syntax) text size ≡ false
+    → (l : Literal) → Reads (notation_of form.syntax) l (take size text) → HasLongest back text form size
+front_before back text form stop size is stop_is gives kept l reads = go (goes (notation_of form.syntax) stop.read is.group None) refl where
+  go : (b : Bool) → goes (notation_of form.syntax) stop.read is.group None ≡ b → HasLongest back text form size
+  go true on =
+      let whole = is.complete on in (
+        stop.size,
+        front_of text form stop.size is.valid.within whole.0 whole.1 is.valid.no_longer,
+        (let one : size ≡ stop.size - 1 = omega (arith, stop_is) in one) ∙ ap (λ b. if b then stop.size - 1 else stop.size) (sym gives),
+      )
+  go false off = (
+    size,
+    (
+      l,
+      record {
+        within = let within = is.valid.within in omega (arith, within, stop_is);
+        reads = reads;
+        no_longer = λ n past inside l reads. elim (cases_lt stop.size n) [
+          | inl beyond ↦ is.valid.no_longer n beyond inside (as_front (notation_of form.syntax) (take n text) l reads)
+          | inr near ↦ is.incomplete off l (subst (λ n. Reads (notation_of form.syntax) l (take n text)) (let same : n ≡ stop.size = omega (arith, past, near, stop_is) in same) reads)
+        ];
+      },
+    ),
+    ap (λ b. if b then size - 1 else size) (sym kept),
+  )
+
+-- The token of a form that is the first with a literal behind which no literal goes on, or only with a point that is given back.
 module _ (list : FormList) (t : Tokens) (text : List ℕ) (index : ℕ) (form : Form) (counts : List ℕ) (size : ℕ)
-    (is : IsLeading list t text index form size) (within : size ≤ length text)
-    (measured : IsMeasured (notation_of form.syntax) (take size text) counts)
-    (kept : gives_back t.gives_points_back (notation_of form.syntax) text size ≡ false) where
+    (is : IsLeading list t text index form size)
+    (measured : IsMeasured (notation_of form.syntax) (take size text) counts) where
+  abbrev Near : Form → Type 0
+  Near g = IsNear t.gives_points_back (notation_of g.syntax) text size
+
+  near : (k : ℕ) (d : Form) → k < length list.forms → Near (get_or list.forms k d)
+  near k d below = elim (cases_lt k index) [
+    | inl less ↦ is.plain k d below (λ same. omega (arith, less, same))
+    | inr low ↦ elim (cases_lt index k) [
+      | inl less ↦ is.plain k d below (λ same. omega (arith, less, same))
+      | inr high ↦
+          let same : index ≡ k = omega (arith, low, high) in
+          subst Near (some_is _ _ (sym is.at ∙ ap (slice_get list.forms) same ∙ slice_get-get_or list.forms k d below)) is.own
+    ]
+  ]
+
+  near_behind : (k : ℕ) (d : Form) → k < length t.forms.now → Near (get_or t.forms.now k d)
+  near_behind k d below = is.suffixed k d below (λ same. omega (arith, same, below))
+
+  -- The literal of each candidate ends at the same byte, or before.
+  size_within : (needs : Bool) (g : Form) → Near g → (s e : ℕ) → IsCandidate t.gives_points_back needs text g s e → s ≤ size
+  size_within needs g (inl within) s e other =
+      let longest = fronts_within text size g within other.longest other.front in
+      let part = less_or_same (gives_back t.gives_points_back (notation_of g.syntax) text other.longest) other.longest in
+      let size_is = other.size_is in omega (arith, longest, part, size_is)
+  size_within needs g (inr point) s e other =
+      let longest = fronts_within text (size + 1) g point.0 other.longest other.front in
+      without_point (gives_back t.gives_points_back (notation_of g.syntax) text other.longest) other.longest size s other.size_is longest
+      (λ same. ap (gives_back t.gives_points_back (notation_of g.syntax) text) same ∙ point.1)
+
+  size_before : (needs : Bool) (g : Form) (bound : ℕ) → FrontsWithin text bound g → (s e : ℕ) → IsCandidate t.gives_points_back needs text g s e → s ≤ bound
+  size_before needs g bound fronts s e other =
+      let longest = fronts other.longest other.front in
+      let part = less_or_same (gives_back t.gives_points_back (notation_of g.syntax) text other.longest) other.longest in
+      let size_is = other.size_is in omega (arith, longest, part, size_is)
+
   module _ (more : ℕ) (more_is : more ≡ suffix_size form.suffixes (has_float counts) (drop size text)) (inside : size + more ≤ length text)
       (ended : is_stopped form.suffixes text (size + more) ≡ false) where
     no_word : is_in is_word_byte (slice_get text (size + more)) ≡ false
     no_word = no_word_of _ _ ended
 
     -- Each candidate ends at the same byte, or before.
-    candidate_within : (needs : Bool) (g : Form) (bound : ℕ) → FrontsWithin text bound g → bound ≤ size → (s e : ℕ)
-        → IsCandidate t.gives_points_back needs text g s e → (s ≤ bound) × (e ≤ size + more)
-    candidate_within needs g bound fronts below s e other =
-        let longest = fronts other.longest other.front in
-        let part = less_or_same (gives_back t.gives_points_back (notation_of g.syntax) text other.longest) other.longest in
-        let size_is = other.size_is in
-        let low : s ≤ bound = omega (arith, longest, part, size_is) in
+    end_within : (needs : Bool) (g : Form) (s e : ℕ) → s ≤ size → IsCandidate t.gives_points_back needs text g s e → e ≤ size + more
+    end_within needs g s e low other =
         let suffix = suffix_within g.suffixes (is_float other.literal) (drop s text) in
-        let word = word_within text s (size + more) (omega (arith, low, below)) no_word in
-        let end = other.end_is in
-        (low, omega (arith, suffix, word, end))
-
-    own : IsWithin (notation_of form.syntax) text size
-    own = all_at (λ form. IsWithin (notation_of form.syntax) text size) list.forms index form is.at is.plain
+        let word = word_within text s (size + more) (omega (arith, low)) no_word in
+        let end = other.end_is in omega (arith, suffix, word, end)
 
     candidate : IsCandidate t.gives_points_back false text form size (size + more)
     candidate = record {
-      longest = size;
-      front = (
-        measured.literal.0,
-        record {
-          within = within;
-          reads = measured.literal.1;
-          no_longer = λ n past inside l reads. own n past inside (as_front (notation_of form.syntax) (take n text) l reads);
-        },
-      );
-      size_is = ap (λ b. if b then size - 1 else size) (sym kept);
+      longest = is.longest;
+      front = is.front;
+      size_is = is.size_is;
       literal = measured.literal.0;
       reads = measured.literal.1;
       end_is = ap (λ n. size + n) more_is ∙ ap (λ b. size + suffix_size form.suffixes b (drop size text))
@@ -210,28 +317,43 @@ module _ (list : FormList) (t : Tokens) (text : List ℕ) (index : ℕ) (form : 
           here = subst (λ o. IsSomeAnd o (λ form. IsCandidate t.gives_points_back false text form size (size + more))) (sym is.at) candidate;
           before = λ k d below s e other.
               let less = is.before.1 in
-              let at = candidate_within false (get_or (take index list.forms) k d) is.before.0 (is.before.2 k d below) (omega (arith, less)) s e other in
-              shorter s e size (size + more) (let low = at.0 in omega (arith, low, less)) at.1;
+              let low = size_before false (get_or (take index list.forms) k d) is.before.0 (is.before.2 k d below) s e other in
+              shorter s e size (size + more) (omega (arith, low, less))
+              (end_within false (get_or (take index list.forms) k d) s e (omega (arith, low, less)) other);
           others = λ k d below s e other.
-              let at = candidate_within false (get_or list.forms k d) size (fronts_within text size (get_or list.forms k d) (is.plain k d below))
-              (omega arith) s e other in
-              no_longer s e size (size + more) at.0 at.1;
+              let low = size_within false (get_or list.forms k d) (near k d below) s e other in
+              no_longer s e size (size + more) low (end_within false (get_or list.forms k d) s e low other);
         };
         others = λ k d below s e other.
-            let at = candidate_within true (get_or t.forms.now k d) size (fronts_within text size (get_or t.forms.now k d) (is.suffixed k d below))
-            (omega arith) s e other in
-            no_longer s e size (size + more) at.0 at.1;
+            let low = size_within true (get_or t.forms.now k d) (near_behind k d below) s e other in
+            no_longer s e size (size + more) low (end_within true (get_or t.forms.now k d) s e low other);
       });
       measured = measured;
       order = omega arith;
       within = inside;
     }
 
+    -- No literal goes on, but for a point that is given back.
+    not_ahead : (g : Form) → Near g → IsAhead t.gives_points_back text (size + more) g → ⊥
+    not_ahead g (inl within) ahead = within ahead.size (let further = ahead.further in omega (arith, further)) ahead.valid.within ahead.valid.front
+    not_ahead g (inr point) ahead =
+        let further = ahead.further in
+        let given = given_point t.gives_points_back (notation_of g.syntax) text size point.1 in
+        elim (cases_lt (size + 1) ahead.size) [
+          | inl past ↦ point.0 ahead.size past ahead.valid.within ahead.valid.front
+          | inr low ↦
+              let none : more ≡ 0 = omega (arith, further, low) in
+              let one : ahead.size ≡ size + more + 1 = omega (arith, further, low) in
+              let at : is_in (notation_of g.syntax).point (slice_get text (size + more)) ≡ true =
+              ap (λ n. is_in (notation_of g.syntax).point (slice_get text n)) (let same : size + more ≡ size = omega (arith, none) in same) ∙ given.1 in
+              let alone = ahead.more in let back = given.0 in grind (arith, nat_tests)
+        ]
+
     pub leading_token : (token : Token) → token.form ≡ index → ReadsForm (take size text) token.literal form
         → token.literal.kind ≡ kind_with form.suffixes token.suffix.now form.kind → token.suffix.now ≡ take more (drop size text) → token.rest.now ≡ drop (size + more) text → IsToken list t text token
     leading_token token same literal kind suffix rest = token_is list t text index form found picked token same literal kind
         (suffix ∙ ap (λ n. take n (drop size text)) (let sum : more ≡ size + more - size = omega arith in sum)) rest
-        (inr (λ k d below ahead. is.plain k d below ahead.size (let further = ahead.further in omega (arith, further)) ahead.valid.within ahead.valid.front, ended))
+        (inr (λ k d below. not_ahead (get_or list.forms k d) (near k d below), ended))
 
 -- The sums of the digits of a front are those of its parts in the text.
 piece_same : (text : List ℕ) (size a k : ℕ) → a + k ≤ size → take k (drop a (take size text)) ≡ take k (drop a text)

@@ -1,4 +1,6 @@
 -- Lemmas.
+pub mod WordLemmas
+pub mod DigitLemmas
 pub mod RunLemmas
 mod ScanLemmas
 mod StepLemmas
@@ -29,6 +31,7 @@ mod BlameLemmas
 mod PartOfLemmas
 mod OneCauseLemmas
 mod ExcludeLemmas
+mod StrangerLemmas
 mod FormLemmas
 mod TokenLemmas
 mod LeadingLemmas

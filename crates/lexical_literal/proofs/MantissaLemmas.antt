@@ -16,7 +16,7 @@ use Rattle.lexical_literal.specs.declared.plain.Sizes.{Sizes}
 use Rattle.lexical_literal.specs.declared.plain.Sums.{Sums}
 use Rattle.lexical_literal.specs.declared.steps.Stage.{Stage}
 use Rattle.lexical_literal.proofs.SumLemmas.{after_same}
-use Rattle.lexical_number.specs.Number.{digits_in, number, places}
+use Rattle.lexical_literal.specs.Number.{digits_in, number, places}
 
 -- Digits of one run, and then of another.
 pub both_digits : (radix : ℕ) (xs ys : List ℕ) (first second : ℕ) → first ≡ places radix xs → second ≡ first + places radix ys

@@ -1,4 +1,6 @@
 pub mod Notation
+pub mod Number
+pub mod Word
 pub mod Groups
 pub mod Run
 pub mod Literal

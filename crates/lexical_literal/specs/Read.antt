@@ -4,7 +4,7 @@ use Rattle.lexical_util.specs.Layout as layout
 use Rattle.lexical_util.specs.Record.{Record, effective_exponent_radix}
 use Rattle.lexical_literal.specs.Literal.{Literal}
 use Rattle.lexical_literal.specs.declared.kind.Kind.{Kind}
-use Rattle.lexical_number.specs.Number.{number}
+use Rattle.lexical_literal.specs.Number.{number}
 
 -- `Read` has the word of the format by which a literal was read, its parts, and its kind.
 pub record Read : Type 0 where

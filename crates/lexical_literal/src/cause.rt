@@ -584,7 +584,7 @@ const fn case_mask(grammar: Grammar, byte: u8) -> u128
 }
 
 // Returns the other case of a letter, or the byte itself if it is not a letter.
-const fn other_case(byte: u8) -> u8
+pub(crate) const fn other_case(byte: u8) -> u8
     ensures { result ≡ other_case byte }
 {
     match byte {

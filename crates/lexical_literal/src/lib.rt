@@ -19,3 +19,4 @@ mod steps;
 pub mod suffix;
 pub mod syntax;
 pub mod token;
+pub mod word;

@@ -1,7 +1,7 @@
 //! Numbers that have several forms, such as `10`, `0x1F` and `0b1`.
 
-ghost use Rattle.std.specs.Prelude.{ℕ, ◌≡◌, ◌+◌, ◌<◌, ◌≤◌, IfErr, IfOk, IfSome, IsErr, IsNone, IsSomeAnd, IsTrue, None, Some, SomeIff, false, length, slice_get};
-ghost use Rattle.lexical_literal.specs.Additions.Forms.{IsFoundForm, IsFoundFrontForm, IsFurthestForm, PlaysNoRole, further, further_on, longer, sign_size};
+ghost use Rattle.std.specs.Prelude.{ℕ, ◌≡◌, ◌+◌, ◌<◌, ◌≤◌, IfErr, IfOk, IfSome, IsErr, IsNone, IsSomeAnd, IsTrue, None, Some, SomeIff, false, get_or, length, slice_get};
+ghost use Rattle.lexical_literal.specs.Additions.Forms.{IsFoundForm, IsFoundFrontForm, IsFurthestForm, IsNoBetter, IsSpare, IsStranger, PlaysNoRole, bound, further, further_on, longer, sign_size};
 ghost use Rattle.lexical_literal.specs.Additions.Longest.{HasBegun, IsMeasured, IsStopped, IsUnderway};
 ghost use Rattle.lexical_literal.specs.Forms.{HasKind, IsErrorOfForm, IsFormError, IsFrontByForms, IsReadByForms, NoForm, special_by};
 ghost use Rattle.lexical_literal.specs.Front.{IsValidUpTo, NoLiteral};
@@ -9,7 +9,7 @@ ghost use Rattle.lexical_literal.specs.Kind.{exact};
 ghost use Rattle.lexical_literal.specs.declared.groups.Group.{Group};
 ghost use Rattle.lexical_literal.specs.Notation.{notation_of};
 
-use crate::cause::ReadError;
+use crate::cause::{ReadError, other_case};
 use crate::kind::Kind;
 use crate::literal::Literal;
 use crate::plain::{At, Counted};
@@ -18,7 +18,7 @@ use crate::specials::{Special, Specials};
 use crate::steps::{is_digit, role_at};
 use crate::suffix::Suffixes;
 use crate::syntax::{Condition, Grammar, Syntax};
-use lexical_util::format::Part;
+use lexical_util::format::{Part, Role};
 use std::marker::Model;
 
 /// A form of numbers: its name, such as `hexadecimal`, its syntax, the suffixes of its tokens, and its kind.
@@ -146,6 +146,22 @@ impl Tokens {
             ..self
         }
     }
+
+    /// Returns the forms that need a suffix.
+    #[must_use]
+    pub const fn forms(&self) -> &'static [Form]
+        ensures { result ≡ self.now.forms }
+    {
+        self.forms
+    }
+
+    /// Returns the words that may follow a number directly.
+    #[must_use]
+    pub const fn following(&self) -> &'static [&'static [u8]]
+        ensures { result ≡ self.now.following }
+    {
+        self.following
+    }
 }
 
 /// The forms of numbers, at least one, the spellings of NaN and infinity, and how tokens are read. The first form of which a text
@@ -262,6 +278,14 @@ impl<'a> Forms<'a> {
         self.specials
     }
 
+    /// Returns the rules for tokens, if there are any.
+    #[must_use]
+    pub const fn tokens(&self) -> Option<&'a Tokens>
+        ensures { result ≡ self.now.tokens }
+    {
+        self.tokens
+    }
+
     /// Returns the number that `text` is: a literal of the first form of which it is one, or otherwise a special value.
     ///
     /// # Errors
@@ -277,7 +301,7 @@ impl<'a> Forms<'a> {
         while form < self.forms.len() {
             let it = &self.forms[form];
             let syntax = &it.syntax;
-            if !excludes(syntax.grammar(), text, sign) {
+            if !is_behind(syntax.grammar(), text, sign, furthest) {
                 let counted = syntax.begin(false, text, false);
                 if syntax.is_whole(text, counted) {
                     let literal = syntax
@@ -427,16 +451,19 @@ impl<'a> Forms<'a> {
             unreachable!()
         };
         let error = self.error_at(text, first, stop);
-        if !error.error.is_byte() {
-            return error;
-        }
         let forms = self.as_slice();
         let mut form = first + 1;
         while form < forms.len() {
-            if let Some(reached) = forms[form].syntax.stop_at(text, stop.size) {
-                let other = self.error_at(text, form, reached);
-                if !other.error.is_byte() {
-                    return other;
+            let syntax = &forms[form].syntax;
+            if !is_settled(syntax.grammar(), text, stop.size) {
+                if let Some(reached) = syntax.stop_at(text, stop.size) {
+                    if !error.error.is_byte() {
+                        return error;
+                    }
+                    let other = self.error_at(text, form, reached);
+                    if !other.error.is_byte() {
+                        return other;
+                    }
                 }
             }
             form += 1;
@@ -551,17 +578,13 @@ impl Syntax {
         ensures size { IfSome result (λ stop. stop.size ≡ size) }
         ensures none { IsNone result → IsValidUpTo (notation_of self.now) text.now size → ⊥ }
     {
-        let start = sign_size(text);
-        if size > start + 1 && excludes(self.grammar(), text, start) {
-            return None;
-        }
         let stop = self.stop_in(text);
         if stop.size == size { Some(stop) } else { None }
     }
 
     // Returns where reading `text` stops.
     #[cold]
-    fn stop_in(&self, text: &[u8]) -> At
+    pub(crate) fn stop_in(&self, text: &[u8]) -> At
         ensures { IsStopped (notation_of self.now) text.now result }
     {
         let counted = self.begin(false, text, false);
@@ -585,9 +608,68 @@ const fn excludes(grammar: Grammar, text: &[u8], sign: usize) -> bool
     }
 }
 
+// Returns whether a form need not be asked whether `text` is a literal of it: its first bytes exclude that, or the byte where the
+// furthest form stops is a stranger. Then it goes no further.
+#[inline(always)]
+const fn is_behind(
+    grammar: Grammar,
+    text: &[u8],
+    sign: usize,
+    furthest: Option<(usize, At)>,
+) -> bool
+    requires sign { sign ≡ sign_size text.now }
+    requires far { IfSome furthest (λ best. sign + 1 < best.1.size) }
+    ensures none { IsTrue result → NoLiteral (notation_of grammar) text.now }
+    ensures near { IsTrue result → (n : ℕ) → IsValidUpTo (notation_of grammar) text.now n → n ≤ bound sign furthest }
+{
+    excludes(grammar, text, sign)
+        || match furthest {
+            None => false,
+            Some((_, stop)) => is_stranger_at(grammar, text, stop.size),
+        }
+}
+
+// Returns whether no error of a form goes further than one up to `size` whose cause is a wrong byte: the first bytes exclude the form,
+// or the byte there is a stranger.
+const fn is_settled(grammar: Grammar, text: &[u8], size: usize) -> bool
+    ensures { IsTrue result → IsNoBetter (notation_of grammar) text.now size }
+{
+    let start = sign_size(text);
+    size > start + 1 && (excludes(grammar, text, start) || is_stranger_at(grammar, text, size))
+}
+
+// Returns whether the byte at `index` is a stranger, if there is one.
+#[inline(always)]
+const fn is_stranger_at(grammar: Grammar, text: &[u8], index: usize) -> bool
+    ensures inside { IsTrue result → index < length text.now }
+    ensures stranger { IsTrue result → IsStranger (notation_of grammar) (get_or text.now index 0) }
+{
+    index < text.len() && is_stranger(grammar, text[index])
+}
+
+// Returns whether `byte` plays no role behind the base prefix, and its other case neither.
+const fn is_stranger(grammar: Grammar, byte: u8) -> bool
+    ensures { IsTrue result → IsStranger (notation_of grammar) byte }
+{
+    is_spare(grammar, byte) && is_spare(grammar, other_case(byte))
+}
+
+// Returns whether `byte` plays no role, or is only the base prefix.
+#[inline(always)]
+const fn is_spare(grammar: Grammar, byte: u8) -> bool
+    ensures { IsTrue result → IsSpare (notation_of grammar) byte }
+{
+    !is_digit(grammar, Part::Exponent, byte)
+        && match role_at(grammar, Part::Integer, byte) {
+            None => true,
+            Some(Role::Prefix) => true,
+            _ => false,
+        }
+}
+
 // Returns whether `byte` plays no role. Bytes up to `9` are said to play one: most are digits, and a prefix begins with a zero.
 #[inline(always)]
-pub(crate) const fn plays_no_role(grammar: Grammar, byte: u8) -> bool
+const fn plays_no_role(grammar: Grammar, byte: u8) -> bool
     ensures { IsTrue result → PlaysNoRole (notation_of grammar) byte }
 {
     byte > b'9'

@@ -104,6 +104,38 @@ impl Suffixes {
         Suffixes { kinds, ..self }
     }
 
+    /// Returns the words that may be behind integers.
+    #[must_use]
+    pub const fn integers(&self) -> &'static [&'static [u8]]
+        ensures { result ≡ self.now.integers }
+    {
+        self.integers
+    }
+
+    /// Returns the words that may be behind floats.
+    #[must_use]
+    pub const fn floats(&self) -> &'static [&'static [u8]]
+        ensures { result ≡ self.now.floats }
+    {
+        self.floats
+    }
+
+    /// Returns whether the words may be in either case.
+    #[must_use]
+    pub const fn is_either_case(&self) -> bool
+        ensures { result ≡ self.now.either_case }
+    {
+        self.either_case
+    }
+
+    /// Returns the bytes of which any word that begins with one is a suffix.
+    #[must_use]
+    pub const fn begins_any_word(&self) -> &'static [u8]
+        ensures { result ≡ self.now.any }
+    {
+        self.any
+    }
+
     // Returns the length of the longest suffix with which `text` begins, or 0 if there is none.
     const fn size(&self, float: bool, text: &[u8]) -> usize
         ensures size { result ≡ suffix_size (Some self.entry) float text.now }
@@ -298,7 +330,7 @@ const fn begins(either: bool, word: &[u8], text: &[u8]) -> bool
         [letter, word @ ..] => match text {
             [] => false,
             [byte, text @ ..] => {
-                is_word_byte(*byte) && is_same(either, *letter, *byte) && begins(either, word, text)
+                is_same(either, *letter, *byte) && is_word_byte(*byte) && begins(either, word, text)
             }
         },
     }
@@ -320,17 +352,15 @@ const fn longest_word(either: bool, words: &[&[u8]], text: &[u8]) -> usize
     ensures size { result ≡ longest_word either words.now text.now }
     ensures within { result ≤ length text.now }
 {
-    match words {
-        [] => 0,
-        [word, rest @ ..] => {
-            let size = longest_word(either, rest, text);
-            if begins(either, word, text) && size < word.len() {
-                word.len()
-            } else {
-                size
-            }
+    let mut longest = 0;
+    let mut rest = words;
+    while let [word, more @ ..] = rest {
+        if longest < word.len() && begins(either, word, text) {
+            longest = word.len();
         }
+        rest = more;
     }
+    longest
 }
 
 // Returns whether the word with which `text` begins is one of `words`.

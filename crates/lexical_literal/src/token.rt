@@ -2,10 +2,11 @@
 
 ghost use Rattle.std.specs.Prelude.{◌≡◌, ◌<◌, ◌≤◌, ◌+◌, ◌-◌, ℕ, All, IsNone, IsSomeAnd, IsTrue, Some, drop, false, length, slice_get, take, true};
 ghost use Rattle.std.specs.Option.{ForSome};
-ghost use Rattle.lexical_literal.specs.Additions.Forms.{IsFurthestForm, sign_size};
+ghost use Rattle.lexical_literal.specs.Additions.Forms.{IsFurthestForm, PlaysNoRole, sign_size};
 ghost use Rattle.lexical_literal.specs.Additions.Longest.{HasBegun, IsCountedFront, IsMeasured, IsStopped};
-ghost use Rattle.lexical_literal.specs.Additions.Read.{IsSummed};
-ghost use Rattle.lexical_literal.specs.Additions.Token.{AreWithin, FrontsWithin, IsBestOf, IsLeading, IsMade, IsOwn, IsPicked, IsWithin, NoOwn, better, goes_on};
+ghost use Rattle.lexical_literal.specs.Additions.Read.{AreSums, cut};
+ghost use Rattle.lexical_literal.specs.Additions.Summary.{cuts_of};
+ghost use Rattle.lexical_literal.specs.Additions.Token.{AreNear, FrontsWithin, IsBestOf, IsLeading, IsMade, IsNear, IsOwn, IsPicked, IsWithin, NoOwn, better, goes_on};
 ghost use Rattle.lexical_literal.specs.Additions.Token.{has_float, has_prefix, suffixed, whole};
 ghost use Rattle.lexical_literal.specs.Cause.{is_in};
 ghost use Rattle.lexical_literal.specs.Forms.{ReadsForm};
@@ -14,15 +15,16 @@ ghost use Rattle.lexical_literal.specs.Suffix.{is_digit, kind_with, stop_end};
 ghost use Rattle.lexical_literal.specs.Token.{HasNone, IsAhead, IsReadByTokens, IsToken, IsTokenError, IsRefused, IsWordUpTo, NoCandidate, gives_back, is_shorter};
 ghost use Rattle.lexical_util.specs.Record.{raw};
 
-use crate::list::{Form, FormError, Forms, Tokens, further, plays_no_role, sign_size};
+use crate::list::{Form, FormError, Forms, Tokens, further, sign_size};
 use crate::literal::Literal;
 use crate::plain::{At, Counted};
 use crate::read::{Found, byte_at};
-use crate::steps::is_point;
+use crate::steps::{is_digit, is_point, role_at};
 use crate::suffix::{
     byte_before, is_followed, is_stopped, is_word_byte, kind_with, suffix_size, word_size,
 };
 use crate::syntax::{Condition, Grammar, Syntax};
+use lexical_util::format::Part;
 
 /// A number that a text begins with, and what follows it.
 #[derive(Drop)]
@@ -89,7 +91,7 @@ impl<'a> Forms<'a> {
         let Some(tokens) = self.tokens else {
             return Err(TokenError::NoTokens);
         };
-        match self.leading(tokens, text, true) {
+        match self.leading(tokens, text, has_letter_behind_zero(text)) {
             Some(token) => Ok(token),
             None => self.token_of(tokens, text),
         }
@@ -134,50 +136,90 @@ impl<'a> Forms<'a> {
 
     // Returns the token that `text` begins with, if reading the forms of the list once tells it. If `excluding` is true, a form of
     // which no literal goes on behind the first byte and the sign is not asked.
-    #[inline(always)]
     fn leading<'t>(&self, tokens: &Tokens, text: &'t [u8], excluding: bool) -> Option<Token<'t>>
         ensures { ForSome result (IsToken self.now tokens.now text.now) }
     {
+        let back = tokens.gives_points_back;
         let sign = sign_size(text);
         let mut reached = sign;
         let mut form = 0;
         while form < self.forms.len() {
             let it = &self.forms[form];
-            if excluding && is_past(it.syntax.grammar(), text, sign + 1) {
+            if is_excluded(it.syntax.grammar(), text, sign, excluding) {
                 reached = larger(reached, sign + 1);
             } else {
                 let counted = it.syntax.begin(false, text, true);
                 let size = counted.at.size;
                 if counted.complete
                     && reached < size
-                    && are_past(self.forms, text, size)
-                    && are_past(tokens.forms, text, size)
+                    && it.ends(back, text, counted)
+                    && are_past(self.forms, form, back, text, size)
+                    && are_past(tokens.forms, tokens.forms.len(), back, text, size)
                 {
                     return self.behind(tokens, text, it, form, counted);
                 }
-                reached = larger(reached, it.bound(text, it.syntax.reach(text, counted)));
+                let stop = it.syntax.reach(text, counted);
+                if gives_back(it.syntax, back, text, stop.size) {
+                    return self.before_point(tokens, text, it, form, stop, reached);
+                }
+                reached = larger(reached, it.bound(text, stop));
             }
             form += 1;
         }
         None
     }
 
-    // Returns the token of which `counted` is the literal, of the form with this index, if its point is not given back and
-    // nothing follows that may not.
-    #[inline(always)]
-    fn behind<'t>(
+    // Returns the token of the form with this index that stops at `stop`, behind a point that is given back. The forms before have
+    // no literal of more than `reached` bytes.
+    #[inline(never)]
+    fn before_point<'t>(
         &self,
         tokens: &Tokens,
         text: &'t [u8],
         it: &Form,
         form: usize,
+        stop: At,
+        reached: usize,
+    ) -> Option<Token<'t>>
+        requires at { slice_get self.now.forms form ≡ Some it.now }
+        requires stopped { IsStopped (notation_of it.now.syntax) text.now stop }
+        requires gives { gives_back tokens.now.gives_points_back (notation_of it.now.syntax) text.now stop.size ≡ true }
+        requires sign { sign_size text.now ≤ reached }
+        requires before { All (FrontsWithin text.now reached) (take form self.now.forms) }
+        ensures { ForSome result (IsToken self.now tokens.now text.now) }
+    {
+        let back = tokens.gives_points_back;
+        let size = stop.size - 1;
+        let (front, _) = text.split_at(size);
+        let counted = it.syntax.begin(false, front, true);
+        if counted.complete
+            && counted.at.size == size
+            && reached < size
+            && !gives_back(it.syntax, back, text, size)
+            && are_past(self.forms, form, back, text, size)
+            && are_past(tokens.forms, tokens.forms.len(), back, text, size)
+        {
+            self.behind(tokens, text, it, form, counted)
+        } else {
+            None
+        }
+    }
+
+    // Returns the token of which `counted` is the literal, of the form with this index, if nothing follows that may not.
+    #[inline(always)]
+    fn behind<'t>(
+        &self,
+        _tokens: &Tokens,
+        text: &'t [u8],
+        it: &Form,
+        form: usize,
         counted: Counted,
     ) -> Option<Token<'t>>
-        requires complete { IsTrue counted.complete }
-        requires begun { HasBegun (notation_of it.now.syntax) text.now counted }
-        requires summed { IsSummed (raw it.now.syntax.word) text.now counted }
-        requires leading { IsLeading self.now tokens.now text.now form it.now counted.at.size }
-        ensures { ForSome result (IsToken self.now tokens.now text.now) }
+        requires within { counted.at.size ≤ length text.now }
+        requires measured { IsMeasured (notation_of it.now.syntax) (take counted.at.size text.now) counted.counts }
+        requires sums { AreSums (raw it.now.syntax.word) (cut (take counted.at.size text.now) (cuts_of counted.counts)) counted.sums }
+        requires leading { IsLeading self.now _tokens.now text.now form it.now counted.at.size }
+        ensures { ForSome result (IsToken self.now _tokens.now text.now) }
     {
         let Counted {
             at,
@@ -187,9 +229,7 @@ impl<'a> Forms<'a> {
         } = counted;
         let (front, rest) = text.split_at(at.size);
         let more = suffix_size(it.suffixes, is_float(counts), rest);
-        if gives_back(it.syntax, tokens.gives_points_back, text, at.size)
-            || is_stopped(it.suffixes, text, at.size + more)
-        {
+        if is_stopped(it.suffixes, text, at.size + more) {
             return None;
         }
         let (suffix, rest) = rest.split_at(more);
@@ -254,14 +294,16 @@ impl<'a> Forms<'a> {
     }
 }
 
-// Returns whether no literal of a form begins with more than the first `size` bytes of `text`, which are more than a sign.
+// Returns whether no literal of the forms, but for the one with the index `but`, begins with more than the first `size` bytes of
+// `text`, which are more than a sign, or only with a point more that is given back.
 #[inline(always)]
-fn are_past(forms: &[Form], text: &[u8], size: usize) -> bool
-    ensures { IsTrue result → sign_size text.now < size → AreWithin forms.now text.now size }
+fn are_past(forms: &[Form], but: usize, back: bool, text: &[u8], size: usize) -> bool
+    requires { size ≤ length text.now }
+    ensures { IsTrue result → sign_size text.now < size → AreNear back forms.now but text.now size }
 {
     let mut form = 0;
     while form < forms.len() {
-        if !is_past(forms[form].syntax.grammar(), text, size) {
+        if form != but && !forms[form].is_past(back, text, size) {
             return false;
         }
         form += 1;
@@ -269,12 +311,21 @@ fn are_past(forms: &[Form], text: &[u8], size: usize) -> bool
     true
 }
 
-// Returns whether no literal begins with more than the first `size` bytes of `text`, which are more than a sign.
+// Returns whether the form is not asked: there is not the prefix that is required, or, if `excluding` is true, no literal begins
+// with more than one byte behind the sign, which has this length.
 #[inline(always)]
-const fn is_past(grammar: Grammar, text: &[u8], size: usize) -> bool
-    ensures { IsTrue result → sign_size text.now < size → IsWithin (notation_of grammar) text.now size }
+const fn is_excluded(grammar: Grammar, text: &[u8], sign: usize, excluding: bool) -> bool
+    requires { sign ≡ sign_size text.now }
+    ensures { IsTrue result → IsWithin (notation_of grammar) text.now (sign + 1) }
 {
-    lacks_prefix(grammar, text) || is_over(grammar, text, size)
+    lacks_prefix(grammar, text) || (excluding && is_over(grammar, text, sign + 1))
+}
+
+// Returns whether a zero and a letter are behind the sign.
+#[inline(always)]
+const fn has_letter_behind_zero(text: &[u8]) -> bool {
+    let sign = sign_size(text);
+    sign + 1 < text.len() && text[sign] == b'0' && text[sign + 1] > b'9'
 }
 
 // Returns whether the text ends behind the first `size` bytes, or a byte follows that plays no role.
@@ -284,8 +335,18 @@ const fn is_over(grammar: Grammar, text: &[u8], size: usize) -> bool
 {
     match byte_at(text, size) {
         None => true,
-        Some(byte) => plays_no_role(grammar, byte),
+        Some(byte) => has_no_role(grammar, byte),
     }
+}
+
+// Returns whether `byte` plays no role, and is not the zero of a prefix.
+#[inline(always)]
+const fn has_no_role(grammar: Grammar, byte: u8) -> bool
+    ensures { IsTrue result → PlaysNoRole (notation_of grammar) byte }
+{
+    byte != b'0'
+        && matches!(role_at(grammar, Part::Integer, byte), None)
+        && !is_digit(grammar, Part::Exponent, byte)
 }
 
 // Returns whether there is not the base prefix that is required.
@@ -341,6 +402,41 @@ fn made<'t>(it: &Form, text: &'t [u8], form: usize, candidate: Candidate) -> Tok
 }
 
 impl Form {
+    // Returns whether the front that has been read, which is a literal, is the longest, and does not end in a point that is given back.
+    #[inline(always)]
+    fn ends(&self, back: bool, text: &[u8], counted: Counted) -> bool
+        requires { HasBegun (notation_of self.now.syntax) text.now counted }
+        ensures within { IsTrue result → IsWithin (notation_of self.now.syntax) text.now counted.at.size }
+        ensures kept { IsTrue result → gives_back back (notation_of self.now.syntax) text.now counted.at.size ≡ false }
+    {
+        let size = counted.at.size;
+        (is_over(self.syntax.grammar(), text, size)
+            || self.syntax.reach(text, counted).size == size)
+            && !gives_back(self.syntax, back, text, size)
+    }
+
+    // Returns whether no literal begins with more than the first `size` bytes of `text`, which are more than a sign, or only with a
+    // point more that is given back.
+    #[inline(always)]
+    fn is_past(&self, back: bool, text: &[u8], size: usize) -> bool
+        requires { size ≤ length text.now }
+        ensures { IsTrue result → sign_size text.now < size → IsNear back (notation_of self.now.syntax) text.now size }
+    {
+        let grammar = self.syntax.grammar();
+        lacks_prefix(grammar, text) || is_over(grammar, text, size) || self.stops(back, text, size)
+    }
+
+    // Returns the same by reading.
+    #[inline(never)]
+    fn stops(&self, back: bool, text: &[u8], size: usize) -> bool
+        requires { size ≤ length text.now }
+        ensures { IsTrue result → IsNear back (notation_of self.now.syntax) text.now size }
+    {
+        let stop = self.syntax.stop_in(text);
+        stop.size <= size
+            || (stop.size == size + 1 && gives_back(self.syntax, back, text, size + 1))
+    }
+
     // Returns a size that no front of `text` that is a literal exceeds, where reading stops at `stop`.
     #[inline(always)]
     fn bound(&self, text: &[u8], stop: At) -> usize
@@ -533,7 +629,7 @@ fn is_one_ahead(forms: &[Form], back: bool, text: &[u8], end: usize) -> bool
     let mut form = 0;
     while form < forms.len() {
         let it = &forms[form];
-        let (stop, _) = it.syntax.front(text);
+        let stop = it.syntax.stop_in(text);
         if goes_on(it.syntax, back, text, end, stop.size) {
             return true;
         }

@@ -7,12 +7,12 @@ use callers::formats::read_decimal;
 use lexical_literal::list::{Form, FormError, Forms};
 use lexical_literal::specials::{Sign, Special, Specials, Spelling};
 use lexical_literal::syntax::{Condition, Conditions, Syntax};
-use lexical_number::integer::Integer;
 use lexical_util::edits::{Edit, FlagSetter};
 use lexical_util::error::Error;
 use lexical_util::format::{Format, NonZeroU8, NumberFormat, STANDARD};
 use lexical_value::float::to_float;
 use lexical_value::integer::ValueErrorKind;
+use lexical_value::number::integer::Integer;
 use lexical_value::parse::{ParseError, parse_float, parse_integer};
 use lexical_writer::choice::choose;
 use lexical_writer::float::format_float;
@@ -20,6 +20,7 @@ use lexical_writer::float_digits::FloatDigits;
 use lexical_writer::integer::format_integer;
 use lexical_writer::layout::{ExponentStyle, Grouping, Style, WriteError};
 use lexical_writer::literal::format_literal;
+use lexical_writer::near::format_near;
 use std::test::Fail;
 
 // Formats with `_` between digits and several in a row: decimal, and hexadecimal with the exponent base 2.
@@ -288,37 +289,97 @@ fn numbers_are_written(rt: HostRuntime) -> Result<(), Fail> {
     Ok(())
 }
 
-// Returns whether a float is written as a text in the standard format, or refused.
-fn is_float_text(value: f64, wanted: Result<&[u8], WriteError>) -> Option<bool> {
-    let format = Format::new(STANDARD).ok()?;
-    let syntax = Syntax::new(format, b'e', b'.').ok()?;
-    let (mut digits, mut buffer) = (FloatDigits::new(), [0u8; 24]);
-    match (format_float(&syntax, value, PLAIN, &mut digits), wanted) {
-        (Ok(layout), Ok(text)) => {
-            let length = layout.write(&mut buffer);
-            Some(buffer.get(..length) == Some(text))
+const MONEY: Style = Style {
+    decimals: Some(2),
+    ..PLAIN
+};
+
+const WHOLE: Style = Style {
+    decimals: Some(0),
+    ..PLAIN
+};
+
+const SCIENTIFIC: Style = Style {
+    decimals: Some(3),
+    exponent: ExponentStyle::Always,
+    ..PLAIN
+};
+
+const POINT: Style = Style {
+    point: true,
+    ..PLAIN
+};
+
+const NEAREST: Style = Style {
+    nearest: true,
+    ..PLAIN
+};
+
+// A float, a style, and what is written in the standard format, or the error.
+#[rattlefmt::skip]
+const FLOATS: [(f64, Style, Result<&[u8], WriteError>); 19] = [
+    (-0.3, PLAIN, Ok(b"-0.3")),
+    (-0.0, PLAIN, Ok(b"-0.0")),
+    (1234.5, PLAIN, Ok(b"1234.5")),
+    (1e16, PLAIN, Ok(b"1e16")),
+    (1e-7, PLAIN, Ok(b"1e-7")),
+    (5e-324, PLAIN, Ok(b"5e-324")),
+    (1.7976931348623157e308, PLAIN, Ok(b"1.7976931348623157e308")),
+    (f64::INFINITY, PLAIN, Err(WriteError::Special)),
+    (1e16, POINT, Ok(b"1.0e16")),
+    (1234.5, MONEY, Ok(b"1234.50")),
+    (-0.004, MONEY, Ok(b"-0.00")),
+    (0.125, MONEY, Ok(b"0.12")),
+    (0.375, MONEY, Ok(b"0.38")),
+    (2.5, WHOLE, Ok(b"2")),
+    (5e-324, MONEY, Ok(b"0.00")),
+    (1e22, MONEY, Ok(b"10000000000000000000000.00")),
+    (1e23, MONEY, Ok(b"99999999999999991611392.00")),
+    (99999.0, SCIENTIFIC, Ok(b"1.000e5")),
+    (1.0625, SCIENTIFIC, Ok(b"1.062e0")),
+];
+
+#[test]
+fn floats_are_written_as_the_rows_say(rt: HostRuntime) -> Result<(), Fail> {
+    let format = Format::new(STANDARD).ok().ok_or("a format")?;
+    let syntax = Syntax::new(format, b'e', b'.').ok().ok_or("a syntax")?;
+    let mut buffer = [0u8; 32];
+    for (value, style, wanted) in FLOATS {
+        let mut digits = FloatDigits::new();
+        match (format_float(&syntax, value, style, &mut digits), wanted) {
+            (Ok(layout), Ok(text)) => {
+                let length = layout.write(&mut buffer);
+                assert!(rt; buffer.get(..length) == Some(text));
+            }
+            (Err(error), Err(wanted)) => assert_eq!(rt; error, wanted),
+            _ => return Err("a text or an error".into()),
         }
-        (Err(error), Err(wanted)) => Some(error == wanted),
-        _ => Some(false),
     }
+    Ok(())
 }
 
 #[test]
-fn floats_are_written_by_their_shortest_digits(rt: HostRuntime) {
-    assert_eq!(rt; is_float_text(-0.3, Ok(b"-0.3")), Some(true));
-    assert_eq!(rt; is_float_text(-0.0, Ok(b"-0.0")), Some(true));
-    assert_eq!(rt; is_float_text(1234.5, Ok(b"1234.5")), Some(true));
-    assert_eq!(rt; is_float_text(1e16, Ok(b"1e16")), Some(true));
-    assert_eq!(rt; is_float_text(1e-7, Ok(b"1e-7")), Some(true));
-    assert_eq!(rt; is_float_text(5e-324, Ok(b"5e-324")), Some(true));
-    assert_eq!(rt;
-        is_float_text(1.7976931348623157e308, Ok(b"1.7976931348623157e308")),
-        Some(true)
+fn a_literal_is_written_by_its_nearest_float(rt: HostRuntime) -> Result<(), Fail> {
+    let format = Format::new(STANDARD).ok().ok_or("a format")?;
+    let decimal = Syntax::new(format, b'^', b'.').ok().ok_or("a syntax")?;
+    let format = Format::new(HEXADECIMAL).ok().ok_or("a format")?;
+    let hexadecimal = Syntax::new(format, b'^', b'.').ok().ok_or("a syntax")?;
+    let Ok(literal) = decimal.read(b"0.1") else {
+        return Err("a literal".into());
+    };
+    let (mut digits, mut buffer) = (FloatDigits::new(), [0u8; 32]);
+    let layout = format_near::<f64>(&literal, &hexadecimal, NEAREST, &mut digits)
+        .ok()
+        .ok_or("a layout")?;
+    let length = layout.write(&mut buffer);
+    assert!(rt; buffer.get(..length) == Some(b"0.1999999999999A"));
+    assert!(rt;
+        matches!(
+            format_literal(&literal, &hexadecimal, PLAIN),
+            Err(WriteError::Radix)
+        )
     );
-    assert_eq!(rt;
-        is_float_text(f64::INFINITY, Err(WriteError::Special)),
-        Some(true)
-    );
+    Ok(())
 }
 
 // Returns what is written of a text of a format without requirements, which may be a float, in another format.

@@ -136,7 +136,6 @@ pub struct Reason {
 /// [`Reason::breaks`] returns whether a word breaks a rule because of a reason, and [`Reason::mask`] returns the bits
 /// that a reason blames.
 #[must_use]
-#[inline]
 pub const fn reasons(format: u128) -> [Option<Reason>; MAX_REASONS]
     ensures slots { result ≡ reasons_of format }
     ensures lawful { Lawful format ↔ NoReason result }

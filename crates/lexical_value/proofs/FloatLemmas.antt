@@ -1,19 +1,17 @@
 -- The fraction that a literal is, by its parts, and floats that are no NaN.
-use Rattle.std.proofs.Common.{ℕ, ◌≡◌, ◌+◌, ◌*◌, ◌^◌, ◌<◌, ◌≤◌, ◌==◌, not, arith, Bool, true, false, cond, ap, ◌∙◌, refl, subst, sym, zero, suc}
+use Rattle.std.proofs.Common.{ℕ, ◌≡◌, ◌+◌, ◌*◌, ◌^◌, ◌==◌, not, Bool, true, false, cond, ap, ◌∙◌, refl, subst, sym, zero, suc}
 use lib.Ieee.{Float, Format, emax, inf, is_nan, low, odd, prec, round, units}
 use lib.Ieee.Fits.{round_is}
-use Rattle.std.proofs.Math.Nat.{pow-zero}
 use Rattle.std.proofs.lemmas.Bool.{and_parts, eqb-true}
-use Rattle.std.proofs.lemmas.Bool.Decides.{nat_tests}
 use Rattle.lexical_value.specs.Float.{is_decimal}
 use Rattle.core.specs.Prelude.{T, ltb}
 use Rattle.std.specs.Float.{NotNan}
 use Rattle.lexical_util.specs.Layout as layout
 use Rattle.lexical_util.specs.Record.{Record, effective_exponent_base, effective_exponent_radix}
 use Rattle.lexical_literal.specs.Literal.{Literal, is_minus}
-use Rattle.lexical_number.specs.Binary.{raised_down, raised_up}
-use Rattle.lexical_number.specs.Leading.{IsCutTo, Leads}
-use Rattle.lexical_number.specs.Number.{number, places}
+use Rattle.lexical_value.specs.Binary.{raised_down, raised_up}
+use Rattle.lexical_value.specs.Leading.{Leads}
+use Rattle.lexical_literal.specs.Number.{number, places}
 use Rattle.lexical_literal.specs.Read.{mantissa}
 use Rattle.lexical_value.specs.Value.{denominator, numerator}
 
@@ -53,15 +51,6 @@ by_bits radix bits n digits dropped more is = subst (λ r. Leads r n digits more
 pub not_true : (b : Bool) → (b ≡ true → false ≡ true) → b ≡ false
 not_true true apart = sym (apart refl)
 not_true false apart = refl
-
--- A number of one word is led by itself.
-pub leads_all : (radix n : ℕ) → 1 ≤ radix → n < 2 ^ 64 → Leads radix n n false 0
-leads_all radix n some small = record {
-  cut = subst (λ unit. IsCutTo n n false unit) (sym (pow-zero radix))
-      (record { from = omega arith; below = omega arith; some = grind (arith, nat_tests) });
-  small = omega (arith, some, small);
-  long = λ h. absurd (omega (arith, h));
-}
 
 -- In a decimal format, the radix and the base are 10.
 pub decimals : (r : Record) → is_decimal r ≡ true → (10 ≡ r.byte layout.mantissa_radix) × (10 ≡ effective_exponent_base r)

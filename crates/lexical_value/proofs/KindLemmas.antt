@@ -1,5 +1,5 @@
 -- The lowest bits of a number, and what literals of the exact kind are worth.
-use Rattle.std.proofs.Common.{ℕ, ◌≡◌, ◌+◌, ◌-◌, ◌%◌, ◌^◌, ◌≤◌, ◌||◌, Bool, true, false, not, if◌then◌else◌, min, Result, Ok, Err, arith, ap, refl, subst, sym}
+use Rattle.std.proofs.Common.{ℕ, ◌≡◌, ◌+◌, ◌-◌, ◌%◌, ◌^◌, ◌≤◌, ◌||◌, Bool, true, false, not, if◌then◌else◌, Result, Ok, Err, arith, ap, refl, subst, sym}
 use Rattle.std.proofs.Math.Pow.{mod-mod-pow}
 use Rattle.std.proofs.lemmas.Bool.{false≢true}
 use Rattle.std.specs.Float.{Float, Format}
@@ -25,8 +25,8 @@ lowest_bits n bits = low n (width bits) (omega arith)
 pub exact_error : (least largest : ℕ) (r : Record) (l : Literal) (error : ValueErrorKind) → IsNotWorth integers.Exact least largest r l error
     → IsNoInteger least largest r l error
 exact_error least largest r l kinds.Float is = is
-exact_error least largest r l kinds.TooLarge is = (is.0, is.1.0, is.1.1)
-exact_error least largest r l kinds.TooSmall is = (is.0, is.1.0, is.1.1)
+exact_error least largest r l kinds.TooLarge (whole, (sign, above)) = (whole, sign, above)
+exact_error least largest r l kinds.TooSmall (whole, (sign, below)) = (whole, sign, below)
 exact_error least largest r l kinds.UnsupportedRadix is = is
 exact_error least largest r l kinds.Special is = is
 

@@ -5,7 +5,7 @@ use Rattle.std.specs.Float.Ieee.{round}
 use Rattle.lexical_util.specs.Layout as layout
 use Rattle.lexical_util.specs.Record.{Record, effective_exponent_base}
 use Rattle.lexical_literal.specs.Literal.{Literal, is_minus}
-use Rattle.lexical_number.specs.Binary.{is_power_of_two}
+use Rattle.lexical_value.specs.Binary.{is_power_of_two}
 use Rattle.lexical_value.specs.Value.{denominator, numerator}
 
 -- `is_decimal r` is true if the mantissa radix and the exponent base of `r` are 10.

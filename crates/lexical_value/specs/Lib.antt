@@ -1,3 +1,7 @@
+pub mod Numeral
+pub mod Binary
+pub mod Leading
+pub mod Nearest
 pub mod Value
 pub mod Integer
 pub mod Float

@@ -6,7 +6,7 @@ use Rattle.lexical_util.specs.Record.{Record, effective_exponent_base}
 use Rattle.lexical_literal.specs.Literal.{Literal, is_minus}
 use Rattle.lexical_literal.specs.Notation.{Notation}
 use Rattle.lexical_literal.specs.Read.{exponent, mantissa}
-use Rattle.lexical_number.specs.Number.{places}
+use Rattle.lexical_literal.specs.Number.{places}
 
 -- `scale r l` is the mantissa radix to the power of the number of fraction digits of `l`.
 abbrev pub scale : Record → Literal → ℕ

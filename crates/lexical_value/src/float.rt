@@ -5,11 +5,11 @@ ghost use Rattle.std.specs.Float.{NotNan, binary32};
 ghost use Rattle.std.specs.Float.Ieee.{round};
 ghost use Rattle.core.specs.Dec2flt.Rounding.{IsNearestBits};
 ghost use Rattle.lexical_util.specs.Layout as layout;
-ghost use Rattle.lexical_util.specs.Record.{raw};
+ghost use Rattle.lexical_util.specs.Record.{effective_exponent_base, raw};
 ghost use Rattle.lexical_literal.specs.Literal.{is_float, is_minus};
 ghost use Rattle.lexical_literal.specs.Read.{exponent, mantissa};
-ghost use Rattle.lexical_number.specs.Binary.{format_of};
-ghost use Rattle.lexical_number.specs.Leading.{Leads};
+ghost use Rattle.lexical_value.specs.Binary.{format_of};
+ghost use Rattle.lexical_value.specs.Leading.{Leads};
 ghost use Rattle.lexical_value.specs.Float.{is_binary, is_decimal, nearest};
 ghost use Rattle.lexical_value.specs.Kind.{float_worth, format_by, is_exact};
 ghost use Rattle.lexical_value.specs.Value.{denominator, numerator};
@@ -17,12 +17,12 @@ ghost use Rattle.lexical_value.specs.declared.integer.ValueErrorKind.TheVariants
 
 use crate::integer::{ValueErrorKind, integer_numeral};
 use crate::kind::{Worth, fewer, is_exact};
+use crate::number::decimal::{decimal_to_float, digits_to_float};
+use crate::number::float::Float;
+use crate::number::leading::{Leading, push_all, saturating};
+use crate::number::scaling::{bits_of, raised_bits, raised_word};
 use lexical_literal::kind::FloatKind;
 use lexical_literal::literal::Literal;
-use lexical_number::decimal::{decimal_to_float, digits_to_float};
-use lexical_number::float::Float;
-use lexical_number::leading::{Leading, push_all, saturating};
-use lexical_number::parts::{bits_of, raised_bits};
 use lexical_util::format::NumberFormat;
 
 /// Returns the value of a literal by its kind as a value of a float type: rounded once to the nearest float, or to the even one
@@ -193,31 +193,37 @@ pub(crate) fn binary_size(double: bool, literal: &Literal) -> Option<u64>
         (denominator (raw literal.now.format) literal.now.literal) bits) }
 {
     let format = literal.format();
-    let radix = format.mantissa_radix();
-    let Some(radix_bits) = bits_of(radix) else {
+    let Some(radix_bits) = bits_of(format.mantissa_radix()) else {
         return None;
     };
     let Some(base_bits) = bits_of(format.exponent_base()) else {
         return None;
     };
-    let leading = leading_of(literal, radix);
+    let places = literal.places() as u64;
+    let negative = literal.has_negative_exponent();
+    if let (Some(mantissa), Some(exponent)) = (literal.mantissa(), literal.scale()) {
+        return Some(raised_word(
+            double, mantissa, radix_bits, places, negative, exponent, base_bits,
+        ));
+    }
+    Some(long_binary_size(double, literal, radix_bits, base_bits))
+}
+
+// Returns the same where the mantissa or the exponent has many digits.
+#[cold]
+fn long_binary_size(double: bool, literal: &Literal, radix_bits: u32, base_bits: u32) -> u64
+    requires radix { (1 ≤ radix_bits) × (radix_bits ≤ 5) × ((raw literal.now.format).byte layout.mantissa_radix ≡ 2 ^ radix_bits) }
+    requires base { (1 ≤ base_bits) × (base_bits ≤ 5) × (effective_exponent_base (raw literal.now.format) ≡ 2 ^ base_bits) }
+    ensures { IsNearestBits (format_of double) (numerator (raw literal.now.format) literal.now.literal)
+        (denominator (raw literal.now.format) literal.now.literal) result }
+{
+    let leading = leading_of(literal, literal.format().mantissa_radix());
     let places = literal.places() as u64;
     let negative = literal.has_negative_exponent();
     let exponent = exponent_of(literal);
-    Some(raised_bits(
+    raised_bits(
         double, leading, radix_bits, places, negative, exponent, base_bits,
-    ))
-}
-
-// Returns all digits of a number as its leading digits.
-const fn whole(size: u64) -> Leading
-    ensures leads { (radix : ℕ) → 1 ≤ radix → Leads radix size result.digits result.more result.dropped }
-    ensures dropped { result.dropped ≡ 0 }
-{
-    Leading {
-        digits: size as u128,
-        ..Leading::ZERO
-    }
+    )
 }
 
 // Returns the leading digits of the mantissa, all of them if it is known.
@@ -228,7 +234,7 @@ fn leading_of(literal: &Literal, radix: u32) -> Leading
     ensures dropped { result.dropped ≤ 2 ^ 65 }
 {
     match literal.mantissa() {
-        Some(size) => whole(size),
+        Some(size) => Leading::whole(size),
         None => {
             let parts = literal.cut();
             let integer = push_all(Leading::ZERO, radix, parts.integer);

@@ -7,4 +7,5 @@ pub mod float;
 pub mod integer;
 mod kind;
 pub mod laws;
+pub mod number;
 pub mod parse;

@@ -11,8 +11,8 @@ use Rattle.lexical_literal.specs.Literal.{Literal, is_absent, is_present, is_min
 use Rattle.lexical_literal.specs.Parts.{literal_of}
 use Rattle.lexical_literal.specs.declared.read.Parts.{Parts}
 use Rattle.lexical_literal.specs.declared.syntax.Grammar.{Grammar}
-use Rattle.lexical_number.proofs.NumberLemmas.{number_after-append}
-use Rattle.lexical_number.specs.Number.{digits_in, number}
+use Rattle.lexical_literal.proofs.DigitLemmas.{number_after-append}
+use Rattle.lexical_literal.specs.Number.{digits_in, number}
 use Rattle.lexical_literal.specs.Read.{mantissa}
 use Rattle.lexical_value.specs.Value.{power, scale}
 use Rattle.lexical_writer.specs.Conversion.{SameFraction, amount_of, fraction_of, source_of}

@@ -15,7 +15,7 @@ use Rattle.lexical_util.specs.Ascii.{ByteSet}
 use Rattle.lexical_util.specs.Digits.{byte_value, digit_characters, digit_of}
 use Rattle.lexical_base.proofs.ValueLemmas.{byte_value-digit_character, same_at}
 use Rattle.lexical_literal.specs.Literal.{begins_with, is_present}
-use Rattle.lexical_number.specs.Number.{digits_in, number}
+use Rattle.lexical_literal.specs.Number.{digits_in, number}
 use Rattle.lexical_writer.specs.Digits.{at_least, begins_decimal, character, ends_group, grouped, grouped_front, no_groups, only_if, padded_values, separated, values_of}
 use Rattle.lexical_writer.specs.declared.run.Pattern.{Pattern}
 use Rattle.lexical_writer.specs.declared.run.Padded.{Padded}
@@ -172,6 +172,9 @@ pub read_back : (radix n : ℕ) (bytes : List ℕ) → 2 ≤ radix → radix ≤
     → digits_in radix bytes ≡ digits_of radix n
 read_back radix n bytes two small is = ap (digits_in radix) (is ∙ sym (grouped_plain (no_groups false) (digits_of radix n) refl))
     ∙ grouped_digits radix (no_groups false) small (λ some. absurd (omega (arith, some))) (digits_of radix n) (all_below_base_digits_of radix n two)
+
+pub as_many : (radix n : ℕ) (bytes : List ℕ) → bytes ≡ map (character false) (digits_of radix n) → length bytes ≡ length (digits_of radix n)
+as_many radix n bytes is = ap length is ∙ length-map (digits_of radix n) (character false)
 
 -- Enough digits are those that there are.
 pub enough : (least : ℕ) (digits : List ℕ) → least ≤ length digits → at_least least digits ≡ digits

@@ -1,5 +1,5 @@
 -- Digits with a point, zeros around them and an exponent have the value of the literal that is written.
-use Rattle.std.proofs.Common.{ℕ, suc, ◌≡◌, ◌+◌, ◌-◌, ◌*◌, ◌<◌, ◌≤◌, ◌^◌, ◌||◌, if◌then◌else◌, Bool, true, false, ap, ◌∙◌, arith, sym}
+use Rattle.std.proofs.Common.{ℕ, suc, ◌≡◌, ◌≢◌, ◌==◌, ◌+◌, ◌-◌, ◌*◌, ◌/◌, ◌%◌, ◌<◌, ◌≤◌, ◌^◌, ◌&&◌, ◌||◌, nat_lt, inl, inr, if◌then◌else◌, Bool, true, false, ap, ◌∙◌, arith, sym}
 use Rattle.std.proofs.Common.{List, [], ◌∷◌, ◌++◌, length, take, drop, replicate, Option, Some, None, Result, Ok, Err, IfOk}
 use Rattle.std.proofs.lemmas.Bool.Decides.{nat_tests}
 use Rattle.std.proofs.lemmas.Int.Digits.{number_after_append}
@@ -9,7 +9,7 @@ use lib.Ieee.{Format, emax, low, prec, round}
 use lib.Ieee.Exact.{HasValue, round_exact}
 use lib.Ieee.Scale.{round_same}
 use lib.Pow.{pow-add, shl_lt}
-use Rattle.std.proofs.Math.Nat.{one-le-pow, pow-le-pow_right}
+use Rattle.std.proofs.Math.Nat.{div-eq_of_lt-le, eq-zero-or-pos, mod-eq-sub-div-mul, one-le-pow, pow-le-pow_right}
 use Rattle.std.specs.Int.Digits.{number_from_digits, number_from_digits_after}
 use Rattle.std.specs.List.{cons_option}
 use Rattle.lexical_util.specs.Layout as layout
@@ -18,8 +18,9 @@ use Rattle.lexical_util.specs.Record.{Record, raw, effective_exponent_base, effe
 use Rattle.lexical_literal.specs.Literal.{Literal, is_minus}
 use Rattle.lexical_literal.specs.Read.{exponent, mantissa}
 use Rattle.lexical_literal.specs.declared.syntax.Grammar.{Grammar}
-use Rattle.lexical_number.specs.Binary.{format_of, raised_down, raised_up}
-use Rattle.lexical_number.specs.Number.{digits_in, number}
+use Rattle.lexical_value.specs.Binary.{format_of, raised_down, raised_up}
+use Rattle.lexical_value.specs.Leading.{IsCutTo}
+use Rattle.lexical_literal.specs.Number.{digits_in, number}
 use Rattle.lexical_value.specs.Float.{is_binary, is_decimal, nearest}
 use Rattle.lexical_value.specs.Value.{denominator, numerator, power, scale}
 use Rattle.lexical_writer.specs.Digits.{size_of, values_of}
@@ -160,15 +161,14 @@ pub twos : (i j : ℕ) → i ≤ j → 2 ^ i ≤ 2 ^ j
 twos i j less = pow-le-pow_right (omega arith) less
 
 -- A number of few bits times a power of two, over another one, is a float.
-pub exact : (double : Bool) (s : Bool) (n up down : ℕ) → n < 2 ^ prec (format_of double) → up ≤ 74 → down ≤ low (format_of double)
+pub exact : (double : Bool) (s : Bool) (n up down : ℕ) → n < 2 ^ prec (format_of double) → prec (format_of double) + up ≤ suc (emax (format_of double)) → down ≤ low (format_of double)
     → HasValue (round (format_of double) s (n * 2 ^ up) (2 ^ down)) s (n * 2 ^ up) (2 ^ down)
 exact double s n up down small few fits =
     let f = format_of double in
     let j = up + low f - down in
-    let most = room double in
     let fine : n * 2 ^ j < 2 ^ (low f + suc (emax f)) =
     let below = shl_lt (prec f) j small in
-    let more = twos (prec f + j) (low f + suc (emax f)) (omega (arith, few, most)) in
+    let more = twos (prec f + j) (low f + suc (emax f)) (omega (arith, few)) in
     omega (arith, below, more) in
     let same : n * 2 ^ up * 2 ^ low f ≡ n * 2 ^ j * 2 ^ down =
     assoc n (2 ^ up) (2 ^ low f) ∙ ap (λ p. n * p) (sym (pow-add 2 up (low f)) ∙ ap (λ k. 2 ^ k) {x = up + low f} {y = j + down} (omega (arith, fits))
@@ -178,9 +178,41 @@ exact double s n up down small few fits =
     assoc : (a b c : ℕ) → a * b * c ≡ a * (b * c)
     assoc a b c = omega arith
 
-    room : (double : Bool) → prec (format_of double) + 74 ≤ suc (emax (format_of double))
-    room true = omega arith
-    room false = omega arith
+-- A number that is cut to halves of its units is rounded to units.
+cut_even : (num den q a : ℕ) (more : Bool) → q ≡ a * 2 → IsCutTo (num * 2) q more den
+    → q / 2 + (if nat_lt 2 (q % 4) || (q % 4 == 1 && more) then 1 else 0) ≡ rounded num den
+cut_even num den q a more is cut =
+    let times : q * den ≡ a * den * 2 = ap (λ k. k * den) is ∙ omega arith in
+    let from = cut.from in
+    let below = cut.below in
+    let whole : num / den ≡ a = div-eq_of_lt-le {k = a} den {m = num} (omega (arith, times, from)) (omega (arith, times, below)) in
+    let rest : num % den ≡ num - a * den = mod-eq-sub-div-mul num den ∙ ap (λ k. num - k * den) whole in
+    let small : num % den * 2 < den = omega (arith, rest, times, from, below) in
+    let half : q / 2 ≡ a = omega (arith, is) in
+    let last : q % 4 ≤ 2 = omega (arith, is) in
+    let not_one : q % 4 ≢ 1 = λ one. omega (arith, is, one) in
+    grind (arith, nat_tests, whole, small, half, last, not_one)
+
+cut_odd : (num den q a : ℕ) (more : Bool) → q ≡ a * 2 + 1 → IsCutTo (num * 2) q more den
+    → q / 2 + (if nat_lt 2 (q % 4) || (q % 4 == 1 && more) then 1 else 0) ≡ rounded num den
+cut_odd num den q a more is cut =
+    let times : q * den ≡ a * den * 2 + den = ap (λ k. k * den) is ∙ omega arith in
+    let from = cut.from in
+    let below = cut.below in
+    let whole : num / den ≡ a = div-eq_of_lt-le {k = a} den {m = num} (omega (arith, times, from)) (omega (arith, times, below)) in
+    let rest : num % den ≡ num - a * den = mod-eq-sub-div-mul num den ∙ ap (λ k. num - k * den) whole in
+    let half : q / 2 ≡ a = omega (arith, is) in
+    let last : q % 4 ≡ a % 2 * 2 + 1 = omega (arith, is) in
+    let some : more ≡ nat_lt den (num % den * 2) = cut.some ∙ grind (arith, nat_tests, times, rest, from, below) in
+    let large : den ≤ num % den * 2 = omega (arith, rest, times, from) in
+    grind (arith, nat_tests, whole, half, last, some, large)
+
+pub halved : (num den q : ℕ) (more : Bool) → IsCutTo (num * 2) q more den
+    → q / 2 + (if nat_lt 2 (q % 4) || (q % 4 == 1 && more) then 1 else 0) ≡ rounded num den
+halved num den q more cut = elim (eq-zero-or-pos (q % 2)) [
+  | inl z ↦ cut_even num den q (q / 2) more (omega (arith, z)) cut
+  | inr p ↦ cut_odd num den q (q / 2) more (omega (arith, p)) cut
+]
 
 some_product : (m n : ℕ) → 0 < m → 0 < n → 0 < m * n
 some_product m n some more = grind arith

@@ -32,7 +32,7 @@ use Rattle.std.specs.Option.{option_or}
 use Rattle.lexical_literal.specs.declared.syntax.Grammar.{Grammar}
 use Rattle.lexical_literal.specs.declared.syntax.Options.{Options}
 use Rattle.lexical_literal.proofs.RunLemmas.{rest_of_none}
-use Rattle.lexical_number.specs.Number.{digits_in, number}
+use Rattle.lexical_literal.specs.Number.{digits_in, number}
 use Rattle.lexical_writer.specs.Digits.{at_least, begins_decimal, character, grouped, no_groups, only_if, size_of, values_of}
 use Rattle.lexical_writer.specs.Layout.{HasNumber, fraction_pattern, fraction_text, given_fraction, given_power, has_exponent, has_point, has_zero}
 use Rattle.lexical_writer.specs.Layout.{IsLaidOut, after_zero, base_byte, integer_pattern, laid_out, least_digits, led_digits, literal_of, one_if, options_of}

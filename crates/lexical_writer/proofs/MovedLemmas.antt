@@ -8,7 +8,7 @@ use Rattle.std.proofs.lemmas.List.Elements.{filter_map-append}
 use Rattle.std.specs.List.{cons_option}
 use Rattle.lexical_util.specs.Digits.{digit_of}
 use Rattle.lexical_literal.specs.Literal.{is_absent}
-use Rattle.lexical_number.specs.Number.{digits_in}
+use Rattle.lexical_literal.specs.Number.{digits_in}
 use Rattle.lexical_writer.proofs.DigitLemmas.{left_of}
 use Rattle.lexical_writer.specs.Moved.{trimmed}
 

@@ -19,9 +19,9 @@ use Rattle.lexical_literal.specs.Read.{mantissa}
 use Rattle.lexical_literal.specs.Syntax.{IsSyntax}
 use Rattle.lexical_literal.specs.declared.read.Parts.{Parts}
 use Rattle.lexical_literal.specs.declared.syntax.Grammar.{Grammar}
-use Rattle.lexical_number.specs.Leading.{number_after}
-use Rattle.lexical_number.specs.Number.{digits_in, number}
-use Rattle.lexical_number.specs.Numeral.{with_sign}
+use Rattle.lexical_literal.specs.Number.{number_after}
+use Rattle.lexical_literal.specs.Number.{digits_in, number}
+use Rattle.lexical_value.specs.Numeral.{with_sign}
 use Rattle.lexical_value.specs.Value.{denominator, numerator, power, scale}
 use Rattle.lexical_writer.specs.Conversion.{SameFraction}
 use Rattle.lexical_writer.specs.Digits.{padded_values, size_of, values_of}

@@ -9,7 +9,7 @@ use Rattle.std.proofs.lemmas.Nat.{mod-mul-add}
 use Rattle.std.specs.Int.Digits.{AllBelowBase, number_from_digits}
 use Rattle.lexical_literal.specs.Literal.{is_absent}
 use Rattle.lexical_literal.specs.declared.read.Parts.{Parts}
-use Rattle.lexical_number.specs.Number.{digits_in}
+use Rattle.lexical_literal.specs.Number.{digits_in}
 use Rattle.lexical_writer.proofs.DigitLemmas.{values_below}
 use Rattle.lexical_writer.proofs.PlainLemmas.{size_values}
 use Rattle.lexical_writer.specs.Digits.{size_of, values_of}

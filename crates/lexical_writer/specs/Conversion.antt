@@ -1,7 +1,8 @@
 -- How a literal of one format is written as a literal of another one.
-use Rattle.std.specs.Prelude.{ℕ, ◌≡◌, ◌-◌, ◌*◌, ◌^◌, ◌==◌, ◌&&◌, ◌||◌, not, nat_le, nat_lt, true}
+use Rattle.std.specs.Prelude.{ℕ, ◌≡◌, ◌-◌, ◌*◌, ◌^◌, ◌==◌, ◌&&◌, ◌||◌, ◌⊎◌, not, nat_le, nat_lt, true}
 use Rattle.std.specs.Prelude.{false, Bool, if◌then◌else◌, is_some, length, List, Option, Some, None, Result, Ok, Err}
 use Rattle.std.specs.Borrow.{Bor}
+use Rattle.std.specs.Float.{Format}
 use Rattle.std.specs.Result.{MatchResult, result_map_both}
 use Rattle.lexical_util.specs.Layout as layout
 use Rattle.lexical_util.specs.Record.{Record, raw, effective_exponent_base, effective_exponent_radix}
@@ -12,7 +13,8 @@ use Rattle.lexical_literal.specs.Parts.{literal_of}
 use Rattle.lexical_literal.specs.Read.{Read}
 use Rattle.lexical_literal.specs.declared.read.Parts.{Parts}
 use Rattle.lexical_literal.specs.declared.syntax.Grammar.{Grammar}
-use Rattle.lexical_number.specs.Number.{number}
+use Rattle.lexical_literal.specs.Number.{number}
+use Rattle.lexical_value.specs.Float.{nearest}
 use Rattle.lexical_value.specs.Value.{denominator, numerator}
 use Rattle.lexical_writer.specs.Layout.{IsLaidOut, allows_exponent, laid_out, literal_of as written, needs_exponent, number_of_size, plain_style}
 use Rattle.lexical_writer.specs.Moved.{IsMoved, IsTimes, moved_by}
@@ -31,6 +33,11 @@ use Rattle.lexical_writer.specs.declared.run.Source.TheVariants as sources
 pub record SameFraction (r : Record) (l : Literal) (s : Record) (k : Literal) : Type 0 where
   pub sign : is_minus l.sign ≡ is_minus k.sign
   pub fraction : numerator r l * denominator s k ≡ numerator s k * denominator r l
+
+-- `IsNear f r l s k` holds if the value of `l` in the format `r` is that of `k` in the format `s`, or if the float of `f` that is nearest to
+-- one is nearest to the other.
+abbrev pub IsNear : Format → Record → Literal → Record → Literal → Type 0
+IsNear f r l s k = SameFraction r l s k ⊎ (nearest f r l ≡ nearest f s k)
 
 -- `source_of bytes from to` has the digits among `bytes`, converted from the radix `from` to the radix `to`. If the radixes differ and
 -- the digits represent a number of more than 128 bits, it is an error.

@@ -2,14 +2,14 @@
 
 ghost use Rattle.std.specs.Prelude.{◌≡◌, ◌++◌, ◌∷◌, [], true, false, ◌-◌, ◌<◌, ◌≤◌, ◌/◌, ◌%◌, ◌^◌, ℕ, List, length, map, option_to_list, replicate};
 ghost use Rattle.std.specs.Int.Digits.{digits_of, number_from_digits};
-ghost use Rattle.lexical_number.specs.Number.{digits_in, number, places};
+ghost use Rattle.lexical_literal.specs.Number.{digits_in, number, places};
 ghost use Rattle.lexical_util.specs.Rules.{IsRadix};
 ghost use Rattle.lexical_writer.specs.Digits.{at_least, begins_decimal, character, ends_group, grouped, grouped_front, only_if, padded_values, run_digits, run_text, separated, values_of};
 
 use crate::run::{Padded, Pattern, Run, Source};
 use crate::sink::Sink;
 use lexical_base::digit::{char_to_digit, digit_to_char, digit_to_char_const};
-use lexical_number::parts::count;
+use lexical_literal::word::count;
 
 // Returns what follows the zeros that the digits among bytes begin with.
 pub(crate) fn without_zeros(bytes: &[u8], radix: u32) -> &[u8]
@@ -45,12 +45,13 @@ fn split_last(number: u128, radix: u32) -> (u128, u32)
 }
 
 // Writes the digits of a number to the end of a buffer, and returns them.
-pub(crate) fn characters(buffer: &mut [u8; 128], number: u128, radix: u32) -> &[u8]
-    requires { IsRadix radix }
+pub(crate) fn characters(buffer: &mut [u8], number: u128, radix: u32) -> &[u8]
+    requires radix { IsRadix radix }
+    requires room { number < 2 ^ length buffer.old }
     ensures { result.now ≡ map (character false) (digits_of radix number) }
 {
     let mut left = number;
-    let mut start = 128;
+    let mut start = buffer.len();
     while left > 0 {
         let (rest, digit) = split_last(left, radix);
         start -= 1;
@@ -62,11 +63,12 @@ pub(crate) fn characters(buffer: &mut [u8; 128], number: u128, radix: u32) -> &[
 
 // Writes the decimal digits of a number to the end of a buffer, and returns them. Two at a time take less time.
 #[inline(always)]
-pub(crate) fn decimals(buffer: &mut [u8; 20], number: u64) -> &[u8]
+pub(crate) fn decimals(buffer: &mut [u8], number: u64) -> &[u8]
+    requires { 20 ≤ length buffer.old }
     ensures { result.now ≡ map (character false) (digits_of 10 number) }
 {
     let mut left = number;
-    let mut start = 20;
+    let mut start = buffer.len();
     while left >= 10 {
         let pair = (left % 100) as u32;
         buffer[start - 1] = digit_to_char_const(pair % 10, 10);

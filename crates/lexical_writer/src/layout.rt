@@ -18,7 +18,7 @@ use crate::digits::{only_if, put_if_any, without_zeros};
 use crate::run::{Pattern, Run, Source};
 use crate::sink::{Sink, Window};
 use lexical_literal::syntax::{Condition, Conditions, Options, Syntax};
-use lexical_number::parts::count;
+use lexical_literal::word::count;
 use lexical_util::format::{NumberFormat, base_prefix, base_suffix, digit_separator};
 use lexical_util::laws::byte_facts;
 
@@ -71,6 +71,8 @@ pub struct Style {
     pub decimals: Option<u8>,
     /// Whether a float has a point with a digit behind it, also before an exponent, as in `1.0e16`.
     pub point: bool,
+    /// Whether a literal of another radix or base that cannot be written exactly is written by the nearest `f64`.
+    pub nearest: bool,
 }
 
 impl Style {
@@ -87,6 +89,7 @@ impl Style {
         exponent: ExponentStyle::AsNumber,
         decimals: None,
         point: false,
+        nearest: false,
     };
 }
 

@@ -4,15 +4,18 @@
 //! is a literal of the syntax, and its value is the number. No function allocates memory.
 #![tactic(auto)]
 
+pub mod checked;
 pub mod choice;
 pub mod digits;
 pub mod float;
 pub mod float_digits;
+pub mod form;
 pub mod integer;
 pub mod laws;
 pub mod layout;
 pub mod literal;
 pub mod moved;
+pub mod near;
 pub mod rounded;
 pub mod run;
 pub mod sink;

@@ -3,6 +3,7 @@
 use crate::arguments::{input, Out};
 use crate::literals::Syntax;
 use crate::names::{at, start, texts};
+use crate::tokens::{first, Constant, Laid, Memory, Reader, Stop, SuffixKind, Suffixes, Tokens};
 use core::ffi::CStr;
 use core::mem::MaybeUninit;
 use core::{ptr, slice};
@@ -62,16 +63,57 @@ impl From<Special> for NumberedSpecial {
     }
 }
 
-/// A form of numbers: its name, as a null-terminated string or a null pointer, its syntax, and the numbers of its kind.
+/// The numbers of a kind.
 #[repr(C)]
 #[derive(Clone, Copy)]
-struct Form {
+pub struct KindNumbers {
+    integers: u8,
+    bits: u8,
+    floats: u8,
+}
+
+/// Returns the numbers of a kind.
+pub const fn numbers_of(kind: Kind) -> KindNumbers {
+    let (integers, bits) = match kind.integers() {
+        IntegerKind::AtMost(bits) => (1, bits),
+        IntegerKind::Wraps(bits) => (2, bits),
+        IntegerKind::WrapsModulo(bits) => (3, bits),
+        _ => (0, 0),
+    };
+    KindNumbers { integers, bits, floats: matches!(kind.floats(), FloatKind::Single) as u8 }
+}
+
+impl KindNumbers {
+    pub const EXACT: KindNumbers = KindNumbers { integers: 0, bits: 0, floats: 0 };
+
+    /// Returns the kind, or `None` if there is none with these numbers.
+    pub fn kind(self) -> Option<Kind> {
+        let integers = match (self.integers, self.bits) {
+            (0, 0) => IntegerKind::Exact,
+            (1, bits) => IntegerKind::AtMost(bits),
+            (2, bits) => IntegerKind::Wraps(bits),
+            (3, bits) => IntegerKind::WrapsModulo(bits),
+            _ => return None,
+        };
+        let floats = [FloatKind::Nearest, FloatKind::Single].get(usize::from(self.floats))?;
+        Kind::new(integers, *floats)
+    }
+
+    pub const fn is_same(self, other: KindNumbers) -> bool {
+        self.integers == other.integers && self.bits == other.bits && self.floats == other.floats
+    }
+}
+
+/// A form of numbers: its name, as a null-terminated string or a null pointer, its syntax, the numbers of its kind, and its
+/// suffixes, or a null pointer.
+#[repr(C)]
+#[derive(Clone, Copy)]
+pub struct Form {
     name: *const u8,
     syntax: Syntax,
-    integer_kind: u8,
-    integer_bits: u8,
-    float_kind: u8,
-    reserved: [u8; 13],
+    kind: KindNumbers,
+    reserved: [u8; 5],
+    suffixes: *const Suffixes,
 }
 
 impl Form {
@@ -79,35 +121,14 @@ impl Form {
     const NONE: Form = Form {
         name: ptr::null(),
         syntax: Syntax::NONE,
-        integer_kind: 0,
-        integer_bits: 0,
-        float_kind: 0,
-        reserved: [0; 13],
+        kind: KindNumbers::EXACT,
+        reserved: [0; 5],
+        suffixes: ptr::null(),
     };
 
-    /// Returns a form in C, with a name.
-    const fn of(name: *const u8, form: literal::Form) -> Form {
-        let (integer_kind, integer_bits) = match form.kind().integers() {
-            IntegerKind::AtMost(bits) => (1, bits),
-            IntegerKind::Wraps(bits) => (2, bits),
-            IntegerKind::WrapsModulo(bits) => (3, bits),
-            _ => (0, 0),
-        };
-        let float_kind = matches!(form.kind().floats(), FloatKind::Single) as u8;
-        Form { name, syntax: Syntax::of(form.syntax()), integer_kind, integer_bits, float_kind, ..Form::NONE }
-    }
-
-    /// Returns the kind, or `None` if there is none with these numbers.
-    fn kind(&self) -> Option<Kind> {
-        let integers = match (self.integer_kind, self.integer_bits) {
-            (0, 0) => IntegerKind::Exact,
-            (1, bits) => IntegerKind::AtMost(bits),
-            (2, bits) => IntegerKind::Wraps(bits),
-            (3, bits) => IntegerKind::WrapsModulo(bits),
-            _ => return None,
-        };
-        let floats = [FloatKind::Nearest, FloatKind::Single].get(usize::from(self.float_kind))?;
-        Kind::new(integers, *floats)
+    /// Returns a form in C, with a name and suffixes.
+    const fn of(name: *const u8, form: literal::Form, suffixes: *const Suffixes) -> Form {
+        Form { name, syntax: Syntax::of(form.syntax()), kind: numbers_of(form.kind()), reserved: [0; 5], suffixes }
     }
 }
 
@@ -120,7 +141,8 @@ pub struct Forms {
     count: usize,
     specials: Specials,
     language: *const Forms,
-    reserved: [u64; 3],
+    reserved: [u64; 2],
+    tokens: *const Tokens,
 }
 
 // The sizes in the header.
@@ -139,26 +161,40 @@ struct LanguageForms {
 // SAFETY: all pointers point to constants.
 unsafe impl Sync for LanguageForms {}
 
-/// The forms of a language as an array of C, and as one of Rust, without names.
-struct Lists<const COUNT: usize>([Form; COUNT], [literal::Form; COUNT]);
-
-// SAFETY: all pointers point to constants.
-unsafe impl<const COUNT: usize> Sync for Lists<COUNT> {}
-
-impl<const COUNT: usize> Lists<COUNT> {
-    /// Returns the forms of a language, whose names are these texts.
-    const fn of(language: Language, names: &'static [u8]) -> Self {
-        let forms = language.forms().as_slice();
-        let mut lists = Lists([Form::NONE; COUNT], [forms[0]; COUNT]);
-        let mut form = 0;
-        while form < COUNT {
-            lists.0[form] = Form::of(start(names, form), forms[form]);
-            lists.1[form] = literal::Form::new("", forms[form].syntax());
-            lists.1[form] = lists.1[form].with_kind(forms[form].kind());
-            form += 1;
-        }
-        lists
+/// Returns the forms of a language, and then those that need a suffix, in C. Their names are these texts.
+const fn shown<const ALL: usize>(
+    lists: [&[literal::Form]; 2],
+    names: &'static [u8],
+    laid: &Laid,
+    suffixes: *const Suffixes,
+) -> [Form; ALL] {
+    let (mut forms, mut index) = ([Form::NONE; ALL], 0);
+    while index < ALL {
+        let form = form_at(lists, index);
+        let own = if form.suffixes().is_some() { suffixes.wrapping_add(laid.of_forms[index]) } else { ptr::null() };
+        forms[index] = Form::of(start(names, index), *form, own);
+        index += 1;
     }
+    forms
+}
+
+/// Returns the form with an index in two lists.
+pub const fn form_at(lists: [&[literal::Form]; 2], index: usize) -> &literal::Form {
+    if index < lists[0].len() {
+        &lists[0][index]
+    } else {
+        &lists[1][index - lists[0].len()]
+    }
+}
+
+/// Returns the forms of a language, without names and suffixes.
+const fn read<const COUNT: usize>(forms: &[literal::Form]) -> [literal::Form; COUNT] {
+    let (mut bare, mut index) = ([forms[0]; COUNT], 0);
+    while index < COUNT {
+        bare[index] = literal::Form::new("", forms[index].syntax()).with_kind(forms[index].kind());
+        index += 1;
+    }
+    bare
 }
 
 /// What calls read by, or why they are refused.
@@ -180,7 +216,41 @@ pub unsafe fn by<R>(forms: *const Forms, then: impl FnOnce(Given<'_>) -> R) -> R
     } else {
         own(&forms.read_unaligned(), &mut list)
     };
-    then(found.as_ref().ok_or("the forms are null, not 1 to 64, or have an unknown kind or reserved members"))
+    then(found.as_ref().ok_or(REFUSED))
+}
+
+/// Why forms are refused.
+const REFUSED: &str = "the forms are null, not 1 to 64, or have an unknown kind or reserved members";
+
+/// Returns what `then` returns for the forms with their suffixes and rules for tokens.
+///
+/// # Safety
+///
+/// `forms` must be null or forms that a C caller passes.
+pub unsafe fn with_tokens<R>(forms: *const Forms, then: impl FnOnce(Given<'_>) -> R) -> R {
+    let (mut list, mut behind) = ([const { MaybeUninit::uninit() }; MOST], [const { MaybeUninit::uninit() }; MOST]);
+    let (mut memory, mut tokens) = (Memory::NEW, None);
+    let mut reader = Reader::of(&mut memory);
+    let found = (|| {
+        let given = if forms.is_null() { return None } else { forms.read_unaligned() };
+        let own = suffixed(given.forms, given.count, &mut list, &mut reader).and_then(literal::Forms::new)?;
+        if !given.tokens.is_null() {
+            let rules = given.tokens.read_unaligned();
+            let needing = match rules.count {
+                0 => &[],
+                count => suffixed(rules.forms, count, &mut behind, &mut reader)?,
+            };
+            let made = literal::Tokens::new(needing, reader.words(rules.following)?);
+            tokens = Some(made.gives_points_back(rules.gives_points_back != 0)).filter(|_| rules.reserved == [0; 7]);
+            tokens?;
+        }
+        (given.reserved == [0; 2]).then_some(own)
+    })();
+    let found = match &tokens {
+        Some(tokens) => found.map(|it| it.with_tokens(tokens)),
+        None => found,
+    };
+    then(found.as_ref().ok_or(REFUSED))
 }
 
 /// Returns forms that are not those of a language, or `None` if they are refused.
@@ -190,17 +260,59 @@ pub unsafe fn by<R>(forms: *const Forms, then: impl FnOnce(Given<'_>) -> R) -> R
 /// A C caller passes them.
 #[inline(never)]
 unsafe fn own<'a>(it: &Forms, list: &'a mut [MaybeUninit<literal::Form>; MOST]) -> Option<literal::Forms<'a>> {
-    if it.forms.is_null() || it.count > MOST || it.reserved != [0; 3] {
+    if it.reserved != [0; 2] {
         return None;
     }
-    for (index, to) in list.iter_mut().take(it.count).enumerate() {
-        let form = it.forms.add(index).read_unaligned();
-        let syntax = Syntax::given(Some(&form.syntax)).filter(|_| form.reserved == [0; 13])?;
-        to.write(literal::Form::new("", syntax).with_kind(form.kind()?));
+    Some(literal::Forms::new(forms_of(it.forms, it.count, list)?)?.with_specials(it.specials.spellings()))
+}
+
+/// Returns an array of forms without their suffixes, or `None` if they are refused.
+///
+/// # Safety
+///
+/// A C caller passes them, and the slice is not used after the memory.
+#[inline(never)]
+unsafe fn forms_of(
+    forms: *const Form,
+    count: usize,
+    list: &mut [MaybeUninit<literal::Form>; MOST],
+) -> Option<&'static [literal::Form]> {
+    if count > MOST || forms.is_null() {
+        return None;
+    }
+    for (index, to) in list.iter_mut().take(count).enumerate() {
+        let form = forms.add(index);
+        let (syntax, kind) = ((&raw const (*form).syntax).read_unaligned(), (&raw const (*form).kind).read_unaligned());
+        let reserved = (&raw const (*form).reserved).read_unaligned();
+        let syntax = Syntax::given_at_once(Some(&syntax)).filter(|_| reserved == [0; 5])?;
+        let kind = if kind.is_same(KindNumbers::EXACT) { Kind::EXACT } else { kind.kind()? };
+        to.write(literal::Form::new("", syntax).with_kind(kind));
     }
     // SAFETY: so many are written.
-    let list = unsafe { slice::from_raw_parts(list.as_ptr().cast(), it.count) };
-    Some(literal::Forms::new(list)?.with_specials(it.specials.spellings()))
+    Some(unsafe { slice::from_raw_parts(list.as_ptr().cast(), count) })
+}
+
+/// Returns the same with their suffixes.
+///
+/// # Safety
+///
+/// As for `forms_of`. The memory of the reader must outlive the use of the slice, too.
+#[inline(never)]
+unsafe fn suffixed(
+    forms: *const Form,
+    count: usize,
+    list: &mut [MaybeUninit<literal::Form>; MOST],
+    reader: &mut Reader,
+) -> Option<&'static [literal::Form]> {
+    forms_of(forms, count, list)?;
+    for (index, to) in list.iter_mut().take(count).enumerate() {
+        if let Some(suffixes) = reader.suffixes(forms.add(index).read_unaligned().suffixes)? {
+            // SAFETY: `forms_of` has written it.
+            to.write(unsafe { to.assume_init() }.with_suffixes(suffixes));
+        }
+    }
+    // SAFETY: so many are written.
+    Some(unsafe { slice::from_raw_parts(list.as_ptr().cast(), count) })
 }
 
 /// Defines a call for each language, so that a program that calls one has the forms of this one alone.
@@ -209,26 +321,54 @@ macro_rules! languages {
         $(
             #[unsafe(no_mangle)]
             extern "C" fn $call() -> *const Forms {
-                const IT: Language = Language::$NAME;
-                const COUNT: usize = IT.forms().as_slice().len();
-                const SPELLED: literal::Specials<'static> = IT.forms().specials();
+                const IT: &literal::Forms<'static> = Language::$NAME.forms();
+                const COUNT: usize = IT.as_slice().len();
+                const SPELLED: literal::Specials<'static> = IT.specials();
+                const RULES: Option<(&[literal::Form], &[&[u8]], bool)> = IT.token_rules();
+                const BEHIND: (&[literal::Form], &[&[u8]], bool) = match RULES {
+                    Some(rules) => rules,
+                    None => (&[], &[], false),
+                };
+                const LISTS: [&[literal::Form]; 2] = [IT.as_slice(), BEHIND.0];
+                const ALL: usize = COUNT + BEHIND.0.len();
+                const SIZES: Laid = Laid::of(LISTS, BEHIND.1, (ptr::null(), ptr::null(), ptr::null()));
                 texts! {
-                    NAMES: [COUNT] = |index| IT.forms().as_slice()[index].name().as_bytes();
+                    NAMES: [ALL] = |index| form_at(LISTS, index).name().as_bytes();
                     SPELLINGS: [3] = |index| match [SPELLED.nan, SPELLED.inf, SPELLED.infinity][index] {
                         Some(spelling) => spelling,
                         None => b"",
                     };
                 }
-                static LISTS: Lists<COUNT> = Lists::of(IT, NAMES);
+                static TEXT: [u8; SIZES.size] = first(&SIZES.text);
+                static KINDS: Constant<[SuffixKind; SIZES.kind_count]> = Constant(first(
+                    &Laid::of(LISTS, BEHIND.1, (TEXT.as_ptr(), ptr::null(), ptr::null())).kinds,
+                ));
+                static STOPS: Constant<[Stop; SIZES.stop_count]> = Constant(first(
+                    &Laid::of(LISTS, BEHIND.1, (TEXT.as_ptr(), ptr::null(), ptr::null())).stops,
+                ));
+                static SUFFIXES: Constant<[Suffixes; SIZES.count]> = Constant(first(
+                    &Laid::of(LISTS, BEHIND.1, (TEXT.as_ptr(), KINDS.0.as_ptr(), STOPS.0.as_ptr())).suffixes,
+                ));
+                static SHOWN: Constant<[Form; ALL]> =
+                    Constant(shown(LISTS, NAMES, &SIZES, SUFFIXES.0.as_ptr()));
+                static READ: [literal::Form; COUNT] = read(IT.as_slice());
+                static TOKENS: Tokens = Tokens {
+                    forms: SHOWN.0.as_ptr().wrapping_add(COUNT),
+                    count: ALL - COUNT,
+                    following: Laid::of(LISTS, BEHIND.1, (TEXT.as_ptr(), ptr::null(), ptr::null())).following,
+                    gives_points_back: BEHIND.2 as u8,
+                    reserved: [0; 7],
+                };
                 static FORMS: LanguageForms = LanguageForms {
                     shown: Forms {
-                        forms: LISTS.0.as_ptr(),
+                        forms: SHOWN.0.as_ptr(),
                         count: COUNT,
-                        specials: Specials::of(IT, SPELLINGS),
+                        specials: Specials::of(Language::$NAME, SPELLINGS),
                         language: (&raw const FORMS).cast(),
-                        reserved: [0; 3],
+                        reserved: [0; 2],
+                        tokens: if RULES.is_some() { &raw const TOKENS } else { ptr::null() },
                     },
-                    read: literal::Forms::new_or_panic(&LISTS.1).with_specials(SPELLED),
+                    read: literal::Forms::new_or_panic(&READ).with_specials(SPELLED),
                 };
                 (&raw const FORMS).cast()
             }

@@ -30,6 +30,7 @@ mod literals;
 mod names;
 mod numbers;
 mod settings;
+mod tokens;
 mod values;
 mod words;
 mod writing;

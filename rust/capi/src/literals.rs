@@ -64,8 +64,14 @@ impl Syntax {
     }
 
     /// Returns the syntax, which may not be lawful, or `None` if there is none or if a later version may read it otherwise.
-    #[inline(always)]
+    #[inline(never)]
     pub fn given(syntax: Option<&Syntax>) -> Option<literal::Syntax> {
+        Syntax::given_at_once(syntax)
+    }
+
+    /// Returns the same in less time.
+    #[inline(always)]
+    pub fn given_at_once(syntax: Option<&Syntax>) -> Option<literal::Syntax> {
         let syntax = syntax?;
         Some(literal::Syntax::unchecked(syntax.format.number(), syntax.options(), syntax.conditions()?))
     }
@@ -129,6 +135,13 @@ pub struct Stop {
 /// Where reading stopped, and why.
 pub type ReadError = Made<Stop, Refusal<literal::ReadError>, 12>;
 
+impl ReadError {
+    /// Returns the error of a form that is valid up to an index.
+    pub fn at(valid_up_to: usize, form: usize, refusal: Refusal<literal::ReadError>) -> ReadError {
+        Made::new(Stop { valid_up_to, form: form as u8 }, refusal)
+    }
+}
+
 /// A literal, with its parts. It borrows its text.
 pub type Literal<'a> = Made<Parts, literal::Literal<'a>, 18>;
 
@@ -141,13 +154,25 @@ const _: () = assert!(size_of::<Literal>() == 320 && align_of::<Literal>() <= 16
 pub enum Refusal<E> {
     Argument(&'static str),
     Library(E),
+    /// The word from `start` to `end` is not a suffix of the form.
+    Suffix {
+        start: usize,
+        end: usize,
+    },
+    /// The decimal point before `end` belongs to what follows.
+    Point {
+        end: usize,
+    },
 }
 
 impl<E: Display> Display for Refusal<E> {
+    #[inline(never)]
     fn fmt(&self, f: &mut Formatter<'_>) -> fmt::Result {
         match self {
             Refusal::Argument(sentence) => f.write_str(sentence),
             Refusal::Library(error) => error.fmt(f),
+            Refusal::Suffix { .. } => f.write_str("unknown suffix"),
+            Refusal::Point { .. } => f.write_str("the decimal point belongs to what follows"),
         }
     }
 }
@@ -170,8 +195,8 @@ impl<E: Into<FormatError>> From<E> for Refusal<FormatError> {
 /// The range of a piece of a text.
 #[repr(C)]
 pub struct Span {
-    start: usize,
-    end: usize,
+    pub(crate) start: usize,
+    pub(crate) end: usize,
 }
 
 /// The text of a literal, the ranges of its parts, in the order of the text, and its length.
@@ -186,7 +211,7 @@ pub struct Parts {
 
 impl<'a> Literal<'a> {
     #[inline(always)]
-    fn of(literal: literal::Literal<'a>, form: usize) -> Literal<'a> {
+    pub fn of(literal: literal::Literal<'a>, form: usize) -> Literal<'a> {
         let mut size = 0;
         let mut next = |length| {
             let start = size;
@@ -212,6 +237,15 @@ pub struct Explanation {
     number: Setter,
     part: u8,
     conditions: u8,
+}
+
+impl Explanation {
+    /// Returns what only bytes explain, by the number of a kind.
+    fn of_bytes(kind: u8, start: usize, end: usize) -> Explanation {
+        let (span, code) = (Span { start, end }, error_number(Error::InvalidDigit(start)));
+        let (mask, number, part) = (Word::of(0), NO_SETTER, NO_PART);
+        Explanation { span, index: start, mask, code, kind, number, part, conditions: 0 }
+    }
 }
 
 impl From<literal::ReadError> for Explanation {
@@ -261,12 +295,10 @@ unsafe fn number<'a>(
     (text, len, error): (*const u8, usize, Out<ReadError>),
     read: impl FnOnce(&'a [u8]) -> Result<Read<'a>, &'static str>,
 ) -> Option<Number<'a>> {
-    match input(text, len).ok_or("the text has more than PTRDIFF_MAX bytes").and_then(read) {
+    match input(text, len).ok_or(TOO_LONG).and_then(read) {
         Ok(Ok(number)) => return Some(number),
-        Ok(Err((why, form))) => {
-            error.write(Made::new(Stop { valid_up_to: why.valid_up_to(), form: form as u8 }, Refusal::Library(why)))
-        }
-        Err(sentence) => error.write(Made::new(Stop { valid_up_to: 0, form: 0 }, Refusal::Argument(sentence))),
+        Ok(Err((why, form))) => error.write(ReadError::at(why.valid_up_to(), form, Refusal::Library(why))),
+        Err(sentence) => error.write(ReadError::at(0, 0, Refusal::Argument(sentence))),
     }
     None
 }
@@ -287,6 +319,9 @@ fn front<'a>(forms: &literal::Forms<'_>, text: &'a [u8]) -> Read<'a> {
     forms.read_prefix_bytes(text).map(|(it, _)| it).map_err(|it| (it.error, it.form))
 }
 
+/// Why a call refuses a text.
+pub const TOO_LONG: &str = "the text has more than PTRDIFF_MAX bytes";
+
 /// Why a call refuses a syntax.
 const SYNTAX: &str = "peltzivar_check_syntax refuses this syntax";
 
@@ -294,8 +329,8 @@ calls! {
     fn peltzivar_check_syntax(syntax: Option<&Syntax>) -> ErrorNumber {
         error_number(match Syntax::checked(syntax) {
             Ok(_) => Error::Success,
-            Err(Refusal::Argument(_)) => Error::InvalidFlags,
             Err(Refusal::Library(error)) => error.into(),
+            Err(_) => Error::InvalidFlags,
         })
     }
 
@@ -319,7 +354,7 @@ calls! {
         syntax: Option<&Syntax>, text: *const u8, len: usize, literal: Out<Literal>, error: Out<ReadError>
     ) -> bool {
         let read = |text| {
-            Syntax::given(syntax).ok_or(SYNTAX).map(|it| it.read_then(text, |read| match read {
+            Syntax::given_at_once(syntax).ok_or(SYNTAX).map(|it| it.read_then(text, |read| match read {
                 Ok(literal) => Ok(Number::Literal { literal, form: 0 }),
                 Err(error) => Err((error, 0)),
             }))
@@ -341,7 +376,7 @@ calls! {
         forms: *const Forms, text: *const u8, len: usize, literal: Out<Literal>, error: Out<ReadError>
     ) -> bool {
         let found = by(forms, |forms| {
-            let bare = forms.map(|it| it.with_specials(Default::default()));
+            let bare = forms.map(|it| it.with_specials(literal::Specials::default()));
             whole(bare.as_ref().map_err(|it| *it), text, len, error)
         });
         write_literal(found, literal)
@@ -355,7 +390,12 @@ calls! {
     }
 
     fn peltzivar_explain(error: &ReadError, out: Out<Explanation>) -> bool {
-        out.write_some(if let Some(Refusal::Library(error)) = error.value() { Some(*error) } else { None })
+        out.write_some(match error.value() {
+            Some(Refusal::Library(error)) => Some(Explanation::from(*error)),
+            Some(Refusal::Suffix { start, end }) => Some(Explanation::of_bytes(6, *start, *end)),
+            Some(Refusal::Point { end }) => Some(Explanation::of_bytes(7, *end, *end)),
+            _ => None,
+        })
     }
 
     fn peltzivar_read_error_text(error: &ReadError, text: *mut u8, len: usize) -> usize {

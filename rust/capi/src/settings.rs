@@ -5,7 +5,7 @@ use crate::literals::Syntax;
 use crate::numbers::{setter_number, setter_of, NumberedEdit, Setter, Word, NO_SETTER};
 use core::fmt::Display;
 use core::str::from_utf8;
-use peltzivar::{edits, Edit, EditError, Settings};
+use peltzivar::{edits, Edit, EditError, Finding, FindingKind, LineError, Settings};
 
 /// Returns a string. One that is too long or not UTF-8 is read as a setting with an unknown name.
 unsafe fn string<'a>(text: *const u8, len: usize) -> &'a str {
@@ -17,28 +17,45 @@ unsafe fn parsed(text: *const u8, len: usize) -> Result<Edit, EditError> {
     string(text, len).parse()
 }
 
-/// Returns the lines of a text. A text that is too long is read as a line that states this.
-unsafe fn lines<'a>(text: *const u8, len: usize) -> impl Iterator<Item = &'a [u8]> {
-    let text = input(text, len).unwrap_or(b"a text of more than PTRDIFF_MAX bytes");
-    text.split(|byte| *byte == b'\n')
-}
-
 /// What takes a sentence and lines, and returns what a call returns.
 type Report<'a> = &'a dyn Fn(Option<&dyn Display>, &[usize]) -> usize;
 
-/// Passes the sentence and the lines of a problem or note to `report`, or nothing if there is none with this index.
-fn report<'a>(lines: impl Iterator<Item = &'a [u8]>, index: usize, report: Report<'_>) -> usize {
-    let (mut settings, mut before) = (Settings::new(), index);
-    for line in lines {
-        match (settings.add(line), before.checked_sub(1)) {
-            (Ok(()), _) => (),
-            (Err(_), Some(fewer)) => before = fewer,
-            (Err(error), None) => return report(Some(&error), &[error.index()]),
+/// Adds the lines of a text to settings, and returns the error of the refused line with an index, or how many are refused.
+/// A text that is too long is read as a line that states this.
+#[inline(never)]
+unsafe fn add_lines(
+    settings: &mut Settings,
+    (text, len): (*const u8, usize),
+    index: Option<usize>,
+) -> Result<usize, LineError> {
+    let text = input(text, len).unwrap_or(b"a text of more than PTRDIFF_MAX bytes");
+    let mut refused = 0;
+    for line in text.split(|byte| *byte == b'\n') {
+        match settings.add(line) {
+            Ok(()) => (),
+            Err(error) if index == Some(refused) => return Err(error),
+            Err(_) => refused += 1,
         }
     }
-    match item(settings.reasons().chain(settings.notes()), before) {
-        Some(finding) => report(Some(&finding), finding.indexes()),
-        None => report(None, &[]),
+    Ok(refused)
+}
+
+/// Returns the reason or note of settings with an index.
+#[inline(never)]
+fn finding(settings: &Settings, index: usize) -> Option<Finding> {
+    item(settings.reasons().chain(settings.notes()), index)
+}
+
+/// Passes the sentence and the lines of a problem or note to `report`, or nothing if there is none with this index.
+#[inline(never)]
+unsafe fn report(text: (*const u8, usize), index: usize, report: Report<'_>) -> usize {
+    let mut settings = Settings::new();
+    match add_lines(&mut settings, text, Some(index)) {
+        Err(error) => report(Some(&error), &[error.index()]),
+        Ok(refused) => match finding(&settings, index - refused) {
+            Some(finding) => report(Some(&finding), finding.indexes()),
+            None => report(None, &[]),
+        },
     }
 }
 
@@ -67,18 +84,20 @@ calls! {
 
     fn peltzivar_read_settings(text: *const u8, len: usize, out: Out<Syntax>) -> usize {
         let mut settings = Settings::new();
-        let refused = lines(text, len).filter(|line| settings.add(line).is_err());
-        let problems = refused.count() + settings.reasons().count();
+        let refused = add_lines(&mut settings, (text, len), None).unwrap_or(0);
+        let is_reason = |it: &Finding| matches!(it.kind(), FindingKind::Reason(_) | FindingKind::Conditions(_));
+        let reasons = (0..).map_while(|index| finding(&settings, index)).take_while(is_reason);
+        let problems = refused + reasons.count();
         out.write_some(settings.build_syntax().ok().filter(|_| problems == 0));
         problems
     }
 
     fn peltzivar_settings_text(text: *const u8, len: usize, index: usize, to: *mut u8, to_len: usize) -> usize {
-        report(lines(text, len), index, &|sentence, _| write_text(to, to_len, sentence))
+        report((text, len), index, &|sentence, _| write_text(to, to_len, sentence))
     }
 
     fn peltzivar_settings_lines(text: *const u8, len: usize, index: usize, to: *mut usize, to_len: usize) -> usize {
-        report(lines(text, len), index, &|_, blamed| {
+        report((text, len), index, &|_, blamed| {
             write_list(to, to_len, blamed.iter().copied());
             blamed.len()
         })

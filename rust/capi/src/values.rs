@@ -4,7 +4,7 @@ use crate::arguments::Out;
 use crate::languages::{by, Forms, Given};
 use crate::literals::{whole, Literal, ReadError};
 use crate::names::{at, texts};
-use peltzivar::literal::{self, FromLiteral, Number, ValueError, ValueErrorKind};
+use peltzivar::literal::{self, FromLiteral, Number, ValueErrorKind};
 
 /// Whether there is a value: the index of one of [`DESCRIPTIONS`].
 type ValueStatus = u8;
@@ -41,23 +41,22 @@ impl From<I128> for i128 {
     }
 }
 
-/// Writes the value of a literal, if it has one of this type, and returns whether it has.
-fn write<'a, T, C: From<T>>(literal: &Literal<'a>, out: Out<C>) -> ValueStatus
-where
-    T: TryFrom<literal::Literal<'a>, Error = ValueError>,
-{
-    literal.value().map_or(5, |literal| write_value(T::try_from(*literal), out))
+/// Writes the value of a literal, if it has one of this type, and returns whether it has. Calls with a literal and with a text
+/// share it.
+#[inline(never)]
+fn write<T: FromLiteral, C: From<T>>(literal: &literal::Literal<'_>, out: Out<C>) -> ValueStatus {
+    write_value(T::from_literal(*literal), out)
 }
 
 /// Writes a value, if there is one, and returns whether there is.
 #[inline(always)]
-fn write_value<T, C: From<T>>(value: Result<T, ValueError>, out: Out<C>) -> ValueStatus {
+fn write_value<T, C: From<T>>(value: Result<T, ValueErrorKind>, out: Out<C>) -> ValueStatus {
     match value {
         Ok(value) => {
             out.write(value.into());
             0
         }
-        Err(error) => match error.kind() {
+        Err(error) => match error {
             ValueErrorKind::Float => 1,
             ValueErrorKind::TooLarge => 2,
             ValueErrorKind::TooSmall => 3,
@@ -73,7 +72,11 @@ unsafe fn parse<T: FromLiteral>(
     out: Out<T>,
     error: Out<ReadError>,
 ) -> ValueStatus {
-    whole(forms, text, len, error).map_or(6, |number| write_value(number.value::<T>(), out))
+    match whole(forms, text, len, error) {
+        Some(Number::Literal { literal, .. }) => write(&literal, out),
+        Some(Number::Special(special)) => write_value(T::from_special(special), out),
+        None => 6,
+    }
 }
 
 /// Writes the value of each text, and whether it has one, and returns how many have none.
@@ -128,14 +131,20 @@ parsers! {
 }
 
 calls! {
-    fn peltzivar_to_i64(literal: &Literal, out: Out<i64>) -> ValueStatus { write::<i64, _>(literal, out) }
-    fn peltzivar_to_u64(literal: &Literal, out: Out<u64>) -> ValueStatus { write::<u64, _>(literal, out) }
-    fn peltzivar_to_i128(literal: &Literal, out: Out<I128>) -> ValueStatus { write::<i128, _>(literal, out) }
-    fn peltzivar_to_f64(literal: &Literal, out: Out<f64>) -> ValueStatus { write::<f64, _>(literal, out) }
+    fn peltzivar_to_i64(literal: &Literal, out: Out<i64>) -> ValueStatus {
+        literal.value().map_or(5, |it| write::<i64, _>(it, out))
+    }
+    fn peltzivar_to_u64(literal: &Literal, out: Out<u64>) -> ValueStatus {
+        literal.value().map_or(5, |it| write::<u64, _>(it, out))
+    }
+    fn peltzivar_to_i128(literal: &Literal, out: Out<I128>) -> ValueStatus {
+        literal.value().map_or(5, |it| write::<i128, _>(it, out))
+    }
+    fn peltzivar_to_f64(literal: &Literal, out: Out<f64>) -> ValueStatus {
+        literal.value().map_or(5, |it| write::<f64, _>(it, out))
+    }
     fn peltzivar_to_f32(literal: &Literal, out: Out<f32>) -> ValueStatus {
-        // The same conversion as that of `peltzivar_parse_f32`, so that the library has it once.
-        let number = literal.value().map(|it| Number::Literal { literal: *it, form: 0 });
-        number.map_or(5, |number| write_value(f32::try_from(number), out))
+        literal.value().map_or(5, |it| write::<f32, _>(it, out))
     }
     fn peltzivar_value_description(status: ValueStatus) -> *const u8 { at(DESCRIPTIONS, status) }
 }

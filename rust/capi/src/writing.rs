@@ -49,6 +49,7 @@ pub struct Style {
     point: u8,
     has_decimals: u8,
     decimals: u8,
+    nearest: u8,
 }
 
 /// A group of this size is none.
@@ -65,7 +66,7 @@ impl Style {
         (style.group, style.fraction_group) = (group(self.group), group(self.fraction_group));
         (style.prefix, style.suffix) = (self.without_base == 0, self.without_base == 0);
         (style.lowercase, style.keep_leading_zeros) = (self.lowercase != 0, self.keep_leading_zeros != 0);
-        style.point = self.point != 0;
+        (style.point, style.nearest) = (self.point != 0, self.nearest != 0);
         style.decimals = (self.has_decimals != 0).then_some(self.decimals);
         style.exponent(match self.exponent {
             1 => ExponentStyle::Never,

@@ -98,17 +98,23 @@ impl Setter {
 
     // Parses `value` as [`Setter::parse`] does, but skips nothing.
     fn parse_exact(self, value: &str) -> Result<Edit, EditError> {
-        let byte = match (self.kind(), value) {
+        match self.kind().parse(value) {
+            Some(byte) => Ok(self.with_argument(byte)),
+            None => Err(EditError(Fault::BadValue(self))),
+        }
+    }
+}
+
+impl ArgumentKind {
+    // Parses `value` as an argument of this kind, as a byte. Nothing is skipped.
+    pub(crate) fn parse(self, value: &str) -> Option<u8> {
+        match (self, value) {
             (ArgumentKind::Flag, "true") => Some(1),
             (ArgumentKind::Flag, "false") => Some(0),
             (ArgumentKind::Flag, _) => None,
             (ArgumentKind::OptionalCharacter | ArgumentKind::OptionalNumber, "none") => Some(0),
             (ArgumentKind::OptionalCharacter, value) => byte_from_character(value),
             (_, value) => byte_from_number(value),
-        };
-        match byte {
-            Some(byte) => Ok(self.with_argument(byte)),
-            None => Err(EditError(Fault::BadValue(self))),
         }
     }
 }
@@ -188,7 +194,7 @@ fn byte_from_character(text: &str) -> Option<u8> {
 }
 
 // Parses a number: `0x` followed by hexadecimal digits, or decimal digits.
-pub(crate) fn byte_from_number(text: &str) -> Option<u8> {
+fn byte_from_number(text: &str) -> Option<u8> {
     match text.as_bytes() {
         [b'0', b'x', digits @ ..] => byte_from_digits(digits, 16, 2),
         digits => byte_from_digits(digits, 10, 3),

@@ -440,7 +440,7 @@ const fn case_mask(grammar: Grammar, byte: u8) -> u128 {
 }
 
 // Returns the other case of a letter, or the byte itself if it is not a letter.
-const fn other_case(byte: u8) -> u8 {
+pub(crate) const fn other_case(byte: u8) -> u8 {
     match byte {
         b'A'..=b'Z' => byte + 32,
         b'a'..=b'z' => byte - 32,

@@ -2,7 +2,7 @@
 
 use core::fmt;
 
-use crate::edits::byte_from_number;
+use crate::edits::ArgumentKind;
 use crate::format::{BASE_PREFIX, BASE_SUFFIX, DIGIT_SEPARATOR};
 use crate::format::{FRACTION_INTERNAL_DIGIT_SEPARATOR, INTEGER_INTERNAL_DIGIT_SEPARATOR};
 use crate::format::{NO_FLOAT_LEADING_ZEROS, NO_INTEGER_LEADING_ZEROS};
@@ -91,12 +91,8 @@ impl Condition {
     /// Parses a value that the condition takes as its number.
     pub(crate) fn parse(self, text: &str) -> Option<u8> {
         let (least, most) = self.limits();
-        match (self.has_number(), text.trim_ascii()) {
-            (false, "true") => Some(1),
-            (false, "false") | (true, "none") => Some(0),
-            (true, text) => byte_from_number(text).filter(|&it| it == 0 || (least..=most).contains(&it)),
-            _ => None,
-        }
+        let kind = if self.has_number() { ArgumentKind::OptionalNumber } else { ArgumentKind::Flag };
+        kind.parse(text).filter(|&it| it == 0 || (least..=most).contains(&it))
     }
 
     /// Returns the condition of the setting `text`, such as `required_base_prefix=true`, and its value, if it is one.

@@ -2,7 +2,7 @@
 
 //! Numbers that have several forms, such as `10`, `0x1F` and `0b1`.
 
-use crate::literal::cause::ReadError;
+use crate::literal::cause::{other_case, ReadError};
 use crate::literal::kind::Kind;
 use crate::literal::literal::Literal;
 use crate::literal::plain::{At, Counted};
@@ -11,7 +11,7 @@ use crate::literal::specials::{Special, Specials};
 use crate::literal::steps::{is_digit, role_at};
 use crate::literal::suffix::Suffixes;
 use crate::literal::syntax::{Condition, Grammar, Syntax};
-use crate::word::Part;
+use crate::word::{Part, Role};
 
 /// A form of numbers: its name, such as `hexadecimal`, its syntax, the suffixes of its tokens, and its kind.
 #[derive(Debug, Clone, Copy, PartialEq, Eq, Hash)]
@@ -89,6 +89,18 @@ impl Tokens {
     pub const fn gives_points_back(self, gives: bool) -> Tokens {
         Tokens { gives_points_back: gives, ..self }
     }
+
+    /// Returns the forms that need a suffix.
+    #[must_use]
+    pub const fn forms(&self) -> &'static [Form] {
+        self.forms
+    }
+
+    /// Returns the words that may follow a number directly.
+    #[must_use]
+    pub const fn following(&self) -> &'static [&'static [u8]] {
+        self.following
+    }
 }
 
 /// The forms of numbers, at least one, the spellings of NaN and infinity, and how tokens are read. The first form of which a text
@@ -162,6 +174,12 @@ impl<'a> Forms<'a> {
         self.specials
     }
 
+    /// Returns the rules for tokens, if there are any.
+    #[must_use]
+    pub const fn tokens(&self) -> Option<&'a Tokens> {
+        self.tokens
+    }
+
     /// Returns the number that `text` is: a literal of the first form of which it is one, or otherwise a special value.
     ///
     /// # Errors
@@ -175,7 +193,7 @@ impl<'a> Forms<'a> {
         while form < self.forms.len() {
             let it = &self.forms[form];
             let syntax = &it.syntax;
-            if !excludes(syntax.as_grammar(), text, sign) {
+            if !is_behind(syntax.as_grammar(), text, sign, furthest) {
                 let counted = syntax.begin(false, text, false);
                 if syntax.is_whole(text, counted) {
                     let literal = syntax.literal(text, counted.counts, counted.sums).with_kind(it.kind);
@@ -298,16 +316,19 @@ impl<'a> Forms<'a> {
     pub(crate) const fn refuse(&self, text: &[u8], furthest: Option<(usize, At)>) -> FormError {
         let Some((first, stop)) = furthest else { unreachable!() };
         let error = self.error_at(text, first, stop);
-        if !error.error.is_byte() {
-            return error;
-        }
         let forms = self.as_slice();
         let mut form = first + 1;
         while form < forms.len() {
-            if let Some(reached) = forms[form].syntax.stop_at(text, stop.size) {
-                let other = self.error_at(text, form, reached);
-                if !other.error.is_byte() {
-                    return other;
+            let syntax = &forms[form].syntax;
+            if !is_settled(syntax.as_grammar(), text, stop.size) {
+                if let Some(reached) = syntax.stop_at(text, stop.size) {
+                    if !error.error.is_byte() {
+                        return error;
+                    }
+                    let other = self.error_at(text, form, reached);
+                    if !other.error.is_byte() {
+                        return other;
+                    }
                 }
             }
             form += 1;
@@ -376,10 +397,6 @@ impl Syntax {
 
     // Returns where reading `text` stops if that is behind `size` bytes.
     const fn stop_at(&self, text: &[u8], size: usize) -> Option<At> {
-        let start = sign_size(text);
-        if size > start + 1 && excludes(self.as_grammar(), text, start) {
-            return None;
-        }
         let stop = self.stop_in(text);
         if stop.size == size {
             Some(stop)
@@ -390,7 +407,7 @@ impl Syntax {
 
     // Returns where reading `text` stops.
     #[cold]
-    const fn stop_in(&self, text: &[u8]) -> At {
+    pub(crate) const fn stop_in(&self, text: &[u8]) -> At {
         let counted = self.begin_any(text, false);
         self.reach(text, counted)
     }
@@ -408,9 +425,49 @@ const fn excludes(grammar: Grammar, text: &[u8], sign: usize) -> bool {
     }
 }
 
+// Returns whether a form need not be asked whether `text` is a literal of it: its first bytes exclude that, or the byte where the
+// furthest form stops is a stranger. Then it goes no further.
+#[inline(always)]
+const fn is_behind(grammar: Grammar, text: &[u8], sign: usize, furthest: Option<(usize, At)>) -> bool {
+    excludes(grammar, text, sign)
+        || match furthest {
+            None => false,
+            Some((_, stop)) => is_stranger_at(grammar, text, stop.size),
+        }
+}
+
+// Returns whether no error of a form goes further than one up to `size` whose cause is a wrong byte: the first bytes exclude the form,
+// or the byte there is a stranger.
+const fn is_settled(grammar: Grammar, text: &[u8], size: usize) -> bool {
+    let start = sign_size(text);
+    size > start + 1 && (excludes(grammar, text, start) || is_stranger_at(grammar, text, size))
+}
+
+// Returns whether the byte at `index` is a stranger, if there is one.
+#[inline(always)]
+const fn is_stranger_at(grammar: Grammar, text: &[u8], index: usize) -> bool {
+    index < text.len() && is_stranger(grammar, text[index])
+}
+
+// Returns whether `byte` plays no role behind the base prefix, and its other case neither.
+const fn is_stranger(grammar: Grammar, byte: u8) -> bool {
+    is_spare(grammar, byte) && is_spare(grammar, other_case(byte))
+}
+
+// Returns whether `byte` plays no role, or is only the base prefix.
+#[inline(always)]
+const fn is_spare(grammar: Grammar, byte: u8) -> bool {
+    !is_digit(grammar, Part::Exponent, byte)
+        && match role_at(grammar, Part::Integer, byte) {
+            None => true,
+            Some(Role::Prefix) => true,
+            _ => false,
+        }
+}
+
 // Returns whether `byte` plays no role. Bytes up to `9` are said to play one: most are digits, and a prefix begins with a zero.
 #[inline(always)]
-pub(crate) const fn plays_no_role(grammar: Grammar, byte: u8) -> bool {
+const fn plays_no_role(grammar: Grammar, byte: u8) -> bool {
     byte > b'9' && matches!(role_at(grammar, Part::Integer, byte), None) && !is_digit(grammar, Part::Exponent, byte)
 }
 

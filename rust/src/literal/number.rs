@@ -5,10 +5,12 @@ use core::{iter::FusedIterator, slice};
 
 use crate::digit::char_to_valid_digit_const;
 use crate::format_flags::Part;
+use crate::literal::groups::Group;
 use crate::literal::plain::{At, Counted};
 use crate::literal::read::Found;
 use crate::literal::steps::{is_complete, step};
 use crate::literal::{Literal, ReadError, Syntax};
+use crate::word::Role;
 
 impl Syntax {
     /// Returns the exponent character, or `None` if literals are integers.
@@ -56,19 +58,30 @@ impl Syntax {
     #[doc(hidden)]
     #[inline(always)]
     pub fn read_then<'t, R>(&self, text: &'t [u8], then: impl FnOnce(Result<Literal<'t>, ReadError>) -> R) -> R {
+        let mut refused = None;
         if self.is_decimal() {
             let counted = self.begin(true, text, false);
             if self.is_whole(text, counted) {
                 return then(Ok(self.literal(text, counted.counts, counted.sums)));
             }
+            refused = counted.exact.then_some(counted.at);
         }
-        then(self.read_generally(text))
+        then(match refused {
+            Some(at) => self.refuse_literal(text, at),
+            None => self.read_generally(text),
+        })
+    }
+
+    // Returns why `text`, of which reading stopped at `at`, is not a literal, for the call above, in one copy.
+    #[inline(never)]
+    const fn refuse_literal<'t>(&self, text: &'t [u8], at: At) -> Result<Literal<'t>, ReadError> {
+        self.refuse(text, at)
     }
 
     // Returns what `read` returns for any syntax.
     #[inline(never)]
     pub(crate) const fn read_generally<'t>(&self, text: &'t [u8]) -> Result<Literal<'t>, ReadError> {
-        let counted = self.begin(false, text, false);
+        let counted = self.begin_small(text, false);
         if self.is_whole(text, counted) {
             Ok(self.literal(text, counted.counts, counted.sums))
         } else if counted.exact {
@@ -93,6 +106,22 @@ impl Syntax {
     #[inline(never)]
     pub(crate) const fn begin_any(&self, text: &[u8], fronts: bool) -> Counted {
         self.begin(false, text, fronts)
+    }
+
+    // Returns the same, from that copy only in the library for C, which sets `peltzivar_small`.
+    #[inline(always)]
+    pub(crate) const fn begin_small(&self, text: &[u8], fronts: bool) -> Counted {
+        if cfg!(peltzivar_small) {
+            self.begin_any(text, fronts)
+        } else {
+            self.begin(false, text, fronts)
+        }
+    }
+
+    // Returns what `step` returns, in one copy.
+    #[inline(never)]
+    pub(crate) const fn step_any(&self, text: &[u8], at: At, group: Group) -> Option<(Role, At, Group)> {
+        self.step(text, at, group)
     }
 
     // Returns what `read` returns, where `at` has been read.

@@ -135,8 +135,8 @@ impl Syntax {
     }
 
     // Returns the role of the byte that follows, and what has been read with it, or `None` if reading stops at `at`.
-    #[inline(always)]
-    const fn step(&self, text: &[u8], at: At, group: Group) -> Option<(Role, At, Group)> {
+    #[cfg_attr(not(peltzivar_small), inline(always))]
+    pub(crate) const fn step(&self, text: &[u8], at: At, group: Group) -> Option<(Role, At, Group)> {
         let grammar = self.as_grammar();
         let At { size, read } = at;
         if size == text.len() {
@@ -157,7 +157,7 @@ impl Syntax {
     pub(crate) const fn walk(&self, text: &[u8], at: At, group: Group) -> At {
         let mut stop = at;
         let mut last = group;
-        while let Some((_, next, group)) = self.step(text, stop, last) {
+        while let Some((_, next, group)) = self.step_any(text, stop, last) {
             stop = next;
             last = group;
         }
@@ -181,7 +181,7 @@ impl Syntax {
         let mut last = FIRST;
         let mut counts = [0; 9];
         let mut found = None;
-        while let Some((role, next, group)) = self.step(text, at, last) {
+        while let Some((role, next, group)) = self.step_any(text, at, last) {
             let more = count_byte(counts, part_of(at.read.stage), role);
             counts = more;
             at = next;

@@ -9,9 +9,9 @@ use crate::literal::read::byte_at;
 /// others comes second. A list that is empty asks for nothing.
 #[derive(Debug, Clone, Copy, PartialEq, Eq, Hash)]
 pub struct Stop {
-    last: &'static [u8],
-    next: &'static [u8],
-    second: &'static [u8],
+    pub(crate) last: &'static [u8],
+    pub(crate) next: &'static [u8],
+    pub(crate) second: &'static [u8],
 }
 
 impl Stop {
@@ -26,12 +26,12 @@ impl Stop {
 /// The suffixes of a form: words that belong to a number directly behind it, such as `u8`, and stops.
 #[derive(Debug, Clone, Copy, PartialEq, Eq, Hash)]
 pub struct Suffixes {
-    integers: &'static [&'static [u8]],
-    floats: &'static [&'static [u8]],
-    either_case: bool,
-    any: &'static [u8],
-    stops: &'static [Stop],
-    kinds: &'static [(&'static [u8], Kind)],
+    pub(crate) integers: &'static [&'static [u8]],
+    pub(crate) floats: &'static [&'static [u8]],
+    pub(crate) either_case: bool,
+    pub(crate) any: &'static [u8],
+    pub(crate) stops: &'static [Stop],
+    pub(crate) kinds: &'static [(&'static [u8], Kind)],
 }
 
 impl Suffixes {
@@ -62,6 +62,30 @@ impl Suffixes {
     #[must_use]
     pub const fn with_kinds(self, kinds: &'static [(&'static [u8], Kind)]) -> Suffixes {
         Suffixes { kinds, ..self }
+    }
+
+    /// Returns the words that may be behind integers.
+    #[must_use]
+    pub const fn integers(&self) -> &'static [&'static [u8]] {
+        self.integers
+    }
+
+    /// Returns the words that may be behind floats.
+    #[must_use]
+    pub const fn floats(&self) -> &'static [&'static [u8]] {
+        self.floats
+    }
+
+    /// Returns whether the words may be in either case.
+    #[must_use]
+    pub const fn is_either_case(&self) -> bool {
+        self.either_case
+    }
+
+    /// Returns the bytes of which any word that begins with one is a suffix.
+    #[must_use]
+    pub const fn begins_any_word(&self) -> &'static [u8] {
+        self.any
     }
 
     // Returns the length of the longest suffix with which `text` begins, or 0 if there is none.
@@ -216,7 +240,7 @@ const fn begins(either: bool, word: &[u8], text: &[u8]) -> bool {
         [] => true,
         [letter, word @ ..] => match text {
             [] => false,
-            [byte, text @ ..] => is_word_byte(*byte) && is_same(either, *letter, *byte) && begins(either, word, text),
+            [byte, text @ ..] => is_same(either, *letter, *byte) && is_word_byte(*byte) && begins(either, word, text),
         },
     }
 }
@@ -232,17 +256,15 @@ const fn is_same(either: bool, letter: u8, byte: u8) -> bool {
 
 // Returns the length of the longest of `words` with which `text` begins, or 0 if it begins with none.
 const fn longest_word(either: bool, words: &[&[u8]], text: &[u8]) -> usize {
-    match words {
-        [] => 0,
-        [word, rest @ ..] => {
-            let size = longest_word(either, rest, text);
-            if begins(either, word, text) && size < word.len() {
-                word.len()
-            } else {
-                size
-            }
+    let mut longest = 0;
+    let mut rest = words;
+    while let [word, more @ ..] = rest {
+        if longest < word.len() && begins(either, word, text) {
+            longest = word.len();
         }
+        rest = more;
     }
+    longest
 }
 
 // Returns whether the word with which `text` begins is one of `words`.

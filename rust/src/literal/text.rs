@@ -2,7 +2,7 @@
 
 use crate::literal::syntax::Options;
 use crate::literal::{Condition, Conditions, Syntax};
-use crate::{edits::Setter, lawful::Rejected, short_text::ShortText, word_text::word_text};
+use crate::{edits::ArgumentKind, lawful::Rejected, short_text::ShortText, word_text::word_text};
 use crate::{Error, Format, FormatError};
 use core::{fmt, str::FromStr};
 
@@ -67,7 +67,7 @@ impl FromStr for Syntax {
         while let Some((rest, setting)) = front.rsplit_once(' ') {
             let Some((condition, value)) = Condition::split(setting) else { break };
             let is_twice = set.has(condition);
-            conditions = match condition.parse(value).filter(|_| !is_twice && value.trim_ascii() == value) {
+            conditions = match condition.parse(value).filter(|_| !is_twice) {
                 Some(number) => conditions.map(|it| it.with(condition, number)),
                 None => {
                     let rejected = Rejected::Setting(condition, is_twice);
@@ -92,9 +92,9 @@ fn unconditional(text: &str) -> Result<Syntax, FormatError> {
         Some(point) => ("' '", point),
         None => options.split_once(' ').unwrap_or((options, "")),
     };
-    let byte = |option: &str, rest: &str| match Setter::DigitSeparator.parse(option) {
-        Ok(edit) if option.trim_ascii() == option => Ok(edit.argument_byte()),
-        _ => Err(FormatError::new(Error::InvalidDigit(text.len() - rest.len()), Rejected::Bytes)),
+    let byte = |option: &str, rest: &str| {
+        let error = FormatError::new(Error::InvalidDigit(text.len() - rest.len()), Rejected::Bytes);
+        ArgumentKind::OptionalCharacter.parse(option).ok_or(error)
     };
     match (byte(exponent, options)?, byte(point, point)?) {
         (0, 0) => Ok(Syntax::integers(format)),

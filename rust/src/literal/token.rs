@@ -2,13 +2,14 @@
 
 //! Tokens: numbers in the middle of a text, each with its suffix.
 
-use crate::literal::list::{further, plays_no_role, sign_size, Form, FormError, Forms, Tokens};
+use crate::literal::list::{further, sign_size, Form, FormError, Forms, Tokens};
 use crate::literal::literal::Literal;
 use crate::literal::plain::{At, Counted};
 use crate::literal::read::{byte_at, Found};
-use crate::literal::steps::is_point;
+use crate::literal::steps::{is_digit, is_point, role_at};
 use crate::literal::suffix::{byte_before, is_followed, is_stopped, is_word_byte, kind_with, suffix_size, word_size};
 use crate::literal::syntax::{Condition, Grammar, Syntax};
+use crate::word::Part;
 
 /// A number that a text begins with, and what follows it.
 #[derive(Debug, Clone, Copy, PartialEq, Eq, Hash)]
@@ -75,7 +76,7 @@ impl<'a> Forms<'a> {
         let Some(tokens) = self.tokens else {
             return Err(TokenError::NoTokens);
         };
-        match self.leading(tokens, text, true) {
+        match self.leading(tokens, text, has_letter_behind_zero(text)) {
             Some(token) => Ok(token),
             None => self.token_of(tokens, text),
         }
@@ -113,38 +114,71 @@ impl<'a> Forms<'a> {
 
     // Returns the token that `text` begins with, if reading the forms of the list once tells it. If `excluding` is true, a form of
     // which no literal goes on behind the first byte and the sign is not asked.
-    #[inline(always)]
     const fn leading<'t>(&self, tokens: &Tokens, text: &'t [u8], excluding: bool) -> Option<Token<'t>> {
+        let back = tokens.gives_points_back;
         let sign = sign_size(text);
         let mut reached = sign;
         let mut form = 0;
         while form < self.forms.len() {
             let it = &self.forms[form];
-            if excluding && is_past(it.syntax.as_grammar(), text, sign + 1) {
+            if is_excluded(it.syntax.as_grammar(), text, sign, excluding) {
                 reached = larger(reached, sign + 1);
             } else {
-                let counted = it.syntax.begin(false, text, true);
+                let counted = it.syntax.begin_small(text, true);
                 let size = counted.at.size;
                 if counted.complete
                     && reached < size
-                    && are_past(self.forms, text, size)
-                    && are_past(tokens.forms, text, size)
+                    && it.ends(back, text, counted)
+                    && are_past(self.forms, form, back, text, size)
+                    && are_past(tokens.forms, tokens.forms.len(), back, text, size)
                 {
                     return self.behind(tokens, text, it, form, counted);
                 }
-                reached = larger(reached, it.bound(text, it.syntax.reach(text, counted)));
+                let stop = it.syntax.reach(text, counted);
+                if gives_back(it.syntax, back, text, stop.size) {
+                    return self.before_point(tokens, text, it, form, stop, reached);
+                }
+                reached = larger(reached, it.bound(text, stop));
             }
             form += 1;
         }
         None
     }
 
-    // Returns the token of which `counted` is the literal, of the form with this index, if its point is not given back and
-    // nothing follows that may not.
+    // Returns the token of the form with this index that stops at `stop`, behind a point that is given back. The forms before have
+    // no literal of more than `reached` bytes.
+    #[inline(never)]
+    const fn before_point<'t>(
+        &self,
+        tokens: &Tokens,
+        text: &'t [u8],
+        it: &Form,
+        form: usize,
+        stop: At,
+        reached: usize,
+    ) -> Option<Token<'t>> {
+        let back = tokens.gives_points_back;
+        let size = stop.size - 1;
+        let (front, _) = text.split_at(size);
+        let counted = it.syntax.begin_small(front, true);
+        if counted.complete
+            && counted.at.size == size
+            && reached < size
+            && !gives_back(it.syntax, back, text, size)
+            && are_past(self.forms, form, back, text, size)
+            && are_past(tokens.forms, tokens.forms.len(), back, text, size)
+        {
+            self.behind(tokens, text, it, form, counted)
+        } else {
+            None
+        }
+    }
+
+    // Returns the token of which `counted` is the literal, of the form with this index, if nothing follows that may not.
     #[inline(always)]
     const fn behind<'t>(
         &self,
-        tokens: &Tokens,
+        _tokens: &Tokens,
         text: &'t [u8],
         it: &Form,
         form: usize,
@@ -153,9 +187,7 @@ impl<'a> Forms<'a> {
         let Counted { at, counts, sums, .. } = counted;
         let (front, rest) = text.split_at(at.size);
         let more = suffix_size(it.suffixes, is_float(counts), rest);
-        if gives_back(it.syntax, tokens.gives_points_back, text, at.size)
-            || is_stopped(it.suffixes, text, at.size + more)
-        {
+        if is_stopped(it.suffixes, text, at.size + more) {
             return None;
         }
         let (suffix, rest) = rest.split_at(more);
@@ -204,12 +236,13 @@ impl<'a> Forms<'a> {
     }
 }
 
-// Returns whether no literal of a form begins with more than the first `size` bytes of `text`, which are more than a sign.
+// Returns whether no literal of the forms, but for the one with the index `but`, begins with more than the first `size` bytes of
+// `text`, which are more than a sign, or only with a point more that is given back.
 #[inline(always)]
-const fn are_past(forms: &[Form], text: &[u8], size: usize) -> bool {
+const fn are_past(forms: &[Form], but: usize, back: bool, text: &[u8], size: usize) -> bool {
     let mut form = 0;
     while form < forms.len() {
-        if !is_past(forms[form].syntax.as_grammar(), text, size) {
+        if form != but && !forms[form].is_past(back, text, size) {
             return false;
         }
         form += 1;
@@ -217,10 +250,18 @@ const fn are_past(forms: &[Form], text: &[u8], size: usize) -> bool {
     true
 }
 
-// Returns whether no literal begins with more than the first `size` bytes of `text`, which are more than a sign.
+// Returns whether the form is not asked: there is not the prefix that is required, or, if `excluding` is true, no literal begins
+// with more than one byte behind the sign, which has this length.
 #[inline(always)]
-const fn is_past(grammar: Grammar, text: &[u8], size: usize) -> bool {
-    lacks_prefix(grammar, text) || is_over(grammar, text, size)
+const fn is_excluded(grammar: Grammar, text: &[u8], sign: usize, excluding: bool) -> bool {
+    lacks_prefix(grammar, text) || (excluding && is_over(grammar, text, sign + 1))
+}
+
+// Returns whether a zero and a letter are behind the sign.
+#[inline(always)]
+const fn has_letter_behind_zero(text: &[u8]) -> bool {
+    let sign = sign_size(text);
+    sign + 1 < text.len() && text[sign] == b'0' && text[sign + 1] > b'9'
 }
 
 // Returns whether the text ends behind the first `size` bytes, or a byte follows that plays no role.
@@ -228,8 +269,14 @@ const fn is_past(grammar: Grammar, text: &[u8], size: usize) -> bool {
 const fn is_over(grammar: Grammar, text: &[u8], size: usize) -> bool {
     match byte_at(text, size) {
         None => true,
-        Some(byte) => plays_no_role(grammar, byte),
+        Some(byte) => has_no_role(grammar, byte),
     }
+}
+
+// Returns whether `byte` plays no role, and is not the zero of a prefix.
+#[inline(always)]
+const fn has_no_role(grammar: Grammar, byte: u8) -> bool {
+    byte != b'0' && matches!(role_at(grammar, Part::Integer, byte), None) && !is_digit(grammar, Part::Exponent, byte)
 }
 
 // Returns whether there is not the base prefix that is required.
@@ -267,6 +314,29 @@ const fn made<'t>(it: &Form, text: &'t [u8], form: usize, candidate: Candidate) 
 }
 
 impl Form {
+    // Returns whether the front that has been read, which is a literal, is the longest, and does not end in a point that is given back.
+    #[inline(always)]
+    const fn ends(&self, back: bool, text: &[u8], counted: Counted) -> bool {
+        let size = counted.at.size;
+        (is_over(self.syntax.as_grammar(), text, size) || self.syntax.reach(text, counted).size == size)
+            && !gives_back(self.syntax, back, text, size)
+    }
+
+    // Returns whether no literal begins with more than the first `size` bytes of `text`, which are more than a sign, or only with a
+    // point more that is given back.
+    #[inline(always)]
+    const fn is_past(&self, back: bool, text: &[u8], size: usize) -> bool {
+        let grammar = self.syntax.as_grammar();
+        lacks_prefix(grammar, text) || is_over(grammar, text, size) || self.stops(back, text, size)
+    }
+
+    // Returns the same by reading.
+    #[inline(never)]
+    const fn stops(&self, back: bool, text: &[u8], size: usize) -> bool {
+        let stop = self.syntax.stop_in(text);
+        stop.size <= size || (stop.size == size + 1 && gives_back(self.syntax, back, text, size + 1))
+    }
+
     // Returns a size that no front of `text` that is a literal exceeds, where reading stops at `stop`.
     #[inline(always)]
     const fn bound(&self, text: &[u8], stop: At) -> usize {
@@ -418,7 +488,7 @@ const fn is_one_ahead(forms: &[Form], back: bool, text: &[u8], end: usize) -> bo
     let mut form = 0;
     while form < forms.len() {
         let it = &forms[form];
-        let (stop, _) = it.syntax.front(text);
+        let stop = it.syntax.stop_in(text);
         if goes_on(it.syntax, back, text, end, stop.size) {
             return true;
         }

@@ -2,7 +2,7 @@
 
 use core::{fmt, ops::Range};
 
-use crate::literal::{Forms, Token, TokenError};
+use crate::literal::{Form, Forms, Kind, Stop, Suffixes, Token, TokenError, Tokens};
 
 impl Forms<'_> {
     /// Returns what [`token_bytes`][Self::token_bytes] returns, for a text or bytes.
@@ -12,6 +12,41 @@ impl Forms<'_> {
     /// If `text` does not begin with a token, returns why.
     pub fn token<'t>(&self, text: &'t (impl AsRef<[u8]> + ?Sized)) -> Result<Token<'t>, TokenError> {
         self.token_bytes(text.as_ref())
+    }
+
+    /// Returns the forms that need a suffix, the words that may follow, and whether points are given back, for the library for C.
+    #[doc(hidden)]
+    #[must_use]
+    #[allow(clippy::type_complexity, reason = "it is for the library for C alone")]
+    pub const fn token_rules(&self) -> Option<(&[Form], &[&'static [u8]], bool)> {
+        match self.tokens {
+            Some(Tokens { forms, following, gives_points_back }) => Some((forms, following, *gives_points_back)),
+            None => None,
+        }
+    }
+}
+
+impl Suffixes {
+    /// Returns the words behind integers and floats, and the bytes of which any word that begins with one is a suffix.
+    #[doc(hidden)]
+    #[must_use]
+    pub const fn words(&self) -> [&'static [&'static [u8]]; 2] {
+        [self.integers, self.floats]
+    }
+
+    #[doc(hidden)]
+    #[must_use]
+    #[allow(clippy::type_complexity, reason = "it is for the library for C alone")]
+    pub const fn rules(&self) -> (bool, &'static [u8], &'static [(&'static [u8], Kind)], &'static [Stop]) {
+        (self.either_case, self.any, self.kinds, self.stops)
+    }
+}
+
+impl Stop {
+    #[doc(hidden)]
+    #[must_use]
+    pub const fn bytes(&self) -> [&'static [u8]; 3] {
+        [self.last, self.next, self.second]
     }
 }
 

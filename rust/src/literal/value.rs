@@ -13,13 +13,28 @@ use crate::literal::{
 pub(crate) mod float;
 pub(crate) mod integer;
 pub(crate) mod kind;
+pub(crate) mod number {
+    pub(crate) mod big;
+    pub(crate) mod binary;
+    pub(crate) mod decimal;
+    pub(crate) mod float;
+    pub(crate) mod integer;
+    pub(crate) mod leading;
+    pub(crate) mod long;
+    #[allow(clippy::manual_range_contains, reason = "as it is proved")]
+    pub(crate) mod nearest;
+    pub(crate) mod numeral;
+    pub(crate) mod powers;
+    pub(crate) mod scaling;
+    pub(crate) mod shortest;
+}
 
 pub use integer::ValueErrorKind;
 
-use crate::number::decimal::{decimal_to_bits, digits_to_bits};
-use crate::number::float::Float;
 use float::{binary_size, exponent_of, nearest_float, to_float};
 use integer::{integer_numeral, own_numeral, to_integer};
+use number::decimal::{decimal_to_bits, digits_to_bits};
+use number::float::Float;
 
 /// A type that can be [parsed][Syntax::parse]: each integer type of Rust, `f64` and `f32`, and a type of your own.
 ///
@@ -542,8 +557,11 @@ impl Syntax {
     // Returns what `parse` returns for any text.
     #[inline(never)]
     fn parse_generally<T: FromLiteral>(&self, text: &[u8]) -> Result<T, ParseError> {
-        let literal = self.read_generally(text)?;
-        T::from_literal(literal).map_err(|kind| ParseError::Value(ValueError::of::<T>(kind, text.len(), Kind::EXACT)))
+        match self.read_generally(text) {
+            Ok(literal) => value_in_memory::<T>(literal)
+                .map_err(|kind| ParseError::Value(ValueError::of::<T>(kind, text.len(), Kind::EXACT))),
+            Err(error) => Err(error.into()),
+        }
     }
 
     /// Returns the value of the longest literal that `text` begins with, and the rest of `text`, as
@@ -573,6 +591,12 @@ impl Syntax {
     pub const fn supports_floats(&self) -> bool {
         float::supports_floats(self.as_grammar().view())
     }
+}
+
+// Returns the value of a literal that is in memory. Were it inlined, all of the literal would be copied.
+#[inline(never)]
+fn value_in_memory<T: FromLiteral>(literal: Literal<'_>) -> Result<T, ValueErrorKind> {
+    T::from_literal(literal)
 }
 
 impl Number<'_> {

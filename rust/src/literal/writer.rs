@@ -3,11 +3,13 @@
 use core::fmt::{self, Write};
 use core::str;
 
+use crate::literal::value::number::float::Float;
+use crate::literal::value::number::integer::Integer;
 use crate::literal::value::Other;
 use crate::literal::{Forms, Literal, Sign, Special, Specials, Spelling, Syntax};
-use crate::number::float::Float;
-use crate::number::integer::Integer;
 
+#[allow(clippy::question_mark, reason = "as it is proved")]
+mod checked;
 #[allow(
     clippy::exhaustive_structs,
     clippy::manual_map,
@@ -19,12 +21,16 @@ mod digits;
 #[allow(clippy::question_mark, reason = "as it is proved")]
 mod float;
 mod float_digits;
+#[allow(clippy::question_mark, reason = "as it is proved")]
+mod form;
 mod integer;
 mod layout;
 #[allow(clippy::module_inception, clippy::needless_lifetimes, reason = "as it is proved")]
 mod literal;
 #[allow(clippy::needless_lifetimes, clippy::question_mark, reason = "as it is proved")]
 mod moved;
+#[allow(clippy::needless_lifetimes, reason = "as it is proved")]
+mod near;
 #[allow(clippy::question_mark, reason = "as it is proved")]
 mod rounded;
 mod run;
@@ -38,6 +44,7 @@ pub use choice::{Real, Whole, Writable};
 use float_digits::FloatDigits;
 use layout::Layout;
 use literal::write_number;
+use near::float_instead;
 use sink::{Sink, Window};
 
 /// A type that can be [written][Syntax::format_integer]: each integer type of Rust.
@@ -155,6 +162,24 @@ impl Style {
         self.point = true;
         self
     }
+
+    /// Writes a [literal][Syntax::format_literal] of another radix or base by the nearest `f64`, if it cannot be written exactly.
+    ///
+    /// ```
+    /// use peltzivar::literal::{Language, Style, WriteError};
+    ///
+    /// let literal = Language::JSON.read("0.1").unwrap().literal().unwrap();
+    /// let hexadecimal = Language::C.forms().as_slice().iter().find(|form| form.name() == "hexadecimal float").unwrap().syntax();
+    /// let write = |style| hexadecimal.format_literal(&literal, style).map(|text| text.to_string());
+    /// assert_eq!(write(Style::PLAIN.nearest())?, "0x1.999999999999Ap-4");
+    /// assert_eq!(write(Style::PLAIN), Err(WriteError::Radix));
+    /// # Ok::<(), WriteError>(())
+    /// ```
+    #[must_use]
+    pub const fn nearest(mut self) -> Style {
+        self.nearest = true;
+        self
+    }
 }
 
 /// Defines the default of a type.
@@ -234,7 +259,7 @@ impl Syntax {
     /// exponent that the literal does not have, `0` and `e0` are added. Trailing zeros are kept, and so is the sign of `-0`.
     /// Where no exponent is allowed, the point moves in its place, and trailing zeros of the fraction are left out: `1.2e3`
     /// is `1200`. So they are in a syntax of integers alone, in which `1.0` is `1`. In another radix, a whole number of up to
-    /// 128 bits is written: `0xFF` is `255`. If the value by the [kind][Literal::kind] of the literal is another number, that is
+    /// 128 bits is written: `0xFF` is `255`, and with [`Style::nearest`] any number, by its `f64`. If the value by the [kind][Literal::kind] of the literal is another number, that is
     /// written: of Java's `0xffffffff`, it is `-1`.
     ///
     /// ```
@@ -253,7 +278,10 @@ impl Syntax {
     /// If the literal cannot be written, returns why.
     pub fn format_literal<'a>(&self, literal: &Literal<'a>, style: Style) -> Result<Written<'a>, WriteError> {
         match literal.other_value() {
-            None => literal::format_literal(literal, self, style).map(|layout| Written { text: Text::Number(layout) }),
+            None => match literal::format_literal(literal, self, style) {
+                Ok(layout) => Ok(Written { text: Text::Number(layout) }),
+                Err(error) => self.format_float(float_instead::<f64>(literal, style, error)?, style),
+            },
             Some(other) => self.format_other(other, style),
         }
     }

@@ -1,12 +1,15 @@
 -- What one pass over several forms finds.
-use Rattle.std.specs.Prelude.{ℕ, ◌≡◌, ◌+◌, [], ◌∷◌, false, if◌then◌else◌, nat_lt, IfErr, IfOk, IfSome, IsErr, IsNone, IsSomeAnd, List, Option, Some, None, Result, All, slice_get}
-use Rattle.lexical_util.specs.Roles.{signs}
+use Rattle.std.specs.Prelude.{ℕ, ◌≡◌, ◌+◌, ◌*◌, ◌≤◌, [], ◌∷◌, false, if◌then◌else◌, nat_lt, IfErr, IfOk, IfSome, IsErr, IsNone, IsSomeAnd, List, Option, Some, None, Result, All, slice_get}
+use Rattle.lexical_util.specs.Roles.{other_case, signs}
 use Rattle.lexical_util.specs.declared.feature_format.roles.Role.{Role}
+use Rattle.lexical_util.specs.declared.feature_format.roles.Role.TheVariants as roles
 use Rattle.lexical_literal.specs.Additions.Longest.{IsCountedFront, IsStopped}
-use Rattle.lexical_literal.specs.Forms.{HasFront, IsFirst, IsFormError, IsGreatest, NoForm}
+use Rattle.lexical_literal.specs.Cause.{IsRefusal}
+use Rattle.lexical_literal.specs.Forms.{HasFront, IsFirst, IsFormError, IsGreatest, NoForm, reach}
 use Rattle.lexical_literal.specs.Front.{IsValidUpTo, NoFront}
 use Rattle.lexical_literal.specs.Read.{Read}
 use Rattle.lexical_literal.specs.Notation.{Notation, notation_of, set_of_role}
+use Rattle.lexical_literal.specs.declared.cause.Refusal.{Refusal}
 use Rattle.lexical_literal.specs.declared.list.FormError.{FormError}
 use Rattle.lexical_literal.specs.declared.read.Found.{Found}
 use Rattle.lexical_literal.specs.declared.plain.At.{At}
@@ -46,6 +49,23 @@ pub record IsFoundForm (forms : List Form) (text : List ℕ) (result : Option (�
 pub record PlaysNoRole (m : Notation) (byte : ℕ) : Type 0 where
   pub not_zero : byte ≡ 48 → ⊥
   pub none : (role : Role) → set_of_role m role byte ≡ false
+
+-- `IsSpare m byte` holds if `byte` plays no role, or is only the base prefix.
+abbrev pub IsSpare : Notation → ℕ → Type 0
+IsSpare m byte = (role : Role) → (role ≡ roles.Prefix → ⊥) → set_of_role m role byte ≡ false
+
+-- `IsStranger m byte` holds if `byte` plays no role behind the base prefix, and its other case neither.
+abbrev pub IsStranger : Notation → ℕ → Type 0
+IsStranger m byte = IsSpare m byte × IsSpare m (other_case byte)
+
+-- `IsNoBetter m text size` holds if no error of `text` has a greater reach than one that goes up to `size` and whose cause is a wrong byte.
+abbrev pub IsNoBetter : Notation → List ℕ → ℕ → Type 0
+IsNoBetter m text size = (error : Refusal) → IsRefusal m text error → reach error ≤ 2 * size
+
+-- `bound sign furthest` is the number of bytes up to which `furthest` goes, or up to the first byte behind a sign with the length `sign`.
+abbrev pub bound : ℕ → Option (ℕ × At) → ℕ
+bound sign None = sign + 1
+bound sign (Some best) = best.1.size
 
 -- `IsFoundFrontForm forms text result` holds if `result` has the longest front of `text` that is a literal of a form, of the
 -- first form of equals, and the lengths of its parts, or the error of a text for which there is no such front.

@@ -1,6 +1,6 @@
 -- What one pass over several forms finds of a token.
 use Rattle.std.specs.Prelude.{ℕ, ◌≡◌, ◌+◌, ◌-◌, ◌==◌, ◌&&◌, ◌||◌, not, Bool, if◌then◌else◌, nat_lt, List, Option, Some, None, All, IsSomeAnd}
-use Rattle.std.specs.Prelude.{◌≤◌, ◌<◌, drop, get_or, length, slice_get, take}
+use Rattle.std.specs.Prelude.{◌≤◌, ◌<◌, ◌⊎◌, true, drop, get_or, length, slice_get, take}
 use Rattle.std.specs.Borrow.{Bor}
 use Rattle.lexical_literal.specs.Additions.Longest.{IsMeasured}
 use Rattle.lexical_literal.specs.Cause.{is_in}
@@ -74,23 +74,32 @@ suffixed suffixes needs text own =
     if needs && (suffix_size suffixes (has_float own.counts) (drop own.size text) == 0) then None
     else Some (record { size = own.size; counts = own.counts; end = own.size + suffix_size suffixes (has_float own.counts) (drop own.size text) })
 
--- `IsWithin text size form` holds if no literal of `form` begins with more than the first `size` bytes of `text`, and `AreWithin forms text size`
--- if this holds of each of `forms`. `FrontsWithin text size form` holds if each front of `text` that is a literal has at most `size` bytes.
+-- `IsWithin m text size` holds if no literal begins with more than the first `size` bytes of `text`. `IsNear back m text size` holds if none does,
+-- or only with a point more that is given back. `AreNear back forms but text size` holds if this holds of each of `forms`, but for the one with the
+-- index `but`. `FrontsWithin text size form` holds if each front of `text` that is a literal has at most `size` bytes.
 abbrev pub IsWithin : Notation → List ℕ → ℕ → Type 0
 IsWithin m text size = (more : ℕ) → size < more → more ≤ length text → IsFront m (take more text) → ⊥
 
-abbrev pub AreWithin : List Form → List ℕ → ℕ → Type 0
-AreWithin forms text size = All (λ form. IsWithin (notation_of form.syntax) text size) forms
+abbrev pub IsNear : Bool → Notation → List ℕ → ℕ → Type 0
+IsNear back m text size = IsWithin m text size ⊎ (IsWithin m text (size + 1) × (gives_back back m text (size + 1) ≡ true))
+
+abbrev pub AreNear : Bool → List Form → ℕ → List ℕ → ℕ → Type 0
+AreNear back forms but text size =
+    (i : ℕ) (form : Form) → i < length forms → (i ≡ but → ⊥) → IsNear back (notation_of (get_or forms i form).syntax) text size
 
 abbrev pub FrontsWithin : List ℕ → ℕ → Form → Type 0
 FrontsWithin text size form = (longest : ℕ) → HasFront text form longest → longest ≤ size
 
--- `IsLeading list t text index form size` holds if `form`, with this index, is the first of the list of which the first `size` bytes of `text` are
--- a literal, and no literal of a form goes on behind them.
+-- `IsLeading list t text index form size` holds if `form`, with this index, is the first of the list whose longest front of `text`, without its point
+-- if that is given back, has `size` bytes, and if no literal of a form goes on behind them, or only with a point that is given back.
 pub record IsLeading (list : FormList) (t : Tokens) (text : List ℕ) (index : ℕ) (form : Form) (size : ℕ) : Type 0 where
   pub at : slice_get list.forms index ≡ Some form
-  pub plain : AreWithin list.forms text size
-  pub suffixed : AreWithin t.forms.now text size
+  pub longest : ℕ
+  pub front : HasFront text form longest
+  pub size_is : size ≡ (if gives_back t.gives_points_back (notation_of form.syntax) text longest then longest - 1 else longest)
+  pub own : IsNear t.gives_points_back (notation_of form.syntax) text size
+  pub plain : AreNear t.gives_points_back list.forms index text size
+  pub suffixed : AreNear t.gives_points_back t.forms.now (length t.forms.now) text size
   pub before : (reached : ℕ) × (reached < size) × All (FrontsWithin text reached) (take index list.forms)
 
 -- `has_prefix m text index` is true if a zero and a base prefix are at `index`.

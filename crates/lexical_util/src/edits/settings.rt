@@ -2,7 +2,7 @@
 
 ghost use Rattle.std.specs.Prelude.{◌≡◌, ◌≢◌, ◌≤◌, ◌<◌, length, Option, MatchOption};
 ghost use Rattle.std.specs.List.{position_or_len, before_first, after_first};
-ghost use Rattle.lexical_util.specs.Additions.Settings.{name_of, byte_of_digits, byte_of_number, byte_of_character};
+ghost use Rattle.lexical_util.specs.Additions.Settings.{name_of, byte_of_digits, byte_of_number, byte_of_character, byte_of_value};
 ghost use Rattle.lexical_util.specs.Additions.Settings.{no_equals, unknown_name, bad_value};
 ghost use Rattle.lexical_util.specs.Additions.Settings.{is_equals, trimmed, IsParsed, IsSetting};
 
@@ -118,17 +118,25 @@ impl Setter {
     fn parse_exact(self, value: &str) -> Result<Edit, EditError>
         ensures { IsParsed self value.now result }
     {
-        let byte = match (self.kind(), value) {
+        match self.kind().parse(value) {
+            Some(byte) => Ok(self.with_argument(byte)),
+            None => Err(EditError(Fault::BadValue(self))),
+        }
+    }
+}
+
+impl ArgumentKind {
+    // Parses `value` as an argument of this kind, as a byte. Nothing is skipped.
+    pub(crate) fn parse(self, value: &str) -> Option<u8>
+        ensures { result ≡ byte_of_value self value.now }
+    {
+        match (self, value) {
             (ArgumentKind::Flag, "true") => Some(1),
             (ArgumentKind::Flag, "false") => Some(0),
             (ArgumentKind::Flag, _) => None,
             (ArgumentKind::OptionalCharacter | ArgumentKind::OptionalNumber, "none") => Some(0),
             (ArgumentKind::OptionalCharacter, value) => byte_from_character(value),
             (_, value) => byte_from_number(value),
-        };
-        match byte {
-            Some(byte) => Ok(self.with_argument(byte)),
-            None => Err(EditError(Fault::BadValue(self))),
         }
     }
 }

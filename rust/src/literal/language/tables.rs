@@ -230,6 +230,7 @@ const LUA_WORDS: Suffixes = JULIA_WORDS;
 /// Suffixes of Kotlin.
 const KOTLIN_INTEGERS: &[&[u8]] = &[b"u", b"U", b"L", b"uL", b"UL"];
 const KOTLIN_DECIMALS: Suffixes = words(&[b"u", b"U", b"L", b"uL", b"UL", b"f", b"F"], &[b"f", b"F"]).with_kinds(FLOAT);
+const KOTLIN_FLOATS: Suffixes = words(&[b"f", b"F"], &[]).with_kinds(FLOAT);
 
 /// Suffixes of OCaml, whose names may have `'`.
 const OCAML_WORDS: Suffixes = Suffixes::new(&[b"l", b"L", b"n"], &[], &[Stop::new(b"", b"'", b"")]).with_kinds(&[
@@ -266,14 +267,31 @@ const RUST_DECIMALS: &[&[u8]] = &[
     b"u8", b"u16", b"u32", b"u64", b"u128", b"usize", b"i8", b"i16", b"i32", b"i64", b"i128", b"isize", b"f32", b"f64",
 ];
 const RUST_WORDS: Suffixes = words(RUST_DECIMALS, &[b"f32", b"f64"]).with_kinds(&[(b"f32", SINGLE)]);
-const RUST_PREFIXED_WORDS: Suffixes = Suffixes::new(RUST_INTEGERS, &[], POINT_AND_DIGIT);
+const RUST_PREFIXED_WORDS: Suffixes = Suffixes::new(RUST_INTEGERS, &[], POINT_AND_NO_NAME);
+
+/// A decimal point before a byte that is neither a second one nor begins a name.
+const POINT_AND_NO_NAME: &[Stop] = &[Stop::new(b"", b".", &NO_NAME)];
+const NO_NAME: [u8; 73] = no_name();
+
+/// Returns the bytes that are neither a point nor what a name begins with, but for 0, which ends a string of C.
+const fn no_name() -> [u8; 73] {
+    let (mut bytes, mut at, mut byte) = ([0; 73], 0, 1);
+    while at < bytes.len() {
+        if byte != b'.' && byte != b'_' && !byte.is_ascii_alphabetic() {
+            bytes[at] = byte;
+            at += 1;
+        }
+        byte += 1;
+    }
+    bytes
+}
 
 /// Tokens whose last point belongs to what follows: `1..2` and `1.max(2)`.
 const POINTS_BACK: Tokens = Tokens::new(&[], &[]).gives_points_back(true);
 
 languages! {
     /// Ada's decimal literals (Reference Manual 2012, 2.4.1). A format cannot accept based literals, such as `16#FF#`, or
-    /// accept `1.0E-3` and `1E3` but reject `1E-3`, which the first form does not write.
+    /// accept `1.0E-3` and `1E3` but reject `1E-3`. So `1E-3` is read here, but the first form never writes it.
     ADA = {
         "decimal": decimal(separated(b'_')
             .required_digits(true) // rejects `.5`, `1.`, `1e` and `.`
@@ -294,18 +312,19 @@ languages! {
     } => Tokens::new(&[], &[]);
 
     /// CSS's numbers, with signs (CSS Syntax Module Level 3, 4.3.12). A format cannot accept a unit, as in `10px` and `5%`. A
-    /// token has a word as its unit, but neither `%` nor what follows `-` behind a digit: of `1p2-x`, it is `1p2`.
+    /// token has a word as its unit. It ends before `%`, and before a `-` that follows a digit: of `1p2-x`, it is `1p2`.
     CSS = { "decimal": numbers(b'e', b'.', NumberFormatBuilder::new()
         .no_special(true) // rejects `NaN` and `inf`
         .required_fraction_digits(true) // rejects `1.`, not `.5`
     ) => CSS_WORDS } => Tokens::new(&[], &[]);
 
-    /// Numbers in CSV, as German spreadsheets write cells of the format `#.##0,00` (RFC 4180): `1.234,50`. The
-    /// cause of `0.123` is its leading zero, since its groups are right.
+    /// Numbers in CSV, as German spreadsheets write cells of the format `#.##0,00` (RFC 4180): `1.234,50`.
+    /// `0.123` is refused for its leading zero, since its groups are right. LibreOffice reads `-0` as 0.
     CSV_DE = { "decimal": grouped(numbers(b'e', b',', SPREADSHEET.digit_separator(NonZeroU8::new(b'.')))) };
 
-    /// Numbers in CSV, as English spreadsheets write cells of the format `#,##0.00`, in quotes (RFC 4180): `"1,234.50"`. A
-    /// format cannot accept the minus sign U+2212 of Gnumeric: replace it by `-`.
+    /// Numbers in CSV, as English spreadsheets write cells of the format `#,##0.00`, in quotes (RFC 4180): `"1,234.50"`.
+    /// Remove the quotes, as CSV readers do. A format cannot accept the minus sign U+2212 of Gnumeric: replace it by `-`.
+    /// LibreOffice reads `-0` as 0.
     CSV_EN = { "decimal": grouped(numbers(b'e', b'.', SPREADSHEET.digit_separator(NonZeroU8::new(b',')))) };
 
     /// C++'s integer and floating literals (C++17, 5.13.2 and 5.13.4). A format cannot accept `1u`, `1L`, `1.0f` and suffixes
@@ -325,7 +344,7 @@ languages! {
         "binary": prefixed(b'b', 2, JAVA.integer_leading_digit_separator(true)) => words(C_SHARP_INTEGERS, &[]).either_case(true), // accepts `0b_1`
     } => Tokens::new(&[], &[]);
 
-    /// Elixir's integers and floats (Syntax reference 1.14, Numbers). Numbers from 1.8e308 on are refused there.
+    /// Elixir's integers and floats (Syntax reference 1.14, Numbers). Elixir refuses numbers from 1.8e308 on, which are infinity here.
     ELIXIR = {
         "decimal": decimal(separated(b'_')
             .required_digits(true) // rejects `.5`, `1.`, `1e` and `.`
@@ -382,7 +401,7 @@ languages! {
 
     /// Java's integer and floating-point literals (Language Specification 21, 3.10.1 and 3.10.2). A format cannot accept
     /// `1L`, `1f` and `1d`. Values are those of `int` or, with `L`, of `long`: a hexadecimal, octal or binary integer from 2^31 on
-    /// is negative, as `0xffffffff`, which is -1. `2147483648`, which is lawful behind the operator `-` alone, is too large.
+    /// is negative, as `0xffffffff`, which is -1. `2147483648`, which is lawful only after the operator `-`, is too large.
     JAVA = {
         "decimal": decimal(JAVA.no_integer_leading_zeros(true)) => JAVA_DECIMALS; AT_MOST_31, // rejects `08`, not `08.5`
         "octal": octal(JAVA) => JAVA_INTEGERS; WRAPS_32,
@@ -428,7 +447,10 @@ languages! {
         ) => KOTLIN_DECIMALS,
         "hexadecimal": prefixed(b'x', 16, JAVA) => words(KOTLIN_INTEGERS, &[]),
         "binary": prefixed(b'b', 2, JAVA) => words(KOTLIN_INTEGERS, &[]),
-    } => POINTS_BACK;
+    } => Tokens::new(
+        const { &[Form::new("float, leading zeros", integers(10, JAVA)).with_suffixes(const { &KOTLIN_FLOATS })] },
+        &[],
+    ).gives_points_back(true);
 
     /// Lua's integers and floats (Reference Manual 5.4, 3.1). In Lua, a decimal integer from 2^63 on is a float: take its
     /// value as an `f64`. A hexadecimal one keeps its last 64 bits: `0xffffffffffffffff` is -1.
@@ -471,7 +493,7 @@ languages! {
 
     /// OCaml's integers and floats (Manual 5.2, 11.1 Lexical conventions). A format cannot accept `1._`, whose fraction has a
     /// separator alone, or `1l`, `1L` and `1n`. An integer has 63 bits, so `0x7fffffffffffffff` is -1.
-    /// `4611686018427387904`, which is lawful behind the operator `-` alone, is too large.
+    /// `4611686018427387904`, which is lawful only after the operator `-`, is too large.
     OCAML = {
         "decimal": decimal(RUST
             .required_integer_digits(true) // rejects `.5`, not `1.`
@@ -533,8 +555,8 @@ languages! {
     .gives_points_back(true);
 
     /// Rust's integers and floats (Reference, Integer literals and Floating-point literals). A format cannot accept the
-    /// suffixes in `0x1F_u8` and `1f32`. The token of `0b1.` is `0b1`, but rustc takes the point if neither a second one nor a
-    /// name follows, and refuses it.
+    /// suffixes in `0x1F_u8` and `1f32`. At the end of a text, the token of `0b1.` is `0b1`, but rustc takes the point, and
+    /// refuses it.
     RUST = {
         "decimal": decimal(RUST
             .required_integer_digits(true) // rejects `.5`
@@ -551,7 +573,7 @@ languages! {
         "binary": prefixed(b'b', 2, RUST_PREFIXED) => RUST_PREFIXED_WORDS,
     } => POINTS_BACK;
 
-    /// SQL's signed numeric literals (ISO/IEC 9075-2:2016, 5.3 `<literal>`).
+    /// SQL's signed numeric literals (ISO/IEC 9075-2:2016, 5.3 `<literal>`). PostgreSQL reads `-0.0` as 0.
     SQL = { "decimal": numbers(b'e', b'.', NumberFormatBuilder::new().no_special(true)) }; // rejects `NaN` and `inf`
 
     /// Swift's numeric literals, with the sign `-` (The Swift Programming Language, Lexical Structure).

@@ -6,10 +6,10 @@ use crate::literal::kind::FloatKind;
 use crate::literal::literal::Literal;
 use crate::literal::value::integer::{integer_numeral, ValueErrorKind};
 use crate::literal::value::kind::{fewer, is_exact, Worth};
-use crate::number::decimal::{decimal_to_float, digits_to_float};
-use crate::number::float::Float;
-use crate::number::leading::{push_all, saturating, Leading};
-use crate::number::parts::{bits_of, raised_bits};
+use crate::literal::value::number::decimal::{decimal_to_float, digits_to_float};
+use crate::literal::value::number::float::Float;
+use crate::literal::value::number::leading::{push_all, saturating, Leading};
+use crate::literal::value::number::scaling::{bits_of, raised_bits, raised_word};
 use crate::word::FormatView;
 
 /// Returns the value of a literal by its kind as a value of a float type: rounded once to the nearest float, or to the even one
@@ -126,29 +126,34 @@ fn decimal_size<F: Float>(literal: &Literal) -> F {
 // Returns the bits of the float nearest to a literal, without its sign, or `None` if a radix is not a power of two.
 pub(crate) const fn binary_size(double: bool, literal: &Literal) -> Option<u64> {
     let format = literal.format();
-    let radix = format.mantissa_radix();
-    let Some(radix_bits) = bits_of(radix) else {
+    let Some(radix_bits) = bits_of(format.mantissa_radix()) else {
         return None;
     };
     let Some(base_bits) = bits_of(format.exponent_base()) else {
         return None;
     };
-    let leading = leading_of(literal, radix);
+    let places = literal.places() as u64;
+    let negative = literal.has_negative_exponent();
+    if let (Some(mantissa), Some(exponent)) = (literal.mantissa(), literal.scale()) {
+        return Some(raised_word(double, mantissa, radix_bits, places, negative, exponent, base_bits));
+    }
+    Some(long_binary_size(double, literal, radix_bits, base_bits))
+}
+
+// Returns the same where the mantissa or the exponent has many digits.
+#[cold]
+const fn long_binary_size(double: bool, literal: &Literal, radix_bits: u32, base_bits: u32) -> u64 {
+    let leading = leading_of(literal, literal.format().mantissa_radix());
     let places = literal.places() as u64;
     let negative = literal.has_negative_exponent();
     let exponent = exponent_of(literal);
-    Some(raised_bits(double, leading, radix_bits, places, negative, exponent, base_bits))
-}
-
-// Returns all digits of a number as its leading digits.
-const fn whole(size: u64) -> Leading {
-    Leading { digits: size as u128, ..Leading::ZERO }
+    raised_bits(double, leading, radix_bits, places, negative, exponent, base_bits)
 }
 
 // Returns the leading digits of the mantissa, all of them if it is known.
 const fn leading_of(literal: &Literal, radix: u32) -> Leading {
     match literal.mantissa() {
-        Some(size) => whole(size),
+        Some(size) => Leading::whole(size),
         None => {
             let parts = literal.cut();
             let integer = push_all(Leading::ZERO, radix, parts.integer);

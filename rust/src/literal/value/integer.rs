@@ -4,8 +4,8 @@
 
 use crate::literal::literal::Literal;
 use crate::literal::value::kind::counted;
-use crate::number::integer::Integer;
-use crate::number::numeral::{Magnitude, Numeral};
+use crate::literal::value::number::integer::Integer;
+use crate::literal::value::number::numeral::{Magnitude, Numeral};
 
 /// Why a number has no value in a type.
 #[derive(Debug, Clone, Copy, PartialEq, Eq, Hash)]

@@ -3,7 +3,7 @@
 //! What an integer is worth by its kind.
 
 use crate::literal::kind::IntegerKind;
-use crate::number::numeral::{Magnitude, Numeral};
+use crate::literal::value::number::numeral::{Magnitude, Numeral};
 
 // An integer of up to 64 bits and its sign.
 #[derive(Clone, Copy)]

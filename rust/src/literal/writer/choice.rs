@@ -8,12 +8,13 @@ use crate::literal::literal::Literal;
 use crate::literal::syntax::{Condition, Syntax};
 use crate::literal::value::float::to_float;
 use crate::literal::value::integer::{own_numeral, to_integer};
+use crate::literal::value::number::float::Float;
+use crate::literal::value::number::integer::Integer;
 use crate::literal::writer::float::format_float;
 use crate::literal::writer::float_digits::FloatDigits;
 use crate::literal::writer::layout::{Style, WriteError};
-use crate::literal::writer::literal::{format_literal, write_number};
-use crate::number::float::Float;
-use crate::number::integer::Integer;
+use crate::literal::writer::literal::write_number;
+use crate::literal::writer::near::format_near;
 
 /// A number that a list of forms is asked to write.
 pub trait Writable {
@@ -115,7 +116,8 @@ impl Writable for Literal<'_> {
     }
 
     fn write(&self, syntax: &Syntax, style: Style, buffer: &mut [u8]) -> Result<usize, WriteError> {
-        Ok(format_literal(self, syntax, style)?.write(buffer))
+        let mut digits = FloatDigits::new();
+        Ok(format_near::<f64>(self, syntax, style, &mut digits)?.write(buffer))
     }
 
     fn is_read_as(&self, literal: &Literal) -> bool {

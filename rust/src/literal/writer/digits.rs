@@ -3,9 +3,9 @@
 //! Runs of digits are written.
 
 use crate::digit::{char_to_digit, digit_to_char, digit_to_char_const};
+use crate::literal::word::count;
 use crate::literal::writer::run::{Padded, Pattern, Run, Source};
 use crate::literal::writer::sink::Sink;
-use crate::number::parts::count;
 
 // Returns what follows the zeros that the digits among bytes begin with.
 pub(crate) fn without_zeros(bytes: &[u8], radix: u32) -> &[u8] {
@@ -31,9 +31,9 @@ fn split_last(number: u128, radix: u32) -> (u128, u32) {
 }
 
 // Writes the digits of a number to the end of a buffer, and returns them.
-pub(crate) fn characters(buffer: &mut [u8; 128], number: u128, radix: u32) -> &[u8] {
+pub(crate) fn characters(buffer: &mut [u8], number: u128, radix: u32) -> &[u8] {
     let mut left = number;
-    let mut start = 128;
+    let mut start = buffer.len();
     while left > 0 {
         let (rest, digit) = split_last(left, radix);
         start -= 1;
@@ -45,9 +45,9 @@ pub(crate) fn characters(buffer: &mut [u8; 128], number: u128, radix: u32) -> &[
 
 // Writes the decimal digits of a number to the end of a buffer, and returns them. Two at a time take less time.
 #[inline(always)]
-pub(crate) fn decimals(buffer: &mut [u8; 20], number: u64) -> &[u8] {
+pub(crate) fn decimals(buffer: &mut [u8], number: u64) -> &[u8] {
     let mut left = number;
-    let mut start = 20;
+    let mut start = buffer.len();
     while left >= 10 {
         let pair = (left % 100) as u32;
         buffer[start - 1] = digit_to_char_const(pair % 10, 10);

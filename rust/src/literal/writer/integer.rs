@@ -3,8 +3,8 @@
 //! Integers are written.
 
 use crate::literal::syntax::{Condition, Syntax};
+use crate::literal::value::number::integer::Integer;
 use crate::literal::writer::layout::{needs_exponent, Amount, Layout, Style, WriteError};
-use crate::number::integer::Integer;
 
 /// Returns how the value of an integer is written as a literal of `syntax`.
 ///

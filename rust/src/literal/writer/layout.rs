@@ -3,10 +3,10 @@
 //! Numbers are laid out as literals.
 
 use crate::literal::syntax::{Condition, Conditions, Options, Syntax};
+use crate::literal::word::count;
 use crate::literal::writer::digits::{only_if, put_if_any, without_zeros};
 use crate::literal::writer::run::{Pattern, Run, Source};
 use crate::literal::writer::sink::{Sink, Window};
-use crate::number::parts::count;
 use crate::word::{base_prefix, base_suffix, digit_separator, FormatView};
 
 /// How many digits a group has. Where the format does not allow separators between digits, there are no groups.
@@ -61,6 +61,8 @@ pub struct Style {
     pub decimals: Option<u8>,
     /// Whether a float has a point with a digit behind it, also before an exponent, as in `1.0e16`.
     pub point: bool,
+    /// Whether a literal of another radix or base that cannot be written exactly is written by the nearest `f64`.
+    pub nearest: bool,
 }
 
 impl Style {
@@ -77,6 +79,7 @@ impl Style {
         exponent: ExponentStyle::AsNumber,
         decimals: None,
         point: false,
+        nearest: false,
     };
 }
 

@@ -5,12 +5,12 @@
 use crate::literal::literal::Literal;
 use crate::literal::read::Parts;
 use crate::literal::syntax::{Condition, Syntax};
+use crate::literal::value::number::numeral::{Magnitude, Numeral};
 use crate::literal::writer::layout::{
     allows_exponent, needs_exponent, Amount, ExponentStyle, Layout, Power, Style, WriteError,
 };
 use crate::literal::writer::moved::{exponent_of, moved, moved_by};
 use crate::literal::writer::run::Source;
-use crate::number::numeral::{Magnitude, Numeral};
 use crate::word::FormatView;
 
 /// Returns how a literal is written as a literal of `syntax`: the number that it represents, whatever its kind is.

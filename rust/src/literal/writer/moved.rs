@@ -4,11 +4,11 @@
 
 use crate::digit::char_to_digit;
 use crate::literal::read::Parts;
+use crate::literal::value::number::numeral::{Magnitude, Numeral};
+use crate::literal::word::count;
 use crate::literal::writer::layout::{Amount, WriteError};
 use crate::literal::writer::literal::is_minus;
 use crate::literal::writer::run::{Padded, Source};
-use crate::number::numeral::{Magnitude, Numeral};
-use crate::number::parts::count;
 use crate::word::FormatView;
 
 // Returns bytes up to a place among their digits, and the others. Before the place are at most `places` digits.

@@ -1,7 +1,6 @@
-use Rattle.std.proofs.Common.{◌∙◌, ◌==◌, ◌^◌, ◌<◌, ◌-◌, ap, sym, subst, arith, bit_and, bit_or}
+use Rattle.lexical_builder.proofs.Common.{◌∙◌, ◌==◌, ◌^◌, ◌<◌, ◌-◌, ap, sym, subst, arith, bit_and, bit_or, or_lt, pow_pos, part}
 use Rattle.std.proofs.lemmas.Bool.{cond_both}
-use Rattle.std.proofs.lemmas.Nat.{or_lt, and_le_l, pow_pos}
-use Rattle.lexical_flags.specs.Layout.{part}
+use Rattle.std.proofs.lemmas.Nat.{and_le_l}
 use Rattle.lexical_builder.proofs.BuilderFlags.{replaced_test}
 use Rattle.lexical_builder.proofs.format_builder.replace_bits.Goals as goal
 

@@ -1,8 +1,6 @@
-use Rattle.std.proofs.Common.{ap, ◌∙◌}
+use Rattle.lexical_builder.proofs.Common.{ap, ◌∙◌, Record, raw-pack}
 use Rattle.std.proofs.lemmas.Bool.{cond-false, cond-true}
 use Rattle.lexical_flags.specs.Layout as layout
-use Rattle.lexical_flags.specs.Record.{Record}
-use Rattle.lexical_flags.proofs.Packing.{raw-pack}
 use Rattle.lexical_builder.proofs.laws.builder_facts.Goals as goal
 
 pub returns : goal.returns

@@ -1,5 +1,4 @@
-use Rattle.std.proofs.Common.{ap, ◌∙◌}
-use Rattle.lexical_flags.specs.Record.{raw}
+use Rattle.lexical_builder.proofs.Common.{ap, ◌∙◌, raw}
 use Rattle.lexical_builder.proofs.ChangeLemmas.{Holds-radix, raw-bare, Holds-bare}
 use Rattle.lexical_builder.proofs.laws.change_facts.Goals as goal
 

@@ -3,9 +3,9 @@ use Rattle.std.proofs.Common.{◌≡◌, ◌%◌, ◌^◌, ◌++◌, sym, ap, su
 use Rattle.lexical_literal.specs.Literal.{Literal}
 use Rattle.lexical_literal.specs.Additions.Read.{cut}
 use Rattle.lexical_literal.specs.Additions.Summary.{cuts_of}
-use Rattle.lexical_number.specs.Number.{number, places}
-use Rattle.lexical_number.specs.Word.{IsWord}
-use Rattle.lexical_number.proofs.WordLemmas.{fitting_word}
+use Rattle.lexical_literal.specs.Number.{number, places}
+use Rattle.lexical_literal.specs.Word.{IsWord}
+use Rattle.lexical_literal.proofs.WordLemmas.{fitting_word}
 use Rattle.lexical_literal.proofs.literal.mantissa.Goals as goal
 
 pub returns-then-fits : goal.returns-then-fits

@@ -1,17 +1,20 @@
 -- No literal of the forms before goes on.
-use Rattle.std.proofs.Common.{subst}
-use Rattle.std.proofs.lemmas.List.{take_all}
-use Rattle.std.proofs.lemmas.List.Elements.{All-more}
-use Rattle.lexical_literal.specs.Additions.Token.{AreWithin, IsWithin}
+use Rattle.std.proofs.Common.{◌≡◌, subst, arith}
+use Rattle.std.proofs.lemmas.Bool.Decides.{nat_tests}
+use Rattle.lexical_literal.specs.Additions.Token.{IsNear}
 use Rattle.lexical_literal.specs.Notation.{notation_of}
-use Rattle.lexical_literal.specs.declared.syntax.Grammar.{Grammar}
+use Rattle.lexical_literal.specs.declared.list.Form.{Form}
+use Rattle.lexical_literal.proofs.LeadingLemmas.{near_more}
 use Rattle.lexical_literal.proofs.token.are_past.Goals as goal
+use Rattle.lexical_literal.proofs.token.are_past.Goals.{else-form-but-via-then-form-but+else-not-is_past, else-form-but-via-else-form-but}
 
 pub loop-form-preserved : goal.loop-form-preserved
-loop-form-preserved c = λ sign. All-more (λ form. IsWithin (notation_of form.syntax) c.args.text.now c.args.size) c.args.forms.now c.loop-form.form
-    c.index-forms-form.result c.loop-form-test.true (c.loop-form.invariant sign)
-    (subst (λ (g : Grammar). IsWithin (notation_of g) c.args.text.now c.args.size) c.grammar.ensures.value (c.is_past.ensures c.if-not-is_past.false sign))
-
-pub returns : goal.returns
-returns c = λ is sign. subst (λ forms. AreWithin forms c.args.text.now c.args.size) (take_all c.loop-form.form c.args.forms.now c.loop-form-test.false)
-    (c.loop-form.invariant sign)
+loop-form-preserved c = λ sign k d below other. elim c.else-form-but.branch [
+  | else-form-but-via-then-form-but+else-not-is_past w ↦ near_more (λ form. IsNear c.args.back (notation_of form.syntax) c.args.text.now c.args.size)
+      c.args.forms.now c.args.but c.loop-form.form w.index-forms-form.result c.loop-form-test.true (c.loop-form.invariant sign)
+      (λ apart. subst (λ (form : Form). IsNear c.args.back (notation_of form.syntax) c.args.text.now c.args.size) w.index-forms-form.is
+      (w.is_past.ensures w.if-not-is_past.false sign)) k d below other
+  | else-form-but-via-else-form-but w ↦ near_more (λ form. IsNear c.args.back (notation_of form.syntax) c.args.text.now c.args.size)
+      c.args.forms.now c.args.but c.loop-form.form d c.loop-form-test.true (c.loop-form.invariant sign)
+      (λ apart. absurd (apart (let same : c.loop-form.form ≡ c.args.but = (let is = w.if-form-but.false in grind (arith, nat_tests)) in same))) k d below other
+]

@@ -1,10 +1,13 @@
-use Rattle.std.proofs.Common.{◌<◌, ◌-◌, length, take}
+use Rattle.std.proofs.Common.{ℕ, ◌≡◌, ◌<◌, ◌-◌, get_or, length}
 use Rattle.lexical_literal.specs.Additions.Forms.{sign_size}
-use Rattle.lexical_literal.specs.Additions.Token.{AreWithin}
+use Rattle.lexical_literal.specs.Additions.Token.{IsNear}
+use Rattle.lexical_literal.specs.Notation.{notation_of}
+use Rattle.lexical_literal.specs.declared.list.Form.{Form}
 use Rattle.lexical_literal.proofs.token.are_past.Given as goal
 
 abbrev pub invariant-loop-form : goal.invariant-loop-form
-invariant-loop-form l = sign_size l.text < l.size → AreWithin (take l.form l.forms) l.text l.size
+invariant-loop-form l = sign_size l.text < l.size → (k : ℕ) (d : Form) → k < l.form → (k ≡ l.but → ⊥)
+    → IsNear l.back (notation_of (get_or l.forms k d).syntax) l.text l.size
 
 abbrev pub decreases-loop-form : goal.decreases-loop-form
 decreases-loop-form l = length l.forms - l.form

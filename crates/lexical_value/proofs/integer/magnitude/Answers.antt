@@ -2,7 +2,7 @@
 use Rattle.std.proofs.Common.{ap, ◌∙◌}
 use Rattle.lexical_util.specs.Layout as layout
 use Rattle.lexical_util.specs.Record.{raw}
-use Rattle.lexical_number.specs.Number.{number}
+use Rattle.lexical_literal.specs.Number.{number}
 use Rattle.lexical_value.proofs.ValueLemmas.{integer_mantissa}
 use Rattle.lexical_value.proofs.integer.magnitude.Goals as goal
 

@@ -3,7 +3,7 @@ use Rattle.std.proofs.Common.{ℕ, ◌≡◌, ◌<◌, ◌≤◌, ◌-◌, ◌^�
 use Rattle.std.proofs.lemmas.Bool.{cases_lt, false≢true}
 use Rattle.std.proofs.lemmas.Bool.Decides.{nat_tests}
 use Rattle.std.proofs.lemmas.Option.{slice_get_read}
-use Rattle.lexical_literal.specs.Forms.{IsFirst, IsNumber, ReadsForm}
+use Rattle.lexical_literal.specs.Forms.{IsNumber, ReadsForm}
 use Rattle.lexical_literal.specs.Kind.{exact}
 use Rattle.lexical_literal.specs.Literal.{Literal, Reads, text_of}
 use Rattle.lexical_literal.specs.Notation.{notation_of}

@@ -1,5 +1,5 @@
 use Rattle.std.proofs.Common.{length, drop, map, ◌-◌, ◌≡◌, ◌≤◌, false}
-use Rattle.lexical_number.specs.Number.{digits_in}
+use Rattle.lexical_literal.specs.Number.{digits_in}
 use Rattle.lexical_writer.specs.Digits.{character}
 use Rattle.lexical_writer.proofs.digits.are_characters.Given as goal
 

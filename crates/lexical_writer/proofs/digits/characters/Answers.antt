@@ -1,5 +1,5 @@
 -- One more digit is written before those that have been written.
-use Rattle.std.proofs.Common.{false, ◌∙◌, map, ap, ◌++◌, append-nil, arith}
+use Rattle.std.proofs.Common.{false, ◌∙◌, map, ap, length, ◌++◌, append-nil, arith}
 use Rattle.std.proofs.lemmas.Int.Digits.{length-digits_of-le, length-digits_of_step}
 use Rattle.std.proofs.lemmas.List.{drop_all}
 use Rattle.std.proofs.Math.Nat.{pow-le-pow_left}
@@ -13,22 +13,28 @@ loop-left-init c =
     let text = map (character false) (digits_of c.args.radix c.args.number) in
     record {
       within = omega arith;
-      room = length-digits_of-le c.args.radix 128 c.args.number c.requires.0 (let power = pow-le-pow_left c.requires.0 128 in omega arith);
-      text = ap (λ t. text ++ t) (drop_all 128 c.args.buffer.now (omega (arith, c.told-buffer))) ∙ append-nil text;
+      room = length-digits_of-le c.args.radix (length c.args.buffer.now) c.args.number c.requires.radix.0
+          (omega (arith, pow-le-pow_left c.requires.radix.0 (length c.args.buffer.now), c.requires.room));
+      text = ap (λ t. text ++ t) (drop_all (length c.args.buffer.now) c.args.buffer.now (omega arith)) ∙ append-nil text;
     }
 
 pub overflow_sub-start : goal.overflow_sub-start
 overflow_sub-start c =
-    let shorter = length-digits_of_step c.args.radix c.loop-left.left c.requires.0 c.loop-left-test.true in
+    let shorter = length-digits_of_step c.args.radix c.loop-left.left c.requires.radix.0 c.loop-left-test.true in
     omega arith
+
+pub bounds-buffer-start : goal.bounds-buffer-start
+bounds-buffer-start c =
+    let shorter = length-digits_of_step c.args.radix c.loop-left.left c.requires.radix.0 c.loop-left-test.true in
+    omega (arith, shorter)
 
 pub loop-left-preserved : goal.loop-left-preserved
 loop-left-preserved c =
     let l = c.loop-left in
-    let shorter = length-digits_of_step c.args.radix l.left c.requires.0 c.loop-left-test.true in
+    let shorter = length-digits_of_step c.args.radix l.left c.requires.radix.0 c.loop-left-test.true in
     record {
       within = omega arith;
       room = rw (c.split_last-rest.ensures.rest) (omega arith);
-      text = rw (c.split_last-rest.ensures.rest) (one_more c.args.radix l.left l.start c.digit_to_char.result l.buffer c.requires.0 c.loop-left-test.true
+      text = rw (c.split_last-rest.ensures.rest) (one_more c.args.radix l.left l.start c.digit_to_char.result l.buffer c.requires.radix.0 c.loop-left-test.true
           (omega arith) (omega arith) (rw (c.split_last-rest.ensures.digit) at c.digit_to_char.ensures.character) ∙ l.invariant.text);
     }

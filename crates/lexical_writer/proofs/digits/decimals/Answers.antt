@@ -13,8 +13,8 @@ loop-left-init c =
     let text = map (character false) (digits_of 10 c.args.number) in
     record {
       within = omega arith;
-      room = length-digits_of-le 10 20 c.args.number (omega arith) (omega arith);
-      text = ap (λ t. text ++ t) (drop_all 20 c.args.buffer.now (omega (arith, c.told-buffer))) ∙ append-nil text;
+      room = omega (arith, length-digits_of-le 10 20 c.args.number (omega arith) (omega arith), c.requires);
+      text = ap (λ t. text ++ t) (drop_all (length c.args.buffer.now) c.args.buffer.now (omega arith)) ∙ append-nil text;
     }
 
 -- A number of two digits or more has room for two.

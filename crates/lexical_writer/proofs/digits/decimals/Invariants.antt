@@ -6,7 +6,7 @@ use Rattle.lexical_writer.proofs.digits.decimals.Given as goal
 -- The digits that are left come before those that have been written.
 abbrev pub invariant-loop-left : goal.invariant-loop-left
 invariant-loop-left l = record {
-  within : l.start ≤ 20;
+  within : l.start ≤ length l.initial.buffer;
   room : length (digits_of 10 l.left) ≤ l.start;
   text : map (character false) (digits_of 10 l.left) ++ drop l.start l.buffer ≡ map (character false) (digits_of 10 l.number);
 }

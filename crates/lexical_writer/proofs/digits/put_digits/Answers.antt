@@ -2,7 +2,7 @@
 use Rattle.std.proofs.Common.{◌≡◌, ◌+◌, ◌-◌, ◌∷◌, ◌++◌, drop, length, sym, ap, subst, ◌∙◌, arith}
 use Rattle.std.proofs.lemmas.List.{append_assoc}
 use Rattle.std.specs.List.{cons_option}
-use Rattle.lexical_number.specs.Number.{digits_in}
+use Rattle.lexical_literal.specs.Number.{digits_in}
 use Rattle.lexical_writer.specs.Digits.{character, grouped_front, separated}
 use Rattle.lexical_writer.proofs.DigitLemmas.{left_of}
 use Rattle.lexical_writer.proofs.digits.put_digits.Goals as goal

@@ -2,7 +2,7 @@
 use Rattle.std.proofs.Common.{◌∙◌, ap, drop, arith, sym}
 use Rattle.std.proofs.lemmas.List.{length-drop, take_all}
 use Rattle.std.specs.Int.Digits.{digits_of}
-use Rattle.lexical_number.specs.Number.{digits_in}
+use Rattle.lexical_literal.specs.Number.{digits_in}
 use Rattle.lexical_writer.proofs.DigitLemmas.{lead}
 use Rattle.lexical_writer.proofs.digits.without_zeros.Goals as goal
 

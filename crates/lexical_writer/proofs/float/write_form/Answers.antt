@@ -6,7 +6,7 @@ use lib.Ieee.{round}
 use Rattle.lexical_util.specs.Layout as layouts
 use Rattle.lexical_util.specs.Record.{raw, effective_exponent_base, effective_exponent_radix}
 use Rattle.lexical_util.specs.declared.format_flags.Part.TheVariants as part
-use Rattle.lexical_number.specs.Binary.{format_of, raised_down, raised_up}
+use Rattle.lexical_value.specs.Binary.{format_of, raised_down, raised_up}
 use Rattle.lexical_value.specs.Float.{is_binary, is_decimal, nearest}
 use Rattle.lexical_writer.specs.Layout.{HasNumber, literal_of}
 use Rattle.lexical_writer.proofs.FloatLemmas.{if_ok, same_nearest, same_worth}

@@ -9,7 +9,7 @@ use Rattle.lexical_literal.specs.Literal.{is_absent, is_minus, is_none_or_one, i
 use Rattle.lexical_literal.specs.Notation.{exponent_character_of, lacks_options, point_of}
 use Rattle.lexical_literal.specs.declared.syntax.Condition.TheVariants as conditions
 use Rattle.lexical_literal.specs.declared.syntax.Options.{Options}
-use Rattle.lexical_number.specs.Number.{digits_in}
+use Rattle.lexical_literal.specs.Number.{digits_in}
 use Rattle.lexical_value.specs.Value.{power}
 use Rattle.lexical_writer.proofs.laws.refusal_facts.Goals as goal
 

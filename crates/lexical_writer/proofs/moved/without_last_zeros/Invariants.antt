@@ -1,5 +1,5 @@
 use Rattle.std.proofs.Common.{length, take, ◌≡◌, ◌≤◌}
-use Rattle.lexical_number.specs.Number.{digits_in}
+use Rattle.lexical_literal.specs.Number.{digits_in}
 use Rattle.lexical_writer.specs.Moved.{trimmed}
 use Rattle.lexical_writer.proofs.moved.without_last_zeros.Given as goal
 

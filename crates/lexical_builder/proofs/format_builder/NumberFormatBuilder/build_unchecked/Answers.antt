@@ -1,13 +1,14 @@
-use Rattle.std.proofs.Common.{◌≡◌, ◌∙◌, ℕ, if◌then◌else◌, ap, sym, subst, arith}
-use Rattle.std.proofs.Common.{◌*◌, ◌%◌, ◌^◌, ◌<◌, sum_by, slice_index}
-use Rattle.std.proofs.lemmas.Nat.{or_lt, shl_whole}
-use Rattle.lexical_flags.specs.Layout.{Byte, IsClean, flags}
-use Rattle.lexical_flags.specs.Layout as layout
-use Rattle.lexical_flags.specs.Record.{Record, pack, trim, flag_bits, separator_allowed, raw, HasBytes}
-use Rattle.lexical_flags.proofs.Packing.{HasBytes-trim, raw-pack, pack-clean, pack-injective}
+use Rattle.lexical_builder.proofs.Common.{◌≡◌, ◌∙◌, ℕ, if◌then◌else◌, ap, sym, subst, arith, ◌*◌, ◌%◌, ◌^◌, ◌<◌, sum_by, or_lt, Byte, flags, Record, pack, trim}
+use Rattle.lexical_builder.proofs.Common.{flag_bits, raw, HasBytes, raw-pack, pack-clean, builder_record}
+use Rattle.std.proofs.Common.{slice_index}
+use Rattle.std.proofs.lemmas.Nat.{shl_whole}
+use Rattle.lexical_flags.specs.Layout.{IsClean}
+use Rattle.lexical_flags.specs.Record.{separator_allowed}
+use Rattle.lexical_flags.proofs.Packing.{HasBytes-trim, pack-injective}
 use Rattle.lexical_flags.proofs.FlagBits.{separator_allowed-flags}
+use Rattle.lexical_builder.specs.BuilderBits.{byte_index}
+use Rattle.lexical_flags.specs.Layout as layout
 use Rattle.lexical_builder.proofs.UpperHalf.{upper_of, upper-lt, halves_joined}
-use Rattle.lexical_builder.specs.BuilderBits.{byte_index, builder_record}
 use Rattle.lexical_builder.proofs.format_builder.NumberFormatBuilder.build_unchecked.Goals as goal
 
 pub overflow_cast-result : goal.overflow_cast-result

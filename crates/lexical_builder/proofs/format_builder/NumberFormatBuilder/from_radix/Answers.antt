@@ -1,7 +1,7 @@
 -- The word is lawful if and only if the packed record of the radix is.
-use Rattle.std.proofs.Common.{◌↔◌, sym, subst, arith}
+use Rattle.lexical_builder.proofs.Common.{◌↔◌, sym, subst, arith, IsRadix}
 use Rattle.lexical_flags.specs.Record.{word_of}
-use Rattle.lexical_flags.specs.Rules.{IsRadix, Lawful}
+use Rattle.lexical_flags.specs.Rules.{Lawful}
 use Rattle.lexical_builder.proofs.RadixLemmas.{radix-lawful}
 use Rattle.lexical_builder.proofs.format_builder.NumberFormatBuilder.from_radix.Goals as goal
 

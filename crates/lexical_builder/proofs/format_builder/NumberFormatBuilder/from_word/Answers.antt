@@ -1,7 +1,4 @@
-use Rattle.std.proofs.Common.{ℕ, ◌≡◌, ◌∙◌, ◌==◌, ◌/◌, ◌%◌, ◌^◌, ap, arith}
-use Rattle.lexical_flags.specs.Layout.{Flag, part, bit}
-use Rattle.lexical_flags.proofs.RecordLemmas.{record_same, bytes_same}
-use Rattle.lexical_builder.specs.BuilderBits.{builder_bit}
+use Rattle.lexical_builder.proofs.Common.{ℕ, ◌≡◌, ◌∙◌, ◌==◌, ◌/◌, ◌%◌, ◌^◌, ap, arith, Flag, part, bit, record_same, bytes_same, builder_bit}
 use Rattle.lexical_builder.proofs.BuilderFlags.{part-flags_in, part-upper}
 use Rattle.lexical_builder.proofs.format_builder.NumberFormatBuilder.from_word.Goals as goal
 

@@ -1,9 +1,6 @@
-use Rattle.std.proofs.Common.{◌∙◌, ◌≡◌, ◌==◌, ◌^◌, ℕ, not, ap, sym, bit_and}
-use Rattle.lexical_flags.specs.Layout.{Flag}
-use Rattle.lexical_flags.specs.Record.{Record}
+use Rattle.lexical_builder.proofs.Common.{◌∙◌, ◌≡◌, ◌==◌, ◌^◌, ℕ, ap, sym, bit_and, Flag, Record, builder_bit, flags_in}
+use Rattle.std.proofs.Common.{not}
 use Rattle.lexical_flags.proofs.FlagBits.{flag_test}
-use Rattle.lexical_builder.specs.BuilderBits.{builder_bit}
-use Rattle.lexical_builder.specs.Private.{flags_in}
 use Rattle.lexical_builder.proofs.BuilderFlags.{flags_in-mask}
 use Rattle.lexical_builder.proofs.format_builder.NumberFormatBuilder.has_flag.Goals as goal
 

@@ -1,9 +1,6 @@
-use Rattle.std.proofs.Common.{arith, ◌∙◌, ◌≡◌, ap, sym, ◌==◌, if◌then◌else◌, length}
-use Rattle.lexical_flags.specs.Layout.{Flag, part, bit, flags}
-use Rattle.lexical_flags.specs.Record.{Record}
-use Rattle.lexical_flags.proofs.RecordLemmas.{record_same}
-use Rattle.lexical_builder.specs.BuilderBits.{builder_bit, builder_record}
-use Rattle.lexical_builder.specs.Writes.{after, flags_with, write_flags}
+use Rattle.lexical_builder.proofs.Common.{arith, ◌∙◌, ◌≡◌, ap, sym, ◌==◌, if◌then◌else◌, length, Flag, part, bit, flags, Record, record_same, builder_bit}
+use Rattle.lexical_builder.proofs.Common.{builder_record, flags_with, write_flags}
+use Rattle.lexical_builder.specs.Writes.{after}
 use Rattle.lexical_builder.proofs.BuilderFlags.{builder_bit-lt, part-flags_in}
 use Rattle.lexical_builder.proofs.WriteLemmas.{after-mask, after-mask_byte}
 use Rattle.lexical_builder.proofs.format_builder.NumberFormatBuilder.with_flags.Goals as goal

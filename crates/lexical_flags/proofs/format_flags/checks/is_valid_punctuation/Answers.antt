@@ -1,7 +1,4 @@
-use Rattle.std.proofs.Common.{not, ap}
-use Rattle.std.proofs.Math.Nat.{mod-lt}
-use Rattle.std.proofs.lemmas.Nat.{pow_pos}
-use Rattle.lexical_flags.specs.Record.{raw}
+use Rattle.lexical_flags.proofs.Common.{not, ap, mod-lt, pow_pos, raw}
 use Rattle.lexical_flags.specs.Rules.{Holds}
 use Rattle.lexical_flags.proofs.CaseLemmas.{own_roles_apart}
 use Rattle.lexical_flags.proofs.format_flags.checks.is_valid_punctuation.Goals as goal

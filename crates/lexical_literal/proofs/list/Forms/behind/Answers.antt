@@ -10,36 +10,29 @@ use Rattle.lexical_literal.specs.Notation.{notation_of}
 use Rattle.lexical_literal.specs.Suffix.{suffix_size}
 use Rattle.lexical_literal.specs.Token.{IsToken}
 use Rattle.lexical_util.specs.Record.{raw}
-use Rattle.lexical_literal.proofs.LeadingLemmas.{leading_token, sums_of_front}
+use Rattle.lexical_literal.proofs.LeadingLemmas.{leading_token}
 use Rattle.lexical_literal.proofs.PieceLemmas.{measured_cut, whole_read}
 use Rattle.lexical_literal.proofs.TokenLemmas.{some_is}
 use Rattle.lexical_literal.proofs.list.Forms.behind.Goals as goal
 
 pub literal-requires-clause-cut : goal.literal-requires-clause-cut
 literal-requires-clause-cut c = measured_cut _ c.split_at.result.0.now c.args.counted.counts
-    (subst (λ t. IsMeasured (notation_of c.args.it.now.syntax) t c.args.counted.counts) (sym c.split_at.ensures.front)
-    (record { literal = c.requires.begun.literal c.requires.complete; counted = c.requires.begun.lengths c.requires.complete }))
+    (subst (λ t. IsMeasured (notation_of c.args.it.now.syntax) t c.args.counted.counts) (sym c.split_at.ensures.front) c.requires.measured)
 
 pub literal-requires-clause-sums : goal.literal-requires-clause-sums
-literal-requires-clause-sums c =
-    let r = raw c.args.it.now.syntax.word in let counts = c.args.counted.counts in
-    let is = c.requires.begun.literal c.requires.complete in
-    subst (λ t. AreSums r (cut t (cuts_of counts)) c.args.counted.sums) (sym c.split_at.ensures.front)
-    (sums_of_front r c.args.text.now c.args.counted.at.size (cuts_of counts) c.args.counted.sums (notation_of c.args.it.now.syntax) is.0
-    c.requires.begun.begun.begun.within is.1 (c.requires.begun.lengths c.requires.complete is.0 is.1) (c.requires.summed c.requires.complete))
+literal-requires-clause-sums c = subst (λ t. AreSums (raw c.args.it.now.syntax.word) (cut t (cuts_of c.args.counted.counts)) c.args.counted.sums)
+    (sym c.split_at.ensures.front) c.requires.sums
 
 pub returns : goal.returns
 returns c =
     let it = c.args.it.now in let text = c.args.text.now in let counts = c.args.counted.counts in
     let size = c.args.counted.at.size in let more = c.suffix_size-more.result in
-    let within = c.requires.begun.begun.begun.within in
-    let measured : IsMeasured (notation_of it.syntax) (take size text) counts =
-    record { literal = c.requires.begun.literal c.requires.complete; counted = c.requires.begun.lengths c.requires.complete } in
+    let within = c.requires.within in
     let front = c.split_at.ensures.front in let back = c.split_at.ensures.back in let kinded = c.with_kind-literal in
-    let is = whole_read _ c.split_at.result.0.now counts (subst (λ t. IsMeasured (notation_of it.syntax) t counts) (sym front) measured)
+    let is = whole_read _ c.split_at.result.0.now counts (subst (λ t. IsMeasured (notation_of it.syntax) t counts) (sym front) c.requires.measured)
     c.literal.result c.literal.ensures in
-    λ token some. subst (IsToken c.args.self.now c.args.tokens.now text) (some_is _ token some)
-    (leading_token c.args.self.now c.args.tokens.now text c.args.form it counts size c.requires.leading within measured (sym c.if-gives_back.ensures) more
+    λ token some. subst (IsToken c.args.self.now c.args._tokens.now text) (some_is _ token some)
+    (leading_token c.args.self.now c.args._tokens.now text c.args.form it counts size c.requires.leading c.requires.measured more
     (c.suffix_size-more.ensures.size ∙ (λ j. suffix_size it.suffixes (c.is_float.ensures j) (back j)))
     (let less = c.suffix_size-more.ensures.within in let long = c.split_at.ensures.back_len in omega (arith, less, long, within))
     (sym c.if-is_stopped.ensures) _ refl

@@ -1,17 +1,17 @@
 -- The first form that reads the text, or the form that goes furthest.
-use Rattle.std.proofs.Common.{ℕ, ◌≡◌, ◌≤◌, ◌+◌, ◌∙◌, IfSome, Some, ap, refl, sym, subst}
+use Rattle.std.proofs.Common.{ℕ, ◌<◌, ◌≤◌, ◌+◌, ◌∙◌, IfSome, Some, ap, refl, sym, subst}
 use Rattle.std.proofs.lemmas.List.Elements.{All-more}
-use Rattle.lexical_literal.specs.Additions.Forms.{IsFurthestForm, further_on, sign_size}
+use Rattle.lexical_literal.specs.Additions.Forms.{IsFurthestForm, bound, further_on}
 use Rattle.lexical_literal.specs.FormList.{FormList}
 use Rattle.lexical_literal.specs.Forms.{NoForm}
 use Rattle.lexical_literal.specs.Front.{IsValidUpTo, NoLiteral}
 use Rattle.lexical_literal.specs.Notation.{notation_of}
 use Rattle.lexical_literal.specs.declared.plain.At.{At}
 use Rattle.lexical_literal.specs.declared.syntax.Grammar.{Grammar}
-use Rattle.lexical_literal.proofs.FormLemmas.{IsBest, all_tried, best_stays, beyond, beyond_if, beyond_more, found_is, number_is}
+use Rattle.lexical_literal.proofs.FormLemmas.{IsBest, all_tried, best_far, beyond, beyond_if, beyond_kept, beyond_more, found_is, number_is}
 use Rattle.lexical_literal.proofs.PieceLemmas.{measured_cut, whole_read}
 use Rattle.lexical_literal.proofs.list.Forms.read.Goals as goal
-use Rattle.lexical_literal.proofs.list.Forms.read.Goals.{then-not-excludes+else-is_whole+in-Err, else-not-excludes}
+use Rattle.lexical_literal.proofs.list.Forms.read.Goals.{then-not-is_behind+else-is_whole+in-Err, else-not-is_behind}
 
 pub literal-requires-clause-cut : goal.literal-requires-clause-cut
 literal-requires-clause-cut c = measured_cut _ c.args.text.now c.begin-counted.result.counts
@@ -36,6 +36,10 @@ returns-in-Ok c =
     (whole_read _ c.args.text.now c.in-Ok.counts c.in-Ok.ensures.some c.summed.result c.summed.ensures) c.loop-form.invariant.0)
     own.format own.literal own.kind)
 
+pub is_behind-requires-clause-far : goal.is_behind-requires-clause-far
+is_behind-requires-clause-far c = subst (λ sign. IfSome c.loop-form.furthest (λ (best : ℕ × At). sign + 1 < best.1.size)) (sym c.sign_size-sign.ensures.size)
+    (best_far c.args.text.now c.self.inside.forms.now c.loop-form.form c.loop-form.furthest c.loop-form.invariant.1)
+
 pub loop-form-preserved : goal.loop-form-preserved
 loop-form-preserved c =
     let forms = c.self.inside.forms.now in
@@ -43,19 +47,20 @@ loop-form-preserved c =
     let i = c.loop-form.form in
     let d = c.index-self-form.result in
     let inside = c.loop-form-test.true in
-    elim c.if-not-excludes.branch [
-      | then-not-excludes+else-is_whole+in-Err w ↦ (
+    elim c.if-not-is_behind.branch [
+      | then-not-is_behind+else-is_whole+in-Err w ↦ (
         All-more (λ g. NoLiteral (notation_of g.syntax) text) forms i d inside c.loop-form.invariant.0 (w.in-Err.ensures.none refl),
         subst (IsBest (beyond text) forms (i + 1)) (sym (w.furthest-is ∙ w.further_on-furthest.ensures
             ∙ ap (λ (sign : ℕ). further_on sign c.loop-form.furthest i w.in-Err.stop) c.sign_size-sign.ensures.size))
             (beyond_more text forms i d inside c.loop-form.furthest c.loop-form.invariant.1 w.in-Err.stop w.in-Err.ensures.stop),
       )
-      | else-not-excludes w ↦ (
+      | else-not-is_behind w ↦ (
         All-more (λ g. NoLiteral (notation_of g.syntax) text) forms i d inside c.loop-form.invariant.0
-            (subst (λ (g : Grammar). NoLiteral (notation_of g) text) c.grammar.ensures.value (c.excludes.ensures.none w.if-not-excludes.false)),
-        subst (IsBest (beyond text) forms (i + 1)) (sym w.furthest-is) (best_stays (beyond text) forms i d inside
-            (subst (λ (g : Grammar). (n : ℕ) → IsValidUpTo (notation_of g) text n → n ≤ sign_size text + 1) c.grammar.ensures.value
-            (c.excludes.ensures.near w.if-not-excludes.false)) c.loop-form.furthest c.loop-form.invariant.1),
+            (subst (λ (g : Grammar). NoLiteral (notation_of g) text) c.grammar.ensures.value (c.is_behind.ensures.none w.if-not-is_behind.false)),
+        subst (IsBest (beyond text) forms (i + 1)) (sym w.furthest-is) (beyond_kept text forms i d inside c.loop-form.furthest c.loop-form.invariant.1
+            (λ n goes. subst (λ sign. n ≤ bound sign c.loop-form.furthest) c.sign_size-sign.ensures.size
+            (subst (λ (g : Grammar). (n : ℕ) → IsValidUpTo (notation_of g) text n → n ≤ bound c.sign_size-sign.result c.loop-form.furthest) c.grammar.ensures.value
+            (c.is_behind.ensures.near w.if-not-is_behind.false) n goes))),
       )
     ]
 

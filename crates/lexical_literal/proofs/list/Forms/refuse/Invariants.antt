@@ -1,9 +1,9 @@
-use Rattle.std.proofs.Common.{ℕ, ◌≤◌, ◌*◌, All, length, take, ◌-◌}
-use Rattle.lexical_literal.specs.Forms.{Reaches}
+use Rattle.std.proofs.Common.{ℕ, ◌≤◌, All, length, take, ◌-◌}
+use Rattle.lexical_literal.specs.Forms.{Reaches, reach}
 use Rattle.lexical_literal.proofs.list.Forms.refuse.Given as goal
 
 abbrev pub invariant-loop-form : goal.invariant-loop-form
-invariant-loop-form l = All (λ g. (n : ℕ) → Reaches l.text g n → n ≤ 2 * l.stop.size) (take l.form l.self.forms)
+invariant-loop-form l = All (λ g. (n : ℕ) → Reaches l.text g n → n ≤ reach l.error.error.refusal) (take l.form l.self.forms)
 
 abbrev pub decreases-loop-form : goal.decreases-loop-form
 decreases-loop-form l = length l.self.forms - l.form

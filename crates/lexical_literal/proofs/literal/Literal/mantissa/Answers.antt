@@ -3,7 +3,7 @@ use Rattle.std.proofs.Common.{◌≡◌, IfSome, IsSome, subst}
 use Rattle.lexical_util.specs.Layout as layout
 use Rattle.lexical_util.specs.Record.{raw}
 use Rattle.lexical_literal.specs.Read.{Read, mantissa}
-use Rattle.lexical_number.specs.Word.{IsShort}
+use Rattle.lexical_literal.specs.Word.{IsShort}
 use Rattle.lexical_literal.proofs.literal.Literal.mantissa.Goals as goal
 
 pub returns-clause-some : goal.returns-clause-some

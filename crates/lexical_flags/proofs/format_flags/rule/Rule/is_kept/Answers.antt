@@ -1,4 +1,4 @@
-use Rattle.std.proofs.Common.{◌↔◌, IsTrue, subst, sym}
+use Rattle.lexical_flags.proofs.Common.{◌↔◌, IsTrue, subst, sym}
 use Rattle.lexical_flags.specs.Rules.{Holds}
 use Rattle.lexical_flags.proofs.format_flags.rule.Rule.is_kept.Goals as goal
 

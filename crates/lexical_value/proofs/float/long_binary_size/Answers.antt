@@ -1,0 +1,26 @@
+-- The leading digits and the exponent make the value.
+use Rattle.std.proofs.Common.{ap, ◌∙◌, sym, refl}
+use Rattle.core.specs.Dec2flt.Rounding.{IsNearestBits}
+use Rattle.lexical_util.specs.Layout as layout
+use Rattle.lexical_util.specs.Record.{raw}
+use Rattle.lexical_literal.specs.Read.{exponent, mantissa}
+use Rattle.lexical_value.specs.Binary.{format_of}
+use Rattle.lexical_value.proofs.FloatLemmas.{by_bits, of_value}
+use Rattle.lexical_value.proofs.float.long_binary_size.Goals as goal
+
+pub raised_bits-requires-clause-leading : goal.raised_bits-requires-clause-leading
+raised_bits-requires-clause-leading c = (
+  _,
+  by_bits _ _ _ _ _ _ (c.mantissa_radix.ensures.value ∙ ap (λ w. (raw w).byte layout.mantissa_radix) c.format.ensures ∙ c.requires.radix.2)
+      c.leading_of-leading.ensures.leads,
+)
+
+pub returns : goal.returns
+returns c =
+    let r = raw c.args.literal.now.format in
+    let l = c.args.literal.now.literal in
+    let radix = c.mantissa_radix.ensures.value ∙ ap (λ w. (raw w).byte layout.mantissa_radix) c.format.ensures ∙ c.requires.radix.2 in
+    of_value (λ num den. IsNearestBits (format_of c.args.double) num den c.raised_bits.result) r l (mantissa r l) _ _ (exponent r l) _ _ refl
+    (sym c.requires.radix.2) (sym c.requires.base.2) refl c.places-places.ensures c.has_negative_exponent-negative.ensures
+    (c.raised_bits.ensures (mantissa r l) (exponent r l) (by_bits _ _ _ _ _ _ radix c.leading_of-leading.ensures.leads)
+    c.exponent_of-exponent.ensures)

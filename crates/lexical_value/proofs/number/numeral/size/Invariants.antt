@@ -1,0 +1,14 @@
+use Rattle.std.proofs.Common.{length, drop, ◌-◌, ◌≡◌, ◌≤◌}
+use Rattle.lexical_literal.specs.Number.{number_after, number}
+use Rattle.lexical_value.proofs.number.numeral.size.Given as goal
+
+-- The digits of what is left, after those of the size so far, are the number.
+abbrev pub invariant-loop-index : goal.invariant-loop-index
+invariant-loop-index l = record {
+  within : l.index ≤ length l.bytes;
+  small : l.size ≤ l.most;
+  value : number_after l.radix l.size (drop l.index l.bytes) ≡ number l.radix l.bytes;
+}
+
+abbrev pub decreases-loop-index : goal.decreases-loop-index
+decreases-loop-index l = length l.bytes - l.index

@@ -1,0 +1,27 @@
+-- The number is the float that has its bits.
+use Rattle.std.proofs.Common.{ℕ, ◌≡◌, ◌+◌, ◌*◌, ◌^◌, ap, arith, subst, sym, ◌∙◌}
+use lib.Ieee.{emax, low, prec, round}
+use lib.Ieee.Exact.{HasValue}
+use Rattle.lexical_value.specs.Binary.{format_of}
+use Rattle.lexical_writer.proofs.FloatLemmas.{exact}
+use Rattle.lexical_writer.proofs.checked.is_exact.Goals as goal
+
+once : (a : ℕ) → a * 1 ≡ a
+once a = omega arith
+
+pub returns : goal.returns
+returns g c same =
+    let d = g.F.Float.DOUBLE in
+    let f = format_of d in
+    let n = c.args.exact.number in
+    let up = c.args.exact.up in
+    let down = c.args.exact.down in
+    let value : g.F.Float.value c.args.value ≡ round f c.args.negative (n * 2 ^ up) (2 ^ down) =
+    c.is_same.ensures same _ _ c.nearest_binary-size.ensures ∙ ap (round f c.args.negative (n * 2 ^ up)) (once (2 ^ down)) in
+    let limit = c.limits_of-limit.ensures.limit ∙ ap (λ d. 2 ^ prec (format_of d)) c.DOUBLE.ensures in
+    let least = c.limits_of-limit.ensures.least ∙ ap (λ d. low (format_of d)) c.DOUBLE.ensures in
+    let most = c.limits_of-limit.ensures.most ∙ ap (λ d. emax (format_of d) + 1) c.DOUBLE.ensures in
+    let bits = ap (λ d. prec (format_of d)) c.DOUBLE.ensures in
+    subst (λ x. HasValue x c.args.negative (n * 2 ^ up) (2 ^ down)) (sym value)
+    (exact d c.args.negative n up down (omega (arith, limit, c.if-exact-limit.false)) (omega (arith, most, bits, c.if-exact-most.false))
+    (omega (arith, least, c.if-exact-least.false)))

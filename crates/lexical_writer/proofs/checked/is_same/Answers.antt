@@ -1,0 +1,11 @@
+-- Floats with the same bits are the same.
+use Rattle.std.proofs.Common.{ap, sym, ◌∙◌}
+use Rattle.std.proofs.lemmas.Bool.{eqb-true}
+use Rattle.std.specs.Prelude.{from_bits}
+use Rattle.lexical_value.specs.Binary.{format_of}
+use Rattle.lexical_writer.proofs.checked.is_same.Goals as goal
+
+pub returns-in-Some-Some : goal.returns-in-Some-Some
+returns-in-Some-Some g c same num den is =
+    sym c.in-Some-Some.ensures'.value ∙ ap (from_bits (format_of g.F.Float.DOUBLE)) (sym (eqb-true _ _ same)) ∙ c.in-Some-Some.ensures.value
+    ∙ c.signed.ensures num den is

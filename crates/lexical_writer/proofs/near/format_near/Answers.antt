@@ -1,0 +1,21 @@
+-- The float that is rounded is the nearest to the literal.
+use Rattle.std.proofs.Common.{◌⊎◌, inr, subst}
+use Rattle.lexical_util.specs.Record.{raw}
+use Rattle.lexical_value.specs.Binary.{format_of}
+use Rattle.lexical_value.specs.Float.{nearest}
+use Rattle.lexical_writer.specs.Conversion.{SameFraction}
+use Rattle.lexical_writer.specs.Layout.{literal_of}
+use Rattle.lexical_writer.specs.Rounded.{IsRounded, decimals_in}
+use Rattle.lexical_writer.proofs.FloatLemmas.{if_ok}
+use Rattle.lexical_writer.proofs.near.format_near.Goals as goal
+
+pub returns-in-Ok-float_instead-clause-rounded : goal.returns-in-Ok-float_instead-clause-rounded
+returns-in-Ok-float_instead-clause-rounded g c n some =
+    let from = raw c.args.literal.now.format in
+    let to = raw c.args.syntax.now.word in
+    let value = nearest (format_of g.F.Float.DOUBLE) from c.args.literal.now.literal in
+    let places = decimals_in c.args.syntax.now n in
+    if_ok (λ layout. IsRounded (g.F.Float.value c.in-Ok-float_instead.value) to (literal_of layout) places)
+    (λ layout. SameFraction from c.args.literal.now.literal to (literal_of layout) ⊎ IsRounded value to (literal_of layout) places) c.format_float.result
+    (λ layout is. inr (subst (λ x. IsRounded x to (literal_of layout) places) c.in-Ok-float_instead.ensures.nearest is))
+    (c.format_float.ensures.rounded n some)

@@ -1,0 +1,120 @@
+//! Digits are read as a float again, and compared with it.
+
+ghost use Rattle.std.specs.Prelude.{◌≡◌, ◌+◌, ◌*◌, ◌^◌, ◌||◌, ℕ, true, false, IfSome, IsTrue};
+ghost use Rattle.std.specs.Float.Ieee.{round};
+ghost use Rattle.lexical_util.specs.Layout as layout;
+ghost use Rattle.lexical_util.specs.Record.{raw, effective_exponent_base};
+ghost use Rattle.lexical_value.specs.Binary.{format_of, raised_down, raised_up};
+ghost use Rattle.lexical_value.specs.Float.{is_binary, is_decimal};
+ghost use lib.Ieee.{emax, low, prec};
+ghost use lib.Ieee.Exact.{HasValue};
+
+use crate::form::Form;
+use lexical_util::format::NumberFormat;
+use lexical_value::float::signed;
+use lexical_value::number::decimal::digits_to_float;
+use lexical_value::number::float::Float;
+use lexical_value::number::leading::Leading;
+use lexical_value::number::scaling::{bits_of, raised_bits};
+
+// Returns the float nearest to a number times a power of two, over another one.
+#[inline(always)]
+fn nearest_binary<F: Float>(number: u64, up: u64, down: u64) -> F
+    ensures { F.value result ≡ round (format_of F.DOUBLE) false (number * 2 ^ up) (2 ^ down * 1) }
+{
+    let leading = Leading {
+        digits: number as u128,
+        ..Leading::ZERO
+    };
+    let bits = raised_bits(F::DOUBLE, leading, 1, down, false, up as u128, 1);
+    F::from_magnitude(bits)
+}
+
+// Returns the float nearest to the digits of a number in a form, or `None` if no literal of `format` has a float.
+#[inline(always)]
+fn nearest_to<F: Float>(number: u64, form: Form, format: NumberFormat) -> Option<F>
+    ensures supported { IfSome result (λ _. IsTrue (is_decimal (raw format) || is_binary (raw format))) }
+    ensures value { IfSome result (λ near. F.value near ≡ round (format_of F.DOUBLE) false
+        (number * (raw format).byte layout.mantissa_radix ^ form.after * raised_up form.negative (effective_exponent_base (raw format)) form.exponent)
+        ((raw format).byte layout.mantissa_radix ^ form.places * raised_down form.negative (effective_exponent_base (raw format)) form.exponent)) }
+{
+    let (radix, base) = (format.mantissa_radix(), format.exponent_base());
+    if radix == 10 && base == 10 {
+        let (up, down) = form.scales(1, 1);
+        return Some(digits_to_float(number, down, false, up));
+    }
+    let Some(radix_bits) = bits_of(radix) else {
+        return None;
+    };
+    let Some(base_bits) = bits_of(base) else {
+        return None;
+    };
+    let (up, down) = form.scales(radix_bits as u64, base_bits as u64);
+    Some(nearest_binary(number, up, down))
+}
+
+// Returns whether a float has this size and this sign.
+#[inline(always)]
+fn is_same<F: Float>(size: F, negative: bool, value: F) -> bool
+    ensures { result ≡ true → (num den : ℕ) → F.value size ≡ round (format_of F.DOUBLE) false num den
+        → F.value value ≡ round (format_of F.DOUBLE) negative num den }
+{
+    match (signed(size, negative).bits(), value.bits()) {
+        (Some(read), Some(bits)) => read == bits,
+        _ => false,
+    }
+}
+
+// Returns whether the digits of a number in a form are read as a float.
+#[inline(always)]
+pub(crate) fn is_read<F: Float>(
+    value: F,
+    negative: bool,
+    number: u64,
+    form: Form,
+    format: NumberFormat,
+) -> bool
+    ensures supported { result ≡ true → IsTrue (is_decimal (raw format) || is_binary (raw format)) }
+    ensures value { result ≡ true → F.value value ≡ round (format_of F.DOUBLE) negative
+        (number * (raw format).byte layout.mantissa_radix ^ form.after * raised_up form.negative (effective_exponent_base (raw format)) form.exponent)
+        ((raw format).byte layout.mantissa_radix ^ form.places * raised_down form.negative (effective_exponent_base (raw format)) form.exponent) }
+{
+    let Some(size) = nearest_to::<F>(number, form, format) else {
+        return false;
+    };
+    is_same(size, negative, value)
+}
+
+// A number times a power of two, over another one.
+#[derive(Debug, Clone, Copy)]
+pub(crate) struct Exact {
+    pub(crate) number: u64,
+    pub(crate) up: u64,
+    pub(crate) down: u64,
+}
+
+// Returns the number up to which all numbers are floats, the exponent of the power of two that the least float is one over, and that
+// of the power of two that the largest float has.
+const fn limits_of(double: bool) -> (u64, u64, u64)
+    ensures limit { result.0 ≡ 2 ^ prec (format_of double) }
+    ensures least { result.1 ≡ low (format_of double) }
+    ensures most { prec (format_of double) + result.2 ≡ emax (format_of double) + 1 }
+{
+    if double {
+        (1 << 53, 1074, 971)
+    } else {
+        (1 << 24, 149, 104)
+    }
+}
+
+// Returns whether a number times a power of two, over another one, is a float, without rounding.
+pub(crate) fn is_exact<F: Float>(value: F, negative: bool, exact: Exact) -> bool
+    ensures { result ≡ true → HasValue (F.value value) negative (exact.number * 2 ^ exact.up) (2 ^ exact.down) }
+{
+    let (limit, least, most) = limits_of(F::DOUBLE);
+    if exact.number >= limit || exact.up > most || exact.down > least {
+        return false;
+    }
+    let size: F = nearest_binary(exact.number, exact.up, exact.down);
+    is_same(size, negative, value)
+}

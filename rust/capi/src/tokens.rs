@@ -1,0 +1,406 @@
+//! The call that reads a token, and what the header has for it: suffixes, stops, and rules of a list.
+
+use crate::arguments::{input, Out};
+use crate::languages::{form_at, numbers_of, with_tokens, Form, Forms, Given, KindNumbers};
+use crate::literals::{Literal, ReadError, Refusal, Span, TOO_LONG};
+use core::ffi::CStr;
+use core::mem::MaybeUninit;
+use core::{ptr, slice};
+use peltzivar::literal::{self, Kind, TokenError};
+
+/// The kind of numbers with a suffix.
+#[repr(C)]
+#[derive(Clone, Copy)]
+pub struct SuffixKind {
+    word: *const u8,
+    kind: KindNumbers,
+}
+
+/// Bytes behind a number with which it is not a token. A null pointer is any bytes.
+#[repr(C)]
+#[derive(Clone, Copy)]
+pub struct Stop([*const u8; 3]);
+
+/// The suffixes of a form. Words are separated by spaces, and a null pointer has none.
+#[repr(C)]
+#[derive(Clone, Copy)]
+pub struct Suffixes {
+    words: [*const u8; 2],
+    any: *const u8,
+    kinds: *const SuffixKind,
+    kind_count: usize,
+    stops: *const Stop,
+    stop_count: usize,
+    either_case: u8,
+    reserved: [u8; 7],
+}
+
+/// The rules for the tokens of a list.
+#[repr(C)]
+#[derive(Clone, Copy)]
+pub struct Tokens {
+    pub(crate) forms: *const Form,
+    pub(crate) count: usize,
+    pub(crate) following: *const u8,
+    pub(crate) gives_points_back: u8,
+    pub(crate) reserved: [u8; 7],
+}
+
+// SAFETY: the pointers of constants point to constants.
+unsafe impl Sync for Tokens {}
+
+/// A token: its literal, where its suffix is, its length, and what follows.
+#[repr(C)]
+pub struct Token<'a> {
+    literal: Literal<'a>,
+    suffix: Span,
+    size: usize,
+    rest: *const u8,
+}
+
+// The sizes and the alignment in the header.
+const _: () = assert!(size_of::<SuffixKind>() == 16 && size_of::<Suffixes>() == 64 && size_of::<Tokens>() == 32);
+const _: () = assert!(size_of::<Token>() == 352 && align_of::<Token>() <= 16);
+
+/// The most words, kinds and stops of all forms of a list.
+const MOST: usize = 256;
+
+/// Items in memory of a caller, one after another.
+struct Room<T> {
+    start: *mut T,
+    len: usize,
+}
+
+impl<T> Room<T> {
+    fn of(memory: &mut [MaybeUninit<T>; MOST]) -> Room<T> {
+        Room { start: memory.as_mut_ptr().cast(), len: 0 }
+    }
+
+    /// Adds an item, unless there are too many.
+    fn push(&mut self, item: T) -> Option<()> {
+        if self.len == MOST {
+            return None;
+        }
+        // SAFETY: there is memory for so many items, and no slice has this one.
+        unsafe { self.start.add(self.len).write(item) };
+        self.len += 1;
+        Some(())
+    }
+
+    /// Returns the items from an index on.
+    ///
+    /// # Safety
+    ///
+    /// The memory must outlive the use of the slice.
+    unsafe fn since<'a>(&self, index: usize) -> &'a [T] {
+        slice::from_raw_parts(self.start.add(index), self.len - index)
+    }
+}
+
+/// Memory for the words of a list during a call.
+pub struct Memory {
+    words: [MaybeUninit<&'static [u8]>; MOST],
+    kinds: [MaybeUninit<(&'static [u8], Kind)>; MOST],
+    stops: [MaybeUninit<literal::Stop>; MOST],
+    suffixes: [MaybeUninit<literal::Suffixes>; MOST],
+}
+
+impl Memory {
+    pub const NEW: Memory = Memory {
+        words: [const { MaybeUninit::uninit() }; MOST],
+        kinds: [const { MaybeUninit::uninit() }; MOST],
+        stops: [const { MaybeUninit::uninit() }; MOST],
+        suffixes: [const { MaybeUninit::uninit() }; MOST],
+    };
+}
+
+/// What reads suffixes of C. It returns `None` if there are too many, or if they are refused.
+pub struct Reader {
+    words: Room<&'static [u8]>,
+    kinds: Room<(&'static [u8], Kind)>,
+    stops: Room<literal::Stop>,
+    suffixes: Room<literal::Suffixes>,
+    last: *const Suffixes,
+}
+
+impl Reader {
+    pub fn of(memory: &mut Memory) -> Reader {
+        let Memory { words, kinds, stops, suffixes } = memory;
+        let (words, kinds, stops) = (Room::of(words), Room::of(kinds), Room::of(stops));
+        Reader { words, kinds, stops, suffixes: Room::of(suffixes), last: ptr::null() }
+    }
+
+    /// Returns the words of a string.
+    ///
+    /// # Safety
+    ///
+    /// A C caller passes the string, and the memory outlives the use of the words.
+    pub unsafe fn words(&mut self, text: *const u8) -> Option<&'static [&'static [u8]]> {
+        let begin = self.words.len;
+        for word in string(text).split(|it| *it == b' ').filter(|it| !it.is_empty()) {
+            self.words.push(word)?;
+        }
+        Some(self.words.since(begin))
+    }
+
+    /// Returns suffixes, of which there are none if the pointer is null.
+    ///
+    /// # Safety
+    ///
+    /// A C caller passes them, and the memory outlives their use.
+    pub unsafe fn suffixes(&mut self, given: *const Suffixes) -> Option<Option<&'static literal::Suffixes>> {
+        if given.is_null() {
+            return Some(None);
+        }
+        if self.suffixes.len == 0 || !ptr::eq(given, self.last) {
+            let it = given.read_unaligned();
+            if it.reserved != [0; 7] {
+                return None;
+            }
+            let [integers, floats] = [self.words(it.words[0])?, self.words(it.words[1])?];
+            let (kinds, stops) = (self.kinds.len, self.stops.len);
+            for index in 0..it.kind_count {
+                let SuffixKind { word, kind } = it.kinds.add(index).read_unaligned();
+                self.kinds.push((string(word), kind.kind()?))?;
+            }
+            for index in 0..it.stop_count {
+                let [last, next, second] = it.stops.add(index).read_unaligned().0;
+                self.stops.push(literal::Stop::new(string(last), string(next), string(second)))?;
+            }
+            let made = literal::Suffixes::new(integers, floats, self.stops.since(stops));
+            let made = made.either_case(it.either_case != 0).any_word(string(it.any));
+            self.suffixes.push(made.with_kinds(self.kinds.since(kinds)))?;
+            self.last = given;
+        }
+        Some(self.suffixes.since(self.suffixes.len - 1).first())
+    }
+}
+
+/// Returns the bytes of a string. A null pointer has none.
+///
+/// # Safety
+///
+/// A C caller passes the string, or null.
+unsafe fn string(text: *const u8) -> &'static [u8] {
+    if text.is_null() {
+        &[]
+    } else {
+        CStr::from_ptr(text.cast()).to_bytes()
+    }
+}
+
+/// The suffixes of the forms of a language, each once: their strings, one after another, kinds and stops, and of each form the
+/// index of its suffixes, or [`MOST`].
+pub struct Laid {
+    pub text: [u8; 2048],
+    pub size: usize,
+    pub kinds: [SuffixKind; 64],
+    pub kind_count: usize,
+    pub stops: [Stop; 64],
+    pub stop_count: usize,
+    pub suffixes: [Suffixes; 64],
+    pub count: usize,
+    pub of_forms: [usize; 64],
+    pub following: *const u8,
+    starts: [usize; 65],
+}
+
+impl Laid {
+    const NONE: Suffixes = Suffixes {
+        words: [ptr::null(); 2],
+        any: ptr::null(),
+        kinds: ptr::null(),
+        kind_count: 0,
+        stops: ptr::null(),
+        stop_count: 0,
+        either_case: 0,
+        reserved: [0; 7],
+    };
+
+    /// Lays out the suffixes of forms, where the strings, kinds and stops begin at these addresses.
+    pub const fn of(
+        forms: [&[literal::Form]; 2],
+        following: &[&[u8]],
+        at: (*const u8, *const SuffixKind, *const Stop),
+    ) -> Laid {
+        let mut laid = Laid {
+            text: [0; 2048],
+            size: 0,
+            kinds: [SuffixKind { word: ptr::null(), kind: KindNumbers::EXACT }; 64],
+            kind_count: 0,
+            stops: [Stop([ptr::null(); 3]); 64],
+            stop_count: 0,
+            suffixes: [Laid::NONE; 64],
+            count: 0,
+            of_forms: [MOST; 64],
+            following: ptr::null(),
+            starts: [0; 65],
+        };
+        let mut form = 0;
+        while form < forms[0].len() + forms[1].len() {
+            if let Some(suffixes) = form_at(forms, form).suffixes() {
+                laid.of_forms[form] = laid.add(suffixes, at);
+            }
+            form += 1;
+        }
+        laid.following = laid.put(following, at.0);
+        laid
+    }
+
+    /// Adds words with spaces between them, and returns where they are, or null if there are none.
+    const fn put(&mut self, words: &[&[u8]], base: *const u8) -> *const u8 {
+        let (start, mut word) = (self.size, 0);
+        while word < words.len() {
+            let mut byte = 0;
+            while byte < words[word].len() {
+                self.text[self.size] = words[word][byte];
+                self.size += 1;
+                byte += 1;
+            }
+            word += 1;
+            if word < words.len() {
+                self.text[self.size] = b' ';
+                self.size += 1;
+            }
+        }
+        let is_none = self.size == start;
+        self.text[self.size] = 0;
+        self.size += 1;
+        if is_none {
+            ptr::null()
+        } else {
+            base.wrapping_add(start)
+        }
+    }
+
+    /// Adds suffixes, unless there are the same, and returns their index.
+    const fn add(
+        &mut self,
+        it: &literal::Suffixes,
+        (base, kinds, stops): (*const u8, *const SuffixKind, *const Stop),
+    ) -> usize {
+        let (start, kind, stop) = (self.size, self.kind_count, self.stop_count);
+        let ((either_case, any, own_kinds, own_stops), [integers, floats]) = (it.rules(), it.words());
+        let words = [self.put(integers, base), self.put(floats, base)];
+        let any = self.put(&[any], base);
+        while self.kind_count - kind < own_kinds.len() {
+            let (word, of) = own_kinds[self.kind_count - kind];
+            self.kinds[self.kind_count] = SuffixKind { word: self.put(&[word], base), kind: numbers_of(of) };
+            self.kind_count += 1;
+        }
+        while self.stop_count - stop < own_stops.len() {
+            let [last, next, second] = own_stops[self.stop_count - stop].bytes();
+            let bytes = [self.put(&[last], base), self.put(&[next], base), self.put(&[second], base)];
+            self.stops[self.stop_count] = Stop(bytes);
+            self.stop_count += 1;
+        }
+        self.suffixes[self.count] = Suffixes {
+            words,
+            any,
+            kinds: if own_kinds.is_empty() { ptr::null() } else { kinds.wrapping_add(kind) },
+            kind_count: own_kinds.len(),
+            stops: if own_stops.is_empty() { ptr::null() } else { stops.wrapping_add(stop) },
+            stop_count: own_stops.len(),
+            either_case: either_case as u8,
+            ..Laid::NONE
+        };
+        self.starts[self.count] = start;
+        self.starts[self.count + 1] = self.size;
+        let mut same = 0;
+        while same < self.count && !self.are_same(same, self.count, kind) {
+            same += 1;
+        }
+        if same < self.count {
+            (self.size, self.kind_count, self.stop_count) = (start, kind, stop);
+        } else {
+            self.count += 1;
+        }
+        same
+    }
+
+    /// Returns whether two suffixes are the same, the kinds of the second of which begin at `kind`.
+    const fn are_same(&self, one: usize, other: usize, kind: usize) -> bool {
+        let (first, second) = (self.suffixes[one], self.suffixes[other]);
+        let size = self.starts[one + 1] - self.starts[one];
+        if size != self.starts[other + 1] - self.starts[other]
+            || first.kind_count != second.kind_count
+            || first.stop_count != second.stop_count
+            || first.either_case != second.either_case
+        {
+            return false;
+        }
+        let (mut at, mut before, mut index) = (0, 0, 0);
+        while at < size {
+            if self.text[self.starts[one] + at] != self.text[self.starts[other] + at] {
+                return false;
+            }
+            at += 1;
+        }
+        while index < one {
+            before += self.suffixes[index].kind_count;
+            index += 1;
+        }
+        at = 0;
+        while at < first.kind_count {
+            if !self.kinds[before + at].kind.is_same(self.kinds[kind + at].kind) {
+                return false;
+            }
+            at += 1;
+        }
+        true
+    }
+}
+
+/// Returns the first items of an array.
+pub const fn first<T: Copy, const MANY: usize, const FEW: usize>(items: &[T; MANY]) -> [T; FEW] {
+    let (mut few, mut index) = ([items[0]; FEW], 0);
+    while index < FEW {
+        few[index] = items[index];
+        index += 1;
+    }
+    few
+}
+
+/// Items that are constants, with pointers to constants.
+pub struct Constant<T>(pub T);
+
+// SAFETY: all pointers point to constants.
+unsafe impl<T> Sync for Constant<T> {}
+
+/// Returns the token that a text begins with.
+#[inline(never)]
+fn token<'a>(forms: Given<'_>, text: &'a [u8]) -> Result<Token<'a>, (usize, usize, Refusal<literal::ReadError>)> {
+    let forms = forms.map_err(|sentence| (0, 0, Refusal::Argument(sentence)))?;
+    match forms.token_bytes(text) {
+        Ok(it) => {
+            let (size, start) = (text.len() - it.rest.len(), it.literal.as_bytes().len());
+            let (literal, rest) = (Literal::of(it.literal, it.form), it.rest.as_ptr());
+            Ok(Token { literal, suffix: Span { start, end: size }, size, rest })
+        }
+        Err(TokenError::Literal(it)) => Err((it.error.valid_up_to(), it.form, Refusal::Library(it.error))),
+        Err(TokenError::UnknownSuffix { form, start, end }) => Err((start, form, Refusal::Suffix { start, end })),
+        Err(TokenError::NotAToken { end }) => Err((end, 0, Refusal::Point { end })),
+        Err(_) => Err((0, 0, Refusal::Argument("these forms have no tokens"))),
+    }
+}
+
+calls! {
+    fn peltzivar_forms_token(
+        forms: *const Forms, text: *const u8, len: usize, out: Out<Token>, error: Out<ReadError>
+    ) -> bool {
+        let found = match input(text, len) {
+            Some(text) => with_tokens(forms, |forms| token(forms, text)),
+            None => Err((0, 0, Refusal::Argument(TOO_LONG))),
+        };
+        match found {
+            Ok(token) => {
+                out.write(token);
+                true
+            }
+            Err((valid_up_to, form, refusal)) => {
+                error.write(ReadError::at(valid_up_to, form, refusal));
+                false
+            }
+        }
+    }
+}
