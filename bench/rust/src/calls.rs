@@ -37,7 +37,9 @@ calls! {
 /// Writes a float of JSON with all its digits or with two decimals, and returns the number of bytes.
 #[cfg(not(old))]
 pub fn float_writer(decimals: Option<u8>) -> impl Fn(f64) -> usize {
-    let (syntax, style) = (Language::JSON.forms()[0].syntax(), Style { decimals, ..Style::PLAIN });
+    let syntax = Language::JSON.forms()[0].syntax();
+    let mut style = Style::PLAIN;
+    style.decimals = decimals;
     move |value| {
         let written = syntax.format_float(value, style).expect("a float");
         black_box(written.write_into(&mut [0; 400]).expect("400 bytes")).len()

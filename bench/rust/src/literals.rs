@@ -171,12 +171,12 @@ fn written(random: &mut Random) -> Row {
     }
 }
 
-/// Returns a row of writers of floats, of which a half are amounts of money. `theirs` writes one by std.
+/// Returns a row of writers of floats that are not whole, of which a half are amounts of money. `theirs` writes one by std.
 #[cfg(not(old))]
 fn floats(random: &mut Random, name: &'static str, decimals: Option<u8>, theirs: fn(&mut String, f64)) -> Row {
     let values: &[f64] = list(random, 100_000, |random| match random.below(2) {
-        0 => random.below(100_000_000) as f64 / 100.0,
-        _ => (random.next() >> 11) as f64 / (1_u64 << 53) as f64 * 1000.0,
+        0 => (random.below(100_000_000) * 100 + 1 + random.below(99)) as f64 / 100.0,
+        _ => (random.next() >> 11) as f64 / (1_u64 << 53) as f64 * 1000.0 + 1.0,
     });
     let write = float_writer(decimals);
     Row {
