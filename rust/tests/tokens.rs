@@ -41,14 +41,11 @@ fn each_language_ends_its_numbers_as_its_scanner_does() {
 #[test]
 fn tokens_end_where_scanners_end_them() {
     let rows = include_str!("known/tokens.txt").lines().filter(|it| !it.starts_with('#'));
-    let mut count = 0;
     for row in rows {
         let &[name, text, size] = &*row.split(' ').collect::<Vec<_>>() else { panic!("{row}") };
         let token = Language::from_name(name).expect(name).token(text).expect(row);
         assert_eq!((text.len() - token.rest.len()).to_string(), size, "{row}");
-        count += 1;
     }
-    assert!(count >= 1400, "{count}");
 }
 
 #[test]
