@@ -1,19 +1,15 @@
 -- The flags that are found are to blame.
-use Rattle.std.proofs.Common.{ℕ, ◌≡◌, ◌≤◌, ◌↔◌, ◌⊎◌, Bool, true, false, not, ◌==◌, ◌&&◌, ◌||◌, inl, inr, IsTrue, if◌then◌else◌, List, length, take}
-use Rattle.std.proofs.Common.{Option, None, Some, refl, sym, ap, subst, ◌∙◌, arith}
-use Rattle.std.proofs.lemmas.Bool.{false≢true, and_parts, and_from, cases_Bool}
-use Rattle.std.proofs.lemmas.List.{length-take-le}
+use Rattle.lexical_literal.proofs.Common.{ℕ, ◌≡◌, ◌≤◌, ◌↔◌, ◌⊎◌, Bool, true, false, not, ◌&&◌, ◌||◌, inl, inr, List, take, Option, None, Some, refl, sym}
+use Rattle.lexical_literal.proofs.Common.{ap, subst, ◌∙◌, arith, false≢true, and_parts, and_from, cases_Bool, length-take-le, Flag, raw, Role, Part}
+use Rattle.lexical_literal.proofs.Common.{all_conditions, Notation, has, notation_of, Condition, Grammar}
+use Rattle.std.proofs.Common.{◌==◌, IsTrue, if◌then◌else◌, length}
 use Rattle.std.specs.Prelude.{slice_get}
 use Rattle.lexical_util.specs.Groups.{bits_of}
 use Rattle.lexical_util.specs.Layout as layout
-use Rattle.lexical_util.specs.Layout.{Flag}
-use Rattle.lexical_util.specs.Record.{raw}
 use Rattle.lexical_util.specs.Roles.{other_case}
-use Rattle.lexical_util.specs.declared.feature_format.roles.Role.{Role}
-use Rattle.lexical_util.specs.declared.format_flags.Part.{Part}
 use Rattle.lexical_util.specs.declared.format_flags.Part.TheVariants as parts
 use Rattle.lexical_literal.specs.Groups.{has_size}
-use Rattle.lexical_literal.specs.Notation.{all_conditions, Notation, has, kept, notation_of}
+use Rattle.lexical_literal.specs.Notation.{kept}
 use Rattle.lexical_literal.specs.Cause.{Allows, IsCaseFlag, IsCause, IsRefusal, IsRequirement, IsUnmet, Permits, RefusesAlone, SomeFlag, adding}
 use Rattle.lexical_literal.specs.Cause.{bare, binds, case_set, error_of, first_unmet, is_at, is_one_of, lowest, marks_of, number_separator_flags}
 use Rattle.lexical_literal.specs.Cause.{requirement_flags, requiring, span_of, tail_of, with_rules}
@@ -30,9 +26,7 @@ use Rattle.lexical_literal.specs.declared.cause.ReadErrorKind.TheVariants as cau
 use Rattle.lexical_literal.specs.declared.cause.Spot.{Spot}
 use Rattle.lexical_literal.specs.declared.groups.Group.{Group}
 use Rattle.lexical_literal.specs.declared.steps.Summary.{Summary}
-use Rattle.lexical_literal.specs.declared.syntax.Condition.{Condition}
 use Rattle.lexical_literal.specs.declared.syntax.Condition.TheVariants as conditions
-use Rattle.lexical_literal.specs.declared.syntax.Grammar.{Grammar}
 use Rattle.lexical_literal.proofs.CauseLemmas.{flag_zero, found_in, mask_flags, none_of, only_mask, only_none, some_of}
 use Rattle.lexical_literal.proofs.GroupLemmas.{same_unsized}
 use Rattle.lexical_literal.proofs.JointLemmas.{at_next, each_passes, free_allows, free_is, going, joint, leads, passes, sizing, split}

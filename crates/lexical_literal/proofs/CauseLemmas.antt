@@ -1,27 +1,26 @@
 -- The flags of masks, and the bytes to show.
-use Rattle.std.proofs.Common.{ℕ, ◌≡◌, ◌<◌, ◌+◌, ◌^◌, ◌==◌, ◌&&◌, ◌||◌, not, Bool, true, false, if◌then◌else◌, bit_and, bit_or, inl, inr, List, [], ◌∷◌, ◌++◌}
-use Rattle.std.proofs.Common.{length, sum_by, refl, sym, ap, ◌∙◌, arith}
-use Rattle.std.proofs.lemmas.Bool.Decides.{nat_tests}
+use Rattle.lexical_literal.proofs.Common.{ℕ, ◌≡◌, ◌<◌, ◌+◌, ◌^◌, ◌&&◌, ◌||◌, not, Bool, true, false, bit_and, bit_or, inl, inr, List, [], ◌∷◌, ◌++◌, sum_by}
+use Rattle.lexical_literal.proofs.Common.{refl, sym, ap, ◌∙◌, arith, nat_tests, false≢true, cases_Bool, eqb-true, ByteSet, Flag, bit, raw, Record, list_any}
+use Rattle.lexical_literal.proofs.Common.{Notation}
+use Rattle.std.proofs.Common.{◌==◌, if◌then◌else◌}
+use Rattle.std.proofs.Common.{length}
 use Rattle.std.proofs.lemmas.List.Folds.{list_any-append}
 use Rattle.std.proofs.lemmas.Nat.Bits.{bit_at_and, bit_at_or, bit_at_not, bit_at-zero, bit_at-pow_same, bit_at-pow_other}
 use Rattle.std.proofs.Math.Nat.{mod-lt}
-use Rattle.std.proofs.lemmas.Bool.{false≢true, cases_Bool, eqb-true, or_parts}
+use Rattle.std.proofs.lemmas.Bool.{or_parts}
 use Rattle.std.proofs.lemmas.Nat.{and_assoc}
 use Rattle.std.specs.Int.{w128, bit_not}
-use Rattle.lexical_util.specs.Ascii.{ByteSet}
 use Rattle.lexical_util.specs.Groups.{bits_of}
 use Rattle.lexical_util.specs.Layout as layout
-use Rattle.lexical_util.specs.Layout.{Flag, bit, part}
-use Rattle.lexical_util.specs.Record.{raw, Record, word_of}
+use Rattle.lexical_util.specs.Layout.{part}
+use Rattle.lexical_util.specs.Record.{word_of}
 use Rattle.lexical_util.proofs.ViewLemmas.{bits_by_mask}
 use Rattle.lexical_flags.proofs.Packing.{raw-word_of}
-use Rattle.std.specs.List.{list_any}
 use Rattle.lexical_literal.specs.Additions.Explained.{mask_of}
 use Rattle.lexical_flags.specs.declared.format_flags.TheConstants.{FLAG_MASK}
 use Rattle.lexical_literal.specs.declared.cause.TheConstants.{FLOAT_REQUIREMENTS, REQUIREMENTS, SEPARATORS, ZEROS}
 use Rattle.lexical_literal.specs.Additions.Summary.{no_condition}
 use Rattle.lexical_literal.specs.Cause.{bare, behind, flag_at, is_one_of, leading_zero_flags, number_separator_flags, requirement_flags, with_rules}
-use Rattle.lexical_literal.specs.Notation.{Notation}
 
 -- FLAGS
 

@@ -1,19 +1,15 @@
 -- The texts that are accepted with the conditions of a notation are its literals.
-use Rattle.std.proofs.Common.{ℕ, ◌≡◌, Bool, true, false, not, ◌==◌, ◌&&◌, ◌||◌, inl, inr, if◌then◌else◌, nat_lt, List, [], ◌∷◌, ◌++◌, length, Option, Some}
-use Rattle.std.proofs.Common.{None, refl, sym, ap, subst, ◌∙◌, arith}
-use Rattle.std.proofs.lemmas.Bool.{false≢true, and_from, and_parts, cases_Bool, eqb-true, or_left, or_right}
-use Rattle.std.proofs.lemmas.Bool.Decides.{nat_tests}
-use Rattle.lexical_util.specs.Ascii.{ByteSet}
-use Rattle.lexical_util.specs.Roles.{signs}
-use Rattle.lexical_util.specs.declared.feature_format.roles.Role.{Role}
+use Rattle.lexical_literal.proofs.Common.{ℕ, ◌≡◌, Bool, true, false, not, ◌&&◌, ◌||◌, inl, inr, nat_lt, List, [], ◌∷◌, ◌++◌, Option, Some, None, refl, sym}
+use Rattle.lexical_literal.proofs.Common.{ap, subst, ◌∙◌, arith, false≢true, and_from, and_parts, cases_Bool, eqb-true, or_left, or_right, nat_tests}
+use Rattle.lexical_literal.proofs.Common.{ByteSet, signs, Role, Part, Notation, Literal, IsLiteral, IsSpelled, Reads, is_absent, is_none_or_one}
+use Rattle.lexical_literal.proofs.Common.{is_none_or_prefix, is_present, text_of, Condition}
+use Rattle.std.proofs.Common.{◌==◌, if◌then◌else◌, length}
 use Rattle.lexical_util.specs.declared.feature_format.roles.Role.TheVariants as roles
-use Rattle.lexical_util.specs.declared.format_flags.Part.{Part}
 use Rattle.lexical_util.specs.declared.format_flags.Part.TheVariants as parts
 use Rattle.lexical_literal.specs.Additions.Plain.{HasRoles, is_first, needs_first}
 use Rattle.lexical_literal.specs.Groups.{has_sizes}
-use Rattle.lexical_literal.specs.Notation.{Notation}
-use Rattle.lexical_literal.specs.Literal.{Literal, IsLiteral, IsSpelled, Reads, begins_with, condition, is_absent, is_none_or_one, is_none_or_prefix, is_plus, is_present}
-use Rattle.lexical_literal.specs.Literal.{may_begin, text_of}
+use Rattle.lexical_literal.specs.Literal.{begins_with, condition, is_plus}
+use Rattle.lexical_literal.specs.Literal.{may_begin}
 use Rattle.lexical_literal.specs.Additions.Summary.{Cuts, HasLengths, add, admits, after, count, is_fresh, is_negative, role_at, part_of, digits_piece}
 use Rattle.lexical_literal.specs.Additions.Summary.{lacks_prefix, no_condition, no_cuts, piece_of, start, step_by, takes, tally_by, awaits_integer}
 use Rattle.lexical_literal.specs.declared.steps.Piece.{Piece}
@@ -21,7 +17,6 @@ use Rattle.lexical_literal.specs.declared.steps.Piece.TheVariants as pieces
 use Rattle.lexical_literal.specs.declared.steps.Stage.{Stage}
 use Rattle.lexical_literal.specs.declared.steps.Stage.TheVariants as stages
 use Rattle.lexical_literal.specs.declared.steps.Summary.{Summary}
-use Rattle.lexical_literal.specs.declared.syntax.Condition.{Condition}
 use Rattle.lexical_literal.specs.declared.syntax.Condition.TheVariants as conditions
 use Rattle.lexical_literal.proofs.LiteralLemmas.{all_cuts, spelled_arrives, spelled_from}
 use Rattle.lexical_literal.proofs.ScanLemmas.{Accepts, Arrives, Took, added, arrives_byte, as_digit, digit_role, is_role, none_accepts, took}

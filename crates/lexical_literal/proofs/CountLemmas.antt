@@ -1,5 +1,6 @@
 -- The lengths of parts.
-use Rattle.std.proofs.Common.{ℕ, ◌≡◌, ◌+◌, List, [], ◌∷◌, length, get_or, set, arith}
+use Rattle.lexical_literal.proofs.Common.{ℕ, ◌≡◌, ◌+◌, List, [], ◌∷◌, get_or, set, arith}
+use Rattle.std.proofs.Common.{length}
 use Rattle.lexical_literal.specs.Additions.Plain.{counts_of, integer_sizes}
 use Rattle.lexical_literal.specs.Additions.Summary.{add_more, cuts_of, piece_number, with_prefix}
 use Rattle.lexical_literal.specs.declared.steps.Piece.{Piece}

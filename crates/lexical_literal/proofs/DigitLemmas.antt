@@ -1,8 +1,7 @@
 -- The number that digits represent when they follow those of another number.
-use Rattle.std.proofs.Common.{◌≡◌, ℕ, suc, ◌+◌, ◌*◌, ◌<◌, ◌≤◌, List, ◌∷◌, length, drop, get_or, nat_lt, Bool, true, false, cond, refl, Option, Some, None, sym}
-use Rattle.std.proofs.Common.{ap, subst, ◌∙◌, arith, drop-cons, ◌++◌}
-use Rattle.std.proofs.lemmas.Bool.Decides.{nat_tests}
-use Rattle.std.proofs.lemmas.List.Elements.{filter_map-append}
+use Rattle.lexical_literal.proofs.Common.{◌≡◌, ℕ, suc, ◌+◌, ◌*◌, ◌<◌, ◌≤◌, List, ◌∷◌, drop, get_or, nat_lt, Bool, true, false, cond, refl, Option, Some}
+use Rattle.lexical_literal.proofs.Common.{None, sym, ap, subst, ◌∙◌, arith, drop-cons, ◌++◌, nat_tests, filter_map-append}
+use Rattle.std.proofs.Common.{length}
 use Rattle.std.proofs.lemmas.Int.Digits.{number_after_append, number_after_ge}
 use Rattle.std.specs.Int.Digits.{number_from_digits_after}
 use Rattle.std.specs.List.{cons_option}

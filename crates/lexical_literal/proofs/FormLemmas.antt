@@ -1,13 +1,12 @@
 -- Several forms: what has been found in the first of them, and what one form more adds.
-use Rattle.std.proofs.Common.{ℕ, ◌≡◌, ◌*◌, inl, inr, nat_lt, Bool, true, false, if◌then◌else◌, ◌<◌, ◌≤◌, ◌+◌, List, Ok, Option, Some, None, All, IsSomeAnd}
-use Rattle.std.proofs.Common.{[], ◌∷◌, length, take, get_or, slice_get, IfSome, IsNone, refl, sym, subst, ap, arith}
+use Rattle.lexical_literal.proofs.Common.{ℕ, ◌≡◌, ◌*◌, inl, inr, nat_lt, Bool, true, false, ◌<◌, ◌≤◌, ◌+◌, List, Ok, Option, Some, None, All, IsSomeAnd, []}
+use Rattle.lexical_literal.proofs.Common.{◌∷◌, take, get_or, IfSome, IsNone, refl, sym, subst, ap, arith, nat_tests, cases_lt, false≢true, take_all}
+use Rattle.lexical_literal.proofs.Common.{All-more, slice_get-get_or, Literal, Reads, Notation, notation_of, common_steps}
+use Rattle.std.proofs.Common.{if◌then◌else◌}
+use Rattle.std.proofs.Common.{length, slice_get}
 use Rattle.std.specs.Option.{ForSome}
 use Rattle.std.proofs.Math.Nat.{le_antisymm}
-use Rattle.std.proofs.lemmas.Bool.Decides.{nat_tests}
-use Rattle.std.proofs.lemmas.Bool.{cases_lt, false≢true}
-use Rattle.std.proofs.lemmas.List.{take_all}
-use Rattle.std.proofs.lemmas.List.Elements.{All-more}
-use Rattle.std.proofs.lemmas.Option.{slice_get-get_or, slice_get_within}
+use Rattle.std.proofs.lemmas.Option.{slice_get_within}
 use Rattle.lexical_literal.specs.Additions.Forms.{GoesTo, IsFoundForm, IsFoundFrontForm, IsFurthestForm, IsNoBetter, bound, further, further_on, greater, longer, sign_size}
 use Rattle.lexical_literal.specs.Additions.Longest.{IsCountedFront, IsStopped}
 use Rattle.lexical_literal.specs.Cause.{IsRefusal}
@@ -15,8 +14,6 @@ use Rattle.lexical_literal.specs.declared.cause.Refusal.{Refusal}
 use Rattle.lexical_literal.specs.FormList.{FormList}
 use Rattle.lexical_literal.specs.Forms.{HasFront, HasKind, IsErrorOfForm, IsFirst, IsFormError, IsGreatest, IsReadByForms, NoForm, Reaches, ReadsForm, is_byte, reach}
 use Rattle.lexical_literal.specs.Front.{IsValidUpTo, NoFront, NoLiteral, ReadsFront}
-use Rattle.lexical_literal.specs.Literal.{Literal, Reads}
-use Rattle.lexical_literal.specs.Notation.{Notation, notation_of}
 use Rattle.lexical_literal.specs.Read.{Read}
 use Rattle.lexical_literal.specs.declared.read.Found.{Found}
 use Rattle.lexical_literal.specs.declared.plain.At.{At}
@@ -24,7 +21,6 @@ use Rattle.lexical_literal.specs.declared.list.Form.{Form}
 use Rattle.lexical_literal.specs.declared.list.FormError.{FormError}
 use Rattle.lexical_literal.specs.declared.list.Number.TheVariants as numbers
 use Rattle.lexical_literal.proofs.OneCauseLemmas.{one_refusal}
-use Rattle.std.proofs.lemmas.Grind.{common_steps}
 
 -- What holds of some value of an option holds of the value that it is.
 some_of : {X : Type 0} (P : X → Type 0) (o : Option X) → IsSomeAnd o P → (x : X) × (o ≡ Some x) × P x

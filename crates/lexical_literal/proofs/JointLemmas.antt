@@ -1,15 +1,12 @@
 -- Which flags refuse what is allowed without requirements: flags that refuse alone, or those on leading zeros.
-use Rattle.std.proofs.Common.{ℕ, ◌≡◌, ◌==◌, Bool, true, false, not, ◌&&◌, ◌||◌, if◌then◌else◌, Option, Some, None, refl, sym, ap, subst, ◌∙◌, arith}
-use Rattle.std.proofs.lemmas.Bool.{false≢true, and_from, and_parts}
+use Rattle.lexical_literal.proofs.Common.{ℕ, ◌≡◌, Bool, true, false, not, ◌&&◌, ◌||◌, Option, Some, None, refl, sym, ap, subst, ◌∙◌, arith, false≢true}
+use Rattle.lexical_literal.proofs.Common.{and_from, and_parts, Flag, Role, Part, Notation, is_same, Condition}
+use Rattle.std.proofs.Common.{◌==◌, if◌then◌else◌}
 use Rattle.std.specs.Prelude.{is_some}
 use Rattle.lexical_util.specs.Layout as layout
-use Rattle.lexical_util.specs.Layout.{Flag}
-use Rattle.lexical_util.specs.declared.feature_format.roles.Role.{Role}
 use Rattle.lexical_util.specs.declared.feature_format.roles.Role.TheVariants as roles
-use Rattle.lexical_util.specs.declared.format_flags.Part.{Part}
 use Rattle.lexical_util.specs.declared.format_flags.Part.TheVariants as parts
 use Rattle.lexical_literal.specs.Groups.{has_size}
-use Rattle.lexical_literal.specs.Notation.{Notation, is_same}
 use Rattle.lexical_literal.specs.Cause.{adding, bare, binds, is_at, is_one_of, number_separator_flags, with_rules}
 use Rattle.lexical_literal.specs.Additions.Causes.{is_separator, lets, place_of}
 use Rattle.lexical_literal.specs.Additions.Summary.{admits, after, complete_by, continues, ends, finishes, implies, may_follow}
@@ -18,7 +15,6 @@ use Rattle.lexical_literal.specs.Additions.Summary.{gap_fits, is_open, is_signed
 use Rattle.lexical_literal.specs.declared.steps.Stage.{Stage}
 use Rattle.lexical_literal.specs.declared.steps.Stage.TheVariants as stages
 use Rattle.lexical_literal.specs.declared.steps.Summary.{Summary}
-use Rattle.lexical_literal.specs.declared.syntax.Condition.{Condition}
 use Rattle.lexical_literal.specs.declared.syntax.Condition.TheVariants as conditions
 use Rattle.lexical_literal.proofs.RefusalLemmas.{KeepsPlaces}
 

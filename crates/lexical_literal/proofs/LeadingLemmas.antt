@@ -1,12 +1,12 @@
 -- Tokens that are found by reading the forms of a list once.
-use Rattle.std.proofs.Common.{ℕ, ◌≡◌, ◌==◌, ◌&&◌, ◌||◌, Bool, true, false, if◌then◌else◌, ◌<◌, ◌≤◌, ◌+◌, ◌-◌, inl, inr, List, [], ◌∷◌, ◌++◌, Option, Some, None, All, IsSomeAnd, IsTrue}
-use Rattle.std.proofs.Common.{length, take, drop, get_or, slice_get, append-nil, refl, sym, subst, ap, ◌∙◌, arith}
+use Rattle.lexical_literal.proofs.Common.{ℕ, ◌≡◌, ◌&&◌, ◌||◌, Bool, true, false, ◌<◌, ◌≤◌, ◌+◌, ◌-◌, inl, inr, List, [], ◌∷◌, ◌++◌, Option, Some, None, All}
+use Rattle.lexical_literal.proofs.Common.{IsSomeAnd, take, drop, get_or, append-nil, refl, sym, subst, ap, ◌∙◌, arith, cases_lt, false≢true, nat_tests}
+use Rattle.lexical_literal.proofs.Common.{length-take-le, All-more, slice_get-get_or, Literal, Reads, is_float, text_of, Notation, notation_of, Record}
+use Rattle.std.proofs.Common.{◌==◌, if◌then◌else◌, IsTrue}
+use Rattle.std.proofs.Common.{length, slice_get}
 use Rattle.std.specs.Borrow.{Bor}
-use Rattle.std.proofs.lemmas.Bool.{cases_lt, false≢true}
-use Rattle.std.proofs.lemmas.Bool.Decides.{nat_tests}
-use Rattle.std.proofs.lemmas.List.{drop-take, get_or-take, get_or_append_left, length-append, length-take-le, take-take}
-use Rattle.std.proofs.lemmas.List.Elements.{All-more}
-use Rattle.std.proofs.lemmas.Option.{slice_get-get_or, slice_get_within}
+use Rattle.std.proofs.lemmas.List.{drop-take, get_or-take, get_or_append_left, length-append, take-take}
+use Rattle.std.proofs.lemmas.Option.{slice_get_within}
 use Rattle.lexical_literal.specs.Additions.Forms.{PlaysNoRole, sign_size}
 use Rattle.lexical_literal.specs.Additions.Longest.{IsMeasured, IsStopped}
 use Rattle.lexical_literal.specs.Additions.Read.{AreSums, HasSums, before_exponent, cut}
@@ -17,8 +17,6 @@ use Rattle.lexical_literal.specs.Cause.{is_in}
 use Rattle.lexical_literal.specs.FormList.{FormList}
 use Rattle.lexical_literal.specs.Forms.{HasFront, ReadsForm}
 use Rattle.lexical_literal.specs.Front.{IsFront, IsValidUpTo, NoLiteral}
-use Rattle.lexical_literal.specs.Literal.{Literal, Reads, is_float, text_of}
-use Rattle.lexical_literal.specs.Notation.{Notation, notation_of}
 use Rattle.lexical_literal.specs.Suffix.{any_word_size, begins, byte_before, is_stopped, is_word_byte, kind_with, longest_word, suffix_size, word_size}
 use Rattle.lexical_literal.specs.Token.{IsAhead, IsCandidate, IsToken, gives_back, is_shorter}
 use Rattle.lexical_literal.specs.declared.list.Form.{Form}
@@ -30,7 +28,6 @@ use Rattle.lexical_literal.specs.declared.suffix.Suffixes.{Suffixes}
 use Rattle.lexical_literal.specs.declared.syntax.Condition.TheVariants as conditions
 use Rattle.lexical_literal.specs.declared.token.Candidate.{Candidate}
 use Rattle.lexical_literal.specs.declared.token.Token.{Token}
-use Rattle.lexical_util.specs.Record.{Record}
 use Rattle.lexical_literal.proofs.ExcludeLemmas.{BeginsPrefixed, no_role_excludes, prefix_begins}
 use Rattle.lexical_literal.proofs.TokenLemmas.{float_is, some_is, token_is}
 

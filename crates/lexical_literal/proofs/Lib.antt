@@ -1,4 +1,5 @@
 -- Lemmas.
+mod Common
 pub mod WordLemmas
 pub mod DigitLemmas
 pub mod RunLemmas

@@ -1,12 +1,14 @@
 -- Fronts of a text, and where the loop is left.
-use Rattle.std.proofs.Common.{ℕ, Bool, IsNone, Option, if◌then◌else◌, ◌≡◌, ◌<◌, ◌≤◌, ◌+◌, ◌||◌, ◌↔◌, ◌⊎◌, not, inl, inr, true, false, List, [], ◌∷◌, ◌++◌}
-use Rattle.std.proofs.Common.{length, get_or, replicate, take, drop, Some, None, refl, sym, ap, subst, append_assoc, append-nil, take-append-drop, ◌∙◌, arith}
+use Rattle.lexical_literal.proofs.Common.{ℕ, Bool, IsNone, Option, ◌≡◌, ◌<◌, ◌≤◌, ◌+◌, ◌||◌, ◌↔◌, ◌⊎◌, not, inl, inr, true, false, List, [], ◌∷◌, ◌++◌}
+use Rattle.lexical_literal.proofs.Common.{get_or, replicate, take, drop, Some, None, refl, sym, ap, subst, append-nil, take-append-drop, ◌∙◌, arith}
+use Rattle.lexical_literal.proofs.Common.{false≢true, and_parts, cases_Bool, cases_lt, false_from_ne_true, slice_get-get_or, length-take-le, take_more}
+use Rattle.lexical_literal.proofs.Common.{take_all, Notation, Literal, IsLiteral, Reads, Role, common_steps}
+use Rattle.std.proofs.Common.{if◌then◌else◌}
+use Rattle.std.proofs.Common.{length, append_assoc}
 use Rattle.std.specs.Prelude.{is_some, slice_get}
-use Rattle.std.proofs.lemmas.Bool.{false≢true, and_parts, cases_Bool, cases_lt, false_from_ne_true, or_parts}
-use Rattle.std.proofs.lemmas.Option.{slice_get-get_or, slice_get_past}
-use Rattle.std.proofs.lemmas.List.{length-take-le, take-take, take_more, take_all}
-use Rattle.lexical_literal.specs.Notation.{Notation}
-use Rattle.lexical_literal.specs.Literal.{Literal, IsLiteral, Reads}
+use Rattle.std.proofs.lemmas.Bool.{or_parts}
+use Rattle.std.proofs.lemmas.Option.{slice_get_past}
+use Rattle.std.proofs.lemmas.List.{take-take}
 use Rattle.lexical_literal.specs.Additions.Summary.{count, cuts_of, role_at, scan, step, is_accepted, is_complete, part_of, tally, start, no_cuts, HasLengths}
 use Rattle.lexical_literal.specs.Cause.{Allows}
 use Rattle.lexical_literal.specs.Front.{IsFront, IsValidUpTo, NoFront, NoLiteral, ReadsFront}
@@ -23,12 +25,10 @@ use Rattle.lexical_literal.specs.declared.syntax.Condition.TheVariants as condit
 use Rattle.lexical_literal.proofs.ScanLemmas.{scan_append, tally_append}
 use Rattle.lexical_literal.proofs.ConditionLemmas.{has_lengths, literal_from, literal_arrives}
 use Rattle.lexical_literal.proofs.LiteralLemmas.{all_cuts}
-use Rattle.lexical_util.specs.declared.feature_format.roles.Role.{Role}
 use Rattle.lexical_literal.proofs.DecideLemmas.{decides_there, grows}
 use Rattle.lexical_literal.proofs.FitLemmas.{front_of, linked_there}
 use Rattle.lexical_literal.proofs.RefusalLemmas.{other_roles}
 use Rattle.lexical_literal.proofs.SizeLemmas.{all_end, as_sized, as_unsized, ends, group_append, small_after}
-use Rattle.std.proofs.lemmas.Grind.{common_steps}
 
 front_shorter : (m : Notation) (text : List ℕ) (k n : ℕ) → k ≤ n → IsFront m (take n text) → IsFront m (take k text)
 front_shorter m text k n below is = record {

@@ -1,10 +1,9 @@
 -- What the lengths of its parts tell of a literal, and what a syntax without conditions is.
-use Rattle.std.proofs.Common.{ℕ, ◌≡◌, ◌≢◌, ◌==◌, ◌||◌, not, false, List, length, take, ap, arith}
+use Rattle.lexical_literal.proofs.Common.{ℕ, ◌≡◌, ◌≢◌, ◌||◌, not, false, List, take, ap, arith, is_present, notation_of, Grammar}
+use Rattle.std.proofs.Common.{◌==◌, length}
 use Rattle.lexical_literal.specs.Additions.Plain.{IsUsual}
 use Rattle.lexical_literal.specs.Groups.{has_sizes}
-use Rattle.lexical_literal.specs.Literal.{is_minus, is_present}
-use Rattle.lexical_literal.specs.Notation.{notation_of}
-use Rattle.lexical_literal.specs.declared.syntax.Grammar.{Grammar}
+use Rattle.lexical_literal.specs.Literal.{is_minus}
 
 -- The sign is what the text begins with, if it is there.
 pub minus : (n : ℕ) (text : List ℕ) → n ≢ 0 → is_minus text ≡ is_minus (take n text)

@@ -1,14 +1,11 @@
 -- The sums of the digits of the integer and the fraction.
-use Rattle.std.proofs.Common.{ℕ, ◌≡◌, ◌+◌, ◌-◌, ◌%◌, ◌^◌, List, ◌++◌, arith}
+use Rattle.lexical_literal.proofs.Common.{ℕ, ◌≡◌, ◌+◌, ◌-◌, ◌%◌, ◌^◌, List, ◌++◌, arith, filter_map-append, Record, Literal, Notation, radix_of}
 use Rattle.std.proofs.lemmas.Int.Digits.{number_after_append}
-use Rattle.std.proofs.lemmas.List.Elements.{filter_map-append}
 use Rattle.std.specs.Int.Digits.{number_from_digits_after}
 use lib.ListN.{length-append}
 use Rattle.lexical_util.specs.Layout as layout
-use Rattle.lexical_util.specs.Record.{Record, effective_exponent_radix}
+use Rattle.lexical_util.specs.Record.{effective_exponent_radix}
 use Rattle.lexical_util.specs.declared.format_flags.Part.TheVariants as parts
-use Rattle.lexical_literal.specs.Literal.{Literal}
-use Rattle.lexical_literal.specs.Notation.{Notation, radix_of}
 use Rattle.lexical_literal.specs.Additions.Plain.{IsRunOn}
 use Rattle.lexical_literal.specs.Additions.Read.{AreSums, IsMantissa, IsSum}
 use Rattle.lexical_literal.specs.declared.plain.Run.{Run}

@@ -1,13 +1,10 @@
 -- The conditions in their order, and those that are kept of others.
-use Rattle.std.proofs.Common.{ℕ, ◌≡◌, ◌<◌, ◌+◌, ◌&&◌, Bool, true, false, if◌then◌else◌, nat_lt, length, get_or, arith}
-use Rattle.std.proofs.lemmas.Bool.Decides.{nat_tests}
+use Rattle.lexical_literal.proofs.Common.{ℕ, ◌≡◌, ◌<◌, ◌+◌, ◌&&◌, Bool, true, false, nat_lt, get_or, arith, nat_tests, list_any, all_conditions, has}
+use Rattle.lexical_literal.proofs.Common.{is_same, number_of, Condition, Conditions, common_steps}
+use Rattle.std.proofs.Common.{if◌then◌else◌, length}
 use Rattle.std.proofs.lemmas.List.{ext_get_or}
-use Rattle.std.specs.List.{list_any}
-use Rattle.lexical_literal.specs.Notation.{all_conditions, has, is_same, kept, number_of, order}
-use Rattle.lexical_literal.specs.declared.syntax.Condition.{Condition}
+use Rattle.lexical_literal.specs.Notation.{kept, order}
 use Rattle.lexical_literal.specs.declared.syntax.Condition.TheVariants as conditions
-use Rattle.lexical_literal.specs.declared.syntax.Conditions.{Conditions}
-use Rattle.std.proofs.lemmas.Grind.{common_steps}
 
 -- Each condition is at its place in the list.
 pub at_place : (i : ℕ) → i < length all_conditions → order (get_or all_conditions i conditions.BasePrefix) ≡ i

@@ -1,20 +1,18 @@
 -- A refusal has one cause, and a text has one refusal.
-use Rattle.std.proofs.Common.{ℕ, ◌≡◌, ◌<◌, ◌≤◌, ◌↔◌, ◌^◌, Bool, true, if◌then◌else◌, List, Option, Some, None, sum_by, take, refl, sym, ap, subst, ◌∙◌, arith}
+use Rattle.lexical_literal.proofs.Common.{ℕ, ◌≡◌, ◌<◌, ◌≤◌, ◌↔◌, ◌^◌, Bool, true, List, Option, Some, None, sum_by, take, refl, sym, ap, subst, ◌∙◌, arith}
+use Rattle.lexical_literal.proofs.Common.{nat_tests, Flag, bit, raw, Part, Notation, has, Condition}
+use Rattle.std.proofs.Common.{if◌then◌else◌}
 use Rattle.std.proofs.Math.Nat.{le_antisymm}
 use Rattle.std.specs.Prelude.{slice_get}
-use Rattle.std.proofs.lemmas.Bool.Decides.{nat_tests}
 use Rattle.lexical_util.specs.Groups.{bits_of}
-use Rattle.lexical_util.specs.Layout.{Flag, bit, flags}
-use Rattle.lexical_util.specs.Record.{raw}
-use Rattle.lexical_util.specs.declared.format_flags.Part.{Part}
-use Rattle.lexical_literal.specs.Notation.{Notation, has, kept}
+use Rattle.lexical_util.specs.Layout.{flags}
+use Rattle.lexical_literal.specs.Notation.{kept}
 use Rattle.lexical_literal.specs.Cause.{IsCause, IsRefusal, IsSeparator, IsUnmet, SameBlame, error_of, first_unmet, is_at, lowest, marks_of, span_of, tail_of}
 use Rattle.lexical_literal.specs.Front.{IsValidUpTo}
 use Rattle.lexical_literal.specs.declared.cause.ReadErrorKind.{ReadErrorKind}
 use Rattle.lexical_literal.specs.declared.cause.ReadErrorKind.TheVariants as causes
 use Rattle.lexical_literal.specs.declared.cause.Place.{Place}
 use Rattle.lexical_literal.specs.declared.cause.Refusal.{Refusal}
-use Rattle.lexical_literal.specs.declared.syntax.Condition.{Condition}
 
 -- A flag allows separators at one place of one part.
 same_at : (x y : Place) (p q : Part) (f : Flag) → is_at x p f ≡ true → is_at y q f ≡ true → (x ≡ y) × (p ≡ q)

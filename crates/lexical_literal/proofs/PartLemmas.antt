@@ -1,11 +1,6 @@
 -- The roles of the bytes of a literal's parts.
-use Rattle.std.proofs.Common.{ℕ, ◌≡◌, true, List, [], ◌∷◌, ◌++◌, arith}
-use Rattle.std.proofs.lemmas.Bool.{and_parts}
-use Rattle.lexical_util.specs.Ascii.{ByteSet}
-use Rattle.lexical_util.specs.declared.format_flags.Part.{Part}
-use Rattle.lexical_literal.specs.Notation.{Notation}
+use Rattle.lexical_literal.proofs.Common.{ℕ, ◌≡◌, true, List, [], ◌∷◌, ◌++◌, arith, and_parts, ByteSet, Part, Notation, Literal, IsSpelled, is_none_or_one}
 use Rattle.lexical_literal.specs.Run.{are_fit, is_fit}
-use Rattle.lexical_literal.specs.Literal.{Literal, IsSpelled, is_none_or_one}
 use Rattle.lexical_literal.specs.Readings.{AllIn, PartsHaveRoles, run_byte}
 
 module _ (m : Notation) (part : Part) where

@@ -1,13 +1,9 @@
 -- The part that a front ends in.
-use Rattle.std.proofs.Common.{ℕ, ◌≡◌, true, false, ◌==◌, if◌then◌else◌, List, [], ◌∷◌, Some, None, refl, sym, ◌∙◌, arith}
-use Rattle.std.proofs.lemmas.Bool.{false≢true}
-use Rattle.std.specs.List.{list_any}
-use Rattle.lexical_util.specs.declared.feature_format.roles.Role.{Role}
+use Rattle.lexical_literal.proofs.Common.{ℕ, ◌≡◌, true, false, List, [], ◌∷◌, Some, None, refl, sym, ◌∙◌, arith, false≢true, list_any, Role, Part, Notation}
+use Rattle.std.proofs.Common.{◌==◌, if◌then◌else◌}
 use Rattle.lexical_util.specs.declared.feature_format.roles.Role.TheVariants as roles
-use Rattle.lexical_util.specs.declared.format_flags.Part.{Part}
 use Rattle.lexical_util.specs.declared.format_flags.Part.TheVariants as parts
 use Rattle.lexical_literal.specs.Additions.Plain.{HasRoles}
-use Rattle.lexical_literal.specs.Notation.{Notation}
 use Rattle.lexical_literal.specs.Additions.Summary.{after, scan, takes, role_at, part_of}
 use Rattle.lexical_literal.specs.declared.steps.Summary.{Summary}
 use Rattle.lexical_literal.proofs.ScanLemmas.{scan_none, as_role, took}

@@ -1,7 +1,6 @@
 -- Digits end where a byte follows that has no role there.
-use Rattle.std.proofs.Common.{ℕ, ◌≡◌, true, false, None, arith}
+use Rattle.lexical_literal.proofs.Common.{ℕ, ◌≡◌, true, false, None, arith, Notation}
 use Rattle.lexical_util.specs.declared.feature_format.roles.Role.TheVariants as roles
-use Rattle.lexical_literal.specs.Notation.{Notation}
 use Rattle.lexical_literal.specs.Additions.Summary.{is_bare, is_fresh, part_of, step, takes}
 use Rattle.lexical_literal.specs.declared.steps.Stage.TheVariants as stages
 use Rattle.lexical_literal.specs.declared.steps.Summary.{Summary}

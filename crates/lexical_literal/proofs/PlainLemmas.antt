@@ -1,16 +1,11 @@
 -- What is read of a text part after part.
+use Rattle.lexical_literal.proofs.Common.{ℕ, ◌≡◌, ◌<◌, ◌≤◌, ◌+◌, ◌-◌, ◌&&◌, ◌||◌, Bool, true, false, not, List, Some, get_or, refl, sym, ap, subst, ◌∙◌}
+use Rattle.lexical_literal.proofs.Common.{arith, false≢true, and_from, and_parts, or_left, nat_tests, take_more, separators_in, Role, Part, Notation}
+use Rattle.lexical_literal.proofs.Common.{common_steps}
 use Rattle.lexical_literal.proofs.StepLemmas.{awaited_part}
-use Rattle.std.proofs.Common.{ℕ, ◌≡◌, ◌<◌, ◌≤◌, ◌+◌, ◌-◌, ◌==◌, ◌&&◌, ◌||◌, Bool, true, false, not, IsTrue, if◌then◌else◌, List, Some, get_or, length}
-use Rattle.std.proofs.Common.{refl, sym, ap, subst, ◌∙◌, arith}
-use Rattle.std.proofs.lemmas.Bool.{false≢true, and_from, and_parts, or_left}
-use Rattle.std.proofs.lemmas.Bool.Decides.{nat_tests}
-use Rattle.std.proofs.lemmas.List.{take_more}
-use Rattle.lexical_util.specs.Layout.{separators_in}
-use Rattle.lexical_util.specs.declared.feature_format.roles.Role.{Role}
+use Rattle.std.proofs.Common.{◌==◌, IsTrue, if◌then◌else◌, length}
 use Rattle.lexical_util.specs.declared.feature_format.roles.Role.TheVariants as roles
-use Rattle.lexical_util.specs.declared.format_flags.Part.{Part}
 use Rattle.lexical_util.specs.declared.format_flags.Part.TheVariants as parts
-use Rattle.lexical_literal.specs.Notation.{Notation}
 use Rattle.lexical_literal.specs.Additions.Plain.{HasRoles, IsAt, IsReadOn, fresh, is_free, at_stage, may_read}
 use Rattle.lexical_literal.specs.Additions.Summary.{Cuts, add, add_more, admits, after, after_digit, after_mark, digits_piece, forbids_plus}
 use Rattle.lexical_literal.specs.Additions.Summary.{has_digit, awaits_integer, is_negative, is_run, is_signed, lacks_prefix, may_follow, piece_of}
@@ -23,7 +18,6 @@ use Rattle.lexical_literal.specs.declared.steps.Stage.TheVariants as stages
 use Rattle.lexical_literal.specs.declared.steps.Summary.{Summary}
 use Rattle.lexical_literal.specs.declared.syntax.Condition.TheVariants as conditions
 use Rattle.lexical_literal.proofs.ScanLemmas.{digit_role, is_role, moved, scan_append, tally_append}
-use Rattle.std.proofs.lemmas.Grind.{common_steps}
 
 sum_more : (c : Cuts) (p other : Piece) (k n l : ℕ) → k ≤ n → n ≤ l → add_more (add_more c p (n - k)) p (l - n) other ≡ add_more c p (l - k) other
 sum_more c p other k n l low high = let same : n - k + (l - n) ≡ l - k = omega arith in grind arith

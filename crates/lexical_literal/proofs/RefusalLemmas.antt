@@ -1,18 +1,14 @@
 -- What has been read decides what a notation allows, with other flags too.
-use Rattle.std.proofs.Common.{ℕ, ◌≡◌, Bool, true, false, ◌==◌, ◌&&◌, ◌||◌, IsTrue, List, [], ◌∷◌, ◌++◌, Option, Some, None, refl, sym, ap, subst, ◌∙◌, arith}
-use Rattle.std.proofs.lemmas.Bool.{and_parts, and_from}
-use Rattle.lexical_util.specs.Layout.{Flag, separators_in}
-use Rattle.lexical_util.specs.declared.format_flags.Part.{Part}
+use Rattle.lexical_literal.proofs.Common.{ℕ, ◌≡◌, Bool, true, false, ◌&&◌, ◌||◌, List, [], ◌∷◌, ◌++◌, Option, Some, None, refl, sym, ap, subst, ◌∙◌, arith}
+use Rattle.lexical_literal.proofs.Common.{and_parts, and_from, Flag, separators_in, Part, Notation, Literal, IsLiteral, IsSpelled, Condition}
+use Rattle.std.proofs.Common.{◌==◌, IsTrue}
 use Rattle.lexical_literal.specs.Additions.Plain.{IsReady, HasRoles}
-use Rattle.lexical_literal.specs.Notation.{Notation}
 use Rattle.lexical_literal.specs.Run.{is_place, is_fit, are_fit}
-use Rattle.lexical_literal.specs.Literal.{Literal, IsLiteral, IsSpelled}
 use Rattle.lexical_literal.specs.Front.{IsFront}
 use Rattle.lexical_literal.specs.Cause.{is_one_of, requirement_flags, number_separator_flags, with_rules}
 use Rattle.lexical_literal.specs.Additions.Causes.{IsWeaker}
 use Rattle.lexical_literal.specs.Additions.Summary.{after, scan, start}
 use Rattle.lexical_literal.specs.declared.steps.Summary.{Summary}
-use Rattle.lexical_literal.specs.declared.syntax.Condition.{Condition}
 use Rattle.lexical_literal.proofs.ScanLemmas.{took}
 use Rattle.lexical_literal.proofs.FrontLemmas.{front_from, front_is_read}
 use Rattle.lexical_literal.proofs.PartOfLemmas.{none_after}

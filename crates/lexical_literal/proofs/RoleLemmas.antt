@@ -1,40 +1,34 @@
 -- In a syntax, no byte plays two roles.
-use Rattle.std.proofs.Common.{ℕ, ◌≡◌, ◌<◌, ◌↔◌, Bool, true, false, not, nat_lt, ◌==◌, IsTrue, List, [], ◌∷◌, ◌&&◌, ◌||◌, Option, Some, None, inl}
-use Rattle.std.proofs.Common.{inr, refl, sym, ap, ◌∙◌, arith}
-use Rattle.std.proofs.lemmas.Bool.{lt-ltb, false≢true, and_from, cases_Bool}
-use Rattle.std.proofs.lemmas.Bool.Decides.{nat_tests}
-use Rattle.std.specs.List.{AllByRecursion}
+use Rattle.lexical_literal.proofs.Common.{ℕ, ◌≡◌, ◌<◌, ◌↔◌, Bool, true, false, not, nat_lt, List, [], ◌∷◌, ◌&&◌, ◌||◌, Option, Some, None, inl, inr, refl}
+use Rattle.lexical_literal.proofs.Common.{sym, ap, ◌∙◌, arith, false≢true, and_from, cases_Bool, nat_tests, AllByRecursion, ByteSet, Flag, separators_in}
+use Rattle.lexical_literal.proofs.Common.{Record, raw, Role, Part, Condition, all_conditions, has, notation_of, number_of, radix_of, set_of_role}
+use Rattle.lexical_literal.proofs.Common.{Conditions, Grammar}
+use Rattle.std.proofs.Common.{◌==◌, IsTrue}
+use Rattle.std.proofs.lemmas.Bool.{lt-ltb}
 use Rattle.lexical_flags.proofs.RuleLemmas.{Holds-from_lawful}
 use Rattle.lexical_flags.specs.Rules.{Meets, shape_of}
 use Rattle.lexical_flags.specs.declared.format_flags.rule.Rule.{Rule}
 use Rattle.lexical_flags.specs.declared.format_flags.rule.Rule.TheVariants as rules
 use Rattle.lexical_util.specs.Additions.ByteRoles as bytes
-use Rattle.lexical_util.specs.Ascii.{ByteSet, allowed_ascii}
+use Rattle.lexical_util.specs.Ascii.{allowed_ascii}
 use Rattle.lexical_util.specs.Layout as layout
-use Rattle.lexical_util.specs.Layout.{Flag, separators_in}
 use Rattle.lexical_flags.specs.Record.{separator_allowed}
-use Rattle.lexical_util.specs.Record.{Record, raw}
 use Rattle.lexical_util.specs.Roles as sets
 use Rattle.lexical_util.specs.Options.{OptionsFit, OptionsHaveOneRole}
 use Rattle.lexical_util.specs.Unfoldable.{cased, Disjoint, Lawful, Holds, byte_value}
-use Rattle.lexical_util.specs.declared.feature_format.roles.Role.{Role}
 use Rattle.lexical_util.specs.declared.feature_format.roles.Role.TheVariants as roles
 use Rattle.lexical_util.specs.declared.format_flags.Part.TheVariants as parts
-use Rattle.lexical_util.specs.declared.format_flags.Part.{Part}
 use Rattle.lexical_util.proofs.ByteRoleLemmas.{AreApart, apart_from, one_role}
 use Rattle.lexical_literal.specs.Groups.{has_size}
-use Rattle.lexical_literal.specs.declared.syntax.Condition.{Condition}
 use Rattle.lexical_literal.specs.declared.syntax.ConditionsError.{ConditionsError}
 use Rattle.lexical_literal.specs.declared.syntax.ConditionsErrorKind.{ConditionsErrorKind}
 use Rattle.lexical_literal.specs.declared.syntax.ConditionsErrorKind.TheVariants as faults
 use Rattle.std.specs.Option.{option_or}
 use Rattle.std.specs.Prelude.{if◌then◌else◌, nat_le, option_map}
-use Rattle.lexical_literal.specs.Notation.{all_conditions, has, notation_of, number_of, radix_of, set_of_role, point_of, exponent_character_of, lacks_options}
+use Rattle.lexical_literal.specs.Notation.{point_of, exponent_character_of, lacks_options}
 use Rattle.lexical_literal.specs.Syntax.{IsSyntax, FitIfAny, contradiction, fault, first_fault, lacks_separator, limits, missing}
 use Rattle.lexical_literal.specs.declared.syntax.Condition.TheVariants as conditions
-use Rattle.lexical_literal.specs.declared.syntax.Conditions.{Conditions}
 use Rattle.lexical_literal.specs.declared.syntax.Options.{Options}
-use Rattle.lexical_literal.specs.declared.syntax.Grammar.{Grammar}
 use Rattle.lexical_literal.specs.Additions.Plain.{HasRoles, HasSizes, IsReady}
 use Rattle.lexical_literal.specs.Additions.Sizes.{steps_of}
 use Rattle.lexical_literal.proofs.RefusalLemmas.{other_roles}

@@ -1,18 +1,15 @@
 -- The literals of a notation with sizes of groups are those without, whose groups fit, at once or byte by byte.
-use Rattle.std.proofs.Common.{ℕ, ◌≡◌, ◌+◌, ◌==◌, inl, inr, Bool, true, false, not, ◌&&◌, ◌||◌, if◌then◌else◌, List, [], ◌∷◌, ◌++◌, Option, Some, None}
-use Rattle.std.proofs.Common.{IsTrue, ◌<◌, ◌≤◌, drop, get_or, length, take, refl, sym, ap, subst, ◌∙◌, arith}
-use Rattle.std.proofs.lemmas.Bool.{false≢true, and_parts, cases_Bool, eqb-true, or_left, or_right}
-use Rattle.std.proofs.lemmas.List.{drop_more, get_or-take, length-take-le}
-use Rattle.lexical_util.specs.Layout.{Flag, separators_in}
-use Rattle.lexical_util.specs.Roles.{signs}
-use Rattle.lexical_util.specs.declared.feature_format.roles.Role.{Role}
+use Rattle.lexical_literal.proofs.Common.{ℕ, ◌≡◌, ◌+◌, inl, inr, Bool, true, false, not, ◌&&◌, ◌||◌, List, [], ◌∷◌, ◌++◌, Option, Some, None, ◌<◌, ◌≤◌}
+use Rattle.lexical_literal.proofs.Common.{drop, get_or, take, refl, sym, ap, subst, ◌∙◌, arith, false≢true, and_parts, cases_Bool, eqb-true, or_left}
+use Rattle.lexical_literal.proofs.Common.{or_right, length-take-le, Flag, separators_in, signs, Role, Part, Literal, IsSpelled, Reads, is_absent}
+use Rattle.lexical_literal.proofs.Common.{is_none_or_one, is_none_or_prefix, text_of, Notation}
+use Rattle.std.proofs.Common.{◌==◌, if◌then◌else◌}
+use Rattle.std.proofs.Common.{IsTrue, length}
+use Rattle.std.proofs.lemmas.List.{drop_more, get_or-take}
 use Rattle.lexical_util.specs.declared.feature_format.roles.Role.TheVariants as roles
-use Rattle.lexical_util.specs.declared.format_flags.Part.{Part}
 use Rattle.lexical_util.specs.declared.format_flags.Part.TheVariants as parts
 use Rattle.lexical_literal.specs.Cause.{is_one_of, requirement_flags}
 use Rattle.lexical_literal.specs.Groups.{has_size, has_sizes, is_grouped}
-use Rattle.lexical_literal.specs.Literal.{Literal, IsSpelled, Reads, is_absent, is_none_or_one, is_none_or_prefix, text_of}
-use Rattle.lexical_literal.specs.Notation.{Notation}
 use Rattle.lexical_literal.specs.Readings.{AllIn, run_byte}
 use Rattle.lexical_literal.specs.Run.{is_run}
 use Rattle.lexical_literal.specs.Additions.Plain.{HasRoles, HasSizes}

@@ -1,20 +1,15 @@
 -- The bytes to show for a text that is refused are of the text.
-use Rattle.std.proofs.Common.{ℕ, ◌≡◌, ◌≤◌, ◌+◌, List, [], ◌∷◌, length, take, Option, None, Some, if◌then◌else◌, get_or, sym, subst, arith}
+use Rattle.lexical_literal.proofs.Common.{ℕ, ◌≡◌, ◌≤◌, ◌+◌, List, [], ◌∷◌, take, Option, None, Some, get_or, sym, subst, arith, length-take-le, take_more}
+use Rattle.lexical_literal.proofs.Common.{ByteSet, Flag, Notation, notation_of, Condition, Grammar, common_steps}
+use Rattle.std.proofs.Common.{length, if◌then◌else◌}
 use Rattle.std.proofs.Math.Seq.{take-length}
-use Rattle.std.proofs.lemmas.List.{length-take-le, take_more}
 use Rattle.std.proofs.lemmas.Option.{slice_get_within}
 use Rattle.std.specs.Prelude.{slice_get}
-use Rattle.lexical_util.specs.Ascii.{ByteSet}
-use Rattle.lexical_util.specs.Layout.{Flag}
 use Rattle.lexical_literal.specs.Cause.{IsRefusal, behind, first_in, marks_of, span_of, wrong_end}
-use Rattle.lexical_literal.specs.Notation.{Notation, notation_of}
 use Rattle.lexical_literal.specs.declared.cause.Marks.{Marks}
 use Rattle.lexical_literal.specs.declared.cause.ReadErrorKind.{ReadErrorKind}
 use Rattle.lexical_literal.specs.declared.cause.Refusal.{Refusal}
-use Rattle.lexical_literal.specs.declared.syntax.Condition.{Condition}
-use Rattle.lexical_literal.specs.declared.syntax.Grammar.{Grammar}
 use Rattle.lexical_literal.proofs.CauseLemmas.{behind_more}
-use Rattle.std.proofs.lemmas.Grind.{common_steps}
 
 module _ (A : ByteSet) where
   pub behind_within : (text : List ℕ) → behind A text ≤ length text

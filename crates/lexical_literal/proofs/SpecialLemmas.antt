@@ -1,19 +1,15 @@
 -- How a text is compared with a spelling.
-use Rattle.std.proofs.Common.{ℕ, ◌≡◌, ◌≤◌, ◌⊎◌, inl, inr, ◌+◌, ◌-◌, Bool, true, false, ◌==◌, ◌&&◌}
-use Rattle.std.proofs.Common.{Some, None, option_map, ◌||◌, if◌then◌else◌, nat_lt, List, [], ◌∷◌, length, get_or, drop, refl, arith}
-use Rattle.std.proofs.lemmas.Bool.{cases_lt}
-use Rattle.std.proofs.lemmas.Bool.Decides.{nat_tests}
+use Rattle.lexical_literal.proofs.Common.{ℕ, ◌≡◌, ◌≤◌, ◌⊎◌, inl, inr, ◌+◌, ◌-◌, Bool, true, false, ◌&&◌, Some, None, ◌||◌, nat_lt, List, [], ◌∷◌, get_or}
+use Rattle.lexical_literal.proofs.Common.{drop, refl, arith, cases_lt, nat_tests, raw, is_absent, Notation, notation_of, Grammar}
+use Rattle.std.proofs.Common.{◌==◌}
+use Rattle.std.proofs.Common.{option_map, if◌then◌else◌, length}
 use Rattle.std.proofs.lemmas.List.{drop_more, drop_all}
 use Rattle.lexical_util.specs.Layout as layout
-use Rattle.lexical_util.specs.Record.{raw}
 use Rattle.lexical_util.specs.Roles.{cased}
-use Rattle.lexical_literal.specs.Literal.{is_absent}
-use Rattle.lexical_literal.specs.Notation.{Notation, notation_of}
 use Rattle.lexical_literal.specs.Specials.{allows, is_spelled, letter_of, signed, special_of, special_separator, spelling_of}
 use Rattle.lexical_literal.specs.declared.specials.Sign.{Sign}
 use Rattle.lexical_literal.specs.declared.specials.Sign.TheVariants as signs
 use Rattle.lexical_literal.specs.declared.specials.Specials.{Specials}
-use Rattle.lexical_literal.specs.declared.syntax.Grammar.{Grammar}
 
 -- No other byte is a separator.
 pub one_separator : (g : Grammar) (c : ℕ) → special_separator (notation_of g) c ≡ true → c ≡ (raw g.word).byte layout.digit_separator

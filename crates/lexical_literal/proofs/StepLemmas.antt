@@ -1,13 +1,10 @@
 -- Stages, and what may follow a part that ends at one.
-use Rattle.std.proofs.Common.{ℕ, ◌≡◌, Bool, true, false, not, ◌==◌, ◌&&◌, ◌||◌, if◌then◌else◌, List, [], ◌∷◌, ◌++◌, refl, ◌∙◌, arith}
-use Rattle.std.specs.List.{list_any}
-use Rattle.lexical_util.specs.Ascii.{ByteSet}
-use Rattle.lexical_util.specs.Roles.{signs}
+use Rattle.lexical_literal.proofs.Common.{ℕ, ◌≡◌, Bool, true, false, not, ◌&&◌, ◌||◌, List, [], ◌∷◌, ◌++◌, refl, ◌∙◌, arith, list_any, ByteSet, signs, Part}
+use Rattle.lexical_literal.proofs.Common.{Notation, Literal, is_absent, is_none_or_one, is_none_or_prefix}
+use Rattle.std.proofs.Common.{◌==◌, if◌then◌else◌}
 use Rattle.lexical_util.specs.declared.feature_format.roles.Role.TheVariants as roles
-use Rattle.lexical_util.specs.declared.format_flags.Part.{Part}
 use Rattle.lexical_util.specs.declared.format_flags.Part.TheVariants as parts
-use Rattle.lexical_literal.specs.Notation.{Notation}
-use Rattle.lexical_literal.specs.Literal.{Literal, is_absent, is_plus, is_none_or_one, is_none_or_prefix, has_leading_zero}
+use Rattle.lexical_literal.specs.Literal.{is_plus, has_leading_zero}
 use Rattle.lexical_literal.specs.Additions.Summary.{implies, has_digit, is_fresh, is_lone, is_led, is_bare, after_digit, after_mark}
 use Rattle.lexical_literal.specs.Additions.Summary.{after_point, awaits_integer, part_of, is_signed, forbids_plus, digits_suffice, continues, may_float}
 use Rattle.lexical_literal.specs.declared.steps.Stage.{Stage}

@@ -1,18 +1,15 @@
 -- Tokens: the best of the candidates of several forms.
-use Rattle.std.proofs.Common.{ℕ, ◌≡◌, ◌==◌, ◌&&◌, ◌||◌, Bool, true, false, if◌then◌else◌, ◌<◌, ◌≤◌, ◌+◌, ◌-◌, ◌⊎◌, inl, inr, List, Option, Some, None, All, IsNone, IsSomeAnd, IsTrue}
-use Rattle.std.proofs.Common.{length, take, drop, get_or, slice_get, refl, sym, subst, ap, ◌∙◌, arith}
-use Rattle.std.proofs.lemmas.Bool.Decides.{nat_tests}
-use Rattle.std.proofs.lemmas.List.{length-take-le, take_all}
-use Rattle.std.proofs.lemmas.List.Elements.{All-more}
-use Rattle.std.proofs.lemmas.Option.{slice_get-get_or}
+use Rattle.lexical_literal.proofs.Common.{ℕ, ◌≡◌, ◌&&◌, ◌||◌, Bool, true, false, ◌<◌, ◌≤◌, ◌+◌, ◌-◌, ◌⊎◌, inl, inr, List, Option, Some, None, All, IsNone}
+use Rattle.lexical_literal.proofs.Common.{IsSomeAnd, take, drop, get_or, refl, sym, subst, ap, ◌∙◌, arith, nat_tests, length-take-le, take_all, All-more}
+use Rattle.lexical_literal.proofs.Common.{slice_get-get_or, Literal, Reads, is_float, Notation, notation_of}
+use Rattle.std.proofs.Common.{◌==◌, if◌then◌else◌, IsTrue}
+use Rattle.std.proofs.Common.{length, slice_get}
 use Rattle.lexical_literal.specs.Additions.Longest.{IsCountedFront}
 use Rattle.lexical_literal.specs.Additions.Summary.{HasLengths, cuts_of}
 use Rattle.lexical_literal.specs.Additions.Token.{IsBestMade, IsBestOf, IsMade, IsOwn, IsPicked, NoOwn, better, goes_on, has_float, suffixed, whole}
 use Rattle.lexical_literal.specs.FormList.{FormList}
 use Rattle.lexical_literal.specs.Forms.{IsFirst, NoForm, ReadsForm}
 use Rattle.lexical_literal.specs.Front.{IsValidUpTo, NoFront}
-use Rattle.lexical_literal.specs.Literal.{Literal, Reads, is_float}
-use Rattle.lexical_literal.specs.Notation.{Notation, notation_of}
 use Rattle.lexical_literal.specs.Read.{Read}
 use Rattle.lexical_literal.specs.Cause.{is_in}
 use Rattle.lexical_literal.specs.Suffix.{is_digit, is_stopped, kind_with, stop_end, suffix_size}

@@ -1,14 +1,12 @@
 -- Which texts of mantissa digits are literals.
-use Rattle.std.proofs.Common.{ℕ, ◌≡◌, ◌≢◌, ◌↔◌, Bool, true, false, not, ◌&&◌, ◌||◌, IsFalse, List, [], ◌∷◌, Some, None, refl, sym, ap, ◌∙◌, arith}
+use Rattle.lexical_literal.proofs.Common.{ℕ, ◌≡◌, ◌≢◌, ◌↔◌, Bool, true, false, not, ◌&&◌, ◌||◌, IsFalse, List, [], ◌∷◌, Some, None, refl, sym, ap, ◌∙◌}
+use Rattle.lexical_literal.proofs.Common.{arith, list_any, false_from_ne_true, Notation, Literal, Reads}
 use Rattle.lexical_util.specs.Layout as layout
 use Rattle.lexical_util.specs.declared.feature_format.roles.Role.TheVariants as roles
 use Rattle.lexical_util.specs.declared.format_flags.Part.TheVariants as parts
-use Rattle.std.specs.List.{list_any}
-use Rattle.std.proofs.lemmas.Bool.{false_from_ne_true, or_from}
+use Rattle.std.proofs.lemmas.Bool.{or_from}
 use Rattle.lexical_literal.specs.Additions.Plain.{HasRoles, HasSizes, IsReady}
 use Rattle.lexical_literal.specs.Additions.Sizes.{first_group, unsized}
-use Rattle.lexical_literal.specs.Notation.{Notation}
-use Rattle.lexical_literal.specs.Literal.{Literal, Reads}
 use Rattle.lexical_literal.specs.Readings.{AllIn, refuses_first}
 use Rattle.lexical_literal.specs.Additions.Summary.{needs_exponent, move_by, step, scan, is_accepted, start, part_of}
 use Rattle.lexical_literal.specs.declared.steps.Stage.{Stage}

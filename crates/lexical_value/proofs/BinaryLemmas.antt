@@ -1,4 +1,5 @@
 -- From a number by its leading bits to units of least floats, and to the nearest float.
+use Rattle.lexical_value.proofs.Common.{pow_pos, pow_mono, pow-add, IsNearestBits, nat_tests}
 use Rattle.core.specs.Prelude.{◌≡◌, ℕ, suc, ◌+◌, ◌-◌, ◌*◌, ◌/◌, ◌%◌, ◌^◌, ◌<◌, ◌≤◌, ◌==◌, ◌||◌, ◌&&◌, nat_lt, Bool, true, false}
 use mathlib.Core.Path.{refl, sym, ap, ◌∙◌, subst}
 use mathlib.Core.Logic.{inl, inr}
@@ -7,14 +8,13 @@ use native.Mathlib.Omega.{arith}
 use native.Mathlib.Nat.{eq-zero-or-pos, mul-pos, mod-eq_of_lt, mod-lt, lt_of_mul-lt-mul_right, mul-le-mul_right, eq_of_mul-eq-mul_right}
 use native.Mathlib.Nat.{div-add-mod', div-eq_of_lt, le_of_eq, le_of_mul-le-mul_right, le_trans, mul-le-mul_left}
 use lib.Dec.{lit≤}
-use lib.Pow.{pow_pos, pow_mono, pow-add, shl_lt}
+use lib.Pow.{shl_lt}
 use lib.Ieee.{Format, hid, ones, prec, low}
-use Rattle.core.specs.Dec2flt.Rounding.{scaled_bits, IsNearestBits, IsCut, IsJustAbove, IsSignificand, IsWithin}
+use Rattle.core.specs.Dec2flt.Rounding.{scaled_bits, IsCut, IsJustAbove, IsSignificand, IsWithin}
 use Rattle.core.proofs.dec2flt.Extremes.{nearest_of_huge, nearest_of_tiny}
 use Rattle.core.proofs.dec2flt.Patterns.{shape}
 use Rattle.core.proofs.dec2flt.RoundingLemmas.{nearest_tie, nearest_above}
 use Rattle.core.proofs.dec2flt.Settle.{lies_above, rounds_down, rounds_up, significand_of}
-use Rattle.std.proofs.lemmas.Bool.Decides.{nat_tests}
 use Rattle.lexical_value.specs.Leading.{IsCutTo}
 use Rattle.lexical_value.proofs.LeadingLemmas.{beyond, exact, scaled, unscaled}
 

@@ -1,4 +1,5 @@
 -- The fraction that a literal is, by its parts, and floats that are no NaN.
+use Rattle.lexical_value.proofs.Common.{raised_down, raised_up, number, places, mantissa}
 use Rattle.std.proofs.Common.{ℕ, ◌≡◌, ◌+◌, ◌*◌, ◌^◌, ◌==◌, not, Bool, true, false, cond, ap, ◌∙◌, refl, subst, sym, zero, suc}
 use lib.Ieee.{Float, Format, emax, inf, is_nan, low, odd, prec, round, units}
 use lib.Ieee.Fits.{round_is}
@@ -9,10 +10,7 @@ use Rattle.std.specs.Float.{NotNan}
 use Rattle.lexical_util.specs.Layout as layout
 use Rattle.lexical_util.specs.Record.{Record, effective_exponent_base, effective_exponent_radix}
 use Rattle.lexical_literal.specs.Literal.{Literal, is_minus}
-use Rattle.lexical_value.specs.Binary.{raised_down, raised_up}
 use Rattle.lexical_value.specs.Leading.{Leads}
-use Rattle.lexical_literal.specs.Number.{number, places}
-use Rattle.lexical_literal.specs.Read.{mantissa}
 use Rattle.lexical_value.specs.Value.{denominator, numerator}
 
 -- What holds of the fraction by its parts holds of the value of the literal.

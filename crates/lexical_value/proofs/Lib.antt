@@ -1,3 +1,4 @@
+mod Common
 mod BigLemmas
 mod BinaryLemmas
 pub mod LeadingLemmas

@@ -1,8 +1,8 @@
 -- On what the value of a literal does not depend.
+use Rattle.lexical_value.proofs.Common.{nat_tests, number, mantissa}
 use Rattle.std.proofs.Common.{ℕ, ◌≡◌, ◌*◌, ◌<◌, ◌^◌, cond, if◌then◌else◌, IsTrue, IsFalse, List, [], ◌∷◌, ◌++◌, nat_lt, Some, None, refl, sym, ap, ◌∙◌, arith}
 use Rattle.std.proofs.Common.{append-nil, length}
 use Rattle.std.proofs.Math.Nat.{pow-zero}
-use Rattle.std.proofs.lemmas.Bool.Decides.{nat_tests}
 use Rattle.std.proofs.lemmas.List.Elements.{filter_map-append}
 use Rattle.std.specs.Int.Digits.{number_from_digits}
 use Rattle.std.specs.Prelude.{◌==◌, position, unwrap_or}
@@ -12,9 +12,8 @@ use Rattle.lexical_util.specs.NormalForm.{SameFormat}
 use Rattle.lexical_util.specs.Record.{Record, effective_exponent_base, effective_exponent_radix}
 use Rattle.lexical_literal.specs.Literal.{Literal, Reads, is_float}
 use Rattle.lexical_literal.specs.Notation.{Notation}
-use Rattle.lexical_literal.specs.Number.{digits_in, number}
+use Rattle.lexical_literal.specs.Number.{digits_in}
 use Rattle.lexical_value.specs.Integer.{integer_size}
-use Rattle.lexical_literal.specs.Read.{mantissa}
 use Rattle.lexical_value.specs.Value.{SameDigits, SameValue, numerator, power, spelled}
 
 -- The value depends on the mantissa radix, and on the effective exponent base and radix.

@@ -1,26 +1,17 @@
 -- What is written of a literal has its value.
-use Rattle.std.proofs.Common.{ℕ, ◌≡◌, ◌≤◌, ◌*◌, ◌^◌, ◌&&◌, ◌||◌, ◌⊎◌, inl, inr, if◌then◌else◌, Bool, true, false, List, [], ◌∷◌, ◌++◌, length}
-use Rattle.std.proofs.Common.{Some, None, Ok, unwrap_or, sym, ap, ◌∙◌, arith}
-use Rattle.std.proofs.Math.Nat.{pow-suc, pow-zero}
-use Rattle.std.proofs.lemmas.Bool.Decides.{nat_tests}
+use Rattle.lexical_writer.proofs.Common.{ℕ, ◌≡◌, ◌≤◌, ◌*◌, ◌^◌, ◌&&◌, ◌||◌, ◌⊎◌, inl, inr, if◌then◌else◌, Bool, true, false, List, [], ◌∷◌, ◌++◌, length}
+use Rattle.lexical_writer.proofs.Common.{Some, None, Ok, unwrap_or, sym, ap, ◌∙◌, arith, pow-suc, pow-zero, nat_tests, number_from_digits_after, Record}
+use Rattle.lexical_writer.proofs.Common.{raw, effective_exponent_base, effective_exponent_radix, Literal, is_absent, is_present, is_minus, Parts, Grammar}
+use Rattle.lexical_writer.proofs.Common.{digits_in, number, at_least, size_of, values_of, Amount, Source}
 use Rattle.std.specs.Borrow.{Bor}
-use Rattle.std.specs.Int.Digits.{number_from_digits_after}
 use Rattle.lexical_util.specs.Layout as layout
-use Rattle.lexical_util.specs.Record.{Record, raw, effective_exponent_base, effective_exponent_radix}
-use Rattle.lexical_literal.specs.Literal.{Literal, is_absent, is_present, is_minus}
 use Rattle.lexical_literal.specs.Parts.{literal_of}
-use Rattle.lexical_literal.specs.declared.read.Parts.{Parts}
-use Rattle.lexical_literal.specs.declared.syntax.Grammar.{Grammar}
 use Rattle.lexical_literal.proofs.DigitLemmas.{number_after-append}
-use Rattle.lexical_literal.specs.Number.{digits_in, number}
 use Rattle.lexical_literal.specs.Read.{mantissa}
 use Rattle.lexical_value.specs.Value.{power, scale}
 use Rattle.lexical_writer.specs.Conversion.{SameFraction, amount_of, fraction_of, source_of}
 use Rattle.lexical_writer.proofs.DigitLemmas.{enough}
-use Rattle.lexical_writer.specs.Digits.{at_least, size_of, values_of}
 use Rattle.lexical_writer.specs.Layout.{HasNumber, given_fraction, given_power, one_if}
-use Rattle.lexical_writer.specs.declared.layout.Amount.{Amount}
-use Rattle.lexical_writer.specs.declared.run.Source.{Source}
 use Rattle.lexical_writer.specs.declared.run.Source.TheVariants as sources
 
 cross : (m s q u d : ℕ) → (m * u) * ((s * q) * d) ≡ ((m * q) * u) * (s * d)

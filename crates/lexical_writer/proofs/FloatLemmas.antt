@@ -1,32 +1,23 @@
 -- Digits with a point, zeros around them and an exponent have the value of the literal that is written.
-use Rattle.std.proofs.Common.{ℕ, suc, ◌≡◌, ◌≢◌, ◌==◌, ◌+◌, ◌-◌, ◌*◌, ◌/◌, ◌%◌, ◌<◌, ◌≤◌, ◌^◌, ◌&&◌, ◌||◌, nat_lt, inl, inr, if◌then◌else◌, Bool, true, false, ap, ◌∙◌, arith, sym}
-use Rattle.std.proofs.Common.{List, [], ◌∷◌, ◌++◌, length, take, drop, replicate, Option, Some, None, Result, Ok, Err, IfOk}
-use Rattle.std.proofs.lemmas.Bool.Decides.{nat_tests}
-use Rattle.std.proofs.lemmas.Int.Digits.{number_after_append}
-use Rattle.std.proofs.lemmas.List.{append_assoc, length-append, take-append-drop}
+use Rattle.lexical_writer.proofs.Common.{ℕ, suc, ◌≡◌, ◌≢◌, ◌==◌, ◌+◌, ◌-◌, ◌*◌, ◌/◌, ◌%◌, ◌<◌, ◌≤◌, ◌^◌, ◌&&◌, ◌||◌, nat_lt, inl, inr, if◌then◌else◌, Bool}
+use Rattle.lexical_writer.proofs.Common.{true, false, ap, ◌∙◌, arith, sym, List, [], ◌∷◌, ◌++◌, length, take, drop, replicate, Option, Some, None, Result}
+use Rattle.lexical_writer.proofs.Common.{Ok, Err, IfOk, nat_tests, number_after_append, append_assoc, length-append, one-le-pow, number_from_digits}
+use Rattle.lexical_writer.proofs.Common.{number_from_digits_after, cons_option, digit_of, Record, raw, effective_exponent_base, effective_exponent_radix}
+use Rattle.lexical_writer.proofs.Common.{Literal, is_minus, Grammar, format_of, raised_down, raised_up, digits_in, number, size_of, values_of, Amount}
+use Rattle.std.proofs.lemmas.List.{take-append-drop}
 use Rattle.std.proofs.lemmas.List.Elements.{filter_map-append}
 use lib.Ieee.{Format, emax, low, prec, round}
 use lib.Ieee.Exact.{HasValue, round_exact}
 use lib.Ieee.Scale.{round_same}
 use lib.Pow.{pow-add, shl_lt}
-use Rattle.std.proofs.Math.Nat.{div-eq_of_lt-le, eq-zero-or-pos, mod-eq-sub-div-mul, one-le-pow, pow-le-pow_right}
-use Rattle.std.specs.Int.Digits.{number_from_digits, number_from_digits_after}
-use Rattle.std.specs.List.{cons_option}
+use Rattle.std.proofs.Math.Nat.{div-eq_of_lt-le, eq-zero-or-pos, mod-eq-sub-div-mul, pow-le-pow_right}
 use Rattle.lexical_util.specs.Layout as layout
-use Rattle.lexical_util.specs.Digits.{digit_of}
-use Rattle.lexical_util.specs.Record.{Record, raw, effective_exponent_base, effective_exponent_radix}
-use Rattle.lexical_literal.specs.Literal.{Literal, is_minus}
 use Rattle.lexical_literal.specs.Read.{exponent, mantissa}
-use Rattle.lexical_literal.specs.declared.syntax.Grammar.{Grammar}
-use Rattle.lexical_value.specs.Binary.{format_of, raised_down, raised_up}
 use Rattle.lexical_value.specs.Leading.{IsCutTo}
-use Rattle.lexical_literal.specs.Number.{digits_in, number}
 use Rattle.lexical_value.specs.Float.{is_binary, is_decimal, nearest}
 use Rattle.lexical_value.specs.Value.{denominator, numerator, power, scale}
-use Rattle.lexical_writer.specs.Digits.{size_of, values_of}
 use Rattle.lexical_writer.specs.Layout.{HasNumber, given_fraction, given_power}
 use Rattle.lexical_writer.specs.Rounded.{HasDecimals, rounded}
-use Rattle.lexical_writer.specs.declared.layout.Amount.{Amount}
 use Rattle.lexical_writer.proofs.ConversionLemmas.{zero_scaled}
 use Rattle.lexical_writer.proofs.DigitLemmas.{zeros_number}
 use Rattle.lexical_writer.proofs.PlainLemmas.{pow_twice, size_values, zeros_after}

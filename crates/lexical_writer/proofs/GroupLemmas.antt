@@ -1,22 +1,19 @@
 -- Grouped digits.
-use Rattle.std.proofs.Common.{ℕ, ◌≡◌, ◌<◌, ◌≤◌, ◌==◌, Bool, true, false, get_or, zero, suc, List, [], ◌∷◌, length, refl, subst, sym, ap, ◌∙◌, arith}
-use Rattle.std.proofs.Common.{◌+◌, ◌-◌, ◌*◌, ◌/◌, ◌%◌, inl, inr}
+use Rattle.lexical_writer.proofs.Common.{ℕ, ◌≡◌, ◌<◌, ◌≤◌, ◌==◌, Bool, true, false, get_or, zero, suc, List, [], ◌∷◌, length, refl, subst, sym, ap, ◌∙◌}
+use Rattle.lexical_writer.proofs.Common.{arith, ◌+◌, ◌-◌, ◌*◌, ◌/◌, ◌%◌, inl, inr, cases_lt, false≢true, nat_tests, AllBelowBase, byte_value, digits_of}
+use Rattle.lexical_writer.proofs.Common.{at_least, character, grouped}
 use Rattle.std.proofs.Math.Nat.{div-add-mod}
-use Rattle.std.proofs.lemmas.Bool.{and_from, cases_lt, false≢true}
-use Rattle.std.proofs.lemmas.Bool.Decides.{nat_tests}
+use Rattle.std.proofs.lemmas.Bool.{and_from}
 use Rattle.std.proofs.lemmas.Nat.{mod-mul-add}
-use Rattle.std.specs.Int.Digits.{AllBelowBase}
 use Rattle.lexical_util.specs.Ascii.{ByteSet}
 use Rattle.lexical_util.specs.Layout.{separators_in}
 use Rattle.lexical_util.specs.declared.format_flags.Part.{Part}
-use Rattle.lexical_util.specs.Digits.{byte_value}
 use Rattle.std.proofs.lemmas.Int.Digits.{all_below_base_digits_of, first_digits_of}
-use Rattle.std.specs.Int.Digits.{digits_of}
 use Rattle.lexical_literal.specs.Groups.{all_fit, first_fits, group_sizes, inner_fits, is_grouped, last_fits, one_more, rest_fits}
 use Rattle.lexical_literal.specs.Literal.{has_leading_zero}
 use Rattle.lexical_literal.specs.Notation.{Notation}
 use Rattle.lexical_literal.proofs.RunLemmas.{is_rest}
-use Rattle.lexical_writer.specs.Digits.{at_least, character, ends_group, grouped}
+use Rattle.lexical_writer.specs.Digits.{ends_group}
 use Rattle.lexical_writer.specs.declared.run.Pattern.{Pattern}
 use Rattle.lexical_writer.proofs.DigitLemmas.{character_value, enough}
 

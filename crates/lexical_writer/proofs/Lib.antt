@@ -1,3 +1,4 @@
+mod Common
 mod DigitLemmas
 mod GroupLemmas
 mod LiteralLemmas

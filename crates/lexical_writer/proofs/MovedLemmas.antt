@@ -1,14 +1,9 @@
 -- Digits whose point has moved, and the zeros that they end with.
-use Rattle.std.proofs.Common.{ℕ, zero, suc, ◌≡◌, ◌<◌, ◌≤◌, ◌+◌, ◌-◌, ◌==◌, ◌&&◌, Bool, true, false, List, [], ◌∷◌, ◌++◌, length, take, drop, replicate}
-use Rattle.std.proofs.Common.{Option, Some, None, is_some, unwrap_or, get_or, append-nil, refl, sym, ap, ◌∙◌, arith, if◌then◌else◌}
-use Rattle.std.proofs.lemmas.Bool.{false≢true}
-use Rattle.std.proofs.lemmas.Bool.Decides.{nat_tests}
-use Rattle.std.proofs.lemmas.List.{append_assoc, take_more}
+use Rattle.lexical_writer.proofs.Common.{ℕ, zero, suc, ◌≡◌, ◌<◌, ◌≤◌, ◌+◌, ◌-◌, ◌==◌, ◌&&◌, Bool, true, false, List, [], ◌∷◌, ◌++◌, length, take, drop}
+use Rattle.lexical_writer.proofs.Common.{replicate, Option, Some, None, is_some, unwrap_or, get_or, append-nil, refl, sym, ap, ◌∙◌, arith, if◌then◌else◌}
+use Rattle.lexical_writer.proofs.Common.{false≢true, nat_tests, append_assoc, cons_option, digit_of, is_absent, digits_in}
+use Rattle.std.proofs.lemmas.List.{take_more}
 use Rattle.std.proofs.lemmas.List.Elements.{filter_map-append}
-use Rattle.std.specs.List.{cons_option}
-use Rattle.lexical_util.specs.Digits.{digit_of}
-use Rattle.lexical_literal.specs.Literal.{is_absent}
-use Rattle.lexical_literal.specs.Number.{digits_in}
 use Rattle.lexical_writer.proofs.DigitLemmas.{left_of}
 use Rattle.lexical_writer.specs.Moved.{trimmed}
 

@@ -1,39 +1,28 @@
 -- A number whose point has moved has the value of the literal.
-use Rattle.std.proofs.Common.{ℕ, ℤ, zero, suc, ◌≡◌, ◌<◌, ◌≤◌, ◌+◌, ◌-◌, ◌*◌, ◌/◌, ◌%◌, ◌^◌}
-use Rattle.std.proofs.Common.{◌==◌, ◌&&◌, ◌||◌, ◌⊎◌, inl, inr, nat_lt, Bool, true, false, if◌then◌else◌}
-use Rattle.std.proofs.Common.{Option, None, unwrap_or, List, ◌++◌, length, take, drop}
-use Rattle.std.proofs.Common.{replicate, Result, Ok, Err, refl, sym, ap, ◌∙◌, subst, arith, append-nil}
-use Rattle.std.proofs.Math.Nat.{div-add-mod, mod-lt, mul-div_cancel, one-le-pow, pow-suc, pow-zero}
-use Rattle.std.proofs.lemmas.Bool.{cases_lt, false≢true}
-use Rattle.std.proofs.lemmas.Bool.Decides.{nat_tests}
-use Rattle.std.proofs.lemmas.Int.Digits.{number_after_append, number_after_ge, number_digits_of}
-use Rattle.std.proofs.lemmas.List.{append_assoc, drop_all, length-append, length-drop, length-replicate, take-append-drop, take_all}
+use Rattle.lexical_writer.proofs.Common.{ℕ, ℤ, zero, suc, ◌≡◌, ◌<◌, ◌≤◌, ◌+◌, ◌-◌, ◌*◌, ◌/◌, ◌%◌, ◌^◌, ◌==◌, ◌&&◌, ◌||◌, ◌⊎◌, inl, inr, nat_lt, Bool, true}
+use Rattle.lexical_writer.proofs.Common.{false, if◌then◌else◌, Option, None, unwrap_or, List, ◌++◌, length, take, drop, replicate, Result, Ok, Err, refl}
+use Rattle.lexical_writer.proofs.Common.{sym, ap, ◌∙◌, subst, arith, append-nil, mod-lt, one-le-pow, pow-suc, pow-zero, cases_lt, false≢true, nat_tests}
+use Rattle.lexical_writer.proofs.Common.{number_after_append, number_digits_of, append_assoc, drop_all, length-append, digits_of, number_from_digits}
+use Rattle.lexical_writer.proofs.Common.{number_from_digits_after, Record, raw, effective_exponent_base, effective_exponent_radix, Literal, is_absent}
+use Rattle.lexical_writer.proofs.Common.{is_minus, IsSyntax, Parts, Grammar, number_after, digits_in, number, padded_values, size_of, values_of, Amount}
+use Rattle.lexical_writer.proofs.Common.{WriteError, Source}
+use Rattle.std.proofs.Math.Nat.{div-add-mod, mul-div_cancel}
+use Rattle.std.proofs.lemmas.Int.Digits.{number_after_ge}
+use Rattle.std.proofs.lemmas.List.{length-drop, length-replicate, take-append-drop, take_all}
 use Rattle.std.proofs.lemmas.List.Elements.{filter_map-append}
-use Rattle.std.specs.Int.Digits.{digits_of, number_from_digits, number_from_digits_after}
 use Rattle.lexical_util.specs.Layout as layout
-use Rattle.lexical_util.specs.Record.{Record, raw, effective_exponent_base, effective_exponent_radix}
 use Rattle.lexical_util.specs.declared.format_flags.Part.TheVariants as part
-use Rattle.lexical_literal.specs.Literal.{Literal, is_absent, is_minus}
 use Rattle.lexical_literal.specs.Parts.{literal_of}
 use Rattle.lexical_literal.specs.Read.{mantissa}
-use Rattle.lexical_literal.specs.Syntax.{IsSyntax}
-use Rattle.lexical_literal.specs.declared.read.Parts.{Parts}
-use Rattle.lexical_literal.specs.declared.syntax.Grammar.{Grammar}
-use Rattle.lexical_literal.specs.Number.{number_after}
-use Rattle.lexical_literal.specs.Number.{digits_in, number}
 use Rattle.lexical_value.specs.Numeral.{with_sign}
 use Rattle.lexical_value.specs.Value.{denominator, numerator, power, scale}
 use Rattle.lexical_writer.specs.Conversion.{SameFraction}
-use Rattle.lexical_writer.specs.Digits.{padded_values, size_of, values_of}
 use Rattle.lexical_writer.specs.Layout.{HasNumber, HasValue, given_fraction, given_power, number_of_size}
 use Rattle.lexical_writer.specs.Moved.{IsFactor, IsMoved, IsWhole, factors, has_zeros, is_past, move_of, moved_by, moved_fraction, moved_integer, too_far, trimmed}
-use Rattle.lexical_writer.specs.declared.layout.Amount.{Amount}
 use Rattle.lexical_writer.specs.declared.layout.Power.{Power}
-use Rattle.lexical_writer.specs.declared.layout.WriteError.{WriteError}
 use Rattle.lexical_writer.specs.declared.layout.WriteError.TheVariants as errors
 use Rattle.lexical_writer.specs.declared.moved.Move.{Move}
 use Rattle.lexical_writer.specs.declared.run.Padded.{Padded}
-use Rattle.lexical_writer.specs.declared.run.Source.{Source}
 use Rattle.lexical_writer.specs.declared.run.Source.TheVariants as sources
 use Rattle.lexical_writer.proofs.ConversionLemmas.{zero_scaled}
 use Rattle.lexical_writer.proofs.LiteralLemmas.{radixes}

@@ -1,21 +1,14 @@
 -- When a number whose point has moved is whole, times a factor.
-use Rattle.std.proofs.Common.{ℕ, zero, suc, ◌≡◌, ◌<◌, ◌≤◌, ◌+◌, ◌*◌, ◌/◌, ◌%◌, ◌^◌, ◌==◌, ◌&&◌, ◌⊎◌, inl, inr, if◌then◌else◌}
-use Rattle.std.proofs.Common.{Bool, true, false, List, [], ◌∷◌, ◌++◌, length, refl, sym, ap, ◌∙◌, subst, arith, append-nil}
-use Rattle.std.proofs.Math.Nat.{div-add-mod, mul-add-mod_self_left, mod-eq_of_lt, mul-div_cancel, pow-suc, pow-zero}
-use Rattle.std.proofs.lemmas.Bool.Decides.{nat_tests}
-use Rattle.std.proofs.lemmas.Int.Digits.{number_after_append}
-use Rattle.std.proofs.lemmas.List.{append_assoc, length-append}
+use Rattle.lexical_writer.proofs.Common.{ℕ, zero, suc, ◌≡◌, ◌<◌, ◌≤◌, ◌+◌, ◌*◌, ◌/◌, ◌%◌, ◌^◌, ◌==◌, ◌&&◌, ◌⊎◌, inl, inr, if◌then◌else◌, Bool, true, false}
+use Rattle.lexical_writer.proofs.Common.{List, [], ◌∷◌, ◌++◌, length, refl, sym, ap, ◌∙◌, subst, arith, append-nil, pow-suc, pow-zero, nat_tests}
+use Rattle.lexical_writer.proofs.Common.{number_after_append, append_assoc, length-append, AllBelowBase, number_from_digits, is_absent, Parts, digits_in}
+use Rattle.lexical_writer.proofs.Common.{size_of, values_of, Amount}
+use Rattle.std.proofs.Math.Nat.{div-add-mod, mul-add-mod_self_left, mod-eq_of_lt, mul-div_cancel}
 use Rattle.std.proofs.lemmas.Nat.{mod-mul-add}
-use Rattle.std.specs.Int.Digits.{AllBelowBase, number_from_digits}
-use Rattle.lexical_literal.specs.Literal.{is_absent}
-use Rattle.lexical_literal.specs.declared.read.Parts.{Parts}
-use Rattle.lexical_literal.specs.Number.{digits_in}
 use Rattle.lexical_writer.proofs.DigitLemmas.{values_below}
 use Rattle.lexical_writer.proofs.PlainLemmas.{size_values}
-use Rattle.lexical_writer.specs.Digits.{size_of, values_of}
 use Rattle.lexical_writer.specs.Layout.{given_fraction}
 use Rattle.lexical_writer.specs.Moved.{IsFactor, IsMoved, IsWhole, moved_fraction, trimmed}
-use Rattle.lexical_writer.specs.declared.layout.Amount.{Amount}
 
 -- What is left without the zeros at the end does not end with a zero.
 trimmed_twice : (digits : List ℕ) → trimmed (trimmed digits) ≡ trimmed digits

@@ -1,7 +1,5 @@
 -- A literal has the prefix that is required, and each of its bytes plays a role.
-use Rattle.std.proofs.Common.{◌+◌, ◌∙◌, sym, arith}
-use Rattle.std.proofs.lemmas.Bool.Decides.{nat_tests}
-use Rattle.lexical_literal.specs.Notation.{notation_of}
+use Rattle.lexical_literal.proofs.Common.{◌+◌, ◌∙◌, sym, arith, nat_tests, notation_of}
 use Rattle.lexical_literal.proofs.ExcludeLemmas.{near_no_role, near_prefix, no_role_excludes, prefix_begins}
 use Rattle.lexical_literal.proofs.list.excludes.Goals as goal
 

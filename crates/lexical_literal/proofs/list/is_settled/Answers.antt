@@ -1,6 +1,5 @@
 -- The form goes no further, and if it goes as far, its cause is a wrong byte.
-use Rattle.std.proofs.Common.{◌+◌, ◌<◌, subst}
-use Rattle.lexical_literal.specs.Notation.{notation_of}
+use Rattle.lexical_literal.proofs.Common.{◌+◌, ◌<◌, subst, notation_of}
 use Rattle.lexical_literal.proofs.StrangerLemmas.{near_is, stranger_is}
 use Rattle.lexical_literal.proofs.list.is_settled.Goals as goal
 

@@ -1,9 +1,7 @@
-use Rattle.std.proofs.Common.{◌≡◌, Some, arith}
-use Rattle.std.proofs.lemmas.Bool.Decides.{nat_tests}
+use Rattle.lexical_literal.proofs.Common.{◌≡◌, Some, arith, nat_tests, notation_of}
 use Rattle.lexical_util.specs.declared.feature_format.roles.Role.TheVariants as roles
 use Rattle.lexical_util.specs.declared.format_flags.Part.TheVariants as parts
 use Rattle.lexical_literal.specs.Additions.Summary.{role_at}
-use Rattle.lexical_literal.specs.Notation.{notation_of}
 use Rattle.lexical_literal.proofs.StrangerLemmas.{spare_prefix}
 use Rattle.lexical_literal.proofs.list.is_spare.Goals as goal
 

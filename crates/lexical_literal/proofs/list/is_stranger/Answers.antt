@@ -1,6 +1,5 @@
-use Rattle.std.proofs.Common.{subst}
+use Rattle.lexical_literal.proofs.Common.{subst, notation_of}
 use Rattle.lexical_literal.specs.Additions.Forms.{IsSpare}
-use Rattle.lexical_literal.specs.Notation.{notation_of}
 use Rattle.lexical_literal.proofs.list.is_stranger.Goals as goal
 
 pub returns-then-is_spare : goal.returns-then-is_spare

@@ -1,6 +1,4 @@
-use Rattle.std.proofs.Common.{◌∙◌, sym, arith}
-use Rattle.std.proofs.lemmas.Bool.{false≢true}
-use Rattle.std.proofs.lemmas.Bool.Decides.{nat_tests}
+use Rattle.lexical_literal.proofs.Common.{◌∙◌, sym, arith, false≢true, nat_tests}
 use Rattle.lexical_literal.proofs.ExcludeLemmas.{plays_none}
 use Rattle.lexical_literal.proofs.list.plays_no_role.Goals as goal
 use Rattle.lexical_literal.proofs.list.plays_no_role.Goals.{then-byte-gt57+in-None, then-byte-gt57+in_default, else-byte-gt57}

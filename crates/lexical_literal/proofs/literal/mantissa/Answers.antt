@@ -1,6 +1,5 @@
 -- Few digits fit, and of more those behind the zeros may.
-use Rattle.std.proofs.Common.{◌≡◌, ◌%◌, ◌^◌, ◌++◌, sym, ap, subst, ◌∙◌, arith}
-use Rattle.lexical_literal.specs.Literal.{Literal}
+use Rattle.lexical_literal.proofs.Common.{◌≡◌, ◌%◌, ◌^◌, ◌++◌, sym, ap, subst, ◌∙◌, arith, Literal}
 use Rattle.lexical_literal.specs.Additions.Read.{cut}
 use Rattle.lexical_literal.specs.Additions.Summary.{cuts_of}
 use Rattle.lexical_literal.specs.Number.{number, places}

@@ -1,5 +1,5 @@
 -- An exponent is read, where its character follows.
-use Rattle.std.proofs.Common.{◌≡◌, true, false, sym, subst, ◌∙◌}
+use Rattle.lexical_literal.proofs.Common.{◌≡◌, true, false, sym, subst, ◌∙◌}
 use Rattle.lexical_literal.specs.Additions.Sizes.{steps_of}
 use Rattle.lexical_literal.specs.Additions.Summary.{takes}
 use Rattle.lexical_literal.specs.declared.plain.At.{At}

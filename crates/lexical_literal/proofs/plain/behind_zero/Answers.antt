@@ -1,8 +1,6 @@
 -- The digit behind the zero, and those behind it.
-use Rattle.std.proofs.Common.{get_or, sym, subst, ◌+◌, ◌∙◌}
-use Rattle.lexical_util.specs.Record.{raw}
+use Rattle.lexical_literal.proofs.Common.{get_or, sym, subst, ◌+◌, ◌∙◌, raw, radix_of}
 use Rattle.lexical_util.specs.declared.format_flags.Part.TheVariants as parts
-use Rattle.lexical_literal.specs.Notation.{radix_of}
 use Rattle.lexical_literal.specs.Additions.Sizes.{steps_of}
 use Rattle.lexical_literal.specs.Additions.Plain.{IsReadOn, at_stage}
 use Rattle.lexical_literal.specs.declared.steps.Piece.TheVariants as pieces

@@ -1,15 +1,13 @@
 -- The first digit, and those behind it.
-use Rattle.std.proofs.Common.{ℕ, ◌≡◌, ◌+◌, ◌==◌, ◌&&◌, Bool, List, true, false, get_or, if◌then◌else◌, refl, sym, ap, subst, ◌∙◌, arith}
-use Rattle.lexical_util.specs.Record.{raw}
-use Rattle.lexical_util.specs.declared.format_flags.Part.{Part}
-use Rattle.lexical_literal.specs.Notation.{radix_of}
+use Rattle.lexical_literal.proofs.Common.{ℕ, ◌≡◌, ◌+◌, ◌&&◌, Bool, List, true, false, get_or, refl, sym, ap, subst, ◌∙◌, arith, raw, Part, radix_of}
+use Rattle.lexical_literal.proofs.Common.{Grammar}
+use Rattle.std.proofs.Common.{◌==◌, if◌then◌else◌}
 use Rattle.lexical_literal.specs.Additions.Sizes.{steps_of}
 use Rattle.lexical_literal.specs.Additions.Plain.{HasRoles, IsDigitAt, IsReadOn, IsRunOn, at_stage, may_read}
 use Rattle.lexical_literal.specs.Additions.Summary.{awaits_integer, digits_of, digits_piece, has_digit, is_signed, part_of}
 use Rattle.lexical_literal.specs.declared.plain.Run.{Run}
 use Rattle.lexical_literal.specs.declared.steps.Stage.{Stage}
 use Rattle.lexical_literal.specs.declared.steps.Stage.TheVariants as stages
-use Rattle.lexical_literal.specs.declared.syntax.Grammar.{Grammar}
 use Rattle.lexical_literal.proofs.PlainLemmas.{read_first}
 use Rattle.lexical_literal.proofs.StepLemmas.{awaited_part}
 use Rattle.lexical_literal.proofs.SumLemmas.{behind_digit, is_digit, pushed}

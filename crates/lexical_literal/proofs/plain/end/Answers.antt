@@ -1,7 +1,5 @@
 -- The suffix is read, or the byte that follows is refused.
-use Rattle.std.proofs.Common.{◌≡◌, true, false, get_or, sym, subst, ◌∙◌, arith}
-use Rattle.std.proofs.lemmas.Bool.{false≢true}
-use Rattle.lexical_util.specs.Record.{raw}
+use Rattle.lexical_literal.proofs.Common.{◌≡◌, true, false, get_or, sym, subst, ◌∙◌, arith, false≢true, raw}
 use Rattle.lexical_util.specs.Roles.{suffix}
 use Rattle.lexical_util.specs.declared.feature_format.roles.Role.TheVariants as roles
 use Rattle.lexical_literal.specs.Additions.Sizes.{steps_of}

@@ -1,5 +1,5 @@
 -- The exponent, and its sign.
-use Rattle.std.proofs.Common.{◌+◌, ◌-◌, sym, subst}
+use Rattle.lexical_literal.proofs.Common.{◌+◌, ◌-◌, sym, subst}
 use Rattle.lexical_literal.specs.Additions.Sizes.{steps_of}
 use Rattle.lexical_literal.specs.Additions.Plain.{IsAt, IsBegun, IsReadOn, counts_of, at_stage}
 use Rattle.lexical_literal.specs.Additions.Summary.{cuts_of}

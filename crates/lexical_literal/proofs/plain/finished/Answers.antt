@@ -1,5 +1,5 @@
 -- All has been read.
-use Rattle.std.proofs.Common.{refl}
+use Rattle.lexical_literal.proofs.Common.{refl}
 use Rattle.lexical_literal.proofs.LongestLemmas.{complete_at}
 use Rattle.lexical_literal.proofs.plain.finished.Goals as goal
 

@@ -1,6 +1,5 @@
 -- The fraction, and what follows it.
-use Rattle.std.proofs.Common.{◌+◌, ◌-◌, subst, sym}
-use Rattle.lexical_util.specs.Record.{raw}
+use Rattle.lexical_literal.proofs.Common.{◌+◌, ◌-◌, subst, sym, raw}
 use Rattle.lexical_literal.specs.Additions.Sizes.{steps_of}
 use Rattle.lexical_literal.specs.Additions.Plain.{IsBegun, IsReadOn, at_stage}
 use Rattle.lexical_literal.specs.Additions.Summary.{after_point, has_digit}

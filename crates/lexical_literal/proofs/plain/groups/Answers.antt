@@ -1,7 +1,6 @@
 -- Digits, then a separator and the digit behind it.
-use Rattle.std.proofs.Common.{◌≡◌, ◌≤◌, length, sym, ap, subst, ◌∙◌, arith}
-use Rattle.lexical_util.specs.Record.{raw}
-use Rattle.lexical_literal.specs.Notation.{radix_of}
+use Rattle.lexical_literal.proofs.Common.{◌≡◌, ◌≤◌, sym, ap, subst, ◌∙◌, arith, raw, radix_of}
+use Rattle.std.proofs.Common.{length}
 use Rattle.lexical_literal.specs.Additions.Sizes.{steps_of}
 use Rattle.lexical_literal.specs.Additions.Plain.{IsRunOn}
 use Rattle.lexical_literal.specs.Additions.Summary.{is_run, part_of}

@@ -1,5 +1,5 @@
 -- The integer, and what follows it.
-use Rattle.std.proofs.Common.{◌≡◌, ◌-◌, sym, subst, ◌∙◌, refl, true, false}
+use Rattle.lexical_literal.proofs.Common.{◌≡◌, ◌-◌, sym, subst, ◌∙◌, refl, true, false}
 use Rattle.lexical_literal.specs.Additions.Plain.{IsBegun, integer_sizes}
 use Rattle.lexical_literal.specs.Additions.Sizes.{steps_of}
 use Rattle.lexical_literal.specs.Additions.Summary.{takes}

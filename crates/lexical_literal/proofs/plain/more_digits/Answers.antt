@@ -1,7 +1,5 @@
 -- Each digit is read behind the others.
-use Rattle.std.proofs.Common.{ℕ, ◌≡◌, ◌-◌, ◌+◌, sym, ap, subst, arith}
-use Rattle.lexical_util.specs.Record.{raw}
-use Rattle.lexical_literal.specs.Notation.{radix_of}
+use Rattle.lexical_literal.proofs.Common.{ℕ, ◌≡◌, ◌-◌, ◌+◌, sym, ap, subst, arith, raw, radix_of}
 use Rattle.lexical_literal.specs.Additions.Sizes.{steps_of}
 use Rattle.lexical_literal.specs.Additions.Plain.{IsRunOn, reached}
 use Rattle.lexical_literal.specs.declared.plain.Run.{Run}

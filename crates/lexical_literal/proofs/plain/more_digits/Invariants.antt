@@ -1,6 +1,5 @@
-use Rattle.std.proofs.Common.{length, ◌-◌, ◌≤◌}
-use Rattle.lexical_util.specs.Record.{raw}
-use Rattle.lexical_literal.specs.Notation.{radix_of}
+use Rattle.lexical_literal.proofs.Common.{◌-◌, ◌≤◌, raw, radix_of}
+use Rattle.std.proofs.Common.{length}
 use Rattle.lexical_literal.specs.Additions.Sizes.{steps_of}
 use Rattle.lexical_literal.specs.Additions.Plain.{IsRunOn, reached}
 use Rattle.lexical_literal.proofs.plain.more_digits.Given as goal

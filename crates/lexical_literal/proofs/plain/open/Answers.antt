@@ -1,5 +1,5 @@
 -- What comes before the digits.
-use Rattle.std.proofs.Common.{sym, subst, ◌∙◌}
+use Rattle.lexical_literal.proofs.Common.{sym, subst, ◌∙◌}
 use Rattle.lexical_literal.specs.Additions.Plain.{IsOpened}
 use Rattle.lexical_literal.specs.Additions.Sizes.{steps_of}
 use Rattle.lexical_literal.specs.declared.steps.Stage.{Stage}

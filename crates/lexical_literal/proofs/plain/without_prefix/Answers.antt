@@ -1,5 +1,5 @@
 -- Nothing but the base prefix may follow its zero.
-use Rattle.std.proofs.Common.{◌+◌, get_or, sym, subst}
+use Rattle.lexical_literal.proofs.Common.{◌+◌, get_or, sym, subst}
 use Rattle.lexical_literal.specs.Additions.Sizes.{steps_of}
 use Rattle.lexical_literal.specs.Additions.Plain.{IsRefused}
 use Rattle.lexical_literal.proofs.PassedLemmas.{zero_passed}

@@ -1,7 +1,5 @@
 -- What has been found is found with sizes if its groups fit.
-use Rattle.std.proofs.Common.{not, sym, ap, ◌∙◌}
-use Rattle.std.proofs.lemmas.Bool.{false≢true}
-use Rattle.lexical_literal.specs.Notation.{notation_of}
+use Rattle.lexical_literal.proofs.Common.{not, sym, ap, ◌∙◌, false≢true, notation_of}
 use Rattle.lexical_literal.proofs.LongestLemmas.{begun_with}
 use Rattle.lexical_literal.proofs.read.sized.Goals as goal
 use Rattle.lexical_literal.proofs.read.sized.Goals.{then-not-counted, else-not-counted}

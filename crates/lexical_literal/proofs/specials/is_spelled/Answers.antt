@@ -1,8 +1,6 @@
 -- Each byte is the next letter, or takes the place of a separator, or is left out.
-use Rattle.std.proofs.Common.{sym, ◌∙◌, get_or, ap, subst, arith}
-use Rattle.std.proofs.lemmas.Bool.Decides.{nat_tests}
+use Rattle.lexical_literal.proofs.Common.{sym, ◌∙◌, get_or, ap, subst, arith, nat_tests, notation_of}
 use Rattle.std.proofs.lemmas.List.{drop_more, drop_all}
-use Rattle.lexical_literal.specs.Notation.{notation_of}
 use Rattle.lexical_literal.specs.Specials.{letter_of}
 use Rattle.lexical_literal.proofs.SpecialLemmas.{HasRead, one_separator, read_more, at_end}
 use Rattle.lexical_literal.proofs.specials.is_spelled.Goals as goal

@@ -1,5 +1,5 @@
-use Rattle.std.proofs.Common.{◌-◌, drop, length}
-use Rattle.lexical_literal.specs.Notation.{notation_of}
+use Rattle.lexical_literal.proofs.Common.{◌-◌, drop, notation_of}
+use Rattle.std.proofs.Common.{length}
 use Rattle.lexical_literal.proofs.SpecialLemmas.{HasRead}
 use Rattle.lexical_literal.proofs.specials.is_spelled.Given as goal
 

@@ -1,4 +1,5 @@
-use Rattle.std.proofs.Common.{◌≡◌, ◌≤◌, if◌then◌else◌, length, nat_lt}
+use Rattle.lexical_literal.proofs.Common.{◌≡◌, ◌≤◌, nat_lt}
+use Rattle.std.proofs.Common.{if◌then◌else◌, length}
 use Rattle.lexical_literal.specs.Suffix.{longest_word}
 use Rattle.lexical_literal.proofs.suffix.longest_word.Given as goal
 

@@ -1,5 +1,5 @@
 -- No suffix begins with a byte that is none of a word.
-use Rattle.std.proofs.Common.{sym}
+use Rattle.lexical_literal.proofs.Common.{sym}
 use Rattle.lexical_literal.proofs.LeadingLemmas.{no_suffix}
 use Rattle.lexical_literal.proofs.suffix.suffix_size.Goals as goal
 

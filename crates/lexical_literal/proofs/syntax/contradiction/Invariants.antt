@@ -1,6 +1,5 @@
-use Rattle.std.proofs.Common.{◌≡◌, ◌-◌, drop, length}
-use Rattle.lexical_util.specs.Record.{raw}
-use Rattle.lexical_literal.specs.Notation.{all_conditions}
+use Rattle.lexical_literal.proofs.Common.{◌≡◌, ◌-◌, drop, raw, all_conditions}
+use Rattle.std.proofs.Common.{length}
 use Rattle.lexical_literal.specs.Syntax.{contradiction, first_fault}
 use Rattle.lexical_literal.proofs.syntax.contradiction.Given as goal
 

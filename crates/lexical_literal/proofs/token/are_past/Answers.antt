@@ -1,8 +1,6 @@
 -- No literal of the forms before goes on.
-use Rattle.std.proofs.Common.{◌≡◌, subst, arith}
-use Rattle.std.proofs.lemmas.Bool.Decides.{nat_tests}
+use Rattle.lexical_literal.proofs.Common.{◌≡◌, subst, arith, nat_tests, notation_of}
 use Rattle.lexical_literal.specs.Additions.Token.{IsNear}
-use Rattle.lexical_literal.specs.Notation.{notation_of}
 use Rattle.lexical_literal.specs.declared.list.Form.{Form}
 use Rattle.lexical_literal.proofs.LeadingLemmas.{near_more}
 use Rattle.lexical_literal.proofs.token.are_past.Goals as goal

@@ -1,7 +1,7 @@
-use Rattle.std.proofs.Common.{ℕ, ◌≡◌, ◌<◌, ◌-◌, get_or, length}
+use Rattle.lexical_literal.proofs.Common.{ℕ, ◌≡◌, ◌<◌, ◌-◌, get_or, notation_of}
+use Rattle.std.proofs.Common.{length}
 use Rattle.lexical_literal.specs.Additions.Forms.{sign_size}
 use Rattle.lexical_literal.specs.Additions.Token.{IsNear}
-use Rattle.lexical_literal.specs.Notation.{notation_of}
 use Rattle.lexical_literal.specs.declared.list.Form.{Form}
 use Rattle.lexical_literal.proofs.token.are_past.Given as goal
 

@@ -1,7 +1,5 @@
 -- A byte that has no role behind the beginning of an integer, and is no digit of an exponent, plays none.
-use Rattle.std.proofs.Common.{◌∙◌, sym, arith}
-use Rattle.std.proofs.lemmas.Bool.{false≢true}
-use Rattle.std.proofs.lemmas.Bool.Decides.{nat_tests}
+use Rattle.lexical_literal.proofs.Common.{◌∙◌, sym, arith, false≢true, nat_tests}
 use Rattle.lexical_literal.proofs.ExcludeLemmas.{plays_none}
 use Rattle.lexical_literal.proofs.token.has_no_role.Goals as goal
 use Rattle.lexical_literal.proofs.token.has_no_role.Goals.{then-byte-ne48+in-None, then-byte-ne48+in_default, else-byte-ne48}

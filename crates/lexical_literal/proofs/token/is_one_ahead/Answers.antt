@@ -1,7 +1,5 @@
 -- The forms before have no literal that goes on.
-use Rattle.std.proofs.Common.{All, refl, sym, subst}
-use Rattle.std.proofs.lemmas.List.{take_all}
-use Rattle.std.proofs.lemmas.List.Elements.{All-more}
+use Rattle.lexical_literal.proofs.Common.{All, refl, sym, subst, take_all, All-more}
 use Rattle.lexical_literal.specs.Token.{IsAhead}
 use Rattle.lexical_literal.proofs.FormLemmas.{at_index}
 use Rattle.lexical_literal.proofs.TokenLemmas.{ahead, not_ahead}

@@ -1,4 +1,5 @@
-use Rattle.std.proofs.Common.{All, length, take, ◌-◌}
+use Rattle.lexical_literal.proofs.Common.{All, take, ◌-◌}
+use Rattle.std.proofs.Common.{length}
 use Rattle.lexical_literal.specs.Token.{IsAhead}
 use Rattle.lexical_literal.proofs.token.is_one_ahead.Given as goal
 

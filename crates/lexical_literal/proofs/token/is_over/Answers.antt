@@ -1,5 +1,5 @@
 -- No literal goes on behind a byte that plays no role, or behind the end.
-use Rattle.std.proofs.Common.{◌∙◌, sym}
+use Rattle.lexical_literal.proofs.Common.{◌∙◌, sym}
 use Rattle.lexical_literal.proofs.LeadingLemmas.{over_byte}
 use Rattle.lexical_literal.proofs.token.is_over.Goals as goal
 

@@ -1,5 +1,5 @@
 -- A literal begins with the prefix that is required.
-use Rattle.std.proofs.Common.{◌∙◌, sym, arith}
+use Rattle.lexical_literal.proofs.Common.{◌∙◌, sym, arith}
 use Rattle.lexical_literal.proofs.LeadingLemmas.{lacking_within}
 use Rattle.lexical_literal.proofs.token.lacks_prefix.Goals as goal
 

@@ -1,9 +1,7 @@
 -- The front has the parts that were counted.
-use Rattle.std.proofs.Common.{◌∙◌, sym, subst}
+use Rattle.lexical_literal.proofs.Common.{◌∙◌, sym, subst, Reads, notation_of}
 use Rattle.lexical_literal.specs.Additions.Longest.{IsMeasured}
 use Rattle.lexical_literal.specs.Forms.{ReadsForm}
-use Rattle.lexical_literal.specs.Literal.{Reads}
-use Rattle.lexical_literal.specs.Notation.{notation_of}
 use Rattle.lexical_literal.proofs.PieceLemmas.{measured_cut, whole_read}
 use Rattle.lexical_literal.proofs.token.made.Goals as goal
 

@@ -1,8 +1,7 @@
 -- The best candidate, and the form that goes furthest.
-use Rattle.std.proofs.Common.{Some, ◌≡◌, ◌+◌, sym, subst}
+use Rattle.lexical_literal.proofs.Common.{Some, ◌≡◌, ◌+◌, sym, subst, notation_of}
 use Rattle.lexical_literal.specs.Additions.Longest.{IsStopped}
 use Rattle.lexical_literal.specs.Additions.Token.{IsMade}
-use Rattle.lexical_literal.specs.Notation.{notation_of}
 use Rattle.lexical_literal.specs.Token.{NoCandidate}
 use Rattle.lexical_literal.specs.declared.list.Form.{Form}
 use Rattle.lexical_literal.specs.declared.token.Candidate.{Candidate}

@@ -1,5 +1,5 @@
 -- One byte, a digit or not.
-use Rattle.std.proofs.Common.{◌+◌, ◌*◌, ◌%◌, ◌^◌, Some, None, get_or, sym, ap, ◌∙◌, arith, refl}
+use Rattle.lexical_literal.proofs.Common.{◌+◌, ◌*◌, ◌%◌, ◌^◌, Some, None, get_or, sym, ap, ◌∙◌, arith, refl}
 use Rattle.std.proofs.Math.Nat.{mod-add-mod, mod-mod}
 use Rattle.lexical_literal.proofs.DigitLemmas.{at}
 use Rattle.lexical_literal.proofs.WordLemmas.{push_same}

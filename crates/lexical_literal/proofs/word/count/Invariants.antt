@@ -1,4 +1,5 @@
-use Rattle.std.proofs.Common.{length, drop, ◌-◌, ◌≡◌, ◌+◌, ◌≤◌}
+use Rattle.lexical_literal.proofs.Common.{drop, ◌-◌, ◌≡◌, ◌+◌, ◌≤◌}
+use Rattle.std.proofs.Common.{length}
 use Rattle.lexical_literal.specs.Number.{places}
 use Rattle.lexical_literal.proofs.word.count.Given as goal
 

@@ -1,5 +1,5 @@
 -- The table has the greatest number of digits.
-use Rattle.std.proofs.Common.{refl}
+use Rattle.lexical_literal.proofs.Common.{refl}
 use Rattle.lexical_literal.proofs.WordLemmas.{fits_is, twelve_fit}
 use Rattle.lexical_literal.proofs.word.fits.Goals as goal
 

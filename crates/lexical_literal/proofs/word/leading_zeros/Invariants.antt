@@ -1,4 +1,5 @@
-use Rattle.std.proofs.Common.{length, drop, ◌+◌, ◌-◌, ◌≡◌, ◌≤◌}
+use Rattle.lexical_literal.proofs.Common.{drop, ◌+◌, ◌-◌, ◌≡◌, ◌≤◌}
+use Rattle.std.proofs.Common.{length}
 use Rattle.lexical_literal.specs.Number.{digits_in, places}
 use Rattle.lexical_literal.specs.Word.{leading_zeros}
 use Rattle.lexical_literal.proofs.word.leading_zeros.Given as goal

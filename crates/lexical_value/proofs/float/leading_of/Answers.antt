@@ -1,10 +1,8 @@
 -- All digits, or the leading ones.
+use Rattle.lexical_value.proofs.Common.{raw, mantissa, number_after, number}
 use Rattle.std.proofs.Common.{◌≡◌, ◌++◌, sym, subst, ◌∙◌}
-use Rattle.lexical_util.specs.Record.{raw}
 use Rattle.lexical_literal.specs.Parts.{literal_of}
-use Rattle.lexical_literal.specs.Read.{mantissa}
 use Rattle.lexical_value.specs.Leading.{Leads}
-use Rattle.lexical_literal.specs.Number.{number_after, number}
 use Rattle.lexical_value.proofs.LeadingLemmas.{starts}
 use Rattle.lexical_literal.proofs.DigitLemmas.{number_after-append}
 use Rattle.lexical_value.proofs.float.leading_of.Goals as goal

@@ -1,10 +1,8 @@
 -- The leading digits and the exponent make the value.
+use Rattle.lexical_value.proofs.Common.{IsNearestBits, raw, mantissa, format_of}
 use Rattle.std.proofs.Common.{ap, ◌∙◌, sym, refl}
-use Rattle.core.specs.Dec2flt.Rounding.{IsNearestBits}
 use Rattle.lexical_util.specs.Layout as layout
-use Rattle.lexical_util.specs.Record.{raw}
-use Rattle.lexical_literal.specs.Read.{exponent, mantissa}
-use Rattle.lexical_value.specs.Binary.{format_of}
+use Rattle.lexical_literal.specs.Read.{exponent}
 use Rattle.lexical_value.proofs.FloatLemmas.{by_bits, of_value}
 use Rattle.lexical_value.proofs.float.long_binary_size.Goals as goal
 

@@ -1,9 +1,8 @@
 -- The size is the nearest float, and the sign is that of the literal.
+use Rattle.lexical_value.proofs.Common.{raw, format_of}
 use Rattle.std.proofs.Common.{◌≡◌, ap, ◌∙◌, subst, false}
 use Rattle.std.specs.Prelude.{from_bits}
 use lib.Ieee.{round}
-use Rattle.lexical_util.specs.Record.{raw}
-use Rattle.lexical_value.specs.Binary.{format_of}
 use Rattle.lexical_value.specs.Value.{denominator, numerator}
 use Rattle.lexical_value.proofs.FloatLemmas.{not_nan}
 use Rattle.lexical_value.proofs.float.nearest_float.Goals as goal

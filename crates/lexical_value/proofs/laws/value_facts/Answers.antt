@@ -1,5 +1,5 @@
 -- On what the value of a literal does not depend.
-use Rattle.lexical_util.specs.Record.{raw}
+use Rattle.lexical_value.proofs.Common.{raw}
 use Rattle.lexical_literal.specs.Notation.{notation_of}
 use Rattle.lexical_value.proofs.ValueLemmas.{integer_numerator, same_value, same_word}
 use Rattle.lexical_value.proofs.laws.value_facts.Goals as goal

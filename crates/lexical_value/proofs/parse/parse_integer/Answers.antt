@@ -1,6 +1,6 @@
 -- The format is that of the syntax, and the kind is exact.
+use Rattle.lexical_value.proofs.Common.{raw}
 use Rattle.std.proofs.Common.{subst}
-use Rattle.lexical_util.specs.Record.{raw}
 use Rattle.lexical_literal.specs.declared.kind.Kind.{Kind}
 use Rattle.lexical_value.specs.Integer.{IsInteger, IsNoInteger}
 use Rattle.lexical_value.specs.Kind.{IsNotWorth, IsWorth}

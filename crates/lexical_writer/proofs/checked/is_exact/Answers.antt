@@ -1,8 +1,7 @@
 -- The number is the float that has its bits.
-use Rattle.std.proofs.Common.{ℕ, ◌≡◌, ◌+◌, ◌*◌, ◌^◌, ap, arith, subst, sym, ◌∙◌}
+use Rattle.lexical_writer.proofs.Common.{ℕ, ◌≡◌, ◌+◌, ◌*◌, ◌^◌, ap, arith, subst, sym, ◌∙◌, format_of}
 use lib.Ieee.{emax, low, prec, round}
 use lib.Ieee.Exact.{HasValue}
-use Rattle.lexical_value.specs.Binary.{format_of}
 use Rattle.lexical_writer.proofs.FloatLemmas.{exact}
 use Rattle.lexical_writer.proofs.checked.is_exact.Goals as goal
 

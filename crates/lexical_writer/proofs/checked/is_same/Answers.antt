@@ -1,8 +1,7 @@
 -- Floats with the same bits are the same.
-use Rattle.std.proofs.Common.{ap, sym, ◌∙◌}
+use Rattle.lexical_writer.proofs.Common.{ap, sym, ◌∙◌, format_of}
 use Rattle.std.proofs.lemmas.Bool.{eqb-true}
 use Rattle.std.specs.Prelude.{from_bits}
-use Rattle.lexical_value.specs.Binary.{format_of}
 use Rattle.lexical_writer.proofs.checked.is_same.Goals as goal
 
 pub returns-in-Some-Some : goal.returns-in-Some-Some

@@ -1,8 +1,7 @@
 -- The nearest float to a number of one word.
-use Rattle.std.proofs.Common.{◌≡◌, ◌*◌, ◌^◌, ◌≤◌, arith, false, subst, ◌∙◌}
+use Rattle.lexical_writer.proofs.Common.{◌≡◌, ◌*◌, ◌^◌, ◌≤◌, arith, false, subst, ◌∙◌, format_of}
 use Rattle.std.specs.Prelude.{from_bits}
 use lib.Ieee.{hid, ones, round}
-use Rattle.lexical_value.specs.Binary.{format_of}
 use Rattle.lexical_value.proofs.LeadingLemmas.{leads_all}
 use Rattle.lexical_writer.proofs.checked.nearest_binary.Goals as goal
 

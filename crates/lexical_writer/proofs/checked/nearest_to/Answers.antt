@@ -1,6 +1,5 @@
 -- The radix and the base are powers of one number.
-use Rattle.std.proofs.Common.{sym, ◌∙◌}
-use Rattle.lexical_value.specs.Binary.{format_of}
+use Rattle.lexical_writer.proofs.Common.{sym, ◌∙◌, format_of}
 use Rattle.lexical_writer.proofs.FloatLemmas.{same_scales}
 use Rattle.lexical_writer.proofs.checked.nearest_to.Goals as goal
 

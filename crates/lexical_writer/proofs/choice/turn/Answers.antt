@@ -1,8 +1,6 @@
 -- The radix decides.
-use Rattle.std.proofs.Common.{ℕ, ◌≡◌, ◌==◌, if◌then◌else◌, ap, ◌∙◌, arith}
-use Rattle.std.proofs.lemmas.Bool.Decides.{nat_tests}
+use Rattle.lexical_writer.proofs.Common.{ℕ, ◌≡◌, ◌==◌, if◌then◌else◌, ap, ◌∙◌, arith, nat_tests, raw}
 use Rattle.lexical_util.specs.Layout as layout
-use Rattle.lexical_util.specs.Record.{raw}
 use Rattle.lexical_writer.proofs.choice.turn.Goals as goal
 
 third : (own radix byte two : ℕ) → two ≡ 2 → own ≡ byte → (own ≡ radix → ⊥) → (own ≡ 10 → ⊥)

@@ -1,6 +1,4 @@
-use Rattle.std.proofs.Common.{length, drop, map, ◌-◌, ◌≡◌, ◌≤◌, false}
-use Rattle.lexical_literal.specs.Number.{digits_in}
-use Rattle.lexical_writer.specs.Digits.{character}
+use Rattle.lexical_writer.proofs.Common.{length, drop, map, ◌-◌, ◌≡◌, ◌≤◌, false, digits_in, character}
 use Rattle.lexical_writer.proofs.digits.are_characters.Given as goal
 
 -- If the bytes that are left are digits, all are.

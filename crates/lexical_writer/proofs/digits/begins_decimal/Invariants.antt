@@ -1,5 +1,4 @@
-use Rattle.std.proofs.Common.{length, drop, ◌-◌, ◌≡◌, ◌≤◌}
-use Rattle.lexical_literal.specs.Number.{digits_in}
+use Rattle.lexical_writer.proofs.Common.{length, drop, ◌-◌, ◌≡◌, ◌≤◌, digits_in}
 use Rattle.lexical_writer.proofs.digits.begins_decimal.Given as goal
 
 -- What has been passed is no digit.

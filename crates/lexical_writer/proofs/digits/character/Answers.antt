@@ -1,9 +1,8 @@
 -- The character is that of the digit, in either case.
-use Rattle.std.proofs.Common.{ap, sym, ◌∙◌}
+use Rattle.lexical_writer.proofs.Common.{ap, sym, ◌∙◌, character}
 use Rattle.std.proofs.lemmas.Option.{get_or_from_slice_get}
 use Rattle.std.specs.Char.{to_ascii_lowercase}
 use Rattle.lexical_base.specs.Digits.{digit_characters}
-use Rattle.lexical_writer.specs.Digits.{character}
 use Rattle.lexical_writer.proofs.digits.character.Goals as goal
 
 pub returns-then-lowercase : goal.returns-then-lowercase

@@ -1,10 +1,6 @@
 -- One more digit is written before those that have been written.
-use Rattle.std.proofs.Common.{false, ◌∙◌, map, ap, length, ◌++◌, append-nil, arith}
+use Rattle.lexical_writer.proofs.Common.{false, ◌∙◌, map, ap, length, ◌++◌, append-nil, arith, drop_all, pow-le-pow_left, digits_of, character}
 use Rattle.std.proofs.lemmas.Int.Digits.{length-digits_of-le, length-digits_of_step}
-use Rattle.std.proofs.lemmas.List.{drop_all}
-use Rattle.std.proofs.Math.Nat.{pow-le-pow_left}
-use Rattle.std.specs.Int.Digits.{digits_of}
-use Rattle.lexical_writer.specs.Digits.{character}
 use Rattle.lexical_writer.proofs.DigitLemmas.{one_more}
 use Rattle.lexical_writer.proofs.digits.characters.Goals as goal
 

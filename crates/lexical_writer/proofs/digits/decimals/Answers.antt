@@ -1,10 +1,7 @@
 -- Two more digits are written before those that have been written.
-use Rattle.std.proofs.Common.{false, ◌≤◌, ◌∙◌, ◌-◌, ◌/◌, ℕ, length, map, ap, ◌++◌, append-nil, arith}
+use Rattle.lexical_writer.proofs.Common.{false, ◌≤◌, ◌∙◌, ◌-◌, ◌/◌, ℕ, length, map, ap, ◌++◌, append-nil, arith, drop_all, digits_of, character}
 use Rattle.std.proofs.Math.Nat.{div-div-eq-div-mul}
 use Rattle.std.proofs.lemmas.Int.Digits.{length-digits_of-le, length-digits_of_step}
-use Rattle.std.proofs.lemmas.List.{drop_all}
-use Rattle.std.specs.Int.Digits.{digits_of}
-use Rattle.lexical_writer.specs.Digits.{character}
 use Rattle.lexical_writer.proofs.DigitLemmas.{two_more}
 use Rattle.lexical_writer.proofs.digits.decimals.Goals as goal
 

@@ -1,6 +1,4 @@
-use Rattle.std.proofs.Common.{false, length, drop, map, ◌++◌, ◌≡◌, ◌≤◌}
-use Rattle.std.specs.Int.Digits.{digits_of}
-use Rattle.lexical_writer.specs.Digits.{character}
+use Rattle.lexical_writer.proofs.Common.{false, length, drop, map, ◌++◌, ◌≡◌, ◌≤◌, digits_of, character}
 use Rattle.lexical_writer.proofs.digits.decimals.Given as goal
 
 -- The digits that are left come before those that have been written.

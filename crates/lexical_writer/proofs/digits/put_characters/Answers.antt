@@ -1,7 +1,5 @@
 -- Enough uppercase digits without groups are written as they are.
-use Rattle.std.proofs.Common.{◌≡◌, false, subst, sym, ◌++◌, arith}
-use Rattle.std.proofs.lemmas.Bool.Decides.{nat_tests}
-use Rattle.lexical_literal.specs.Number.{digits_in}
+use Rattle.lexical_writer.proofs.Common.{◌≡◌, false, subst, sym, ◌++◌, arith, nat_tests, digits_in}
 use Rattle.lexical_writer.proofs.DigitLemmas.{plain_text}
 use Rattle.lexical_writer.proofs.digits.put_characters.Goals as goal
 

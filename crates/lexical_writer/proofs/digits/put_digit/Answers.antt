@@ -1,6 +1,5 @@
 -- A separator follows where a group ends.
-use Rattle.std.proofs.Common.{[], ◌∷◌}
-use Rattle.std.proofs.lemmas.List.{append_assoc}
+use Rattle.lexical_writer.proofs.Common.{[], ◌∷◌, append_assoc}
 use Rattle.lexical_writer.proofs.digits.put_digit.Goals as goal
 
 pub returns : goal.returns

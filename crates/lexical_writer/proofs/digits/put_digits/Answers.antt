@@ -1,9 +1,7 @@
 -- A digit is written with what follows it, and another byte is passed.
-use Rattle.std.proofs.Common.{◌≡◌, ◌+◌, ◌-◌, ◌∷◌, ◌++◌, drop, length, sym, ap, subst, ◌∙◌, arith}
-use Rattle.std.proofs.lemmas.List.{append_assoc}
-use Rattle.std.specs.List.{cons_option}
-use Rattle.lexical_literal.specs.Number.{digits_in}
-use Rattle.lexical_writer.specs.Digits.{character, grouped_front, separated}
+use Rattle.lexical_writer.proofs.Common.{◌≡◌, ◌+◌, ◌-◌, ◌∷◌, ◌++◌, drop, length, sym, ap, subst, ◌∙◌, arith, append_assoc, cons_option, digits_in}
+use Rattle.lexical_writer.proofs.Common.{character, grouped_front}
+use Rattle.lexical_writer.specs.Digits.{separated}
 use Rattle.lexical_writer.proofs.DigitLemmas.{left_of}
 use Rattle.lexical_writer.proofs.digits.put_digits.Goals as goal
 use Rattle.lexical_writer.proofs.digits.put_digits.Goals.{in-Some, in_default}

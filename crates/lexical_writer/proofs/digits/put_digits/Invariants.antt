@@ -1,6 +1,5 @@
-use Rattle.std.proofs.Common.{length, drop, ◌+◌, ◌-◌, ◌++◌, ◌≡◌, ◌≤◌, List, ℕ}
-use Rattle.lexical_literal.specs.Number.{digits_in, places}
-use Rattle.lexical_writer.specs.Digits.{grouped_front}
+use Rattle.lexical_writer.proofs.Common.{length, drop, ◌+◌, ◌-◌, ◌++◌, ◌≡◌, ◌≤◌, List, ℕ, digits_in, grouped_front}
+use Rattle.lexical_literal.specs.Number.{places}
 use Rattle.lexical_writer.specs.contracts.digits.put_digits.{S-type}
 use Rattle.lexical_writer.proofs.digits.put_digits.Given as goal
 

@@ -1,7 +1,5 @@
 -- The characters are digits of the number.
-use Rattle.std.proofs.Common.{◌≡◌, ◌++◌, false, map, ap, subst, sym, ◌∙◌}
-use Rattle.std.specs.Int.Digits.{digits_of}
-use Rattle.lexical_writer.specs.Digits.{at_least, character, grouped}
+use Rattle.lexical_writer.proofs.Common.{◌≡◌, ◌++◌, false, map, ap, subst, sym, ◌∙◌, digits_of, at_least, character, grouped}
 use Rattle.lexical_writer.proofs.DigitLemmas.{read_back}
 use Rattle.lexical_writer.proofs.digits.put_number.Goals as goal
 

@@ -1,8 +1,7 @@
 -- The parts are written one after the other.
-use Rattle.std.proofs.Common.{ℕ, ◌≡◌, ◌+◌, ◌-◌, List, ◌++◌, length, replicate, subst, sym, ◌∙◌, ap, arith}
-use Rattle.std.proofs.lemmas.List.{append_assoc, length-append, length-replicate, replicate-append-replicate}
-use Rattle.lexical_literal.specs.Number.{digits_in}
-use Rattle.lexical_writer.specs.Digits.{at_least, grouped, padded_values}
+use Rattle.lexical_writer.proofs.Common.{ℕ, ◌≡◌, ◌+◌, ◌-◌, List, ◌++◌, length, replicate, subst, sym, ◌∙◌, ap, arith, append_assoc, length-append}
+use Rattle.lexical_writer.proofs.Common.{digits_in, at_least, grouped, padded_values}
+use Rattle.std.proofs.lemmas.List.{length-replicate, replicate-append-replicate}
 use Rattle.lexical_writer.proofs.DigitLemmas.{padded_text}
 use Rattle.lexical_writer.proofs.digits.put_padded.Goals as goal
 

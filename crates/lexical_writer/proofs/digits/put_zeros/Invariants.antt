@@ -1,5 +1,4 @@
-use Rattle.std.proofs.Common.{◌-◌, ◌++◌, ◌≡◌, ◌≤◌, List, ℕ, replicate}
-use Rattle.lexical_writer.specs.Digits.{grouped_front}
+use Rattle.lexical_writer.proofs.Common.{◌-◌, ◌++◌, ◌≡◌, ◌≤◌, List, ℕ, replicate, grouped_front}
 use Rattle.lexical_writer.specs.contracts.digits.put_zeros.{S-type}
 use Rattle.lexical_writer.proofs.digits.put_zeros.Given as goal
 

@@ -1,8 +1,6 @@
 -- Behind leading zeros are the digits of the number.
-use Rattle.std.proofs.Common.{◌∙◌, ap, drop, arith, sym}
+use Rattle.lexical_writer.proofs.Common.{◌∙◌, ap, drop, arith, sym, digits_of, digits_in}
 use Rattle.std.proofs.lemmas.List.{length-drop, take_all}
-use Rattle.std.specs.Int.Digits.{digits_of}
-use Rattle.lexical_literal.specs.Number.{digits_in}
 use Rattle.lexical_writer.proofs.DigitLemmas.{lead}
 use Rattle.lexical_writer.proofs.digits.without_zeros.Goals as goal
 

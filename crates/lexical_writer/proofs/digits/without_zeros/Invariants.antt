@@ -1,5 +1,4 @@
-use Rattle.std.proofs.Common.{length, drop, ◌-◌, ◌≡◌, ◌≤◌}
-use Rattle.lexical_literal.specs.Number.{number}
+use Rattle.lexical_writer.proofs.Common.{length, drop, ◌-◌, ◌≡◌, ◌≤◌, number}
 use Rattle.lexical_writer.proofs.digits.without_zeros.Given as goal
 
 -- What has been passed are zeros.

@@ -1,12 +1,9 @@
 -- The literal has the value of the digits, which are read as the float.
-use Rattle.std.proofs.Common.{◌≡◌, ◌*◌, ◌^◌, ◌||◌, ap, ◌∙◌, refl, subst, true}
-use Rattle.std.proofs.lemmas.Int.Digits.{number_digits_of}
-use Rattle.std.specs.Int.Digits.{number_from_digits}
+use Rattle.lexical_writer.proofs.Common.{◌≡◌, ◌*◌, ◌^◌, ◌||◌, ap, ◌∙◌, refl, subst, true, number_digits_of, number_from_digits, raw}
+use Rattle.lexical_writer.proofs.Common.{effective_exponent_base, effective_exponent_radix, format_of, raised_down, raised_up}
 use lib.Ieee.{round}
 use Rattle.lexical_util.specs.Layout as layouts
-use Rattle.lexical_util.specs.Record.{raw, effective_exponent_base, effective_exponent_radix}
 use Rattle.lexical_util.specs.declared.format_flags.Part.TheVariants as part
-use Rattle.lexical_value.specs.Binary.{format_of, raised_down, raised_up}
 use Rattle.lexical_value.specs.Float.{is_binary, is_decimal, nearest}
 use Rattle.lexical_writer.specs.Layout.{HasNumber, literal_of}
 use Rattle.lexical_writer.proofs.FloatLemmas.{if_ok, same_nearest, same_worth}

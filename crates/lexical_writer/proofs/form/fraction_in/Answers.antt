@@ -1,6 +1,5 @@
 -- A fraction that is left out has no digits.
-use Rattle.std.proofs.Common.{arith, sym}
-use Rattle.lexical_writer.specs.Digits.{values_of}
+use Rattle.lexical_writer.proofs.Common.{arith, sym, values_of}
 use Rattle.lexical_writer.proofs.MovedLemmas.{none_from}
 use Rattle.lexical_writer.proofs.form.fraction_in.Goals as goal
 

@@ -1,7 +1,5 @@
 -- An exponent that is left out is 0.
-use Rattle.std.proofs.Common.{ℕ, ◌≡◌, ◌^◌, ◌∙◌, Bool, true, false, ap, refl, sym}
-use Rattle.std.proofs.Math.Nat.{pow-zero}
-use Rattle.lexical_value.specs.Binary.{raised_down, raised_up}
+use Rattle.lexical_writer.proofs.Common.{ℕ, ◌≡◌, ◌^◌, ◌∙◌, Bool, true, false, ap, refl, sym, pow-zero, raised_down, raised_up}
 use Rattle.lexical_writer.proofs.form.power_in.Goals as goal
 
 no_up : (negative : Bool) (base e : ℕ) → e ≡ 0 → base ^ 0 ≡ raised_up negative base e

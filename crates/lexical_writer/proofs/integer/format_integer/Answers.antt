@@ -1,20 +1,14 @@
 -- Each integer is laid out, and its value is that of the integer.
-use Rattle.std.proofs.Common.{ℕ, ℤ, ◌≡◌, ◌<◌, ◌&&◌, ◌||◌, refl, Bool, true, false, Some}
-use Rattle.std.proofs.Common.{suc, zero, Result, Ok, Err, IfOk, IfErr, subst, sym, ap, ◌∙◌, arith}
+use Rattle.lexical_writer.proofs.Common.{ℕ, ℤ, ◌≡◌, ◌<◌, ◌&&◌, ◌||◌, refl, Bool, true, false, Some, suc, zero, Result, Ok, Err, IfOk, IfErr, subst, sym, ap}
+use Rattle.lexical_writer.proofs.Common.{◌∙◌, arith, raw, IsSyntax, Grammar, Layout, Style, WriteError}
 use Rattle.lexical_util.specs.Layout as layouts
-use Rattle.lexical_util.specs.Record.{raw}
 use Rattle.lexical_literal.specs.Literal.{is_float}
-use Rattle.lexical_literal.specs.Syntax.{IsSyntax}
-use Rattle.lexical_literal.specs.declared.syntax.Grammar.{Grammar}
 use Rattle.lexical_value.specs.Numeral.{with_sign}
 use Rattle.lexical_value.specs.Integer.{IsInteger}
 use Rattle.lexical_writer.specs.Layout.{HasNumber, HasValue, IsLaidOut, IsWhole, has_exponent, has_point, literal_of, needs_exponent, number_of_size}
 use Rattle.lexical_writer.specs.Layout.{wants_exponent, whole, whole_refusal}
 use Rattle.lexical_writer.proofs.LiteralLemmas.{float_if}
 use Rattle.lexical_writer.proofs.PlainLemmas.{has_value}
-use Rattle.lexical_writer.specs.declared.layout.Layout.{Layout}
-use Rattle.lexical_writer.specs.declared.layout.Style.{Style}
-use Rattle.lexical_writer.specs.declared.layout.WriteError.{WriteError}
 use Rattle.lexical_writer.proofs.integer.format_integer.Goals as goal
 
 -- A sign and a size are those of the integer.

@@ -1,15 +1,11 @@
 -- Which literals there are not.
-use Rattle.std.proofs.Common.{ℕ, ◌≡◌, ◌*◌, ◌^◌, ◌&&◌, ◌||◌, not, if◌then◌else◌, Bool, true, false}
-use Rattle.std.proofs.Common.{Option, Some, None, List, [], ◌∷◌, length, refl, ap, ◌∙◌, arith}
-use Rattle.std.proofs.Math.Nat.{pow-zero}
-use Rattle.std.proofs.lemmas.Bool.{false≢true}
+use Rattle.lexical_writer.proofs.Common.{ℕ, ◌≡◌, ◌*◌, ◌^◌, ◌&&◌, ◌||◌, not, if◌then◌else◌, Bool, true, false, Option, Some, None, List, [], ◌∷◌, length}
+use Rattle.lexical_writer.proofs.Common.{refl, ap, ◌∙◌, arith, pow-zero, false≢true, Record, raw, is_absent, is_minus, is_present, lacks_options, digits_in}
 use Rattle.lexical_util.specs.Layout as layout
-use Rattle.lexical_util.specs.Record.{Record, raw}
-use Rattle.lexical_literal.specs.Literal.{is_absent, is_minus, is_none_or_one, is_plus, is_present}
-use Rattle.lexical_literal.specs.Notation.{exponent_character_of, lacks_options, point_of}
+use Rattle.lexical_literal.specs.Literal.{is_none_or_one, is_plus}
+use Rattle.lexical_literal.specs.Notation.{exponent_character_of, point_of}
 use Rattle.lexical_literal.specs.declared.syntax.Condition.TheVariants as conditions
 use Rattle.lexical_literal.specs.declared.syntax.Options.{Options}
-use Rattle.lexical_literal.specs.Number.{digits_in}
 use Rattle.lexical_value.specs.Value.{power}
 use Rattle.lexical_writer.proofs.laws.refusal_facts.Goals as goal
 

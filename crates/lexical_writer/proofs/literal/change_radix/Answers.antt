@@ -1,21 +1,12 @@
 -- What is written of a whole number in another radix has its value.
-use Rattle.std.proofs.Common.{ℕ, ◌≡◌, ◌≤◌, Result, Ok, Err, IfOk, ap, subst, sym, ◌∙◌}
+use Rattle.lexical_writer.proofs.Common.{ℕ, ◌≡◌, ◌≤◌, Result, Ok, Err, IfOk, ap, subst, sym, ◌∙◌, Record, raw, is_minus, lacks_options, IsSyntax, Parts}
+use Rattle.lexical_writer.proofs.Common.{Grammar, Amount, Layout, Style, WriteError}
 use Rattle.lexical_util.specs.Layout as layouts
-use Rattle.lexical_util.specs.Record.{Record, raw}
 use Rattle.lexical_util.specs.declared.format_flags.Part.TheVariants as part
-use Rattle.lexical_literal.specs.Literal.{is_minus}
-use Rattle.lexical_literal.specs.Notation.{lacks_options}
 use Rattle.lexical_literal.specs.Parts.{literal_of}
-use Rattle.lexical_literal.specs.Syntax.{IsSyntax}
-use Rattle.lexical_literal.specs.declared.read.Parts.{Parts}
-use Rattle.lexical_literal.specs.declared.syntax.Grammar.{Grammar}
 use Rattle.lexical_writer.specs.Conversion.{IsNumber, SameFraction}
 use Rattle.lexical_writer.specs.Layout.{HasNumber, literal_of as written, number_of_size}
 use Rattle.lexical_writer.specs.Moved.{IsFactor, IsMoved, IsTimes, moved_by}
-use Rattle.lexical_writer.specs.declared.layout.Amount.{Amount}
-use Rattle.lexical_writer.specs.declared.layout.Layout.{Layout}
-use Rattle.lexical_writer.specs.declared.layout.Style.{Style}
-use Rattle.lexical_writer.specs.declared.layout.WriteError.{WriteError}
 use Rattle.lexical_writer.specs.declared.moved.Move.{Move}
 use Rattle.lexical_writer.proofs.LiteralLemmas.{radixes}
 use Rattle.lexical_writer.proofs.PlainLemmas.{move_factor, same_number}

@@ -1,8 +1,6 @@
 -- The parts and the format are those of the literal.
-use Rattle.std.proofs.Common.{IfOk, subst, sym, ◌∙◌}
-use Rattle.lexical_util.specs.Record.{raw}
+use Rattle.lexical_writer.proofs.Common.{IfOk, subst, sym, ◌∙◌, raw, Literal}
 use Rattle.lexical_util.specs.Rules.{Lawful}
-use Rattle.lexical_literal.specs.Literal.{Literal}
 use Rattle.lexical_writer.specs.Conversion.{IsConverted, SameFraction}
 use Rattle.lexical_writer.specs.Layout.{literal_of}
 use Rattle.lexical_writer.proofs.literal.format_literal.Goals as goal

@@ -1,8 +1,7 @@
 -- What is written of a literal has its value.
-use Rattle.std.proofs.Common.{◌∙◌, ap, sym}
+use Rattle.lexical_writer.proofs.Common.{◌∙◌, ap, sym, raw}
 use Rattle.std.proofs.lemmas.Bool.{eqb-true}
 use Rattle.std.proofs.lemmas.Result.{IfOk-weaker}
-use Rattle.lexical_util.specs.Record.{raw}
 use Rattle.lexical_writer.specs.Conversion.{amount_of}
 use Rattle.lexical_writer.specs.Layout.{literal_of}
 use Rattle.lexical_writer.proofs.ConversionLemmas.{same_fraction}

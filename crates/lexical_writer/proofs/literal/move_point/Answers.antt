@@ -1,24 +1,15 @@
 -- What is written of a literal whose point moves has its value.
-use Rattle.lexical_literal.specs.Literal.{is_minus}
-use Rattle.std.proofs.Common.{ℕ, ◌≡◌, ◌==◌, true, false, Result, Ok, Err, IfOk, ap, subst, sym, ◌∙◌}
-use Rattle.std.proofs.lemmas.Bool.{eqb-true, false≢true}
+use Rattle.lexical_writer.proofs.Common.{is_minus, ℕ, ◌≡◌, ◌==◌, true, false, Result, Ok, Err, IfOk, ap, subst, sym, ◌∙◌, false≢true, Record, raw}
+use Rattle.lexical_writer.proofs.Common.{lacks_options, IsSyntax, Parts, Grammar, Amount, Layout, Style, WriteError}
+use Rattle.std.proofs.lemmas.Bool.{eqb-true}
 use Rattle.std.specs.Result.{MatchResult}
 use Rattle.lexical_util.specs.Layout as layout
-use Rattle.lexical_util.specs.Record.{Record, raw}
 use Rattle.lexical_util.specs.Rules.{IsRadix}
 use Rattle.lexical_util.specs.declared.format_flags.Part.TheVariants as part
-use Rattle.lexical_literal.specs.Notation.{lacks_options}
 use Rattle.lexical_literal.specs.Parts.{literal_of}
-use Rattle.lexical_literal.specs.Syntax.{IsSyntax}
-use Rattle.lexical_literal.specs.declared.read.Parts.{Parts}
-use Rattle.lexical_literal.specs.declared.syntax.Grammar.{Grammar}
 use Rattle.lexical_writer.specs.Conversion.{IsOdd, IsPlain, IsShort, SameFraction, is_same_radix, odd_error}
 use Rattle.lexical_writer.specs.Layout.{HasNumber, literal_of as written}
 use Rattle.lexical_writer.specs.Moved.{IsFactor, IsMoved, IsTimes, moved_by}
-use Rattle.lexical_writer.specs.declared.layout.Amount.{Amount}
-use Rattle.lexical_writer.specs.declared.layout.Layout.{Layout}
-use Rattle.lexical_writer.specs.declared.layout.Style.{Style}
-use Rattle.lexical_writer.specs.declared.layout.WriteError.{WriteError}
 use Rattle.lexical_writer.specs.declared.moved.Move.{Move}
 use Rattle.lexical_writer.proofs.LiteralLemmas.{radixes}
 use Rattle.lexical_writer.proofs.PlainLemmas.{move_factor, same_moved}

@@ -1,18 +1,11 @@
 -- A number without an exponent that is not refused is laid out.
-use Rattle.std.proofs.Common.{◌≡◌, ◌&&◌, ◌||◌, Bool, false, Option, None, Some, Result, Ok, Err, is_some, if◌then◌else◌, nat_lt, length, ap, sym, ◌∙◌, arith}
+use Rattle.lexical_writer.proofs.Common.{◌≡◌, ◌&&◌, ◌||◌, Bool, false, Option, None, Some, Result, Ok, Err, is_some, if◌then◌else◌, nat_lt, length, ap, sym}
+use Rattle.lexical_writer.proofs.Common.{◌∙◌, arith, raw, Literal, text_of, has, lacks_options, Grammar, Amount, Layout, Style, WriteError}
 use Rattle.lexical_util.specs.Layout as layouts
-use Rattle.lexical_util.specs.Record.{raw}
-use Rattle.lexical_literal.specs.Literal.{Literal, text_of}
-use Rattle.lexical_literal.specs.Notation.{has, lacks_options}
 use Rattle.lexical_literal.specs.declared.syntax.Condition.TheVariants as conditions
-use Rattle.lexical_literal.specs.declared.syntax.Grammar.{Grammar}
 use Rattle.lexical_writer.specs.Conversion.{IsShort}
 use Rattle.lexical_writer.specs.Layout.{IsLaidOut, first_error, laid_out, plain_style, refusal}
-use Rattle.lexical_writer.specs.declared.layout.Amount.{Amount}
-use Rattle.lexical_writer.specs.declared.layout.Layout.{Layout}
 use Rattle.lexical_writer.specs.declared.layout.Power.{Power}
-use Rattle.lexical_writer.specs.declared.layout.Style.{Style}
-use Rattle.lexical_writer.specs.declared.layout.WriteError.{WriteError}
 use Rattle.lexical_writer.specs.declared.layout.WriteError.TheVariants as errors
 use Rattle.lexical_writer.proofs.literal.shorten.Goals as goal
 

@@ -1,13 +1,8 @@
 -- A whole number without a sign that is refused is laid out.
-use Rattle.std.proofs.Common.{ℕ, ◌≡◌, ◌&&◌, Bool, false, Some, Result, Ok, Err, arith, subst}
-use Rattle.lexical_literal.specs.Notation.{has}
+use Rattle.lexical_writer.proofs.Common.{ℕ, ◌≡◌, ◌&&◌, Bool, false, Some, Result, Ok, Err, arith, subst, has, Grammar, Layout, Style, WriteError}
 use Rattle.lexical_literal.specs.declared.syntax.Condition.TheVariants as conditions
-use Rattle.lexical_literal.specs.declared.syntax.Grammar.{Grammar}
 use Rattle.lexical_writer.specs.Conversion.{IsNumber}
 use Rattle.lexical_writer.specs.Layout.{IsLaidOut, first_error, number_of_size}
-use Rattle.lexical_writer.specs.declared.layout.Layout.{Layout}
-use Rattle.lexical_writer.specs.declared.layout.Style.{Style}
-use Rattle.lexical_writer.specs.declared.layout.WriteError.{WriteError}
 use Rattle.lexical_writer.proofs.literal.write_number.Goals as goal
 
 no_error : (sign whole exponent : Bool) (error : WriteError) → sign ≡ false → first_error sign (whole && false) (exponent && false) ≡ Some error → ⊥

@@ -1,5 +1,5 @@
 -- A byte is passed.
-use Rattle.std.proofs.Common.{◌≡◌, ◌-◌, if◌then◌else◌, is_some, ap, sym, ◌∙◌, arith}
+use Rattle.lexical_writer.proofs.Common.{◌≡◌, ◌-◌, if◌then◌else◌, is_some, ap, sym, ◌∙◌, arith}
 use Rattle.lexical_writer.proofs.MovedLemmas.{passes}
 use Rattle.lexical_writer.proofs.moved.cut.Goals as goal
 use Rattle.lexical_writer.proofs.moved.cut.Goals.{then-is_some, else-is_some}

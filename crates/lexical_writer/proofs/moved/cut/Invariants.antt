@@ -1,5 +1,4 @@
-use Rattle.std.proofs.Common.{length, take, drop, ◌-◌, ◌++◌, ◌≡◌, ◌≤◌}
-use Rattle.lexical_literal.specs.Number.{digits_in}
+use Rattle.lexical_writer.proofs.Common.{length, take, drop, ◌-◌, ◌++◌, ◌≡◌, ◌≤◌, digits_in}
 use Rattle.lexical_writer.proofs.moved.cut.Given as goal
 
 -- The digits that have been passed, and as many of the others as are left, are those before the place.

@@ -1,10 +1,9 @@
 -- A digit is below the radix.
-use Rattle.std.proofs.Common.{ℕ, ◌≡◌, ◌<◌, ◌≤◌, ◌-◌, ◌^◌, List, [], ◌∷◌, Option, Some, None, length, unwrap_or, ◌∙◌, arith}
-use Rattle.std.specs.Int.Digits.{AllBelowBase, number_from_digits}
+use Rattle.lexical_writer.proofs.Common.{ℕ, ◌≡◌, ◌<◌, ◌≤◌, ◌-◌, ◌^◌, List, [], ◌∷◌, Option, Some, None, length, unwrap_or, ◌∙◌, arith, AllBelowBase}
+use Rattle.lexical_writer.proofs.Common.{number_from_digits, values_of}
 use Rattle.std.specs.Option.{SomeIff}
 use Rattle.lexical_writer.proofs.DigitLemmas.{values_below}
 use Rattle.lexical_writer.proofs.PlainLemmas.{size_values}
-use Rattle.lexical_writer.specs.Digits.{values_of}
 use Rattle.lexical_writer.proofs.moved.last_digit.Goals as goal
 
 small : (radix : ℕ) (digits : List ℕ) → 2 ≤ radix → length digits ≤ 1 → AllBelowBase radix digits → number_from_digits radix digits < radix

@@ -1,7 +1,6 @@
 -- The factor is not larger than the radix.
-use Rattle.std.proofs.Common.{ℕ, zero, suc, ◌≡◌, ◌<◌, ◌≤◌, ◌+◌, ◌-◌, ◌*◌, ◌^◌, ◌==◌, false, ap, sym, ◌∙◌, arith}
-use Rattle.std.proofs.Math.Nat.{mod-lt, one-le-pow, pow-suc, pow-zero}
-use Rattle.std.proofs.lemmas.Bool.Decides.{nat_tests}
+use Rattle.lexical_writer.proofs.Common.{ℕ, zero, suc, ◌≡◌, ◌<◌, ◌≤◌, ◌+◌, ◌-◌, ◌*◌, ◌^◌, ◌==◌, false, ap, sym, ◌∙◌, arith, mod-lt, one-le-pow, pow-suc}
+use Rattle.lexical_writer.proofs.Common.{pow-zero, nat_tests}
 use Rattle.lexical_writer.proofs.PlainLemmas.{factor_power}
 use Rattle.lexical_writer.proofs.moved.moved_by.Goals as goal
 use Rattle.lexical_writer.proofs.moved.moved_by.Goals.{then-is_minus+then-rest-gt0, else-is_minus}

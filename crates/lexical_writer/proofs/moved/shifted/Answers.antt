@@ -1,6 +1,5 @@
 -- One more zero is behind the digits.
-use Rattle.std.proofs.Common.{ℕ, zero, suc, ◌≡◌, ◌<◌, ◌≤◌, ◌-◌, ◌*◌, ◌^◌, ap, subst, sym, ◌∙◌, arith}
-use Rattle.std.proofs.Math.Nat.{one-le-pow, pow-suc, pow-zero}
+use Rattle.lexical_writer.proofs.Common.{ℕ, zero, suc, ◌≡◌, ◌<◌, ◌≤◌, ◌-◌, ◌*◌, ◌^◌, ap, subst, sym, ◌∙◌, arith, one-le-pow, pow-suc, pow-zero}
 use Rattle.lexical_writer.proofs.moved.shifted.Goals as goal
 
 step : (size radix left : ℕ) → 0 < left → size * radix ^ left ≡ (size * radix) * radix ^ (left - 1)

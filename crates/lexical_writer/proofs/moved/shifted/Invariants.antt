@@ -1,4 +1,4 @@
-use Rattle.std.proofs.Common.{◌≡◌, ◌≤◌, ◌-◌, ◌*◌, ◌^◌}
+use Rattle.lexical_writer.proofs.Common.{◌≡◌, ◌≤◌, ◌-◌, ◌*◌, ◌^◌}
 use Rattle.lexical_writer.proofs.moved.shifted.Given as goal
 
 -- The number with as many zeros as are left is the number with all of them.

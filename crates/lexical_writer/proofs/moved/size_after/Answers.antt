@@ -1,7 +1,5 @@
 -- All bytes have been passed.
-use Rattle.std.proofs.Common.{◌≡◌, ◌≤◌, ◌-◌, ◌^◌, ap, subst, sym, ◌∙◌, arith}
-use Rattle.std.proofs.lemmas.List.{drop_all}
-use Rattle.lexical_literal.specs.Number.{number_after}
+use Rattle.lexical_writer.proofs.Common.{◌≡◌, ◌≤◌, ◌-◌, ◌^◌, ap, subst, sym, ◌∙◌, arith, drop_all, number_after}
 use Rattle.lexical_writer.proofs.moved.size_after.Goals as goal
 
 pub returns : goal.returns

@@ -1,5 +1,4 @@
-use Rattle.std.proofs.Common.{length, drop, ◌-◌, ◌^◌, ◌≡◌, ◌≤◌}
-use Rattle.lexical_literal.specs.Number.{number_after}
+use Rattle.lexical_writer.proofs.Common.{length, drop, ◌-◌, ◌^◌, ◌≡◌, ◌≤◌, number_after}
 use Rattle.lexical_writer.proofs.moved.size_after.Given as goal
 
 -- The digits of what is left, after those of the size so far, are the number.

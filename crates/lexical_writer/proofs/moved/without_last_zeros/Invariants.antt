@@ -1,5 +1,4 @@
-use Rattle.std.proofs.Common.{length, take, ◌≡◌, ◌≤◌}
-use Rattle.lexical_literal.specs.Number.{digits_in}
+use Rattle.lexical_writer.proofs.Common.{length, take, ◌≡◌, ◌≤◌, digits_in}
 use Rattle.lexical_writer.specs.Moved.{trimmed}
 use Rattle.lexical_writer.proofs.moved.without_last_zeros.Given as goal
 

@@ -1,7 +1,5 @@
 -- The float that is rounded is the nearest to the literal.
-use Rattle.std.proofs.Common.{◌⊎◌, inr, subst}
-use Rattle.lexical_util.specs.Record.{raw}
-use Rattle.lexical_value.specs.Binary.{format_of}
+use Rattle.lexical_writer.proofs.Common.{◌⊎◌, inr, subst, raw, format_of}
 use Rattle.lexical_value.specs.Float.{nearest}
 use Rattle.lexical_writer.specs.Conversion.{SameFraction}
 use Rattle.lexical_writer.specs.Layout.{literal_of}

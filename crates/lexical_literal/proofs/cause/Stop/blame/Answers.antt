@@ -1,12 +1,11 @@
 -- A separator, the case of a letter, or a byte.
-use Rattle.std.proofs.Common.{ℕ, ◌≡◌, ◌≢◌, ◌==◌, Bool, true, false, if◌then◌else◌, Option, Some, refl, sym, ap, ◌∙◌, arith}
-use Rattle.std.proofs.lemmas.Bool.Decides.{nat_tests}
+use Rattle.lexical_literal.proofs.Common.{ℕ, ◌≡◌, ◌≢◌, Bool, true, false, Option, Some, refl, sym, ap, ◌∙◌, arith, nat_tests, Notation, notation_of}
+use Rattle.std.proofs.Common.{◌==◌, if◌then◌else◌}
 use Rattle.lexical_literal.specs.Additions.Causes.{place_of}
 use Rattle.lexical_literal.specs.Additions.Explained.{blame, cases, mask_of, otherwise, requirements, separators}
 use Rattle.lexical_literal.specs.Additions.Sizes.{goes}
 use Rattle.lexical_literal.specs.Additions.Summary.{role_at, part_of}
 use Rattle.lexical_literal.specs.Cause.{bare}
-use Rattle.lexical_literal.specs.Notation.{Notation, notation_of}
 use Rattle.lexical_literal.specs.declared.cause.Blame.{Blame}
 use Rattle.lexical_literal.specs.declared.cause.ReadErrorKind.TheVariants as causes
 use Rattle.lexical_literal.specs.declared.groups.Group.{Group}

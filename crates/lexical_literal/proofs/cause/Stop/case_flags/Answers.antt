@@ -1,9 +1,8 @@
-use Rattle.std.proofs.Common.{◌&&◌, sym, ap, ◌∙◌, Some}
+use Rattle.lexical_literal.proofs.Common.{◌&&◌, sym, ap, ◌∙◌, Some, notation_of}
 use Rattle.lexical_util.specs.Roles.{other_case}
 use Rattle.lexical_literal.specs.Additions.Sizes.{goes}
 use Rattle.lexical_literal.specs.Additions.Explained.{mask_of}
 use Rattle.lexical_literal.specs.Cause.{bare, case_set}
-use Rattle.lexical_literal.specs.Notation.{notation_of}
 use Rattle.lexical_literal.proofs.CauseLemmas.{no_mask}
 use Rattle.lexical_literal.proofs.cause.Stop.case_flags.Goals as goal
 

@@ -1,6 +1,5 @@
-use Rattle.std.proofs.Common.{ap, ◌∙◌}
+use Rattle.lexical_literal.proofs.Common.{ap, ◌∙◌, notation_of}
 use Rattle.lexical_literal.specs.Additions.Sizes.{goes}
-use Rattle.lexical_literal.specs.Notation.{notation_of}
 use Rattle.lexical_literal.proofs.CauseLemmas.{as_bare}
 use Rattle.lexical_literal.proofs.cause.Stop.is_free.Goals as goal
 

@@ -1,10 +1,7 @@
-use Rattle.std.proofs.Common.{◌≡◌, Bool, true, false, not, ◌&&◌, ◌||◌, sym, ap, ◌∙◌, arith}
-use Rattle.std.proofs.lemmas.Bool.{false≢true}
+use Rattle.lexical_literal.proofs.Common.{◌≡◌, Bool, true, false, not, ◌&&◌, ◌||◌, sym, ap, ◌∙◌, arith, false≢true, has, is_same, notation_of, Condition}
+use Rattle.lexical_literal.proofs.Common.{Conditions}
 use Rattle.lexical_literal.specs.Additions.Sizes.{goes}
 use Rattle.lexical_literal.specs.Cause.{bare, with_rules}
-use Rattle.lexical_literal.specs.Notation.{has, is_same, notation_of}
-use Rattle.lexical_literal.specs.declared.syntax.Condition.{Condition}
-use Rattle.lexical_literal.specs.declared.syntax.Conditions.{Conditions}
 use Rattle.lexical_literal.proofs.NumberLemmas.{has_only}
 use Rattle.lexical_literal.proofs.cause.Stop.is_unmet.Goals as goal
 use Rattle.lexical_literal.proofs.cause.Stop.is_unmet.Goals.{then-has, else-has}

@@ -1,9 +1,8 @@
 -- One flag is asked after the other.
-use Rattle.std.proofs.Common.{ℕ, ◌≡◌, bit_and, ◌+◌, ◌==◌, ◌&&◌, Bool, nat_lt, if◌then◌else◌, not, true, false, sym, ap, ◌∙◌, arith}
-use Rattle.std.proofs.lemmas.Bool.Decides.{nat_tests}
+use Rattle.lexical_literal.proofs.Common.{ℕ, ◌≡◌, bit_and, ◌+◌, ◌&&◌, Bool, nat_lt, not, true, false, sym, ap, ◌∙◌, arith, nat_tests, bit, raw}
+use Rattle.std.proofs.Common.{◌==◌, if◌then◌else◌}
 use Rattle.std.proofs.lemmas.Nat.{one_shl}
-use Rattle.lexical_util.specs.Layout.{bit, part}
-use Rattle.lexical_util.specs.Record.{raw}
+use Rattle.lexical_util.specs.Layout.{part}
 use Rattle.lexical_literal.proofs.CauseLemmas.{bit_below, flag_and, flag_not, is_unset, masked, one_flag}
 use Rattle.lexical_literal.proofs.cause.Stop.refusing.Goals as goal
 use Rattle.lexical_literal.proofs.cause.Stop.refusing.Goals.{then-mask-number-ne0, else-mask-number-ne0}

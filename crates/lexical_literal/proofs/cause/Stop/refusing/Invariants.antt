@@ -1,9 +1,7 @@
-use Rattle.std.proofs.Common.{◌≡◌, ◌-◌, ◌&&◌, nat_lt, if◌then◌else◌, not, true}
-use Rattle.lexical_util.specs.Layout.{Flag, bit}
-use Rattle.lexical_util.specs.Record.{raw}
+use Rattle.lexical_literal.proofs.Common.{◌≡◌, ◌-◌, ◌&&◌, nat_lt, not, true, Flag, bit, raw, notation_of}
+use Rattle.std.proofs.Common.{if◌then◌else◌}
 use Rattle.lexical_literal.specs.Additions.Sizes.{goes}
 use Rattle.lexical_literal.specs.Cause.{adding, bare}
-use Rattle.lexical_literal.specs.Notation.{notation_of}
 use Rattle.lexical_literal.proofs.cause.Stop.refusing.Given as goal
 
 abbrev pub invariant-loop-number : goal.invariant-loop-number

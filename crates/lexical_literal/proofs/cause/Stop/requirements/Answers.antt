@@ -1,13 +1,12 @@
 -- Flags that refuse alone, or those on leading zeros.
-use Rattle.std.proofs.Common.{ℕ, ◌≡◌, ◌==◌, ◌&&◌, Bool, true, false, not, if◌then◌else◌, ap, ◌∙◌, arith}
-use Rattle.std.proofs.lemmas.Bool.Decides.{nat_tests}
-use Rattle.std.specs.List.{list_any}
-use Rattle.lexical_literal.specs.Notation.{all_conditions, has, kept, notation_of, number_of}
+use Rattle.lexical_literal.proofs.Common.{ℕ, ◌≡◌, ◌&&◌, Bool, true, false, not, ap, ◌∙◌, arith, nat_tests, list_any, all_conditions, has, notation_of}
+use Rattle.lexical_literal.proofs.Common.{number_of, Conditions}
+use Rattle.std.proofs.Common.{◌==◌, if◌then◌else◌}
+use Rattle.lexical_literal.specs.Notation.{kept}
 use Rattle.lexical_literal.specs.Additions.Sizes.{goes}
 use Rattle.lexical_literal.specs.Additions.Explained.{some_unmet, unmet}
 use Rattle.lexical_literal.specs.Cause.{bare, requiring}
 use Rattle.lexical_literal.specs.declared.cause.Stop.{Stop}
-use Rattle.lexical_literal.specs.declared.syntax.Conditions.{Conditions}
 use Rattle.lexical_literal.proofs.NumberLemmas.{has_kept}
 use Rattle.lexical_literal.proofs.cause.Stop.requirements.Goals as goal
 

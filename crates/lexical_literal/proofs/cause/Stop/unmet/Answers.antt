@@ -1,11 +1,10 @@
 -- After a condition, and after the last.
-use Rattle.std.proofs.Common.{ℕ, ◌≡◌, ◌≤◌, ◌&&◌, Bool, true, false, nat_lt, if◌then◌else◌, length, get_or, sym, ap, ◌∙◌, arith}
-use Rattle.std.proofs.lemmas.Bool.Decides.{nat_tests}
-use Rattle.lexical_literal.specs.Notation.{all_conditions, is_same, notation_of, number_of, order}
+use Rattle.lexical_literal.proofs.Common.{ℕ, ◌≡◌, ◌≤◌, ◌&&◌, Bool, true, false, nat_lt, get_or, sym, ap, ◌∙◌, arith, nat_tests, all_conditions, is_same}
+use Rattle.lexical_literal.proofs.Common.{notation_of, number_of, Condition, Conditions}
+use Rattle.std.proofs.Common.{if◌then◌else◌, length}
+use Rattle.lexical_literal.specs.Notation.{order}
 use Rattle.lexical_literal.specs.Additions.Explained.{unmet}
-use Rattle.lexical_literal.specs.declared.syntax.Condition.{Condition}
 use Rattle.lexical_literal.specs.declared.syntax.Condition.TheVariants as conditions
-use Rattle.lexical_literal.specs.declared.syntax.Conditions.{Conditions}
 use Rattle.lexical_literal.proofs.NumberLemmas.{is_kept, number_next}
 use Rattle.lexical_literal.proofs.cause.Stop.unmet.Goals as goal
 use Rattle.lexical_literal.proofs.cause.Stop.unmet.Goals.{then-is_unmet, else-is_unmet}

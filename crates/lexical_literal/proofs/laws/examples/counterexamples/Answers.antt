@@ -1,5 +1,4 @@
-use Rattle.std.proofs.Common.{sym}
-use Rattle.std.proofs.lemmas.Bool.{false≢true}
+use Rattle.lexical_literal.proofs.Common.{sym, false≢true}
 use Rattle.lexical_util.specs.Layout as layout
 use Rattle.lexical_literal.proofs.laws.examples.counterexamples.Goals as goal
 

@@ -1,5 +1,5 @@
 -- The candidate with its suffix.
-use Rattle.std.proofs.Common.{refl, sym, ◌∙◌}
+use Rattle.lexical_literal.proofs.Common.{refl, sym, ◌∙◌}
 use Rattle.lexical_literal.proofs.TokenLemmas.{none_is, with_suffix, without_own, without_suffix}
 use Rattle.lexical_literal.proofs.list.Form.behind.Goals as goal
 

@@ -1,6 +1,5 @@
 -- A front that is a literal ends where reading stops, or before.
-use Rattle.std.proofs.Common.{◌∙◌, sym, arith}
-use Rattle.std.proofs.lemmas.Bool.Decides.{nat_tests}
+use Rattle.lexical_literal.proofs.Common.{◌∙◌, sym, arith, nat_tests}
 use Rattle.lexical_literal.proofs.LeadingLemmas.{before_stop, stopped_within}
 use Rattle.lexical_literal.proofs.list.Form.bound.Goals as goal
 use Rattle.lexical_literal.proofs.list.Form.bound.Goals.{then-stop-eq0, else-stop-eq0}

@@ -1,9 +1,6 @@
 -- No literal goes on where reading stops, or behind a byte that plays no role.
-use Rattle.std.proofs.Common.{◌≡◌, subst, arith}
-use Rattle.std.proofs.lemmas.Bool.Decides.{nat_tests}
+use Rattle.lexical_literal.proofs.Common.{◌≡◌, subst, arith, nat_tests, notation_of, Grammar}
 use Rattle.lexical_literal.specs.Additions.Token.{IsWithin}
-use Rattle.lexical_literal.specs.Notation.{notation_of}
-use Rattle.lexical_literal.specs.declared.syntax.Grammar.{Grammar}
 use Rattle.lexical_literal.proofs.list.Form.ends.Goals as goal
 use Rattle.lexical_literal.proofs.list.Form.ends.Goals.{then-is_over, else-is_over}
 

@@ -1,9 +1,7 @@
 -- No literal goes on behind a byte that plays no role, or without the prefix that is required.
-use Rattle.std.proofs.Common.{◌+◌, ◌∙◌, inl, sym, subst, arith}
+use Rattle.lexical_literal.proofs.Common.{◌+◌, ◌∙◌, inl, sym, subst, arith, notation_of, Grammar}
 use Rattle.lexical_literal.specs.Additions.Forms.{sign_size}
 use Rattle.lexical_literal.specs.Additions.Token.{IsWithin}
-use Rattle.lexical_literal.specs.Notation.{notation_of}
-use Rattle.lexical_literal.specs.declared.syntax.Grammar.{Grammar}
 use Rattle.lexical_literal.proofs.LeadingLemmas.{within_more}
 use Rattle.lexical_literal.proofs.list.Form.is_past.Goals as goal
 use Rattle.lexical_literal.proofs.list.Form.is_past.Goals.{then-lacks_prefix, else-lacks_prefix}

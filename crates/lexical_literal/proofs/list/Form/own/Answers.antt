@@ -1,7 +1,6 @@
 -- The front, or the front without its point.
-use Rattle.std.proofs.Common.{sym, ◌∙◌}
+use Rattle.lexical_literal.proofs.Common.{sym, ◌∙◌, notation_of}
 use Rattle.lexical_literal.specs.Additions.Token.{IsOwn}
-use Rattle.lexical_literal.specs.Notation.{notation_of}
 use Rattle.lexical_literal.proofs.TokenLemmas.{cut_none, cut_short, for_some, is_none, kept, none_is}
 use Rattle.lexical_literal.proofs.list.Form.own.Goals as goal
 

@@ -1,15 +1,12 @@
 -- The front has the parts and the sums that were counted, and is the literal of the token.
-use Rattle.std.proofs.Common.{◌∙◌, ap, drop, take, refl, sym, subst, arith}
+use Rattle.lexical_literal.proofs.Common.{◌∙◌, ap, drop, take, refl, sym, subst, arith, Reads, notation_of, raw}
 use Rattle.std.proofs.lemmas.List.{drop-drop}
 use Rattle.lexical_literal.specs.Additions.Longest.{IsMeasured}
 use Rattle.lexical_literal.specs.Additions.Read.{AreSums, cut}
 use Rattle.lexical_literal.specs.Additions.Summary.{cuts_of}
 use Rattle.lexical_literal.specs.Forms.{ReadsForm}
-use Rattle.lexical_literal.specs.Literal.{Reads}
-use Rattle.lexical_literal.specs.Notation.{notation_of}
 use Rattle.lexical_literal.specs.Suffix.{suffix_size}
 use Rattle.lexical_literal.specs.Token.{IsToken}
-use Rattle.lexical_util.specs.Record.{raw}
 use Rattle.lexical_literal.proofs.LeadingLemmas.{leading_token}
 use Rattle.lexical_literal.proofs.PieceLemmas.{measured_cut, whole_read}
 use Rattle.lexical_literal.proofs.TokenLemmas.{some_is}

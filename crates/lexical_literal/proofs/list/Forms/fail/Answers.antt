@@ -1,5 +1,5 @@
 -- The word where the form that goes furthest stops is a literal.
-use Rattle.std.proofs.Common.{ap, sym, subst, ◌+◌, ◌∙◌}
+use Rattle.lexical_literal.proofs.Common.{ap, sym, subst, ◌+◌, ◌∙◌}
 use Rattle.lexical_literal.specs.Additions.Forms.{IsFurthestForm}
 use Rattle.lexical_literal.specs.Forms.{NoForm}
 use Rattle.lexical_literal.specs.Suffix.{word_size}

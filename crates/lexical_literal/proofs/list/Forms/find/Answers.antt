@@ -1,9 +1,6 @@
 -- The first form that reads the text.
-use Rattle.std.proofs.Common.{◌≡◌, IsNone, None, Option, Some, refl, subst}
-use Rattle.std.proofs.lemmas.List.Elements.{All-more}
+use Rattle.lexical_literal.proofs.Common.{◌≡◌, IsNone, None, Option, Some, refl, subst, All-more, notation_of, Grammar}
 use Rattle.lexical_literal.specs.Front.{NoLiteral}
-use Rattle.lexical_literal.specs.Notation.{notation_of}
-use Rattle.lexical_literal.specs.declared.syntax.Grammar.{Grammar}
 use Rattle.lexical_literal.proofs.FormLemmas.{all_tried, found_is}
 use Rattle.lexical_literal.proofs.PieceLemmas.{measured_cut, whole_read}
 use Rattle.lexical_literal.proofs.list.Forms.find.Goals as goal

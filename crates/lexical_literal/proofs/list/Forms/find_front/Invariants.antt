@@ -1,4 +1,5 @@
-use Rattle.std.proofs.Common.{length, ◌-◌}
+use Rattle.lexical_literal.proofs.Common.{◌-◌}
+use Rattle.std.proofs.Common.{length}
 use Rattle.lexical_literal.proofs.FormLemmas.{IsBest, fronts, goes}
 use Rattle.lexical_literal.proofs.list.Forms.find_front.Given as goal
 

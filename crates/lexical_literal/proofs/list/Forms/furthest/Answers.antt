@@ -1,5 +1,5 @@
 -- The form that goes furthest of those that have been asked.
-use Rattle.std.proofs.Common.{◌+◌, sym, subst}
+use Rattle.lexical_literal.proofs.Common.{◌+◌, sym, subst}
 use Rattle.lexical_literal.proofs.FormLemmas.{IsBest, best_more, furthest_is, goes}
 use Rattle.lexical_literal.proofs.list.Forms.furthest.Goals as goal
 

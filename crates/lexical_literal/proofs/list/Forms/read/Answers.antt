@@ -1,13 +1,10 @@
 -- The first form that reads the text, or the form that goes furthest.
-use Rattle.std.proofs.Common.{ℕ, ◌<◌, ◌≤◌, ◌+◌, ◌∙◌, IfSome, Some, ap, refl, sym, subst}
-use Rattle.std.proofs.lemmas.List.Elements.{All-more}
+use Rattle.lexical_literal.proofs.Common.{ℕ, ◌<◌, ◌≤◌, ◌+◌, ◌∙◌, IfSome, Some, ap, refl, sym, subst, All-more, notation_of, Grammar}
 use Rattle.lexical_literal.specs.Additions.Forms.{IsFurthestForm, bound, further_on}
 use Rattle.lexical_literal.specs.FormList.{FormList}
 use Rattle.lexical_literal.specs.Forms.{NoForm}
 use Rattle.lexical_literal.specs.Front.{IsValidUpTo, NoLiteral}
-use Rattle.lexical_literal.specs.Notation.{notation_of}
 use Rattle.lexical_literal.specs.declared.plain.At.{At}
-use Rattle.lexical_literal.specs.declared.syntax.Grammar.{Grammar}
 use Rattle.lexical_literal.proofs.FormLemmas.{IsBest, all_tried, best_far, beyond, beyond_if, beyond_kept, beyond_more, found_is, number_is}
 use Rattle.lexical_literal.proofs.PieceLemmas.{measured_cut, whole_read}
 use Rattle.lexical_literal.proofs.list.Forms.read.Goals as goal

@@ -1,8 +1,6 @@
 -- The front has the parts that were counted.
-use Rattle.std.proofs.Common.{◌≡◌, ◌∙◌, IsSomeAnd, sym, subst, get_or}
-use Rattle.std.proofs.lemmas.Bool.{false≢true}
+use Rattle.lexical_literal.proofs.Common.{◌≡◌, ◌∙◌, IsSomeAnd, sym, subst, get_or, false≢true, notation_of}
 use Rattle.lexical_literal.specs.Front.{ReadsFront}
-use Rattle.lexical_literal.specs.Notation.{notation_of}
 use Rattle.lexical_literal.specs.Additions.Longest.{IsCountedFront}
 use Rattle.lexical_literal.proofs.FormLemmas.{form_at, inside_of}
 use Rattle.lexical_literal.proofs.PieceLemmas.{front_cut, front_read}

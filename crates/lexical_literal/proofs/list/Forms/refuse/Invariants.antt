@@ -1,4 +1,5 @@
-use Rattle.std.proofs.Common.{ℕ, ◌≤◌, All, length, take, ◌-◌}
+use Rattle.lexical_literal.proofs.Common.{ℕ, ◌≤◌, All, take, ◌-◌}
+use Rattle.std.proofs.Common.{length}
 use Rattle.lexical_literal.specs.Forms.{Reaches, reach}
 use Rattle.lexical_literal.proofs.list.Forms.refuse.Given as goal
 

@@ -1,5 +1,5 @@
 -- The sign is what the text begins with, if it is there.
-use Rattle.std.proofs.Common.{ap, ◌∙◌}
+use Rattle.lexical_literal.proofs.Common.{ap, ◌∙◌}
 use Rattle.lexical_literal.specs.Literal.{is_minus}
 use Rattle.lexical_literal.specs.Read.{Read}
 use Rattle.lexical_literal.proofs.MadeLemmas.{minus}

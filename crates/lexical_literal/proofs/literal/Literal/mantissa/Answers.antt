@@ -1,7 +1,6 @@
 -- The invariant has the number.
-use Rattle.std.proofs.Common.{◌≡◌, IfSome, IsSome, subst}
+use Rattle.lexical_literal.proofs.Common.{◌≡◌, IfSome, IsSome, subst, raw}
 use Rattle.lexical_util.specs.Layout as layout
-use Rattle.lexical_util.specs.Record.{raw}
 use Rattle.lexical_literal.specs.Read.{Read, mantissa}
 use Rattle.lexical_literal.specs.Word.{IsShort}
 use Rattle.lexical_literal.proofs.literal.Literal.mantissa.Goals as goal

@@ -1,6 +1,6 @@
 -- The invariant has the number.
-use Rattle.std.proofs.Common.{◌≡◌, IfSome, IsSome, subst, sym}
-use Rattle.lexical_util.specs.Record.{effective_exponent_radix, raw}
+use Rattle.lexical_literal.proofs.Common.{◌≡◌, IfSome, IsSome, subst, sym, raw}
+use Rattle.lexical_util.specs.Record.{effective_exponent_radix}
 use Rattle.lexical_literal.specs.Additions.Read.{cut}
 use Rattle.lexical_literal.specs.Additions.Summary.{cuts_of}
 use Rattle.lexical_literal.specs.Read.{Read, exponent}

@@ -1,9 +1,7 @@
 -- The text is the word behind its sign.
-use Rattle.std.proofs.Common.{◌∙◌, ap, sym, Option, Some}
-use Rattle.lexical_literal.specs.Notation.{notation_of}
+use Rattle.lexical_literal.proofs.Common.{◌∙◌, ap, sym, Option, Some, notation_of, Grammar}
 use Rattle.lexical_literal.specs.Specials.{signed, special_of}
 use Rattle.lexical_literal.specs.declared.specials.Sign.{Sign}
-use Rattle.lexical_literal.specs.declared.syntax.Grammar.{Grammar}
 use Rattle.lexical_literal.proofs.specials.Specials.read_signed.Goals as goal
 
 pub returns : goal.returns

@@ -1,8 +1,8 @@
 -- Where none of the conditions before a place is one of them, the first is that at the place, or one behind it.
-use Rattle.std.proofs.Common.{◌≡◌, ◌+◌, ◌∷◌, Some, false, drop, drop-cons, get_or, add-one, if◌then◌else◌, sym, ap, ◌∙◌, arith}
+use Rattle.lexical_literal.proofs.Common.{◌≡◌, ◌+◌, ◌∷◌, Some, false, drop, drop-cons, get_or, add-one, sym, ap, ◌∙◌, arith, all_conditions, has}
+use Rattle.std.proofs.Common.{if◌then◌else◌}
 use Rattle.std.proofs.lemmas.List.{drop_all}
 use Rattle.std.specs.List.{find}
-use Rattle.lexical_literal.specs.Notation.{all_conditions, has}
 use Rattle.lexical_literal.specs.declared.syntax.Condition.TheVariants as conditions
 use Rattle.lexical_literal.proofs.syntax.Conditions.first.Goals as goal
 

@@ -1,6 +1,6 @@
-use Rattle.std.proofs.Common.{◌≡◌, ◌-◌, drop, length}
+use Rattle.lexical_literal.proofs.Common.{◌≡◌, ◌-◌, drop, all_conditions, has}
+use Rattle.std.proofs.Common.{length}
 use Rattle.std.specs.List.{find}
-use Rattle.lexical_literal.specs.Notation.{all_conditions, has}
 use Rattle.lexical_literal.proofs.syntax.Conditions.first.Given as goal
 
 abbrev pub invariant-loop-index : goal.invariant-loop-index

@@ -1,7 +1,5 @@
 -- One condition is added to none.
-use Rattle.std.proofs.Common.{arith}
-use Rattle.std.proofs.lemmas.Bool.Decides.{nat_tests}
-use Rattle.lexical_literal.specs.Notation.{is_same, number_of}
+use Rattle.lexical_literal.proofs.Common.{arith, nat_tests, is_same, number_of}
 use Rattle.lexical_literal.proofs.NumberLemmas.{is_kept}
 use Rattle.lexical_literal.proofs.syntax.Conditions.only.Goals as goal
 

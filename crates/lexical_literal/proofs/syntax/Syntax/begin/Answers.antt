@@ -1,13 +1,10 @@
 -- A syntax has what reading needs.
-use Rattle.std.proofs.Common.{sym, ap, subst, ◌∙◌}
+use Rattle.lexical_literal.proofs.Common.{sym, ap, subst, ◌∙◌, raw, notation_of, Grammar}
 use Rattle.std.specs.Prelude.{IsTrue}
-use Rattle.lexical_util.specs.Record.{raw}
 use Rattle.lexical_literal.specs.Groups.{has_sizes}
 use Rattle.lexical_literal.specs.Additions.Longest.{HasBegun, HasFound}
 use Rattle.lexical_literal.specs.Additions.Plain.{HasSizes, IsDecimal, IsReady}
 use Rattle.lexical_literal.specs.Additions.Sizes.{steps_of}
-use Rattle.lexical_literal.specs.Notation.{notation_of}
-use Rattle.lexical_literal.specs.declared.syntax.Grammar.{Grammar}
 use Rattle.lexical_literal.proofs.LongestLemmas.{begun_free}
 use Rattle.lexical_literal.proofs.MadeLemmas.{usual_sizes}
 use Rattle.lexical_literal.proofs.syntax.Syntax.begin.Goals as goal

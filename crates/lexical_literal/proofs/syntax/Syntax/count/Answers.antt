@@ -1,5 +1,5 @@
 -- A literal is its longest front.
-use Rattle.std.proofs.Common.{◌≡◌, sym, subst, ◌∙◌}
+use Rattle.lexical_literal.proofs.Common.{◌≡◌, sym, subst, ◌∙◌}
 use Rattle.lexical_literal.specs.Additions.Summary.{HasLengths, cuts_of}
 use Rattle.lexical_literal.specs.declared.read.Found.{Found}
 use Rattle.lexical_literal.proofs.LongestLemmas.{all_counted}

@@ -1,7 +1,6 @@
 -- The longest front that is a literal, and the lengths of its parts.
-use Rattle.std.proofs.Common.{subst}
+use Rattle.lexical_literal.proofs.Common.{subst, notation_of}
 use Rattle.lexical_literal.specs.Additions.Longest.{IsLongest}
-use Rattle.lexical_literal.specs.Notation.{notation_of}
 use Rattle.lexical_literal.proofs.LongestLemmas.{found_there, front_literal, fronted, no_front}
 use Rattle.lexical_literal.proofs.syntax.Syntax.front.Goals as goal
 

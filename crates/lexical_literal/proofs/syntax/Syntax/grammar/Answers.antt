@@ -1,9 +1,7 @@
 -- A syntax has what reading needs.
-use Rattle.std.proofs.Common.{subst}
+use Rattle.lexical_literal.proofs.Common.{subst, notation_of, Grammar}
 use Rattle.lexical_literal.specs.Additions.Plain.{HasSizes, IsReady}
-use Rattle.lexical_literal.specs.Notation.{notation_of}
 use Rattle.lexical_literal.specs.Additions.Sizes.{steps_of}
-use Rattle.lexical_literal.specs.declared.syntax.Grammar.{Grammar}
 use Rattle.lexical_literal.proofs.RoleLemmas.{has_sizes_of, ready}
 use Rattle.lexical_literal.proofs.syntax.Syntax.grammar.Goals as goal
 

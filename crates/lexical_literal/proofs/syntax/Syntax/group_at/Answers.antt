@@ -1,8 +1,6 @@
 -- The groups of what has been read fit.
-use Rattle.std.proofs.Common.{◌≡◌, Some, None, take, sym, ap, ◌∙◌}
+use Rattle.lexical_literal.proofs.Common.{◌≡◌, Some, None, take, sym, ap, ◌∙◌, notation_of, Grammar}
 use Rattle.lexical_literal.specs.Additions.Sizes.{first_group, group_after}
-use Rattle.lexical_literal.specs.Notation.{notation_of}
-use Rattle.lexical_literal.specs.declared.syntax.Grammar.{Grammar}
 use Rattle.lexical_literal.proofs.syntax.Syntax.group_at.Goals as goal
 
 pub unreachable-requires : goal.unreachable-requires

@@ -1,5 +1,5 @@
-use Rattle.std.proofs.Common.{◌-◌, length}
-use Rattle.lexical_literal.specs.Notation.{notation_of}
+use Rattle.lexical_literal.proofs.Common.{◌-◌, notation_of}
+use Rattle.std.proofs.Common.{length}
 use Rattle.lexical_literal.proofs.LongestLemmas.{HasCounted}
 use Rattle.lexical_literal.proofs.syntax.Syntax.longest.Given as goal
 

@@ -1,5 +1,5 @@
 -- A text with a byte that is refused is no literal.
-use Rattle.std.proofs.Common.{arith}
+use Rattle.lexical_literal.proofs.Common.{arith}
 use Rattle.lexical_literal.proofs.LongestLemmas.{none_whole}
 use Rattle.lexical_literal.proofs.syntax.Syntax.reached.Goals as goal
 

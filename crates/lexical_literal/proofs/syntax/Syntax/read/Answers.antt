@@ -1,11 +1,9 @@
 -- A text with a byte that is refused is no literal.
-use Rattle.std.proofs.Common.{ℕ, List, Result, Ok, Err, IsErrAnd, arith}
+use Rattle.lexical_literal.proofs.Common.{ℕ, List, Result, Ok, Err, IsErrAnd, arith, notation_of, Grammar}
 use Rattle.lexical_literal.specs.Cause.{Explained, IsRefusal}
 use Rattle.lexical_literal.specs.Front.{NoLiteral}
-use Rattle.lexical_literal.specs.Notation.{notation_of}
 use Rattle.lexical_literal.specs.Parts.{IsRead}
 use Rattle.lexical_literal.specs.Read.{Read}
-use Rattle.lexical_literal.specs.declared.syntax.Grammar.{Grammar}
 use Rattle.lexical_literal.proofs.LongestLemmas.{none_whole}
 use Rattle.lexical_literal.proofs.PieceLemmas.{is_read, measured_cut}
 use Rattle.lexical_literal.proofs.syntax.Syntax.read.Goals as goal

@@ -1,12 +1,10 @@
 -- A byte plays the role that it has in the integer, or else that in the exponent, and no other.
-use Rattle.std.proofs.Common.{ℕ, ◌≡◌, Option, Some, None, true, false, refl, sym, ap, ◌∙◌, arith}
-use Rattle.std.proofs.lemmas.Bool.{false≢true}
-use Rattle.lexical_util.specs.declared.feature_format.roles.Role.{Role}
+use Rattle.lexical_literal.proofs.Common.{ℕ, ◌≡◌, Option, Some, None, true, false, refl, sym, ap, ◌∙◌, arith, false≢true, Role, notation_of, set_of_role}
+use Rattle.lexical_literal.proofs.Common.{Grammar}
 use Rattle.lexical_util.specs.declared.feature_format.roles.Role.TheVariants as roles
 use Rattle.lexical_util.specs.declared.format_flags.Part.TheVariants as parts
 use Rattle.lexical_literal.specs.Additions.Summary.{role_at}
-use Rattle.lexical_literal.specs.Notation.{IsOnlyRole, notation_of, set_of_role}
-use Rattle.lexical_literal.specs.declared.syntax.Grammar.{Grammar}
+use Rattle.lexical_literal.specs.Notation.{IsOnlyRole}
 use Rattle.lexical_literal.specs.Additions.Plain.{HasRoles}
 use Rattle.lexical_literal.specs.Additions.Sizes.{steps_of}
 use Rattle.lexical_literal.proofs.RefusalLemmas.{other_roles}

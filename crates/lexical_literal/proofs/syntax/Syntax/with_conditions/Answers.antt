@@ -1,7 +1,5 @@
-use Rattle.std.proofs.Common.{◌≡◌, None, sym, ap, subst, ◌∙◌}
-use Rattle.lexical_util.specs.Record.{raw}
+use Rattle.lexical_literal.proofs.Common.{◌≡◌, None, sym, ap, subst, ◌∙◌, raw, Grammar}
 use Rattle.lexical_literal.specs.Syntax.{contradiction}
-use Rattle.lexical_literal.specs.declared.syntax.Grammar.{Grammar}
 use Rattle.lexical_literal.proofs.syntax.Syntax.with_conditions.Goals as goal
 
 pub invariant_of-result : goal.invariant_of-result

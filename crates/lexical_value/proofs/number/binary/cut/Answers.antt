@@ -1,10 +1,11 @@
 -- The lower bits are cut off.
+use Rattle.lexical_value.proofs.Common.{pow-add, pow_pos}
 use Rattle.core.specs.Prelude.{◌≡◌, ◌+◌, ◌-◌, ◌*◌, ◌/◌, ◌^◌, bit_and}
 use mathlib.Core.Path.{ap, ◌∙◌}
 use native.Mathlib.Omega.{arith}
 use lib.Bits.{and_mask}
 use Rattle.core.proofs.num.Products.{one_shl}
-use lib.Pow.{pow-add, pow_pos, shr-shr}
+use lib.Pow.{shr-shr}
 use Rattle.lexical_value.proofs.number.binary.cut.Goals as goal
 
 pub returns : goal.returns

@@ -1,12 +1,9 @@
 -- The leading word has the same nearest float.
+use Rattle.lexical_value.proofs.Common.{pow_pos, IsNearestBits, nearest_of_zero, format_of}
 use Rattle.core.specs.Prelude.{◌≡◌, ℕ, Bool, ◌+◌, ◌*◌, ◌^◌, ◌<◌, false}
 use mathlib.Core.Path.{ap, ◌∙◌, subst, sym}
 use native.Mathlib.Omega.{arith}
 use native.Mathlib.Nat.{eq_of_mul-eq-mul_right, mul-pos}
-use lib.Pow.{pow_pos}
-use Rattle.core.specs.Dec2flt.Rounding.{IsNearestBits}
-use Rattle.core.proofs.dec2flt.Extremes.{nearest_of_zero}
-use Rattle.lexical_value.specs.Binary.{format_of}
 use Rattle.lexical_value.specs.Leading.{IsCutTo}
 use Rattle.lexical_value.proofs.BinaryLemmas.{far_above, far_below, without}
 use Rattle.lexical_value.proofs.LeadingLemmas.{exact, in_powers}

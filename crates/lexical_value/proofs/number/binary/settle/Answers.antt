@@ -1,9 +1,8 @@
 -- What is cut off decides how the kept bits are rounded, and all of it is less than half if these are more than 64.
+use Rattle.lexical_value.proofs.Common.{pow_mono, IsNearestBits}
 use Rattle.core.specs.Prelude.{◌^◌, ◌≤◌}
 use mathlib.Core.Path.{refl, sym, subst}
 use native.Mathlib.Omega.{arith}
-use lib.Pow.{pow_mono}
-use Rattle.core.specs.Dec2flt.Rounding.{IsNearestBits}
 use Rattle.lexical_value.proofs.BinaryLemmas.{rounded, vanishes}
 use Rattle.lexical_value.proofs.number.binary.settle.Goals as goal
 

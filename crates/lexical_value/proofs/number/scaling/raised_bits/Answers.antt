@@ -1,12 +1,9 @@
 -- A large exponent makes 0 or infinity, and another one a scale.
+use Rattle.lexical_value.proofs.Common.{pow_pos, IsNearestBits, nearest_of_zero, format_of}
 use Rattle.core.specs.Prelude.{◌≡◌, ◌+◌, ◌*◌, ◌^◌, ◌≤◌, if◌then◌else◌}
 use mathlib.Core.Path.{sym, subst, ap, ◌∙◌}
 use native.Mathlib.Omega.{arith}
 use native.Mathlib.Nat.{mul-le-mul_left}
-use lib.Pow.{pow_pos}
-use Rattle.core.specs.Dec2flt.Rounding.{IsNearestBits}
-use Rattle.core.proofs.dec2flt.Extremes.{nearest_of_zero}
-use Rattle.lexical_value.specs.Binary.{format_of}
 use Rattle.lexical_value.specs.Leading.{IsCutTo}
 use Rattle.lexical_value.proofs.BinaryLemmas.{raised}
 use Rattle.lexical_value.proofs.LeadingLemmas.{digits_le, few, many}

@@ -1,12 +1,9 @@
 -- The digits are all of the number, and a power of two makes a word of them.
+use Rattle.lexical_value.proofs.Common.{leading_top, count_leading_zeros, pow_pos, IsNearestBits, format_of}
 use Rattle.core.specs.Prelude.{◌≡◌, ℕ, ◌+◌, ◌*◌, ◌%◌, ◌^◌, ◌<◌, ◌≤◌, Bool, true, false, if◌then◌else◌}
 use mathlib.Core.Path.{subst, sym, ◌∙◌}
 use native.Mathlib.Nat.{mod-eq_of_lt, mul-le-mul_left}
 use native.Mathlib.Omega.{arith}
-use lib.Count.{leading_top, count_leading_zeros}
-use lib.Pow.{pow_pos}
-use Rattle.core.specs.Dec2flt.Rounding.{IsNearestBits}
-use Rattle.lexical_value.specs.Binary.{format_of}
 use Rattle.lexical_value.specs.Leading.{IsCutTo}
 use Rattle.lexical_value.proofs.BinaryLemmas.{lifted, to_top}
 use Rattle.lexical_value.proofs.ScalingLemmas.{in_radixes}

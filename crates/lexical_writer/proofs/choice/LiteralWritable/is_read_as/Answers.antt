@@ -1,8 +1,7 @@
 -- Both literals are worth the same.
-use Rattle.std.proofs.Common.{ℕ, ℤ, ◌≡◌, ◌∙◌, Bool, IsFalse, IsSomeAnd, Ok, Some, ap, arith, from_bits, inl, inr, refl, subst, sym}
-use Rattle.std.proofs.lemmas.Bool.Decides.{nat_tests}
+use Rattle.lexical_writer.proofs.Common.{ℕ, ℤ, ◌≡◌, ◌∙◌, Bool, IsFalse, IsSomeAnd, Ok, Some, ap, arith, inl, inr, refl, subst, sym, nat_tests, raw}
+use Rattle.std.proofs.Common.{from_bits}
 use Rattle.std.specs.Float.{binary64}
-use Rattle.lexical_util.specs.Record.{raw}
 use Rattle.lexical_literal.specs.Literal.{is_float}
 use Rattle.lexical_literal.specs.Read.{Read}
 use Rattle.lexical_value.specs.Numeral.{with_sign}

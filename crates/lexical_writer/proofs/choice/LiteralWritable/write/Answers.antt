@@ -1,9 +1,7 @@
 -- What is written has the value of the literal, or its nearest float, if this is of the exact kind.
-use Rattle.std.proofs.Common.{ℕ, ◌≡◌, inl, inr, refl}
+use Rattle.lexical_writer.proofs.Common.{ℕ, ◌≡◌, inl, inr, refl, raw, Literal}
 use Rattle.std.specs.Float.{binary64}
-use Rattle.lexical_util.specs.Record.{raw}
 use Rattle.lexical_literal.specs.Kind.{exact}
-use Rattle.lexical_literal.specs.Literal.{Literal}
 use Rattle.lexical_literal.specs.Read.{Read}
 use Rattle.lexical_value.specs.Float.{nearest}
 use Rattle.lexical_writer.specs.Choice.{IsSameNumber, exact_read}

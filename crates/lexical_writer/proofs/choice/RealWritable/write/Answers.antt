@@ -1,5 +1,5 @@
 -- What is written has the value.
-use Rattle.std.proofs.Common.{inr, refl}
+use Rattle.lexical_writer.proofs.Common.{inr, refl}
 use Rattle.lexical_writer.specs.Layout.{literal_of}
 use Rattle.lexical_writer.proofs.choice.RealWritable.write.Goals as goal
 

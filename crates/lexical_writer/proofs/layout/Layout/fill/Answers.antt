@@ -1,5 +1,5 @@
 -- The text is all that the buffer has taken.
-use Rattle.std.proofs.Common.{[], refl}
+use Rattle.lexical_writer.proofs.Common.{[], refl}
 use Rattle.lexical_writer.proofs.layout.Layout.fill.Goals as goal
 
 pub returns : goal.returns

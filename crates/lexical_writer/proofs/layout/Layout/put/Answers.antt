@@ -1,5 +1,5 @@
 -- The parts are written one after the other.
-use Rattle.std.proofs.lemmas.List.{append_assoc}
+use Rattle.lexical_writer.proofs.Common.{append_assoc}
 use Rattle.lexical_writer.proofs.layout.Layout.put.Goals as goal
 
 pub returns : goal.returns

@@ -1,8 +1,6 @@
 -- The first digits that are not zeros, and what is behind them, are the digits of the number.
-use Rattle.std.proofs.Common.{ℕ, List, ◌≡◌, ◌++◌, [], replicate, ap, sym, ◌∙◌, arith, append-nil, length}
-use Rattle.std.specs.Int.Digits.{digits_of, number_from_digits}
-use Rattle.lexical_literal.specs.Number.{digits_in, number}
-use Rattle.lexical_writer.specs.Digits.{padded_values}
+use Rattle.lexical_writer.proofs.Common.{ℕ, List, ◌≡◌, ◌++◌, [], replicate, ap, sym, ◌∙◌, arith, append-nil, length, digits_of, number_from_digits}
+use Rattle.lexical_writer.proofs.Common.{digits_in, number, padded_values}
 use Rattle.lexical_writer.proofs.DigitLemmas.{behind_below, lean_front, no_number, zero_front, zeros_below, zeros_number}
 use Rattle.lexical_writer.proofs.run.Padded.lean.Goals as goal
 use Rattle.lexical_writer.proofs.run.Padded.lean.Goals.{then-some, else-some}

@@ -1,7 +1,6 @@
 -- The pieces are read one after the other.
-use Rattle.std.proofs.Common.{◌≤◌, ◌*◌, ◌^◌, ◌-◌, ap, subst, sym, ◌∙◌, arith}
+use Rattle.lexical_writer.proofs.Common.{◌≤◌, ◌*◌, ◌^◌, ◌-◌, ap, subst, sym, ◌∙◌, arith, number_after}
 use Rattle.std.specs.Option.{SomeIff}
-use Rattle.lexical_literal.specs.Number.{number_after}
 use Rattle.lexical_writer.proofs.PlainLemmas.{padded_number, pieces_least}
 use Rattle.lexical_writer.proofs.run.Padded.size.Goals as goal
 

@@ -1,7 +1,5 @@
 -- The last digit that is not 0 is in the second piece, or else in the first.
-use Rattle.std.proofs.Common.{ℕ, List, ◌≡◌, ◌++◌, [], replicate, ap, sym, ◌∙◌, arith, append-nil}
-use Rattle.lexical_literal.specs.Literal.{is_absent}
-use Rattle.lexical_literal.specs.Number.{digits_in}
+use Rattle.lexical_writer.proofs.Common.{ℕ, List, ◌≡◌, ◌++◌, [], replicate, ap, sym, ◌∙◌, arith, append-nil, is_absent, digits_in}
 use Rattle.lexical_writer.specs.Moved.{trimmed}
 use Rattle.lexical_writer.proofs.MovedLemmas.{first_left, none_from, second_left, some_from, trimmed_before, trimmed_behind, trimmed_zeros}
 use Rattle.lexical_writer.proofs.run.Padded.trimmed.Goals as goal

@@ -1,7 +1,5 @@
 -- Each digit is a byte of the text.
-use Rattle.std.proofs.Common.{length, ap, ◌∙◌, sym, arith}
-use Rattle.lexical_writer.specs.Digits.{values_of}
-use Rattle.lexical_writer.specs.declared.run.Source.{Source}
+use Rattle.lexical_writer.proofs.Common.{length, ap, ◌∙◌, sym, arith, values_of, Source}
 use Rattle.lexical_writer.proofs.DigitLemmas.{run_longer}
 use Rattle.lexical_writer.proofs.run.Run.count.Goals as goal
 
