@@ -134,7 +134,8 @@ typedef struct {
 /* Reads the settings of a text of len bytes, and writes the syntax that they build to *out. Returns the number of
  * problems: first the lines that are refused, and then the reasons why the others do not build a lawful word or, if
  * they do, why the options do not fit it, and each condition that does not. Reasons and notes on a field, an option or
- * a condition are left out if the last line that sets it is refused. If there is a problem, leaves *out unchanged. */
+ * a condition are left out if the last line that sets it is refused. If there is a problem, leaves *out unchanged. The
+ * syntax lacks a digit separator that no flag allows. This is not a problem, but peltzivar_settings_text has a note. */
 PELTZIVAR_MUST_USE size_t peltzivar_read_settings(const char *text, size_t len, peltzivar_syntax *out);
 
 /* Writes a problem as a sentence, such as "unknown setting `base_suffx`; did you mean `base_suffix`?". The problems
