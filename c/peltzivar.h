@@ -723,7 +723,8 @@ PELTZIVAR_MUST_USE bool peltzivar_edit_fields(
     peltzivar_fields *fields, const peltzivar_edit *edits, size_t len);
 
 /* Packs the fields into a word and returns the word, whether or not it is lawful. Packing sets the reserved bits to 0.
- * If no digit separator flag is set, packing drops the digit separator, that is, sets it to 0. */
+ * If no digit separator flag is set, packing drops the digit separator, that is, sets it to 0. peltzivar_note_text has a
+ * note on this. */
 peltzivar_word peltzivar_pack(const peltzivar_fields *fields);
 
 /* ONE SETTING */

@@ -1840,12 +1840,6 @@ class Syntax(_Reader):
     groups before the last of `higher_group_size`, as in `12,34,567`. The format is in normal form, so equivalent formats
     have the same syntax. Raises OptionsError if the exponent character or the decimal point does not fit the normal
     form, if only one of them is None, or if the format contradicts a condition.
-
-    The attribute `notes` has the notes on what the syntax was made of, the format or settings. Syntaxes with different
-    notes can be equal.
-
-        >>> [str(note) for note in Syntax.of(digit_separator="_").notes]
-        ["no flag allows the digit separator '_'"]
     """
 
     format: Format
@@ -1861,7 +1855,7 @@ class Syntax(_Reader):
     required_leading_zero: bool = False
     decimal_first_digit: bool = False
     # End
-    notes: Tuple[Note, ...] = field(init=False, repr=False, compare=False)
+    _notes: Tuple[Note, ...] = field(init=False, repr=False, compare=False)
     # What calls read by: as a syntax, and as one form.
     _by: Any = field(init=False, repr=False, compare=False)
     _form: Any = field(init=False, repr=False, compare=False)
@@ -1882,7 +1876,7 @@ class Syntax(_Reader):
         if sentence := _text(_library.syntax_error_text, by):
             raise OptionsError((Reason(sentence),))
         form = _Forms((_Form * 1)(_Form(None, by)), 1)
-        vars(self).update(conditions, format=format, exponent=exponent, point=point, notes=notes)
+        vars(self).update(conditions, format=format, exponent=exponent, point=point, _notes=notes)
         vars(self).update(_by=by, _fields=format._unpacked(), _form=form, _forms=c_void_p(addressof(form)))
 
     def __repr__(self) -> str:
@@ -1892,7 +1886,7 @@ class Syntax(_Reader):
     def __reduce__(self) -> Tuple[Any, ...]:
         """Returns what makes the syntax again."""
         made = self.format, self.exponent, self.point, *(getattr(self, it) for it in _CONDITIONS)
-        return type(self), made, {"notes": self.notes}
+        return type(self), made, {"_notes": self._notes}
 
     @classmethod
     def integers(cls, format: Format) -> Syntax:
@@ -1974,15 +1968,15 @@ class Syntax(_Reader):
         attributes of a `Syntax`: `exponent`, `point` and its conditions. A setting has the form that `Edit` takes, and
         a setting of `exponent` or `point` that of `base_prefix`. If both are `none`, or None, literals are integers,
         and one alone is refused: for floats without an exponent, keep its character and set `no_exponent_notation`. A
-        setting that is blank or begins with `#` is skipped. A setting overrides those before it. The syntax lacks a
-        digit separator that no flag allows, and has a note on it: set a flag, such as
+        setting that is blank or begins with `#` is skipped. A setting overrides those before it. A digit separator that
+        no flag allows is dropped, and `notes` of the syntax reports it: set a flag, such as
         `integer_internal_digit_separator`, too.
         """
         text, made = _lines(settings), _Syntax()
         if problems := _library.read_settings(text, len(text), made):
             raise SettingsError(tuple(Reason(*it) for it in _findings(text, range(min(problems, 100)))))
         syntax = cls._of_numbers(made)
-        vars(syntax).update(notes=tuple(Note(*it) for it in _findings(text, count())))
+        vars(syntax).update(_notes=tuple(Note(*it) for it in _findings(text, count())))
         return syntax
 
     @classmethod
@@ -2051,9 +2045,17 @@ class Syntax(_Reader):
         # End
     ) -> Tuple[Note, ...]:
         """Returns the notes on settings that later ones override, the first 32 alone, and on those that have no effect,
-        such as a digit separator that no flag allows. The syntax that `of` returns has the same ones as its `notes`."""
+        such as a digit separator that no flag allows. `of` returns a syntax with the same ones as its `notes`."""
         text = _lines(settings)
         return tuple(Note(*it) for it in _findings(text, count(_library.read_settings(text, len(text), _Syntax()))))
+
+    def notes(self) -> Tuple[Note, ...]:
+        """Returns the notes on the format or the settings of which the syntax was made. Equal syntaxes can have other notes.
+
+            >>> [str(note) for note in Syntax.of(digit_separator="_").notes()]
+            ["no flag allows the digit separator '_'"]
+        """
+        return self._notes
 
     @classmethod
     def _of_numbers(cls, numbers: _Syntax) -> Syntax:
