@@ -134,7 +134,8 @@ typedef struct {
 /* Reads the settings of a text of len bytes, and writes the syntax that they build to *out. Returns the number of
  * problems: first the lines that are refused, and then the reasons why the others do not build a lawful word or, if
  * they do, why the options do not fit it, and each condition that does not. Reasons and notes on a field, an option or
- * a condition are left out if the last line that sets it is refused. If there is a problem, leaves *out unchanged. */
+ * a condition are left out if the last line that sets it is refused. If there is a problem, leaves *out unchanged. The
+ * syntax lacks a digit separator that no flag allows. This is not a problem, but peltzivar_settings_text has a note. */
 PELTZIVAR_MUST_USE size_t peltzivar_read_settings(const char *text, size_t len, peltzivar_syntax *out);
 
 /* Writes a problem as a sentence, such as "unknown setting `base_suffx`; did you mean `base_suffix`?". The problems
@@ -722,7 +723,8 @@ PELTZIVAR_MUST_USE bool peltzivar_edit_fields(
     peltzivar_fields *fields, const peltzivar_edit *edits, size_t len);
 
 /* Packs the fields into a word and returns the word, whether or not it is lawful. Packing sets the reserved bits to 0.
- * If no digit separator flag is set, packing drops the digit separator, that is, sets it to 0. */
+ * If no digit separator flag is set, packing drops the digit separator, that is, sets it to 0. peltzivar_note_text has a
+ * note on this. */
 peltzivar_word peltzivar_pack(const peltzivar_fields *fields);
 
 /* ONE SETTING */

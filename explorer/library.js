@@ -54,10 +54,12 @@ class Library {
         return answer.error ? answer : { ...answer, word: BigInt(answer.word) };
     }
 
-    /* Returns the languages, with what the page tells of each: their names, numbers, and lists of forms. */
+    /* Returns the languages, with what the page tells of each: their names, short ones if no other has them, numbers, and lists
+     * of forms. */
     languages(told) {
+        const shorts = told.map(({ about }) => /^(\S+?)'s /.exec(about)?.[1]);
         return this.call("languages", "").map(({ name, specials, forms }, index) => {
-            const short = /^(\S+?)'s /.exec(told[index].about)?.[1] ?? name;
+            const short = (shorts.indexOf(shorts[index]) === index && shorts[index]) || name;
             return { ...told[index], short, specials, forms: forms.map((form) => this.form(form)) };
         });
     }
@@ -76,8 +78,8 @@ class Library {
             return { text, fields: [...all.map(({ name }) => name), ...this.namesOf(BigInt(mask))] };
         };
         const [reasons, options, conditions, notes] = ["reasons", "options", "conditions", "notes"].map((it) => answer[it].map(named));
-        const taken = "is_valid_options_punctuation refuses this, but a reader takes it: no flag allows it as a separator";
-        if (answer.fits) notes.push(...options.splice(0).map((it) => ({ ...it, text: `${it.text}: ${taken}` })));
+        const taken = "Numbers are read, since no flag allows the separator, but is_valid_options_punctuation refuses this";
+        if (answer.fits) notes.push(...options.splice(0).map((it) => ({ ...it, text: `${it.text}. ${taken}` })));
         return { ...answer, normal: BigInt(answer.normal), problems: [...reasons, ...options, ...conditions], notes };
     }
 

@@ -369,7 +369,7 @@ class Walk(unittest.TestCase):
         self.assertEqual(self.run_script("return page.form.point"), 10)
         self.load("#word=0x0A0A0A000000002C000000000000000C&point=44&numbers=1,5")
         self.assertEqual((self.text("#verdict"), self.text("#count")), ("Valid format", "1 of 1 as expected"))
-        self.assertIn("is_valid_options_punctuation refuses this, but a reader takes it", self.text("#notes"))
+        self.assertIn("Numbers are read, since no flag allows the separator, but is_valid_options_punctuation refuses this", self.text("#notes"))
 
     def test_changes_are_undone_and_done_again(self):
         def state():

@@ -645,6 +645,12 @@ def _members(kind: Type[Any], bits: int) -> Tuple[Any, ...]:
     return tuple(it for it in kind if bits >> it.value & 1)
 
 
+def _notes(fields: _Fields) -> Tuple[Note, ...]:
+    """Returns the notes on fields."""
+    texts = enumerate(_texts(_library.note_text, fields))
+    return tuple(Note(text, _joined(_library.note_mask(fields, index))) for index, text in texts)
+
+
 def _joined(halves: _Word) -> int:
     """Returns the word of two halves."""
     return int(halves.high << 64 | halves.low)
@@ -1849,13 +1855,15 @@ class Syntax(_Reader):
     required_leading_zero: bool = False
     decimal_first_digit: bool = False
     # End
+    _notes: Tuple[Note, ...] = field(init=False, repr=False, compare=False)
     # What calls read by: as a syntax, and as one form.
     _by: Any = field(init=False, repr=False, compare=False)
     _form: Any = field(init=False, repr=False, compare=False)
     _fields: Any = field(init=False, repr=False, compare=False)
 
     def __post_init__(self) -> None:
-        format, options = _typed("format", self.format, Format).normal_form(), (0, 0)
+        notes, options = _typed("format", self.format, Format).notes(), (0, 0)
+        format = self.format.normal_form()
         if self.exponent is not None and self.point is not None:
             options = _byte("exponent", self.exponent), _byte("point", self.point)
             format.check_options(*options)
@@ -1868,7 +1876,7 @@ class Syntax(_Reader):
         if sentence := _text(_library.syntax_error_text, by):
             raise OptionsError((Reason(sentence),))
         form = _Forms((_Form * 1)(_Form(None, by)), 1)
-        vars(self).update(conditions, format=format, exponent=exponent, point=point)
+        vars(self).update(conditions, format=format, exponent=exponent, point=point, _notes=notes)
         vars(self).update(_by=by, _fields=format._unpacked(), _form=form, _forms=c_void_p(addressof(form)))
 
     def __repr__(self) -> str:
@@ -1877,7 +1885,8 @@ class Syntax(_Reader):
 
     def __reduce__(self) -> Tuple[Any, ...]:
         """Returns what makes the syntax again."""
-        return type(self), (self.format, self.exponent, self.point, *(getattr(self, it) for it in _CONDITIONS))
+        made = self.format, self.exponent, self.point, *(getattr(self, it) for it in _CONDITIONS)
+        return type(self), made, {"_notes": self._notes}
 
     @classmethod
     def integers(cls, format: Format) -> Syntax:
@@ -1960,12 +1969,15 @@ class Syntax(_Reader):
         a setting of `exponent` or `point` that of `base_prefix`. If both are `none`, or None, literals are integers,
         and one alone is refused: for floats without an exponent, keep its character and set `no_exponent_notation`. A
         setting that is blank or begins with `#` is skipped. A setting overrides those before it. A digit separator that
-        no flag allows is dropped, and `notes_of` reports it: set a flag, such as `integer_internal_digit_separator`, too.
+        no flag allows is dropped, and `notes` of the syntax reports it: set a flag, such as
+        `integer_internal_digit_separator`, too.
         """
         text, made = _lines(settings), _Syntax()
         if problems := _library.read_settings(text, len(text), made):
             raise SettingsError(tuple(Reason(*it) for it in _findings(text, range(min(problems, 100)))))
-        return cls._of_numbers(made)
+        syntax = cls._of_numbers(made)
+        vars(syntax).update(_notes=tuple(Note(*it) for it in _findings(text, count())))
+        return syntax
 
     @classmethod
     @_takes_fields
@@ -2033,9 +2045,17 @@ class Syntax(_Reader):
         # End
     ) -> Tuple[Note, ...]:
         """Returns the notes on settings that later ones override, the first 32 alone, and on those that have no effect,
-        such as a digit separator that no flag allows, which the syntax lacks."""
+        such as a digit separator that no flag allows. `of` returns a syntax with the same ones as its `notes`."""
         text = _lines(settings)
         return tuple(Note(*it) for it in _findings(text, count(_library.read_settings(text, len(text), _Syntax()))))
+
+    def notes(self) -> Tuple[Note, ...]:
+        """Returns the notes on the format or the settings of which the syntax was made. Equal syntaxes can have other notes.
+
+            >>> [str(note) for note in Syntax.of(digit_separator="_").notes()]
+            ["no flag allows the digit separator '_'"]
+        """
+        return self._notes
 
     @classmethod
     def _of_numbers(cls, numbers: _Syntax) -> Syntax:
@@ -2760,12 +2780,6 @@ def notes_of(
     fields = _Fields(*_NEW_FIELDS)
     _apply(settings, fields)
     return _notes(fields)
-
-
-def _notes(fields: _Fields) -> Tuple[Note, ...]:
-    """Returns the notes on fields."""
-    texts = enumerate(_texts(_library.note_text, fields))
-    return tuple(Note(text, _joined(_library.note_mask(fields, index))) for index, text in texts)
 
 
 def _apply(settings: Iterable[Union[Edit, str]], fields: _Fields) -> List[Edit]:

@@ -107,6 +107,7 @@ class Programs(unittest.TestCase):
         rows = [
             ("", "-9223372036854775808\r\n9223372036854775808\n0.1", 0, "-9223372036854775808\nabove the largest value of the type\n0.10000000000000001\n"),
             ("digit_separator=95", "1_0\n", 0, "no flag allows the digit separator '_'\nline 1, column 2: unexpected character '_'\n"),
+            ("digit_separator=95\ninternal_digit_separator=true", "1_0\n", 0, "10\n"),
             ("no_special=1", "", 1, "no_special takes `true` or `false`, not `1`\n"),
             ("radix=3", "0.1\n", 0, "the mantissa radix and the exponent base are not both 10 or both powers of two\n"),
             # What the buffers hold, and a byte more.

@@ -525,8 +525,15 @@ class Literals(unittest.TestCase):
         self.assertEqual(Syntax.of("radix=2", radix=16, base_prefix="x", exponent=b"p"), Syntax.of(*lines))
         for integers in (Syntax.of(Edit("radix=16"), "exponent=none", "point=none"), Syntax.of(radix=16, exponent=None, point=None)):
             self.assertEqual(integers, Syntax.integers(Format.of(radix=16)))
-        notes = [(str(it), it.indexes) for it in Syntax.notes_of(*lines, "digit_separator = '_'", "radix = 16")]
+        lines += "digit_separator = '_'", "radix = 16"
+        notes = [(str(it), it.indexes) for it in Syntax.notes_of(*lines)]
         self.assertEqual(notes, [("a later setting overrides radix", (1, 6)), ("no flag allows the digit separator '_'", (5,))])
+        noted, allowed = Syntax.of(*lines), Syntax.of(*lines[:-1], internal_digit_separator=True)
+        for it in (noted, pickle.loads(pickle.dumps(noted)), copy.deepcopy(noted)):
+            self.assertEqual((it, hash(it), it.notes()), (Syntax.of(*lines[:5]), hash(noted), Syntax.notes_of(*lines)))
+        self.assertEqual((allowed.notes(), allowed.format.digit_separator, Syntax(allowed.format, "p").notes()), ((), "_", ()))
+        (note,) = Syntax(Format(0x00000A000000005F000000000000000C)).notes()
+        self.assertEqual(str(note), "no flag allows the digit separator '_'")
         with self.assertRaises(SettingsError) as caught:
             Syntax.of("base_suffx='h'", "radix=16", "base_prefix='b'", "exponent_base='9'")
         error = pickle.loads(pickle.dumps(caught.exception))

@@ -25,7 +25,7 @@ sentences: Tuple[str, str, str] = error.description, Rule.PUNCTUATION_DIFFERS.co
 reasons: Tuple[Reason, ...] = FormatView(0).reasons() + FormatView().options_reasons("1", b"1")
 reason: Tuple[str, int, Tuple[int, ...], Tuple[Rule, ...], Tuple[Role, ...]] = (
     reasons[0].text, reasons[0].mask, reasons[0].indexes, reasons[0].rules, reasons[0].options)  # fmt: skip
-notes: Tuple[Note, ...] = view.notes() + notes_of(digit_separator="_") + Syntax.notes_of("radix=2", radix=3)
+notes: Tuple[Note, ...] = view.notes() + notes_of(digit_separator="_") + Syntax.notes_of("radix=2", radix=3) + Syntax.of().notes()
 checked.check_options("e", 46)
 checked.check_options(b"e", ".")
 syntax: Syntax = Syntax.of("radix = 10", digit_separator="_", internal_digit_separator=True, integer_group_size=3, point=b",")

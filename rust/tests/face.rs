@@ -201,6 +201,28 @@ fn a_syntax_is_written_as_its_normal_form_and_its_options() {
 }
 
 #[test]
+fn a_syntax_of_a_builder_has_its_notes() {
+    const DECIMAL: &str = "0x0A0A0A0000000000000000000000000C";
+    const NOTE: &str = "no flag allows the digit separator '_'";
+    let separated = NumberFormatBuilder::new().digit_separator(NonZeroU8::new(b'_'));
+    let rows: [(_, _, &[&str]); 3] = [
+        (NumberFormatBuilder::new(), DECIMAL, &[]),
+        (separated, DECIMAL, &[NOTE]),
+        (separated.internal_digit_separator(true), "0x0A0A0A000000005F000000070000000C", &[]),
+    ];
+    for (builder, word, wanted) in rows {
+        for (options, text) in [(None, word.into()), (Some((b'e', b'.')), format!("{word} 101 46"))] {
+            let (syntax, notes) = Syntax::of(&builder, options).unwrap();
+            assert_eq!(syntax.to_string(), text);
+            assert_eq!(notes.map(|it| it.to_string()).collect::<Vec<_>>(), wanted, "{text}");
+        }
+        let refused = [(builder, Some((b'5', b'.'))), (builder.mantissa_radix(37), None)];
+        let codes = refused.map(|(builder, options)| Syntax::of(&builder, options).err().map(|error| error.code()));
+        assert_eq!(codes, [Some(Error::InvalidExponentSymbol), Some(Error::InvalidMantissaRadix)]);
+    }
+}
+
+#[test]
 fn syntaxes_are_parsed() {
     const OPTION: &str = "each of the two options is a character such as 'e', a number from 0 to 255, or `none`";
     const INTEGERS: &str = "0x0A0A0A0000000000000000000000000C";

@@ -592,6 +592,7 @@ const _: () = { const fn call(slc: &'static [u8]) -> bool { peltzivar::ascii::is
 const _: () = { const fn call(word: u128) -> NumberFormatBuilder { <NumberFormatBuilder>::from_word(word) } };
 const _: () = { const fn call(word: u128) -> Result<Format, FormatError> { <Format>::new(word) } };
 const _: () = { const fn call(words: &'static str) -> ShortText { <ShortText>::of(words) } };
+const _: () = { fn call(builder: &'static NumberFormatBuilder, options: Option<(u8, u8)>) -> Result<(Syntax, impl Iterator<Item = Note> + Clone), FormatError> { <Syntax>::of(builder, options) } };
 const _: () = { fn call(it: &'static Finding) -> &'static [usize] { <Finding>::indexes(it) } };
 const _: () = { fn call(it: &'static Format) -> impl Iterator<Item = Edit> + Clone { <Format>::edits(it) } };
 const _: () = { fn call(it: &'static Format) -> impl Iterator<Item = Note> + Clone { <Format>::notes(it) } };

@@ -195,6 +195,9 @@ impl Syntax {
     /// in which a separator that no flag allows is absent. So they may be such a separator, which
     /// [`check_options`][Format::check_options] refuses.
     ///
+    /// A builder drops such a separator, and the format has no note on it. The builder's fields have it: in plain Rust,
+    /// `Syntax::of` makes the syntax of a builder, and returns the notes on its fields, too.
+    ///
     /// # Errors
     ///
     /// If the options do not fit the normal form, returns an error with the reasons.

@@ -3,10 +3,48 @@
 use crate::literal::syntax::Options;
 use crate::literal::{Condition, Conditions, Syntax};
 use crate::{edits::ArgumentKind, lawful::Rejected, short_text::ShortText, word_text::word_text};
-use crate::{Error, Format, FormatError};
+use crate::{Error, Format, FormatError, Note, NumberFormatBuilder};
 use core::{fmt, str::FromStr};
 
 impl Syntax {
+    /// Returns the syntax of the format that `builder` builds, and [notes][NumberFormatBuilder::notes] on the builder's
+    /// fields that have no effect on any number. `options` are the exponent character and the decimal point, or `None` if
+    /// literals are integers.
+    ///
+    /// A note is not an error. The syntax lacks a digit separator that no flag allows, and only the note states why it
+    /// refuses `1_000`.
+    ///
+    /// ```
+    /// use core::num::NonZeroU8;
+    /// use peltzivar::literal::Syntax;
+    /// use peltzivar::{FormatError, NumberFormatBuilder};
+    ///
+    /// let builder = NumberFormatBuilder::new().digit_separator(NonZeroU8::new(b'_'));
+    /// let (syntax, mut notes) = Syntax::of(&builder, Some((b'e', b'.')))?;
+    /// assert_eq!(notes.next().unwrap().to_string(), "no flag allows the digit separator '_'");
+    /// assert!(syntax.read("1_000").is_err());
+    ///
+    /// let (syntax, mut notes) = Syntax::of(&builder.internal_digit_separator(true), Some((b'e', b'.')))?;
+    /// assert!(notes.next().is_none() && syntax.read("1_000").is_ok());
+    /// # Ok::<(), FormatError>(())
+    /// ```
+    ///
+    /// # Errors
+    ///
+    /// If the format is not lawful, or if the options do not fit its [normal form][Format::normal_form], returns an error
+    /// with the reasons.
+    pub fn of(
+        builder: &NumberFormatBuilder,
+        options: Option<(u8, u8)>,
+    ) -> Result<(Syntax, impl Iterator<Item = Note> + Clone), FormatError> {
+        let format = builder.build_format()?;
+        let syntax = match options {
+            Some((exponent, point)) => Syntax::new(format, exponent, point)?,
+            None => Syntax::integers(format),
+        };
+        Ok((syntax, builder.notes()))
+    }
+
     /// Returns the syntax of a word, of an exponent character and a decimal point, and of conditions, lawful or not, in
     /// any form. No call panics on a syntax that is not lawful, except one that writes, if a radix is not from 2 to 36.
     /// What calls return then is not specified.
@@ -18,7 +56,7 @@ impl Syntax {
         Syntax { format: Format { word }, options, conditions }
     }
 
-    /// Returns the syntax that [`new`][Self::new] returns, for constants.
+    /// Returns the syntax that [`new`][Self::new] returns, for constants. [`of`][Self::of] also returns notes.
     ///
     /// # Panics
     ///
