@@ -60,7 +60,7 @@ static void test_constants(void) {
     CHECK(is_word(peltzivar_pack(&PELTZIVAR_NEW_FIELDS), PELTZIVAR_STANDARD.high, PELTZIVAR_STANDARD.low));
     CHECK(sizeof(peltzivar_word) == 16 && sizeof(peltzivar_fields) == 16 && sizeof(peltzivar_edit) == 2);
     CHECK(sizeof(peltzivar_read_error) == 128 && sizeof(peltzivar_literal) == 320 && sizeof(peltzivar_span) == 16);
-    CHECK(sizeof(peltzivar_syntax) == 32 && sizeof(peltzivar_explanation) == 48 && sizeof(peltzivar_i128) == 16);
+    CHECK(sizeof(peltzivar_syntax) == 32 && sizeof(peltzivar_explanation) == 56 && sizeof(peltzivar_i128) == 16);
     CHECK(sizeof(peltzivar_form) == 56 && sizeof(peltzivar_forms) == 72);
     CHECK(sizeof(peltzivar_specials) == 24 && sizeof(peltzivar_special) == 2 && sizeof(peltzivar_style) == 16);
     CHECK(sizeof(peltzivar_separators) == 4);
@@ -128,7 +128,7 @@ static void test_syntaxes(void) {
     static const peltzivar_specials specials = {"1", "1", "1"};
     peltzivar_literal literal;
     peltzivar_read_error error, unwritten;
-    peltzivar_explanation why = {{1, 2}, 3, {4, 5}, 6, 7, 8, 9, 10};
+    peltzivar_explanation why = {{1, 2}, 3, {4, 5}, 6, 7, 8, 9, 10, 11};
     peltzivar_special special = {7, 7};
     memset(&unwritten, 0, sizeof unwritten);
     for (int i = 0; i < 3; i++) CHECK(peltzivar_check_syntax(&wrong[i]) == errors[i]);
@@ -164,7 +164,7 @@ static void test_errors(void) {
         "1h", "0x1", "-1", "1_1", "1.1_1", "17", ".5", "", "1._", "1e_", "1x"};
     static const char *const others[] = {"required_base_prefix=true", "required_base_suffix=true", "no_negative_mantissa_sign=true",
         "integer_group_size=3", "fraction_group_size=3", "required_leading_zero=true", "decimal_first_digit=true", "", "", "", ""};
-    static const int conditions[] = {PELTZIVAR_CONDITION_REQUIRED_BASE_PREFIX, PELTZIVAR_CONDITION_REQUIRED_BASE_SUFFIX,
+    static const uint64_t conditions[] = {PELTZIVAR_CONDITION_REQUIRED_BASE_PREFIX, PELTZIVAR_CONDITION_REQUIRED_BASE_SUFFIX,
         PELTZIVAR_CONDITION_NO_NEGATIVE_MANTISSA_SIGN, PELTZIVAR_CONDITION_INTEGER_GROUP_SIZE, PELTZIVAR_CONDITION_FRACTION_GROUP_SIZE,
         PELTZIVAR_CONDITION_REQUIRED_LEADING_ZERO, PELTZIVAR_CONDITION_DECIMAL_FIRST_DIGIT};
     char sentences[41][PELTZIVAR_TEXT_SIZE] = {""};

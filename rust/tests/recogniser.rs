@@ -27,7 +27,7 @@ type Pieces = [Range<usize>; 9];
 type Failure = (usize, ReadErrorKind, u128, Conditions, Range<usize>, Error, Option<u8>);
 
 /// The numbers that the conditions have in a word of this file, as if they were flags. A size has four bits.
-const CONDITIONS: [u32; 8] = [45, 46, 47, GROUPS, HIGHER, FRACTION_GROUPS, 48, 49];
+const CONDITIONS: [u32; Condition::ALL.len()] = [45, 46, 47, GROUPS, HIGHER, FRACTION_GROUPS, 48, 49];
 const GROUPS: u32 = 50;
 const HIGHER: u32 = 54;
 const FRACTION_GROUPS: u32 = 58;
@@ -394,7 +394,8 @@ fn possible(word: u128, required: u128) -> u128 {
     let separates = |flag| is_set(word, flag) && has_byte(64);
     let (has_groups, may_lead) = (is_set(required, GROUPS), !is_set(word, 12) && !is_set(word, 13));
     let (prefix, suffix, higher) = (has_byte(88), has_byte(96), separates(32) && has_groups);
-    let fits = [prefix, suffix, true, separates(32), higher, separates(33), may_lead, may_lead];
+    let fits: [bool; CONDITIONS.len()] =
+        [prefix, suffix, true, separates(32), higher, separates(33), may_lead, may_lead];
     required & mask(iter::zip(CONDITIONS, fits).filter(|it| it.1).map(|it| it.0), |_| true)
 }
 
