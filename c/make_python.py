@@ -1,7 +1,8 @@
 #!/usr/bin/env python3
 """Writes parts of peltzivar/__init__.py: the constants, enumerations, structures and calls of peltzivar.h, and the
 attributes of a view, the parameters of calls that take fields, and the languages, with their documentation in rust/src;
-and the calls of languages in peltzivar.h and in rust/capi, and the numbers of setters and errors in peltzivar.h.
+and the calls of languages in peltzivar.h and in rust/capi, and the numbers of setters, errors and conditions in
+peltzivar.h.
 
     c/make_python.py            writes each part between the lines `Made by make_python.py: PART` and `End`
     c/make_python.py --check    ends with status 1 if a part is not up to date
@@ -144,6 +145,11 @@ def errors():
     variants = re.findall(r"^    (\w+)\b", re.search(r"^pub enum Error \{(.*?)^\}", ERRORS, re.M | re.S)[1], re.M)
     names = ["Success", *(it for it in variants if it != "Success")]
     return numbered((re.sub("(?<=[a-z])(?=[A-Z])", "_", it), number) for number, it in enumerate(names))
+
+
+def condition_bits():
+    """Returns the lines. The bits are in the order of the members of a syntax."""
+    return numbered((f"CONDITION_{it.split(':')[0]}", 1 << bit) for bit, it in enumerate(conditions()))
 
 
 def language_calls():

@@ -311,9 +311,11 @@ typedef struct {
     peltzivar_read_error_kind kind;
     peltzivar_setter number;
     peltzivar_part part;
-    uint8_t conditions;
+    uint8_t reserved;
+    uint64_t conditions;
 } peltzivar_explanation;
 enum {
+    /* Made by make_python.py: condition_bits */
     PELTZIVAR_CONDITION_REQUIRED_BASE_PREFIX = 1,
     PELTZIVAR_CONDITION_REQUIRED_BASE_SUFFIX = 2,
     PELTZIVAR_CONDITION_NO_NEGATIVE_MANTISSA_SIGN = 4,
@@ -322,6 +324,7 @@ enum {
     PELTZIVAR_CONDITION_FRACTION_GROUP_SIZE = 32,
     PELTZIVAR_CONDITION_REQUIRED_LEADING_ZERO = 64,
     PELTZIVAR_CONDITION_DECIMAL_FIRST_DIGIT = 128
+    /* End */
 };
 
 /* Writes why a text is not a literal to *out and returns true. If no call has written *error, or if the syntax, the

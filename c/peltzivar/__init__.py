@@ -335,7 +335,8 @@ class _Explanation(Structure):
         ("kind", c_uint8),
         ("number", c_uint8),
         ("part", c_uint8),
-        ("conditions", c_uint8),
+        ("reserved", c_uint8),
+        ("conditions", c_uint64),
     ]
 
 

@@ -27,7 +27,7 @@ type Pieces = [Range<usize>; 9];
 type Failure = (usize, ReadErrorKind, u128, Conditions, Range<usize>, Error, Option<u8>);
 
 /// The numbers that the conditions have in a word of this file, as if they were flags. A size has four bits.
-const CONDITIONS: [u32; 8] = [45, 46, 47, GROUPS, HIGHER, FRACTION_GROUPS, 48, 49];
+const CONDITIONS: [u32; Condition::ALL.len()] = [45, 46, 47, GROUPS, HIGHER, FRACTION_GROUPS, 48, 49];
 const GROUPS: u32 = 50;
 const HIGHER: u32 = 54;
 const FRACTION_GROUPS: u32 = 58;
@@ -72,6 +72,37 @@ struct Syntax {
     more: Vec<Vec<u8>>,
 }
 
+/// Returns what can complete a front by the conditions of `required`.
+fn completions(required: u128, [separator, prefix, suffix, exponent, point]: [u8; 5]) -> Vec<Vec<u8>> {
+    let [has_prefix, has_suffix, is_positive, ..] = CONDITIONS.map(|number| is_set(required, number));
+    let mut more: Vec<Vec<u8>> = vec![vec![]];
+    let mut extend = |pieces: &[&[u8]]| {
+        let longer = |text: &Vec<u8>| pieces.iter().map(|piece| [text, *piece].concat()).collect::<Vec<_>>();
+        more.extend(more.iter().flat_map(longer).collect::<Vec<_>>());
+    };
+    extend(&[if is_positive { b"+" } else { b"-" }]);
+    if has_prefix {
+        extend(&[&[prefix], &[b'0', prefix]]);
+    }
+    // The digits of the last group of an integer, or of the one before it, which the last follows.
+    let groups = [GROUPS, HIGHER].map(|number| size(required, number));
+    let digits: Vec<_> = (1..=groups[0].max(groups[1]).max(1)).map(|count| vec![b'0'; count]).collect();
+    extend(&digits.iter().map(Vec::as_slice).collect::<Vec<_>>());
+    if groups[0] > 0 {
+        extend(&[&[&[separator], &vec![b'0'; groups[0]][..]].concat()]);
+    }
+    for byte in [point, b'0', exponent, b'-', b'0'].into_iter().filter(|&byte| byte != 0) {
+        extend(&[&[byte]]);
+    }
+    if has_suffix {
+        let ended = more.iter().map(|text| [text, &[suffix][..]].concat());
+        more = iter::once(vec![]).chain(ended).collect();
+    }
+    more.sort_by_key(|text| (text.len(), text.clone()));
+    more.dedup();
+    more
+}
+
 impl Syntax {
     fn new(word: u128, options: Option<(u8, u8)>, required: u128) -> Self {
         let word = Format::new(word).unwrap().normal_form().word() | required;
@@ -89,32 +120,7 @@ impl Syntax {
             _ if matches(byte, suffix, 17) => Some(Role::Suffix),
             _ => None,
         };
-        let [has_prefix, has_suffix, is_positive, ..] = CONDITIONS.map(|number| is_set(required, number));
-        let mut more: Vec<Vec<u8>> = vec![vec![]];
-        let mut extend = |pieces: &[&[u8]]| {
-            let longer = |text: &Vec<u8>| pieces.iter().map(|piece| [text, *piece].concat()).collect::<Vec<_>>();
-            more.extend(more.iter().flat_map(longer).collect::<Vec<_>>());
-        };
-        extend(&[if is_positive { b"+" } else { b"-" }]);
-        if has_prefix {
-            extend(&[&[prefix], &[b'0', prefix]]);
-        }
-        // The digits of the last group of an integer, or of the one before it, which the last follows.
-        let groups = [GROUPS, HIGHER].map(|number| size(required, number));
-        let digits: Vec<_> = (1..=groups[0].max(groups[1]).max(1)).map(|count| vec![b'0'; count]).collect();
-        extend(&digits.iter().map(Vec::as_slice).collect::<Vec<_>>());
-        if groups[0] > 0 {
-            extend(&[&[&[separator], &vec![b'0'; groups[0]][..]].concat()]);
-        }
-        for byte in [point, b'0', exponent, b'-', b'0'].into_iter().filter(|&byte| byte != 0) {
-            extend(&[&[byte]]);
-        }
-        if has_suffix {
-            let ended = more.iter().map(|text| [text, &[suffix][..]].concat());
-            more = iter::once(vec![]).chain(ended).collect();
-        }
-        more.sort_by_key(|text| (text.len(), text.clone()));
-        more.dedup();
+        let more = completions(required, [separator, prefix, suffix, exponent, point]);
         Self { word, is_integers: options.is_none(), roles: array::from_fn(|byte| role_of(byte as u8)), more }
     }
 
@@ -394,7 +400,8 @@ fn possible(word: u128, required: u128) -> u128 {
     let separates = |flag| is_set(word, flag) && has_byte(64);
     let (has_groups, may_lead) = (is_set(required, GROUPS), !is_set(word, 12) && !is_set(word, 13));
     let (prefix, suffix, higher) = (has_byte(88), has_byte(96), separates(32) && has_groups);
-    let fits = [prefix, suffix, true, separates(32), higher, separates(33), may_lead, may_lead];
+    let fits: [bool; CONDITIONS.len()] =
+        [prefix, suffix, true, separates(32), higher, separates(33), may_lead, may_lead];
     required & mask(iter::zip(CONDITIONS, fits).filter(|it| it.1).map(|it| it.0), |_| true)
 }
 

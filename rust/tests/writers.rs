@@ -567,6 +567,18 @@ fn literals_of(target: &Syntax, most: u32) -> (HashSet<Value>, bool) {
     (values, integers)
 }
 
+/// Returns a pseudo-random text, and a syntax that requires no digits, often of the radix of `target`.
+fn random_literal(state: &mut u64, target: &Syntax, index: usize) -> (Syntax, String) {
+    let radix = if below(state, 8) == 0 { 10 } else { u128::from(target.format().mantissa_radix()) };
+    let source = Syntax::new(random_format(state, radix, Some(0)), b'^', b'.').unwrap();
+    let [integer, fraction] = [(); 2].map(|()| random_digits(state, radix, 6));
+    let exponent = random_digits(state, 10, 3);
+    let (sign, power) = (["", "-"][index % 2], ["^", "^-"][index / 2 % 2]);
+    let point = if fraction.is_empty() { "" } else { "." };
+    let power = if exponent.is_empty() { "" } else { power };
+    (source, format!("{sign}{integer}{point}{fraction}{power}{exponent}"))
+}
+
 /// Each number is written in one of eight styles and, if `ALL_STYLES` is in the environment, in all.
 #[test]
 fn numbers_are_read_back_or_refused_in_any_syntax() {
@@ -604,15 +616,7 @@ fn numbers_are_read_back_or_refused_in_any_syntax() {
             }
         }
         for index in 0..100 {
-            let radix = if below(state, 8) == 0 { 10 } else { u128::from(target.format().mantissa_radix()) };
-            // No digits are required.
-            let source = Syntax::new(random_format(state, radix, Some(0)), b'^', b'.').unwrap();
-            let [integer, fraction] = [(); 2].map(|()| random_digits(state, radix, 6));
-            let exponent = random_digits(state, 10, 3);
-            let (sign, power) = (["", "-"][index % 2], ["^", "^-"][index / 2 % 2]);
-            let point = if fraction.is_empty() { "" } else { "." };
-            let power = if exponent.is_empty() { "" } else { power };
-            let text = format!("{sign}{integer}{point}{fraction}{power}{exponent}");
+            let (source, text) = random_literal(state, &target, index);
             if let Ok(literal) = source.read(&text) {
                 let exact = value(&literal, &source);
                 for style in chosen(index) {

@@ -1,6 +1,7 @@
 //! Number literals: what a literal of a format is, calls that read one, and why a text is not one.
 //!
-//! A [`Syntax`][syntax::Syntax] reads its literals. Its error has the cause of a refusal.
+//! A [`Syntax`][syntax::Syntax] reads its literals, and [`Forms`][list::Forms] those of several syntaxes, with their suffixes.
+//! An error has the cause of a refusal.
 //! Special values, such as NaN and infinity, are not literals: [`Specials`][specials::Specials] reads them.
 #![tactic(auto)]
 

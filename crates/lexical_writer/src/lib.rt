@@ -1,7 +1,8 @@
 //! Numbers are written as literals of a syntax.
 //!
 //! A number is laid out as the parts of a literal, and the parts are written to any [`Sink`][sink::Sink]. What is written
-//! is a literal of the syntax, and its value is the number. No function allocates memory.
+//! is a literal of the syntax, and its value is the number, or a float that is rounded or the nearest if the style wishes so.
+//! No function allocates memory.
 #![tactic(auto)]
 
 pub mod checked;

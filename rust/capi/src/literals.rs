@@ -49,18 +49,13 @@ impl Syntax {
 
     /// Returns the conditions, or `None` if a later version may have others.
     fn conditions(&self) -> Option<Conditions> {
-        let [a, b, c, d, e, f, g, h, rest @ ..] = self.numbers;
-        let &[first, second, third, fourth, fifth, sixth, seventh, eighth] = Condition::ALL else { return None };
-        let all = Conditions::NONE
-            .with(first, a)
-            .with(second, b)
-            .with(third, c)
-            .with(fourth, d)
-            .with(fifth, e)
-            .with(sixth, f)
-            .with(seventh, g)
-            .with(eighth, h);
-        (rest == [0; 6]).then_some(all)
+        const COUNT: usize = Condition::ALL.len();
+        let (mut all, mut at) = (Conditions::NONE, 0);
+        while at < COUNT {
+            all = all.with(Condition::ALL[at], self.numbers[at]);
+            at += 1;
+        }
+        (self.numbers[COUNT..] == [0; 14 - COUNT]).then_some(all)
     }
 
     /// Returns the syntax, which may not be lawful, or `None` if there is none or if a later version may read it otherwise.
@@ -127,18 +122,18 @@ impl<Shown, T, const WORDS: usize> Made<Shown, T, WORDS> {
 
 /// Where reading stopped: the length of what is valid, and the index of the form that goes so far.
 #[repr(C)]
-pub struct Stop {
+pub struct Reached {
     valid_up_to: usize,
     form: u8,
 }
 
 /// Where reading stopped, and why.
-pub type ReadError = Made<Stop, Refusal<literal::ReadError>, 12>;
+pub type ReadError = Made<Reached, Refusal<literal::ReadError>, 12>;
 
 impl ReadError {
     /// Returns the error of a form that is valid up to an index.
     pub fn at(valid_up_to: usize, form: usize, refusal: Refusal<literal::ReadError>) -> ReadError {
-        Made::new(Stop { valid_up_to, form: form as u8 }, refusal)
+        Made::new(Reached { valid_up_to, form: form as u8 }, refusal)
     }
 }
 
@@ -236,7 +231,8 @@ pub struct Explanation {
     kind: u8,
     number: Setter,
     part: u8,
-    conditions: u8,
+    reserved: u8,
+    conditions: u64,
 }
 
 impl Explanation {
@@ -244,7 +240,7 @@ impl Explanation {
     fn of_bytes(kind: u8, start: usize, end: usize) -> Explanation {
         let (span, code) = (Span { start, end }, error_number(Error::InvalidDigit(start)));
         let (mask, number, part) = (Word::of(0), NO_SETTER, NO_PART);
-        Explanation { span, index: start, mask, code, kind, number, part, conditions: 0 }
+        Explanation { span, index: start, mask, code, kind, number, part, reserved: 0, conditions: 0 }
     }
 }
 
@@ -268,7 +264,8 @@ impl From<literal::ReadError> for Explanation {
             kind,
             number: if mask == 0 { NO_SETTER } else { mask.trailing_zeros() as Setter },
             part: part.map_or(NO_PART, |part| part as u8),
-            conditions: Condition::ALL.iter().rev().fold(0, |bits, &it| bits << 1 | u8::from(unmet.has(it))),
+            reserved: 0,
+            conditions: Condition::ALL.iter().rev().fold(0, |bits, &it| bits << 1 | u64::from(unmet.has(it))),
         }
     }
 }
