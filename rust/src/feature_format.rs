@@ -21,6 +21,17 @@ use crate::view::{FormatView, Role, Separators};
 ///
 /// Any word is allowed, whether or not it is [lawful][crate::Rule]. [`FormatView`] has the same methods for a word that
 /// is known only at run time, but an absent byte is `None` there, and 0 here, as in `lexical-util`.
+///
+/// ```
+/// use peltzivar::{format::STANDARD, NumberFormat};
+///
+/// /// A parser whose format is part of its type.
+/// fn parse_digit<const FORMAT: u128>(byte: u8) -> Option<u32> {
+///     const { assert!(NumberFormat::<FORMAT>::new().is_valid()) };
+///     peltzivar::digit::char_to_digit_const(byte, NumberFormat::<FORMAT>::MANTISSA_RADIX)
+/// }
+/// assert_eq!(parse_digit::<STANDARD>(b'7'), Some(7));
+/// ```
 #[derive(Clone, Copy, PartialEq, Eq, Hash)]
 #[expect(clippy::exhaustive_structs, reason = "written by callers")]
 pub struct NumberFormat<const FORMAT: u128>;

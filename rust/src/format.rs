@@ -48,6 +48,13 @@ macro_rules! constants {
 crate::with_setters!(constants());
 
 /// Returns whether the format word `FORMAT` is lawful, that is, whether [`format_error`] returns `Success` for it.
+///
+/// ```
+/// use peltzivar::format::{format_is_valid, STANDARD};
+///
+/// // A format that another crate exports is checked where it is used.
+/// const _: () = assert!(format_is_valid::<STANDARD>());
+/// ```
 #[must_use]
 pub const fn format_is_valid<const FORMAT: u128>() -> bool {
     NumberFormat::<FORMAT>::new().is_valid()
@@ -80,6 +87,13 @@ impl Format {
 
 impl NumberFormatBuilder {
     /// Returns the view of the word that the builder packs, whether or not the word is [lawful][Rule].
+    ///
+    /// ```
+    /// let view = peltzivar::NumberFormatBuilder::new().mantissa_radix(37).view();
+    /// for reason in view.reasons() {
+    ///     println!("{reason}"); // the mantissa radix 37 is not between 2 and 36
+    /// }
+    /// ```
     #[must_use]
     pub const fn view(&self) -> FormatView {
         FormatView::new(self.build_unchecked())
@@ -150,6 +164,15 @@ impl NumberFormatBuilder {
 
     /// Packs the fields into a word, and returns it as a [`Format`]. Use it in constants, as `build_or_panic`, which
     /// also drops a digit separator that no flag allows.
+    ///
+    /// ```
+    /// use core::num::NonZeroU8;
+    /// use peltzivar::{Format, NumberFormatBuilder};
+    ///
+    /// const FORMAT: Format =
+    ///     NumberFormatBuilder::new().mantissa_radix(16).base_prefix(NonZeroU8::new(b'x')).build_format_or_panic();
+    /// assert_eq!(FORMAT.base_prefix(), NonZeroU8::new(b'x'));
+    /// ```
     ///
     /// # Panics
     ///

@@ -9,6 +9,12 @@ use crate::view::FormatView;
 
 impl FormatView {
     /// Returns the rules that the word breaks, in the order in which rules are checked.
+    ///
+    /// ```
+    /// use peltzivar::{FormatView, Rule};
+    ///
+    /// assert_eq!(FormatView::new(0).broken_rules().next(), Some(Rule::MantissaRadixInRange));
+    /// ```
     pub fn broken_rules(&self) -> impl Iterator<Item = Rule> + Clone {
         let word = self.word();
         RULES.into_iter().filter(move |rule| !rule.is_kept(word))

@@ -202,6 +202,12 @@ impl Settings {
 
     /// Returns the format with the exponent character, the decimal point and the conditions.
     ///
+    /// ```
+    /// let syntax = peltzivar::Settings::read(["point = ','", "exponent = 'e'"])?.build_syntax()?;
+    /// assert_eq!(syntax.parse::<f64>("1,5"), Ok(1.5));
+    /// # Ok::<(), Box<dyn core::error::Error>>(())
+    /// ```
+    ///
     /// # Errors
     ///
     /// If the format is not lawful, if the options do not fit it, if only one of them is `none`, or if the conditions
@@ -404,6 +410,13 @@ impl fmt::Display for Finding {
 ///
 /// `Display` prints a sentence without the index. It names the text, or the name or value in it that is refused, by at
 /// most 40 bytes. A byte that is not printable ASCII is escaped, as in `\x1b`.
+///
+/// ```
+/// let file = "radix=16\nbase_prefix=x\n";
+/// let error = peltzivar::Settings::read(file.lines()).unwrap_err();
+/// assert_eq!(error.index(), 1); // the second line
+/// println!("line {}: {error}", error.index() + 1);
+/// ```
 #[derive(Debug, Clone, Copy, PartialEq, Eq, Hash)]
 pub struct LineError {
     index: usize,

@@ -25,6 +25,14 @@ pub use crate::view::roles::{Role, Separators};
 ///
 /// Every method works on any word, whether or not the word is [lawful][flags::Rule]. The word may be known only at run
 /// time. Getters of fields have the names of the setters of [`NumberFormatBuilder`], which have examples.
+///
+/// ```
+/// use peltzivar::FormatView;
+///
+/// let view = FormatView::new(0x0A0A1000_6200005F_00000000_0000000C);
+/// assert_eq!((view.mantissa_radix(), view.base_prefix().map(u8::from)), (16, Some(b'b')));
+/// assert!(!view.is_valid() && view.error().is_invalid_base_prefix());
+/// ```
 #[derive(Clone, Copy, PartialEq, Eq, PartialOrd, Ord, Hash)]
 pub struct FormatView {
     format: u128,

@@ -10,8 +10,8 @@ calls. All other words, attributes and documentation stay in their order, except
 - the table REPLACED, each row of which has to apply exactly once, and EVERYWHERE;
 - the paths of the crates, and of the two modules in MODULES with the type of the view.
 
-rustfmt does the layout. A word of GHOST that is left, and a clause without braces, are refused with their file and line,
-and then no file is changed. `erase_test.py` compares the words of each file with its source.
+rustfmt does the layout. A word of GHOST that is left, a clause without braces, and what rustfmt cannot read are refused
+with their file and line, and then no file is changed. `erase_test.py` compares the words of each file with its source.
 """
 import pathlib
 import re
@@ -310,7 +310,7 @@ class Source:
             else:
                 word = self.words[index]
                 if word in GHOST | self.laws or not (word.isascii() or word[:2] == "//"):
-                    self.refuse(index, "this is not plain Rust")
+                    self.refuse(index, f"plain Rust has no `{word}` here, so choose another name or form")
                 index += 1
         text, last = "", 0
         for start, end, new in sorted(self.changes):
@@ -326,7 +326,7 @@ def replaced(path):
     for file, old, new in REPLACED:
         if path.match(file):
             if text.count(old) != 1:
-                sys.exit(f"{path}: stands {text.count(old)} times, and not once: {old}")
+                sys.exit(f"{path}: REPLACED in {__file__} needs one such text, and there are {text.count(old)}: {old}")
             text = text.replace(old, new)
     for old, new in EVERYWHERE:
         text = text.replace(old, new)
@@ -344,8 +344,15 @@ def renamed(text, root, own, std):
     return re.sub(rf"\b{VIEW[0]}\b", VIEW[1], text)
 
 
-def laid_out(text):
-    return subprocess.run("rustfmt", cwd=RUST, input=text, stdout=subprocess.PIPE, text=True, check=True).stdout
+def laid_out(path, text):
+    """Returns the text of a source as rustfmt lays it out."""
+    try:
+        run = subprocess.run("rustfmt", cwd=RUST, input=text, capture_output=True, text=True)
+    except FileNotFoundError:
+        sys.exit("missing: rustfmt")
+    at = re.search(r"<stdin>:(\d+)", run.stderr)
+    near = f"near `{text.splitlines()[int(at[1]) - 1].strip()}`, " if at else ""
+    return sys.exit(f"{path}: {near}the plain Rust is not Rust: {run.stderr}") if run.returncode else run.stdout
 
 
 def made_files():
@@ -362,14 +369,14 @@ def made_files():
                 read.append(path)
                 head = f"{MADE} from crates/{crate}/src/{name}: change that file.\n\n"
                 text = head + renamed(Source(path, replaced(path)).erase(), *names)
-                files[RUST.joinpath(folder, stem, *others).with_suffix(".rs")] = laid_out(text)
+                files[RUST.joinpath(folder, stem, *others).with_suffix(".rs")] = laid_out(path, text)
     for pattern, folder in COPIED.items():
         for path in sorted(it for it in CRATES.glob(pattern) if it.name not in NOT_COPIED):
             text = f"{MADE} from crates/{path.relative_to(CRATES)}: change that file.\n\n{path.read_text()}"
             for old, new in TEST_FORMS:
                 text = text.replace(old, new)
             text = re.sub(r"format!\(in rt\.alloc\(\); ([^)]*)\)\?", r"format!(\1)", text)
-            files[RUST.joinpath(folder, path.stem).with_suffix(".rs")] = laid_out(renamed(text, "peltzivar", "crate", "std"))
+            files[RUST.joinpath(folder, path.stem).with_suffix(".rs")] = laid_out(path, renamed(text, "peltzivar", "crate", "std"))
     # The pages that the package has, as modules of its documentation. Cargo packs only files below rust/, and rt takes no
     # links. Links to files that are not in the package lead nowhere outside the repository.
     for name in PAGES:
@@ -378,7 +385,7 @@ def made_files():
         files[RUST / f"{name}.txt"] = re.sub(r"\[([^][]*)\]\((?!#|crate::)[^)]*\)", r"\1", page)
     unused = [old for file, old, _ in REPLACED if not any(path.match(file) for path in read)]
     unused += [old for old, _ in EVERYWHERE if old not in sources]
-    return files if not unused else sys.exit(f"no source has {', '.join(unused)}")
+    return files if not unused else sys.exit(f"{__file__}: no source has these texts of its tables: {', '.join(unused)}")
 
 
 def main():

@@ -21,6 +21,14 @@ mod traits;
 /// The *rank* of a variant is its index in the list of variants, from 0 to 48. Values are ordered by rank, then by the
 /// index that they hold. This order is total, and only identical values compare as equal. Each of the 49 `is_` methods
 /// tests for a different variant, so exactly one of them returns `true`.
+///
+/// ```
+/// use peltzivar::{Error, Format};
+///
+/// assert_eq!(Format::new(0).unwrap_err().code(), Error::InvalidMantissaRadix);
+/// assert_eq!(Error::InvalidDigit(3).index(), Some(&3));
+/// assert_eq!(Error::InvalidDigit(3).to_string(), "lexical parse error: 'invalid digit found' at index 3");
+/// ```
 #[derive(Clone, Copy, Debug)]
 pub enum Error {
     // Parse errors. Each holds the index of the offending byte.

@@ -167,6 +167,13 @@ impl NumberFormatBuilder {
     }
 
     /// Returns the format word for hexadecimal numbers, which is [`from_radix(16)`][Self::from_radix].
+    ///
+    /// ```
+    /// use peltzivar::{literal::Syntax, Format, NumberFormatBuilder};
+    ///
+    /// const HEXADECIMAL: u128 = NumberFormatBuilder::hexadecimal();
+    /// assert_eq!(Syntax::integers(Format::of::<HEXADECIMAL>()).parse::<u16>("c0de"), Ok(0xC0DE));
+    /// ```
     #[must_use]
     pub const fn hexadecimal() -> u128
         ensures word { result ≡ 0x10101000_00000000_00000000_0000000C }
@@ -244,6 +251,14 @@ impl NumberFormatBuilder {
     ///
     /// In `lexical-util`, this method panics instead of returning an error. Call [`build_or_panic`][Self::build_or_panic]
     /// in constants, where a `Result` cannot be unwrapped.
+    ///
+    /// ```
+    /// use peltzivar::{Error, NumberFormatBuilder};
+    ///
+    /// let build = |radix| NumberFormatBuilder::new().mantissa_radix(radix).build_strict();
+    /// assert_eq!(build(8), Ok(0x00000800_00000000_00000000_0000000C));
+    /// assert_eq!(build(37), Err(Error::InvalidMantissaRadix));
+    /// ```
     ///
     /// # Errors
     ///

@@ -29,6 +29,17 @@ pub enum FloatKind {
 }
 
 /// What the literals of a form, or of a suffix, are worth: the kind of its integers, and of its floats.
+///
+/// ```
+/// use peltzivar::literal::{Form, Forms, FloatKind, IntegerKind, Kind, Syntax};
+/// use peltzivar::NumberFormatBuilder;
+///
+/// // As in Java, where a hexadecimal `int` of 32 bits can be negative.
+/// let int = Kind::new(IntegerKind::Wraps(32), FloatKind::Nearest).unwrap();
+/// let syntax = Syntax::integers(NumberFormatBuilder::new().radix(16).build_format_or_panic());
+/// let forms = [Form::new("hexadecimal", syntax).with_kind(int)];
+/// assert_eq!(Forms::new_or_panic(&forms).parse::<i64>("FFFFFFFF"), Ok(-1));
+/// ```
 #[derive(Debug, Clone, Copy, PartialEq, Eq, Hash)]
 pub struct Kind {
     integers: IntegerKind,

@@ -185,6 +185,18 @@ impl<'a> Model for Forms<'a> {
 }
 
 /// A number that has one of several forms.
+///
+/// ```
+/// use peltzivar::literal::{Language, Number};
+///
+/// let described = |text| match Language::TOML.read(text) {
+///     Ok(Number::Literal { literal, .. }) => format!("{literal} in radix {}", literal.radix(peltzivar::Part::Integer)),
+///     Ok(Number::Special(special)) => format!("{special}, which is special"),
+///     Err(error) => error.to_string(),
+/// };
+/// assert_eq!(described("0xFF"), "0xFF in radix 16");
+/// assert_eq!(described("-inf"), "-inf, which is special");
+/// ```
 #[derive(Drop)]
 pub enum Number<'a> {
     /// A literal.
@@ -200,6 +212,15 @@ pub enum Number<'a> {
 
 /// Why a text is not a number of any form: the error of the form that goes furthest in the text. Of several, it is the
 /// first whose cause is not a wrong byte, or the first if the cause of each is one.
+///
+/// ```
+/// use peltzivar::literal::Language;
+///
+/// let (language, text) = (Language::C, "0x1G");
+/// let error = language.read(text).unwrap_err();
+/// assert_eq!((language.forms()[error.form].name(), &text[error.span()]), ("hexadecimal", "G"));
+/// assert_eq!(error.to_string(), "unexpected character 'G'");
+/// ```
 #[derive(Debug, Clone, Copy, PartialEq, Eq, Hash)]
 pub struct FormError {
     /// The index of the form.
@@ -236,6 +257,15 @@ impl<'a> Forms<'a> {
     }
 
     /// Returns the same forms with these special values. The format of the first form decides what flags say of them.
+    ///
+    /// ```
+    /// use peltzivar::literal::{Form, Forms, Specials, Syntax};
+    /// use peltzivar::Format;
+    ///
+    /// let forms = [Form::new("", Syntax::new_or_panic(Format::default(), b'e', b'.'))];
+    /// let list = Forms::new_or_panic(&forms).with_specials(Specials { nan: Some(b"NA"), ..Specials::default() });
+    /// assert!(list.parse::<f64>("NA").unwrap().is_nan());
+    /// ```
     #[must_use]
     pub const fn with_specials(self, specials: Specials<'a>) -> Forms<'a>
         ensures { result ≡ record self.entry { specials = specials.entry } }

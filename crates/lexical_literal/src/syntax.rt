@@ -87,6 +87,18 @@ impl Condition {
 
 /// The conditions of a syntax: for each [`Condition`], its number, which is 1 if it has none, or 0 if the syntax does not have
 /// the condition.
+///
+/// ```
+/// use peltzivar::literal::{Conditions, Language};
+///
+/// // Numbers of a German file, as they are read there, without groups, and without a sign.
+/// let syntax = Language::CSV_DE.forms()[0].syntax();
+/// let conditions = syntax.conditions().integer_group_size(None).no_negative_mantissa_sign(true);
+/// let syntax = syntax.with_conditions(conditions)?;
+/// assert!(syntax.read("12.34").is_ok() && syntax.read("-1").is_err());
+/// assert!(conditions.has(peltzivar::literal::Condition::NegativeSign) && !Conditions::NONE.no_negative_mantissa_sign(true).is_none());
+/// # Ok::<(), peltzivar::literal::ConditionsError>(())
+/// ```
 #[derive(Debug, Clone, Copy, PartialEq, Eq, PartialOrd, Ord, Hash)]
 pub struct Conditions {
     numbers: [u8; CONDITIONS.len()],
@@ -216,6 +228,15 @@ impl Grammar {
 ///
 /// Syntaxes are ordered by the words of their formats, then by the options, and then by the conditions. Integers alone
 /// come first.
+///
+/// ```
+/// use peltzivar::{literal::Syntax, NumberFormatBuilder};
+///
+/// const FORMAT: NumberFormatBuilder = NumberFormatBuilder::new().required_digits(true).no_positive_mantissa_sign(true);
+/// const SYNTAX: Syntax = Syntax::new_or_panic(FORMAT.build_format_or_panic(), b'e', b',');
+/// assert_eq!(SYNTAX.parse::<f64>("-12,5"), Ok(-12.5));
+/// assert_eq!(SYNTAX.read("12.5").unwrap_err().to_string(), "unexpected character '.'");
+/// ```
 #[derive(Clone, Copy, PartialEq, Eq, PartialOrd, Ord, Hash)]
 pub struct Syntax {
     format: Format,
@@ -246,6 +267,16 @@ impl Syntax {
     ///
     /// A builder drops such a separator, and the format has no note on it. The builder's fields have it: in plain Rust,
     /// `Syntax::of` makes the syntax of a builder, and returns the notes on its fields, too.
+    ///
+    /// ```
+    /// use peltzivar::{literal::Syntax, FormatError, NumberFormatBuilder};
+    ///
+    /// let format = NumberFormatBuilder::new().mantissa_radix(16).build_format()?;
+    /// let error = Syntax::new(format, b'e', b'.').unwrap_err();
+    /// assert_eq!(error.to_string(), "the exponent character 'e' is a digit in the mantissa radix 16 and the exponent radix 16");
+    /// assert!(Syntax::new(format, b'p', b'.')?.read("1F.8p1").is_ok());
+    /// # Ok::<(), FormatError>(())
+    /// ```
     ///
     /// # Errors
     ///
@@ -286,6 +317,18 @@ impl Syntax {
     }
 
     /// Returns the same syntax with `conditions`, and no others.
+    ///
+    /// ```
+    /// use peltzivar::literal::{Conditions, ConditionsError, Syntax};
+    /// use peltzivar::Format;
+    ///
+    /// let syntax = Syntax::integers(Format::default());
+    /// let unsigned = syntax.with_conditions(Conditions::NONE.no_negative_mantissa_sign(true))?;
+    /// assert_eq!(unsigned.read("-1").unwrap_err().to_string(), "unexpected minus sign");
+    /// let error = syntax.with_conditions(Conditions::NONE.required_base_prefix(true)).unwrap_err();
+    /// assert_eq!(error.to_string(), "required_base_prefix is set, and the format has no base prefix");
+    /// # Ok::<(), ConditionsError>(())
+    /// ```
     ///
     /// # Errors
     ///
@@ -330,6 +373,13 @@ impl Syntax {
     }
 
     /// Returns the only role of `byte`, or `None` if it plays no role.
+    ///
+    /// ```
+    /// use peltzivar::{literal::Language, Role};
+    ///
+    /// let syntax = Language::CSV_DE.forms()[0].syntax();
+    /// assert_eq!((syntax.role_of(b'.'), syntax.role_of(b',')), (Some(Role::Separator), Some(Role::Point)));
+    /// ```
     #[must_use]
     pub const fn role_of(&self, byte: u8) -> Option<Role>
         ensures { IsOnlyRole (notation_of self.now) byte result }

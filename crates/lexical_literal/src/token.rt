@@ -27,6 +27,13 @@ use crate::syntax::{Condition, Grammar, Syntax};
 use lexical_util::format::Part;
 
 /// A number that a text begins with, and what follows it.
+///
+/// ```
+/// use peltzivar::literal::Language;
+///
+/// let token = Language::C.token("10ul+1").unwrap();
+/// assert_eq!((token.literal.to_u64(), token.suffix, token.rest), (Ok(10), &b"ul"[..], &b"+1"[..]));
+/// ```
 #[derive(Drop)]
 pub struct Token<'a> {
     /// The literal, with the kind that its form and its suffix give it.
@@ -40,6 +47,14 @@ pub struct Token<'a> {
 }
 
 /// Why a text does not begin with a token.
+///
+/// ```
+/// use peltzivar::literal::Language;
+///
+/// let text = "10ux;";
+/// let error = Language::C.token(text).unwrap_err();
+/// assert_eq!(format!("{error}: {}", &text[error.span()]), "unknown suffix: ux");
+/// ```
 #[derive(Debug, Clone, Copy, PartialEq, Eq, Hash)]
 pub enum TokenError {
     /// The list has no rules for tokens.

@@ -155,6 +155,14 @@ pub const fn edit_word(format: u128, edits: &[Edit]) -> u128
 /// if no flag allows one, and the reserved bits, which hold no field, are 0. All other fields are unchanged. Two words
 /// are equivalent if they have the same normal form.
 ///
+/// ```
+/// use peltzivar::edits::normal_form;
+///
+/// // The exponent base and the exponent radix of both are 10.
+/// const SHORT: u128 = 0x00000A00_00000000_00000000_0000000C;
+/// assert_eq!(normal_form(SHORT), normal_form(0x0A0A0A00_00000000_00000000_0000000C));
+/// ```
+///
 /// # Proved of the source
 ///
 /// - The normal form of the result is the result itself. It is equivalent to `format`.

@@ -80,6 +80,15 @@ impl Default for Format {
 impl Format {
     /// Returns `word` as a format if it is lawful.
     ///
+    /// ```
+    /// use peltzivar::Format;
+    ///
+    /// // A word that was read from a file.
+    /// assert!(Format::new(0x00000A00_00000000_00000000_0000000C).is_ok());
+    /// let error = Format::new(0x0A0A1000_6200005F_00000000_0000000C).unwrap_err();
+    /// assert_eq!(error.to_string(), "the base prefix 'b' is a digit in radix 16");
+    /// ```
+    ///
     /// # Errors
     ///
     /// If the word is not lawful, returns an error with the reasons.
@@ -116,6 +125,13 @@ impl Format {
 
     /// Returns the format's [normal form][normal_form]: the canonical word among all equivalent words. The normal form
     /// is lawful too.
+    ///
+    /// ```
+    /// use peltzivar::Format;
+    ///
+    /// let [short, long] = ["0xA0000000000000000000000000C", "0xA0A0A0000000000000000000000000C"].map(|it| it.parse::<Format>().unwrap());
+    /// assert!(short != long && short.normal_form() == long.normal_form());
+    /// ```
     #[must_use]
     pub const fn normal_form(&self) -> Self
         ensures word { result ≡ normal_form_of self.now }

@@ -49,6 +49,15 @@ pub enum ExponentStyle {
 
 /// How numbers are written where a syntax leaves a choice. Each field is a wish: what the syntax forbids is not done, and what
 /// it requires is.
+///
+/// ```
+/// use peltzivar::literal::{Language, Style, WriteError};
+///
+/// let syntax = Language::RUST.forms().as_slice().iter().find(|form| form.name() == "hexadecimal").unwrap().syntax();
+/// let style = Style::PLAIN.group(4).min_digits(8).lowercase();
+/// assert_eq!(syntax.format_integer(0xC0FFEE, style)?.to_string(), "0x00c0_ffee");
+/// # Ok::<(), WriteError>(())
+/// ```
 #[derive(Debug, Clone, Copy, PartialEq, Eq, Hash)]
 pub struct Style {
     /// How many digits a group of the integer has, counted from the right.

@@ -4,6 +4,12 @@ use super::{is_valid_ascii, is_valid_letter};
 
 /// Returns whether every byte of `slc` is allowed ASCII, as [`is_valid_ascii`] defines it. If `slc` is empty, the
 /// result is `true`.
+///
+/// ```
+/// use peltzivar::ascii::is_valid_ascii_slice;
+///
+/// assert!(is_valid_ascii_slice(b"1_000\t") && !is_valid_ascii_slice("1\u{a0}000".as_bytes()));
+/// ```
 #[must_use]
 pub const fn is_valid_ascii_slice(slc: &[u8]) -> bool {
     all_pass::<false>(slc)
@@ -11,6 +17,12 @@ pub const fn is_valid_ascii_slice(slc: &[u8]) -> bool {
 
 /// Returns whether every byte of `slc` is an ASCII letter, uppercase or lowercase. If `slc` is empty, the result is
 /// `true`.
+///
+/// ```
+/// use peltzivar::ascii::is_valid_letter_slice;
+///
+/// assert!(is_valid_letter_slice(b"NaN") && !is_valid_letter_slice(b"1e5"));
+/// ```
 #[must_use]
 pub const fn is_valid_letter_slice(slc: &[u8]) -> bool {
     all_pass::<true>(slc)

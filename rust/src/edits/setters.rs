@@ -191,6 +191,15 @@ pub enum ArgumentKind {
 
 /// A call to a setter of [`NumberFormatBuilder`][crate::format_builder::NumberFormatBuilder], stored as a
 /// value. An edit holds the setter and its argument.
+///
+/// ```
+/// use peltzivar::{Edit, FlagSetter, NumberFormatBuilder};
+///
+/// let edits = [Edit::MantissaRadix(16), Edit::Flag(FlagSetter::RequiredDigits, true)];
+/// let builder = edits.iter().collect::<NumberFormatBuilder>();
+/// assert_eq!(builder, NumberFormatBuilder::new().mantissa_radix(16).required_digits(true));
+/// assert_eq!(edits.map(|edit| edit.to_string()), ["mantissa_radix=16", "required_digits=true"]);
+/// ```
 #[derive(Debug, Clone, Copy, PartialEq, Eq, Hash, PartialOrd, Ord)]
 #[non_exhaustive]
 pub enum Edit {
@@ -318,6 +327,13 @@ fn named(name: &str) -> Option<Setter> {
 
 impl Setter {
     /// Returns the setter with the given name, or `None` if there is no such setter.
+    ///
+    /// ```
+    /// use peltzivar::Setter;
+    ///
+    /// let setter = Setter::from_name("mantissa_radix").unwrap();
+    /// assert_eq!(setter.with_byte(16).unwrap().to_string(), "mantissa_radix=16");
+    /// ```
     #[must_use]
     pub fn from_name(name: &str) -> Option<Setter> {
         named(name)

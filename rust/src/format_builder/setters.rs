@@ -17,6 +17,14 @@ impl NumberFormatBuilder {
     /// separator is not packed into the word. This is not an error: the builder's `notes` report it. In a lawful format,
     /// it is punctuation: a byte that `is_valid_ascii` accepts and that is neither a sign nor a digit in the mantissa
     /// radix or the exponent radix.
+    ///
+    /// ```
+    /// use core::num::NonZeroU8;
+    /// use peltzivar::{literal::Syntax, NumberFormatBuilder};
+    ///
+    /// let builder = NumberFormatBuilder::new().digit_separator(NonZeroU8::new(b'_')).integer_internal_digit_separator(true);
+    /// assert_eq!(Syntax::integers(builder.build_format_or_panic()).parse::<u32>("1_000"), Ok(1000));
+    /// ```
     pub const fn digit_separator(self, character: OptionU8) -> Self {
         self.with_byte(DIGIT_SEPARATOR, byte_or_zero(character))
     }
@@ -30,6 +38,14 @@ impl NumberFormatBuilder {
     ///
     /// It is also used in place of an absent exponent base or exponent radix. In a lawful format, the mantissa radix is
     /// between 2 and 36.
+    ///
+    /// ```
+    /// use peltzivar::{literal::Syntax, NumberFormatBuilder};
+    ///
+    /// let octal = Syntax::integers(NumberFormatBuilder::new().mantissa_radix(8).build_format_or_panic());
+    /// assert_eq!(octal.parse::<u32>("755"), Ok(0o755));
+    /// assert_eq!(octal.read("789").unwrap_err().to_string(), "unexpected character '8'");
+    /// ```
     pub const fn mantissa_radix(self, radix: u8) -> Self {
         self.with_byte(MANTISSA_RADIX, radix)
     }
@@ -38,6 +54,14 @@ impl NumberFormatBuilder {
     ///
     /// `None` means the mantissa radix. In a lawful format, the base is between 2 and 36. If it is 2 and the exponent
     /// character is `p`, then `1p3` means 1 × 2^3.
+    ///
+    /// ```
+    /// use core::num::NonZeroU8;
+    /// use peltzivar::{literal::Syntax, NumberFormatBuilder};
+    ///
+    /// let format = NumberFormatBuilder::new().mantissa_radix(16).exponent_base(NonZeroU8::new(2)).build_format_or_panic();
+    /// assert_eq!(Syntax::new_or_panic(format, b'p', b'.').parse::<f64>("1.8p3"), Ok(12.0)); // 1.5 × 2^3
+    /// ```
     pub const fn exponent_base(self, base: OptionU8) -> Self {
         self.with_byte(EXPONENT_BASE, byte_or_zero(base))
     }
@@ -45,6 +69,15 @@ impl NumberFormatBuilder {
     /// Sets the exponent radix: the radix of the exponent digits.
     ///
     /// `None` means the mantissa radix. In a lawful format, the radix is between 2 and 36.
+    ///
+    /// ```
+    /// use core::num::NonZeroU8;
+    /// use peltzivar::{literal::Syntax, NumberFormatBuilder};
+    ///
+    /// let binary = NumberFormatBuilder::new().mantissa_radix(2).exponent_radix(NonZeroU8::new(10));
+    /// let syntax = Syntax::new_or_panic(binary.build_format_or_panic(), b'e', b'.');
+    /// assert_eq!(syntax.parse::<f64>("1e10"), Ok(1024.0)); // not 2^2
+    /// ```
     pub const fn exponent_radix(self, radix: OptionU8) -> Self {
         self.with_byte(EXPONENT_RADIX, byte_or_zero(radix))
     }
@@ -53,6 +86,15 @@ impl NumberFormatBuilder {
     ///
     /// In a lawful format, it is punctuation: a byte that `is_valid_ascii` accepts and that is neither a sign nor a
     /// digit in the mantissa radix or the exponent radix.
+    ///
+    /// ```
+    /// use core::num::NonZeroU8;
+    /// use peltzivar::{literal::Syntax, NumberFormatBuilder};
+    ///
+    /// let builder = NumberFormatBuilder::new().mantissa_radix(16).base_prefix(NonZeroU8::new(b'x'));
+    /// let syntax = Syntax::integers(builder.build_format_or_panic());
+    /// assert_eq!([syntax.parse("0x1F"), syntax.parse("0X1F"), syntax.parse("1F")], [Ok(31); 3]); // it may be absent
+    /// ```
     pub const fn base_prefix(self, base_prefix: OptionU8) -> Self {
         self.with_byte(BASE_PREFIX, byte_or_zero(base_prefix))
     }
@@ -61,6 +103,14 @@ impl NumberFormatBuilder {
     ///
     /// In a lawful format, it is punctuation: a byte that `is_valid_ascii` accepts and that is neither a sign nor a
     /// digit in the mantissa radix or the exponent radix.
+    ///
+    /// ```
+    /// use core::num::NonZeroU8;
+    /// use peltzivar::{literal::Syntax, NumberFormatBuilder};
+    ///
+    /// let builder = NumberFormatBuilder::new().mantissa_radix(16).base_suffix(NonZeroU8::new(b'h'));
+    /// assert_eq!(Syntax::integers(builder.build_format_or_panic()).parse::<u8>("1Fh"), Ok(31));
+    /// ```
     pub const fn base_suffix(self, base_suffix: OptionU8) -> Self {
         self.with_byte(BASE_SUFFIX, byte_or_zero(base_suffix))
     }
@@ -83,11 +133,29 @@ impl NumberFormatBuilder {
 
     /// Sets whether the format requires a digit in the mantissa of a float. If so, a parser rejects `.`. Otherwise, `.`
     /// is parsed as 0. An empty string is always rejected. The default is `true`.
+    ///
+    /// ```
+    /// use peltzivar::{literal::Syntax, NumberFormatBuilder};
+    ///
+    /// let format = NumberFormatBuilder::new().required_mantissa_digits(false).build_format_or_panic();
+    /// let syntax = Syntax::new_or_panic(format, b'e', b'.');
+    /// assert_eq!(syntax.parse::<f64>("."), Ok(0.0));
+    /// assert!(syntax.read("").is_err());
+    /// ```
     pub const fn required_mantissa_digits(self, flag: bool) -> Self {
         self.with_flags(flags::REQUIRED_MANTISSA_DIGITS, flag)
     }
 
     /// Sets or clears all flags that require digits. An integer parser always requires a digit.
+    ///
+    /// ```
+    /// use peltzivar::{literal::Syntax, NumberFormatBuilder};
+    ///
+    /// let format = NumberFormatBuilder::new().required_digits(true).build_format_or_panic();
+    /// let syntax = Syntax::new_or_panic(format, b'e', b'.');
+    /// assert!(["1", "1.5", "1e5"].iter().all(|text| syntax.read(text).is_ok()));
+    /// assert!([".5", "1.", "1e", "."].iter().all(|text| syntax.read(text).is_err()));
+    /// ```
     pub const fn required_digits(self, flag: bool) -> Self {
         self.with_flags(flags::REQUIRED_DIGITS, flag)
     }
@@ -100,12 +168,30 @@ impl NumberFormatBuilder {
 
     /// Sets whether the format requires a sign before an integer or a float. If so, a parser rejects `1`, and a writer
     /// writes `+1`.
+    ///
+    /// ```
+    /// use peltzivar::literal::{Style, Syntax};
+    ///
+    /// let format = peltzivar::NumberFormatBuilder::new().required_mantissa_sign(true).build_format_or_panic();
+    /// let syntax = Syntax::integers(format);
+    /// assert_eq!(syntax.read("1").unwrap_err().to_string(), "expected a sign");
+    /// assert_eq!(syntax.format_integer(1, Style::PLAIN).unwrap().to_string(), "+1");
+    /// ```
     pub const fn required_mantissa_sign(self, flag: bool) -> Self {
         self.with_flags(flags::REQUIRED_MANTISSA_SIGN, flag)
     }
 
     /// Sets whether the format forbids an exponent in a float. If so, a parser rejects `1e5`, and a writer writes out
     /// all digits.
+    ///
+    /// ```
+    /// use peltzivar::literal::{Style, Syntax};
+    ///
+    /// let format = peltzivar::NumberFormatBuilder::new().no_exponent_notation(true).build_format_or_panic();
+    /// let syntax = Syntax::new_or_panic(format, b'e', b'.');
+    /// assert!(syntax.read("1e5").is_err());
+    /// assert_eq!(syntax.format_float(1e-7, Style::PLAIN).unwrap().to_string(), "0.0000001");
+    /// ```
     pub const fn no_exponent_notation(self, flag: bool) -> Self {
         self.with_flags(flags::NO_EXPONENT_NOTATION, flag)
     }
@@ -124,11 +210,28 @@ impl NumberFormatBuilder {
 
     /// Sets whether the format requires a decimal point before an exponent. If so, a parser rejects `1e5` but accepts
     /// `1.0e5`. No digit is required after that decimal point.
+    ///
+    /// ```
+    /// use peltzivar::{literal::Syntax, NumberFormatBuilder};
+    ///
+    /// let format = NumberFormatBuilder::new().no_exponent_without_fraction(true).build_format_or_panic();
+    /// let syntax = Syntax::new_or_panic(format, b'e', b'.');
+    /// assert!(syntax.read("1e5").is_err() && syntax.read("1.e5").is_ok() && syntax.read("1.0e5").is_ok());
+    /// ```
     pub const fn no_exponent_without_fraction(self, flag: bool) -> Self {
         self.with_flags(flags::NO_EXPONENT_WITHOUT_FRACTION, flag)
     }
 
     /// Sets whether the format forbids all special values. If so, a parser rejects `NaN` and `inf`.
+    ///
+    /// ```
+    /// use peltzivar::literal::{Specials, Syntax};
+    /// use peltzivar::NumberFormatBuilder;
+    ///
+    /// let specials = Specials { nan: Some(b"NaN"), ..Specials::default() };
+    /// let read = |flag| specials.read(&Syntax::integers(NumberFormatBuilder::new().no_special(flag).build_format_or_panic()), "nan");
+    /// assert!(read(false).is_some() && read(true).is_none());
+    /// ```
     pub const fn no_special(self, flag: bool) -> Self {
         self.with_flags(flags::NO_SPECIAL, flag)
     }
@@ -147,6 +250,16 @@ impl NumberFormatBuilder {
 
     /// Sets whether the format forbids leading zeros in a float. If so, a parser rejects `01.0` but accepts `0.1`. It
     /// also rejects `01` as a float.
+    ///
+    /// ```
+    /// use peltzivar::{literal::Syntax, NumberFormatBuilder};
+    ///
+    /// // As in JSON, for integers and floats.
+    /// let builder = NumberFormatBuilder::new().no_integer_leading_zeros(true).no_float_leading_zeros(true);
+    /// let syntax = Syntax::new_or_panic(builder.build_format_or_panic(), b'e', b'.');
+    /// assert!(["0", "0.1", "1e01"].iter().all(|text| syntax.read(text).is_ok()));
+    /// assert!(["01", "00.1", "01e1"].iter().all(|text| syntax.read(text).is_err()));
+    /// ```
     pub const fn no_float_leading_zeros(self, flag: bool) -> Self {
         self.with_flags(flags::NO_FLOAT_LEADING_ZEROS, flag)
     }
@@ -159,6 +272,14 @@ impl NumberFormatBuilder {
 
     /// Sets whether the exponent character is case-sensitive. If so, a parser rejects `1E5` when the exponent character
     /// is `e`. Otherwise, it accepts both cases.
+    ///
+    /// ```
+    /// use peltzivar::{literal::Syntax, NumberFormatBuilder};
+    ///
+    /// let format = NumberFormatBuilder::new().case_sensitive_exponent(true).build_format_or_panic();
+    /// let syntax = Syntax::new_or_panic(format, b'e', b'.');
+    /// assert!(syntax.read("1e5").is_ok() && syntax.read("1E5").is_err());
+    /// ```
     pub const fn case_sensitive_exponent(self, flag: bool) -> Self {
         self.with_flags(flags::CASE_SENSITIVE_EXPONENT, flag)
     }
@@ -191,6 +312,16 @@ impl NumberFormatBuilder {
     }
 
     /// Sets or clears all flags that allow a digit separator between digits.
+    ///
+    /// ```
+    /// use core::num::NonZeroU8;
+    /// use peltzivar::{literal::Syntax, NumberFormatBuilder};
+    ///
+    /// let builder = NumberFormatBuilder::new().digit_separator(NonZeroU8::new(b'_')).internal_digit_separator(true);
+    /// let syntax = Syntax::new_or_panic(builder.build_format_or_panic(), b'e', b'.');
+    /// assert!(syntax.read("1_000.000_1e1_0").is_ok());
+    /// assert!(["_1", "1_", "1__0", "1_.0"].iter().all(|text| syntax.read(text).is_err()));
+    /// ```
     pub const fn internal_digit_separator(self, flag: bool) -> Self {
         self.with_flags(flags::INTERNAL_DIGIT_SEPARATOR, flag)
     }
@@ -268,6 +399,15 @@ impl NumberFormatBuilder {
     }
 
     /// Sets or clears all flags that allow digit separators, including the flag that allows them in special values.
+    ///
+    /// ```
+    /// use core::num::NonZeroU8;
+    /// use peltzivar::{literal::Syntax, NumberFormatBuilder};
+    ///
+    /// let builder = NumberFormatBuilder::new().digit_separator(NonZeroU8::new(b'_')).digit_separator_flags(true);
+    /// let syntax = Syntax::new_or_panic(builder.build_format_or_panic(), b'e', b'.');
+    /// assert_eq!(syntax.parse::<f64>("_1__0_._5_e_1_"), Ok(105.0));
+    /// ```
     pub const fn digit_separator_flags(self, flag: bool) -> Self {
         self.with_flags(flags::DIGIT_SEPARATOR_FLAG_MASK, flag)
     }

@@ -9,6 +9,14 @@ use crate::literal::{
 impl<'a> Forms<'a> {
     /// Returns the list of `forms`, for a constant.
     ///
+    /// ```
+    /// use peltzivar::literal::{Form, Forms, Language};
+    ///
+    /// const FORMS: [Form; 2] = [Language::JSON.forms().as_slice()[0], Language::RUST.forms().as_slice()[1]];
+    /// const LIST: Forms = Forms::new_or_panic(&FORMS);
+    /// assert!(LIST.read("1.5").is_ok());
+    /// ```
+    ///
     /// # Panics
     ///
     /// If there are no forms.
@@ -94,6 +102,15 @@ impl<'a> IntoIterator for &Forms<'a> {
 
 impl<'a> Number<'a> {
     /// Returns the literal, or `None` for NaN and infinity.
+    ///
+    /// ```
+    /// use peltzivar::literal::Language;
+    ///
+    /// let literal = Language::TOML.read("0x1F")?.literal().unwrap();
+    /// assert_eq!((literal.prefix(), literal.to_u64()), (&b"0x"[..], Ok(31)));
+    /// assert!(Language::TOML.read("nan")?.literal().is_none());
+    /// # Ok::<(), peltzivar::literal::FormError>(())
+    /// ```
     #[must_use]
     pub const fn literal(&self) -> Option<Literal<'a>> {
         match self {

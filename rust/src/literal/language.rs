@@ -38,6 +38,14 @@ struct Definition {
 
 impl Language {
     /// Returns the language with a [name][Self::name], in either case, such as `c_sharp`.
+    ///
+    /// ```
+    /// use peltzivar::literal::Language;
+    ///
+    /// let language = Language::from_name("c_sharp").unwrap();
+    /// assert_eq!(language.parse::<u8>("0b1111_0000"), Ok(0xF0));
+    /// assert_eq!("JAVVA".parse::<Language>().unwrap_err().to_string(), "unknown language; did you mean `JAVA`?");
+    /// ```
     #[must_use]
     pub const fn from_name(name: &str) -> Option<Language> {
         let mut index = 0;
@@ -58,6 +66,13 @@ impl Language {
 
     /// Returns the forms of literals, with the spellings of NaN and infinity. A language in which these are names, or do not
     /// exist, has none. [`Number::form`] and [`FormError::form`] are indexes of the forms.
+    ///
+    /// ```
+    /// use peltzivar::literal::Language;
+    ///
+    /// let names = Language::C_SHARP.forms().into_iter().map(|form| form.name());
+    /// assert!(names.eq(["decimal", "hexadecimal", "binary"]));
+    /// ```
     #[must_use]
     pub const fn forms(&self) -> &'static Forms<'static> {
         &self.0.forms
@@ -80,6 +95,14 @@ impl Language {
     /// Returns the longest literal that `text` begins with, and the rest of `text`, as [`Forms::read_prefix`] does. In source
     /// text, [`token`][Self::token] ends numbers as the language does: of `1..2` in RUST, this is `1.`, and the token `1`.
     ///
+    /// ```
+    /// use peltzivar::literal::Language;
+    ///
+    /// let (number, rest) = Language::JSON.read_prefix("-1.5e3, 2]")?;
+    /// assert_eq!((number.to_f64(), rest), (-1500.0, &b", 2]"[..]));
+    /// # Ok::<(), peltzivar::literal::FormError>(())
+    /// ```
+    ///
     /// # Errors
     ///
     /// If `text` does not begin with a literal, returns why it is not one.
@@ -95,6 +118,14 @@ impl Language {
     /// Returns the number that `text` begins with, with its suffix, and the rest, as [`Forms::token`] does. ADA, FORTRAN, NASM,
     /// SQL and languages of data, such as JSON, have no tokens.
     ///
+    /// ```
+    /// use peltzivar::literal::Language;
+    ///
+    /// let token = Language::RUST.token("0xFFu8)").unwrap();
+    /// assert_eq!((token.literal.to_u64(), token.suffix, token.rest), (Ok(255), &b"u8"[..], &b")"[..]));
+    /// assert_eq!(Language::RUST.token("1..2").unwrap().rest, b"..2");
+    /// ```
+    ///
     /// # Errors
     ///
     /// If `text` does not begin with a token, or if the language has none, returns why.
@@ -103,6 +134,14 @@ impl Language {
     }
 
     /// Returns the value of the number `text`, as [`Forms::parse`] does.
+    ///
+    /// ```
+    /// use peltzivar::literal::Language;
+    ///
+    /// assert_eq!(Language::C.parse::<u8>("0xFF"), Ok(255));
+    /// assert_eq!(Language::C.parse::<f64>("0x1.8p1"), Ok(3.0));
+    /// assert_eq!(Language::C.parse::<u8>("0x100").unwrap_err().to_string(), "above 255, the largest u8");
+    /// ```
     ///
     /// # Errors
     ///

@@ -33,6 +33,15 @@ impl Syntax {
 
     /// Returns `text` as a literal.
     ///
+    /// ```
+    /// use peltzivar::{literal::Syntax, Format};
+    ///
+    /// let syntax = Syntax::new_or_panic(Format::default(), b'e', b'.');
+    /// let literal = syntax.read("-1.25e3").unwrap();
+    /// assert_eq!((literal.integer(), literal.fraction(), literal.exponent()), (&b"1"[..], &b"25"[..], &b"3"[..]));
+    /// assert_eq!(syntax.read("1.25;").unwrap_err().valid_up_to(), 4);
+    /// ```
+    ///
     /// # Errors
     ///
     /// If `text` is not a literal, returns why, and how far it is right.
@@ -208,6 +217,15 @@ impl<'a> Literal<'a> {
     }
 
     /// Returns the values of the digits of a part, without digit separators. Each is below the [`radix`][Self::radix].
+    ///
+    /// ```
+    /// use peltzivar::{literal::Language, Part};
+    ///
+    /// let number = Language::RUST.read("0x1_F")?;
+    /// let digits = number.literal().unwrap().digits(Part::Integer); // for a type of numbers of any size
+    /// assert_eq!(digits.fold(0, |sum, digit| 16 * sum + u128::from(digit)), 31);
+    /// # Ok::<(), peltzivar::literal::FormError>(())
+    /// ```
     pub fn digits(&self, part: Part) -> Digits<'a> {
         let bytes = match part {
             Part::Integer => self.integer(),

@@ -12,6 +12,15 @@ use crate::short_text::ShortText;
 impl ReadError {
     /// Returns whether bytes are missing, so that a longer text may be a literal. Then
     /// [`valid_up_to`][Self::valid_up_to] is the length of the text.
+    ///
+    /// ```
+    /// use peltzivar::literal::Syntax;
+    ///
+    /// // While a number is typed.
+    /// let syntax = Syntax::new_or_panic(peltzivar::Format::default(), b'e', b'.');
+    /// assert!(["", "-", "1e", "1e+"].iter().all(|text| syntax.read(text).unwrap_err().is_incomplete()));
+    /// assert!(!syntax.read("1x").unwrap_err().is_incomplete());
+    /// ```
     #[must_use]
     pub const fn is_incomplete(&self) -> bool {
         self.byte().is_none()
@@ -19,6 +28,14 @@ impl ReadError {
 
     /// Returns the range of the bytes to show, which may be empty. A wrong byte is shown with all bytes of its character,
     /// so `&text[span]` does not panic for the `str` that was read.
+    ///
+    /// ```
+    /// use peltzivar::literal::Syntax;
+    ///
+    /// let text = "12€";
+    /// let error = Syntax::integers(peltzivar::Format::default()).read(text).unwrap_err();
+    /// assert_eq!((error.span(), &text[error.span()]), (2..5, "€"));
+    /// ```
     #[must_use]
     pub const fn span(&self) -> Range<usize> {
         let refusal = self.explain();

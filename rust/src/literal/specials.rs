@@ -6,6 +6,15 @@ use crate::format_flags::digit_separator;
 use crate::literal::syntax::{Condition, Grammar, Syntax};
 
 /// The spellings of special values. A spelling that is absent or empty matches no text.
+///
+/// ```
+/// use peltzivar::literal::{Sign, Specials, Spelling, Syntax};
+///
+/// const SPECIALS: Specials = Specials { nan: Some(b"NaN"), inf: Some(b"inf"), infinity: None };
+/// let special = SPECIALS.read(&Syntax::integers(peltzivar::Format::default()), "-INF").unwrap();
+/// assert_eq!((special.sign, special.spelling), (Some(Sign::Minus), Spelling::Inf));
+/// assert_eq!(special.to_f64(), f64::NEG_INFINITY);
+/// ```
 #[derive(Debug, Clone, Copy, PartialEq, Eq, Hash, Default)]
 pub struct Specials<'a> {
     /// The spelling of NaN, such as `NaN`.

@@ -24,6 +24,17 @@ impl Stop {
 }
 
 /// The suffixes of a form: words that belong to a number directly behind it, such as `u8`, and stops.
+///
+/// ```
+/// use peltzivar::literal::{Form, Forms, Suffixes, Syntax, Tokens};
+/// use peltzivar::Format;
+///
+/// static SUFFIXES: Suffixes = Suffixes::new(&[b"u8", b"i32"], &[], &[]);
+/// let forms = [Form::new("decimal", Syntax::integers(Format::default())).with_suffixes(&SUFFIXES)];
+/// let tokens = Tokens::new(&[], &[]);
+/// let token = Forms::new_or_panic(&forms).with_tokens(&tokens).token("10u8;").unwrap();
+/// assert_eq!((token.literal.to_u64(), token.suffix, token.rest), (Ok(10), &b"u8"[..], &b";"[..]));
+/// ```
 #[derive(Debug, Clone, Copy, PartialEq, Eq, Hash)]
 pub struct Suffixes {
     pub(crate) integers: &'static [&'static [u8]],

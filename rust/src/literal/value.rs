@@ -244,6 +244,18 @@ impl fmt::Display for ValueError {
 impl core::error::Error for ValueError {}
 
 /// Why a text has no value in a type.
+///
+/// ```
+/// use peltzivar::literal::{Language, ParseError};
+///
+/// let answer = |text| match Language::JSON.parse::<u8>(text) {
+///     Ok(value) => value.to_string(),
+///     Err(ParseError::Read(error)) => format!("not a number: {error}"),
+///     Err(ParseError::Value(error)) => format!("a number, but {error}"),
+/// };
+/// assert_eq!(answer("01"), "not a number: unexpected leading zero");
+/// assert_eq!(answer("256"), "a number, but above 255, the largest u8");
+/// ```
 #[derive(Debug, Clone, Copy, PartialEq, Eq, Hash)]
 #[allow(clippy::exhaustive_enums, reason = "a text that is a number has a value or no value")]
 pub enum ParseError {
@@ -567,6 +579,15 @@ impl Syntax {
     /// Returns the value of the longest literal that `text` begins with, and the rest of `text`, as
     /// [`read_prefix`][Self::read_prefix] finds them.
     ///
+    /// ```
+    /// use peltzivar::literal::{Syntax, ParseError};
+    ///
+    /// let syntax = Syntax::integers(peltzivar::Format::default());
+    /// let (width, rest) = syntax.parse_prefix::<u16>("640x480")?;
+    /// assert_eq!((width, rest, syntax.parse_prefix::<u16>(&rest[1..])?.0), (640, &b"x480"[..], 480));
+    /// # Ok::<(), ParseError>(())
+    /// ```
+    ///
     /// # Errors
     ///
     /// If `text` does not begin with a literal, or if its value is not one of the type, returns why.
@@ -587,6 +608,14 @@ impl Syntax {
     /// Returns whether literals have values of float types: whether the mantissa radix and the exponent base of the format
     /// are both 10 or both powers of two. Where this is true, [`Literal::to_f64`] returns no error, unless an integer is too
     /// large for its kind.
+    ///
+    /// ```
+    /// use peltzivar::{literal::Syntax, NumberFormatBuilder};
+    ///
+    /// let format = NumberFormatBuilder::new().mantissa_radix(3).build_format_or_panic();
+    /// let syntax = Syntax::new_or_panic(format, b'e', b'.');
+    /// assert!(!syntax.supports_floats() && syntax.parse::<f64>("0.1").is_err() && syntax.parse::<u8>("21") == Ok(7));
+    /// ```
     #[must_use]
     pub const fn supports_floats(&self) -> bool {
         float::supports_floats(self.as_grammar().view())

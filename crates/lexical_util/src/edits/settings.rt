@@ -167,6 +167,14 @@ impl Edit {
     /// Parses `value` as the argument of the setter `name`, as [`Setter::parse`] does. White space at both ends of the
     /// name is skipped, too.
     ///
+    /// ```
+    /// use peltzivar::{Edit, EditErrorKind};
+    ///
+    /// assert_eq!(Edit::from_setting("mantissa_radix", "16"), Ok(Edit::MantissaRadix(16)));
+    /// let error = Edit::from_setting("mantissa_radix", "true").unwrap_err();
+    /// assert_eq!((error.kind(), error.name()), (EditErrorKind::BadValue, Some("mantissa_radix")));
+    /// ```
+    ///
     /// # Errors
     ///
     /// Returns an [`EditError`] if no setter has the name, or if the setter does not take the value.

@@ -145,6 +145,13 @@ impl NumberFormat {
     /// ([`is_valid_options_punctuation`][flags::is_valid_options_punctuation]), no byte plays two roles. For any other
     /// word or options, the result is the first role that `byte` plays, in the order of the variants of [`Role`].
     ///
+    /// ```
+    /// use peltzivar::{format::STANDARD, FormatView, Role};
+    ///
+    /// let roles = b"1.5e+".map(|byte| FormatView::new(STANDARD).role_of(b'e', b'.', byte).unwrap());
+    /// assert_eq!(roles, [Role::Digit, Role::Point, Role::Digit, Role::Exponent, Role::Sign]);
+    /// ```
+    ///
     /// # Proved of the source
     ///
     /// - If the word is lawful and accepts these options, `byte` plays the returned role and no other.
