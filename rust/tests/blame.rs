@@ -1,12 +1,16 @@
 //! What masks mean, by search: a reason stays while the bits under its mask stay, and so does a note. What a note names
 //! can be cleared without effect.
 
+#[path = "../../compare/rust/src/random.rs"]
+mod random;
+
 use peltzivar::format::{
     BASE_PREFIX, BASE_SUFFIX, DIGIT_SEPARATOR, EXPONENT_BASE, EXPONENT_RADIX, FLAG_MASK, MANTISSA_RADIX,
 };
 use peltzivar::format_flags::is_valid_options_punctuation;
 use peltzivar::reasons::Note;
 use peltzivar::{FormatView, Reason, Rule};
+use random::Random;
 use std::collections::BTreeSet;
 use std::iter;
 
@@ -18,29 +22,16 @@ const VALUES: [u8; 20] = *b"\0\x01\x02\x0A\x10\x24\x25+-5fFhHxX_$e\xC8";
 /// Exponent characters and decimal points.
 const OPTIONS: [[u8; 2]; 5] = [*b"h_", *b"xX", *b"$$", *b"5-", *b"ef"];
 
-struct Random(u64);
-
-impl Random {
-    fn bits(&mut self) -> u128 {
-        (0..4).fold(0, |bits, _| {
-            self.0 = self.0.wrapping_mul(6364136223846793005).wrapping_add(1442695040888963407);
-            bits << 32 | u128::from(self.0 >> 32)
-        })
-    }
-
-    /// Returns a word with a quarter of the flags and, often, lawful radixes, no punctuation and no reserved bits.
-    fn word(&mut self) -> u128 {
-        let mut draw = |of: usize| self.bits() as usize % of;
-        let values = BYTES.map(|field| match (field, draw(2)) {
-            (MANTISSA_RADIX, 1) => 10,
-            (_, 1) => 0,
-            _ => VALUES[draw(VALUES.len())],
-        });
-        let has_reserved = draw(4) == 0;
-        let reserved = if has_reserved { self.bits() & Rule::ReservedBitsAreZero.mask() } else { 0 };
-        let flags = self.bits() & self.bits() & FLAG_MASK;
-        BYTES.iter().zip(values).fold(flags | reserved, |word, (field, value)| with(word, *field, value))
-    }
+/// Returns a word with a quarter of the flags and, often, lawful radixes, no punctuation and no reserved bits.
+fn random_word(random: &mut Random) -> u128 {
+    let values = BYTES.map(|field| match (field, random.one_in(2)) {
+        (MANTISSA_RADIX, true) => 10,
+        (_, true) => 0,
+        _ => random.pick(&VALUES),
+    });
+    let reserved = if random.one_in(4) { random.bits() & Rule::ReservedBitsAreZero.mask() } else { 0 };
+    let flags = random.bits() & random.bits() & FLAG_MASK;
+    BYTES.iter().zip(values).fold(flags | reserved, |word, (field, value)| with(word, *field, value))
 }
 
 /// Returns a word with another value of a byte.
@@ -50,10 +41,10 @@ fn with(word: u128, field: u128, value: u8) -> u128 {
 
 /// Returns words that agree with a word under a mask: each with another bit or byte, and random ones.
 fn alike(word: u128, mask: u128) -> impl Iterator<Item = u128> {
-    let mut random = Random(word as u64);
+    let mut random = Random::new(word as u64);
     let bits = (0..128).map(move |bit| word ^ 1 << bit);
     let bytes = BYTES.iter().flat_map(move |field| VALUES.iter().map(move |value| with(word, *field, *value)));
-    let others = (0..32).map(move |_| random.word());
+    let others = (0..32).map(move |_| random_word(&mut random));
     bits.chain(bytes).chain(others).map(move |other| word & mask | other & !mask)
 }
 
@@ -115,8 +106,8 @@ fn what_notes_name_has_no_effect(word: u128) {
 /// Tests a word for each way to break at most two rules, and for each pair of rules if more are broken.
 #[test]
 fn masks_have_what_reasons_and_notes_depend_on() {
-    let (mut random, mut seen) = (Random(1), BTreeSet::new());
-    for word in iter::repeat_with(|| random.word()).take(50_000) {
+    let (mut random, mut seen) = (Random::new(1), BTreeSet::new());
+    for word in iter::repeat_with(|| random_word(&mut random)).take(50_000) {
         let broken = Vec::from_iter(FormatView::new(word).broken_rules());
         if seen.insert((broken.len() > 2, broken.into_iter().take(2).collect::<Vec<_>>())) {
             reasons_stay(word);

@@ -1,23 +1,19 @@
 //! Floats that are written: they are read back as the same bits, by as few digits as std's.
 
+#[path = "../../compare/rust/src/random.rs"]
+mod random;
+
 use peltzivar::format::{FLAG_MASK, STANDARD};
 use peltzivar::literal::{
     Condition, Conditions, ExponentStyle, FromLiteral, Language, Style, Syntax, WriteError, WriteFloat,
 };
 use peltzivar::Format;
+use random::Random;
 use std::fmt::{Debug, LowerExp};
 
 /// How many floats are written: `FLOATS=1000000 cargo test --release --test floats` writes more.
 fn count() -> usize {
     std::env::var("FLOATS").map_or(2_000, |count| count.parse().unwrap())
-}
-
-/// Returns the next pseudo-random number.
-fn next(state: &mut u64) -> u64 {
-    *state ^= *state << 13;
-    *state ^= *state >> 7;
-    *state ^= *state << 17;
-    state.wrapping_mul(0x2545_F491_4F6C_DD1D)
 }
 
 /// A float type, and its bits.
@@ -55,11 +51,11 @@ impl Bits for f32 {
 }
 
 /// Returns a float: of any bits, small or large, a power of two or beside one, subnormal, a decimal, or an integer.
-fn float<F: Bits>(state: &mut u64) -> F {
-    let bits = next(state);
+fn float<F: Bits>(state: &mut Random) -> F {
+    let bits = state.next();
     let [small, large] = [bits % 1_000_000, bits >> 20];
     let sign = if bits >> 63 == 0 { 1.0 } else { -1.0 };
-    match next(state) % 10 {
+    match state.next() % 10 {
         0 => F::of(bits >> F::FRACTION << F::FRACTION),
         1 => F::of((bits >> F::FRACTION << F::FRACTION).wrapping_add(1)),
         2 => F::of((bits >> F::FRACTION << F::FRACTION).wrapping_sub(1)),
@@ -114,7 +110,7 @@ fn is_read_back<F: Bits>(value: F, syntax: &Syntax, style: Style) {
 
 #[test]
 fn floats_are_read_back_in_the_decimal_form_of_each_language() {
-    let state = &mut 20_261_128;
+    let state = &mut Random::new(20_261_128);
     for _ in 0..count() {
         for language in Language::ALL {
             let syntax = language.forms()[0].syntax();
@@ -190,12 +186,12 @@ fn a_style_decides_on_the_exponent() {
 #[test]
 fn floats_are_rounded_as_std_rounds_them() {
     let json = Language::JSON.forms()[0].syntax();
-    let state = &mut 20_261_130;
+    let state = &mut Random::new(20_261_130);
     for index in 0..20 * count() {
-        let places = if index % 10 == 0 { next(state) % 256 } else { next(state) % 21 };
+        let places = if index % 10 == 0 { state.next() % 256 } else { state.next() % 21 };
         // One more digit than `places`, the last of which is a 5, is a tie.
-        let value = match next(state) % 4 {
-            0 => (next(state) >> (11 + places % 50) | 1) as f64 / 2_f64.powi(places as i32 + 1),
+        let value = match state.next() % 4 {
+            0 => (state.next() >> (11 + places % 50) | 1) as f64 / 2_f64.powi(places as i32 + 1),
             _ => float::<f64>(state),
         };
         let style = Style::PLAIN.decimals(places as u8);
@@ -250,7 +246,7 @@ fn floats_are_rounded_where_a_style_wishes() {
 
 #[test]
 fn each_float_form_of_ada_reads_floats_with_a_point() {
-    let state = &mut 20_261_131;
+    let state = &mut Random::new(20_261_131);
     let forms = Language::ADA.forms();
     for form in forms.as_slice().iter().filter(|form| form.syntax().point().is_some()) {
         for value in [1e16, 1e-7, 1e300, 5e-324, 0.5, 12.0] {
@@ -266,8 +262,8 @@ fn each_float_form_of_ada_reads_floats_with_a_point() {
 }
 
 /// Returns a pseudo-random syntax whose radix and exponent base are 10 or powers of two.
-fn random_syntax(state: &mut u64) -> Syntax {
-    let mut pick = |bytes: &[u8]| u128::from(bytes[(next(state) % bytes.len() as u64) as usize]);
+fn random_syntax(state: &mut Random) -> Syntax {
+    let mut pick = |bytes: &[u8]| u128::from(bytes[(state.next() % bytes.len() as u64) as usize]);
     loop {
         let radix = pick(&[10, 10, 10, 10, 2, 4, 8, 16, 16, 32]);
         let base = if radix == 10 { 10 } else { pick(&[2, 2, 4, 8, 16, 32, radix as u8]) };
@@ -287,7 +283,7 @@ fn random_syntax(state: &mut u64) -> Syntax {
 
 #[test]
 fn floats_are_read_back_or_refused_in_any_syntax() {
-    let state = &mut 20_261_129;
+    let state = &mut Random::new(20_261_129);
     for _ in 0..1000 {
         let syntax = random_syntax(state);
         for index in 0..count() / 100 {

@@ -5,9 +5,13 @@
 //!
 //!     cargo test --release --test recogniser -- --ignored
 
+#[path = "../../compare/rust/src/random.rs"]
+mod random;
+
 use core::{array, iter, mem, ops::Range};
 use peltzivar::literal::{self, Condition, Conditions, Form, Language, Literal, Place, ReadError, ReadErrorKind};
 use peltzivar::{format::FLAG_MASK, Error, Format, Part, Role};
+use random::Random;
 use std::collections::BTreeSet;
 use {Error::*, Piece::*};
 
@@ -320,19 +324,13 @@ impl Syntax {
     }
 }
 
-/// Returns the next pseudo-random number below `bound`.
-fn below(state: &mut u64, bound: u64) -> u64 {
-    *state = state.wrapping_mul(6_364_136_223_846_793_005).wrapping_add(1_442_695_040_888_963_407);
-    (*state >> 32) % bound
-}
-
 /// Returns a pseudo-random word, which is seldom lawful.
-fn random_word(state: &mut u64) -> u128 {
-    let sparseness = 2 + 2 * below(state, 2);
-    let flags = mask(0..45, |_| below(state, sparseness) == 0) & FLAG_MASK;
-    let [separator, prefix, other] = [(); 3].map(|()| below(state, 3).min(1) * below(state, 127));
-    let suffix = if below(state, 8) == 0 { prefix ^ 0x20 } else { other };
-    let [radix, base, exponent_radix] = [(); 3].map(|()| below(state, 37));
+fn random_word(state: &mut Random) -> u128 {
+    let sparseness = 2 + 2 * state.below(2);
+    let flags = mask(0..45, |_| state.below(sparseness) == 0) & FLAG_MASK;
+    let [separator, prefix, other] = [(); 3].map(|()| state.below(3).min(1) * state.below(127));
+    let suffix = if state.below(8) == 0 { prefix ^ 0x20 } else { other };
+    let [radix, base, exponent_radix] = [(); 3].map(|()| state.below(37));
     let bytes = separator | prefix << 24 | suffix << 32 | radix << 40 | base << 48 | exponent_radix << 56;
     u128::from(bytes) << 64 | flags
 }
@@ -372,7 +370,7 @@ fn compare(word: u128, options: Option<(u8, u8)>, required: u128, bytes: &[u8], 
     let library = library.with_conditions(conditions(required)).unwrap();
     let differs = |&byte: &u8| library.role_of(byte) != syntax.roles[usize::from(byte)];
     assert_eq!((0..=255).find(differs), None, "the first byte with another role in {name}");
-    let mut random = 1;
+    let mut random = Random::new(1);
     // With each text are the parts of its longest front that is a literal, and why a front begins no literal.
     let mut texts = vec![(Vec::new(), None, None)];
     while let Some((text, front, wrong)) = texts.pop() {
@@ -387,7 +385,7 @@ fn compare(word: u128, options: Option<(u8, u8)>, required: u128, bytes: &[u8], 
             assert_eq!(answer(read), wanted, "{} in {name}", text.escape_ascii());
         }
         for &byte in bytes {
-            if text.len() < longest && (text.is_empty() || below(&mut random, 8) < eighths) {
+            if text.len() < longest && (text.is_empty() || random.below(8) < eighths) {
                 texts.push(([&text[..], &[byte]].concat(), front.clone(), wrong.clone()));
             }
         }
@@ -423,18 +421,18 @@ fn compare_all(longest: usize, words: usize, eighths: u64) {
             compare(word, options, required, &hostile_bytes(word, options)[..10], longest, eighths);
         }
     }
-    let mut random = 2;
+    let mut random = Random::new(2);
     for _ in 0..words {
         let format = iter::repeat_with(|| random_word(&mut random)).find_map(|word| Format::new(word).ok()).unwrap();
         let word = format.word();
         let fits = |&(exponent, point): &(u8, u8)| literal::Syntax::new(format, exponent, point).is_ok();
-        let some_options = || (below(&mut random, 127) as u8, below(&mut random, 127) as u8);
+        let some_options = || (random.below(127) as u8, random.below(127) as u8);
         let options = iter::repeat_with(some_options).find(fits);
         for options in [options, None] {
-            let sizes = [(); 3].map(|()| [0, 2, 3][below(&mut random, 3) as usize]);
-            let required = possible(word, sized(below(&mut random, 32), sizes));
+            let sizes = [(); 3].map(|()| [0, 2, 3][random.below(3) as usize]);
+            let required = possible(word, sized(random.below(32), sizes));
             let mut pool = hostile_bytes(word, options);
-            let bytes: [u8; 10] = array::from_fn(|_| pool.swap_remove(below(&mut random, pool.len() as u64) as usize));
+            let bytes: [u8; 10] = array::from_fn(|_| pool.swap_remove(random.below(pool.len() as u64) as usize));
             compare(word, options, required, &bytes, 4, eighths);
         }
     }
@@ -447,11 +445,11 @@ fn compare_all(longest: usize, words: usize, eighths: u64) {
 }
 
 /// Returns a word with the separator `,` and flags 32 to 34, and with random requirements and random flags on separators.
-fn group_word(state: &mut u64) -> u128 {
+fn group_word(state: &mut Random) -> u128 {
     let flags = mask(0..44, |flag| match flag {
-        0..=3 | 6 | 12 | 13 => below(state, 4) == 0,
+        0..=3 | 6 | 12 | 13 => state.below(4) == 0,
         32..=34 => true,
-        35..=43 => below(state, 2) == 0,
+        35..=43 => state.below(2) == 0,
         _ => false,
     });
     flags | u128::from(b',') << 64 | 0x0A0A0A << 104

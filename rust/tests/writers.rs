@@ -1,11 +1,15 @@
 //! Writers: what is written, and that it is read back with the same value.
 
+#[path = "../../compare/rust/src/random.rs"]
+mod random;
+
 use peltzivar::format::FLAG_MASK;
 use peltzivar::literal::{
     Condition, Conditions, ExponentStyle, Form, Forms, FromLiteral, Kind, Language, Literal, Sign, Special, Specials,
     Spelling, Style, Syntax, WriteError, WriteInteger,
 };
 use peltzivar::{Format, NumberFormatBuilder, Part, Settings};
+use random::Random;
 use std::collections::{BTreeMap, HashSet};
 use std::{fmt::Debug, num::NonZeroU8};
 
@@ -483,21 +487,15 @@ fn a_zero_is_written_where_a_number_may_not_begin_with_another_digit() {
     }
 }
 
-/// Returns the next pseudo-random number below `bound`.
-fn below(state: &mut u64, bound: u64) -> u64 {
-    *state = state.wrapping_mul(6_364_136_223_846_793_005).wrapping_add(1_442_695_040_888_963_407);
-    (*state >> 32) % bound
-}
-
 /// Returns one of some bytes, as a number.
-fn pick(state: &mut u64, bytes: &[u8]) -> u128 {
-    bytes[below(state, bytes.len() as u64) as usize].into()
+fn pick(state: &mut Random, bytes: &[u8]) -> u128 {
+    state.pick(bytes).into()
 }
 
 /// Returns a pseudo-random format with a mantissa radix, whose flags are `flags` or any others.
-fn random_format(state: &mut u64, radix: u128, flags: Option<u128>) -> Format {
+fn random_format(state: &mut Random, radix: u128, flags: Option<u128>) -> Format {
     loop {
-        let drawn = (0..45).filter(|_| below(state, 4) == 0).fold(0, |flags, bit| flags | 1 << bit) & FLAG_MASK;
+        let drawn = (0..45).filter(|_| state.below(4) == 0).fold(0, |flags, bit| flags | 1 << bit) & FLAG_MASK;
         let (separator, prefix) = (pick(state, b"\0_,"), pick(state, b"\0x"));
         let (suffix, base) = (pick(state, b"\0h"), pick(state, &[0, 2, 10, radix as u8]));
         let bytes = [(separator, 64), (prefix, 88), (suffix, 96), (radix, 104), (base, 112), (10, 120)];
@@ -509,21 +507,21 @@ fn random_format(state: &mut u64, radix: u128, flags: Option<u128>) -> Format {
 }
 
 /// Returns a pseudo-random syntax, often with conditions.
-fn random_syntax(state: &mut u64) -> Syntax {
+fn random_syntax(state: &mut Random) -> Syntax {
     let radix = pick(state, &[10, 10, 10, 16, 16, 4, 3, 30]);
     let format = random_format(state, radix, None);
-    let options = Syntax::new(format, b'^', b'.').ok().filter(|_| below(state, 4) > 0);
+    let options = Syntax::new(format, b'^', b'.').ok().filter(|_| state.below(4) > 0);
     let syntax = options.unwrap_or(Syntax::integers(format));
-    let mut draw = || below(state, 3) == 0;
+    let mut draw = || state.below(3) == 0;
     let conditions = Conditions::NONE.required_base_prefix(draw()).no_negative_mantissa_sign(draw());
-    let sizes = draw().then_some(2 + below(state, 3) as u8);
+    let sizes = draw().then_some(2 + state.below(3) as u8);
     syntax.with_conditions(conditions.integer_group_size(sizes)).unwrap_or(syntax)
 }
 
 /// Returns digits of a radix, at most `most`.
-fn random_digits(state: &mut u64, radix: u128, most: u64) -> String {
-    let digit = |state: &mut u64| if below(state, 3) == 0 { 0 } else { below(state, radix as u64) as u32 };
-    (0..below(state, most + 1)).map(|_| char::from_digit(digit(state), 36).unwrap()).collect()
+fn random_digits(state: &mut Random, radix: u128, most: u64) -> String {
+    let digit = |state: &mut Random| if state.below(3) == 0 { 0 } else { state.below(radix as u64) as u32 };
+    (0..state.below(most + 1)).map(|_| char::from_digit(digit(state), 36).unwrap()).collect()
 }
 
 /// Returns whether a number was written with the right value, or refused for a reason.
@@ -568,8 +566,8 @@ fn literals_of(target: &Syntax, most: u32) -> (HashSet<Value>, bool) {
 }
 
 /// Returns a pseudo-random text, and a syntax that requires no digits, often of the radix of `target`.
-fn random_literal(state: &mut u64, target: &Syntax, index: usize) -> (Syntax, String) {
-    let radix = if below(state, 8) == 0 { 10 } else { u128::from(target.format().mantissa_radix()) };
+fn random_literal(state: &mut Random, target: &Syntax, index: usize) -> (Syntax, String) {
+    let radix = if state.below(8) == 0 { 10 } else { u128::from(target.format().mantissa_radix()) };
     let source = Syntax::new(random_format(state, radix, Some(0)), b'^', b'.').unwrap();
     let [integer, fraction] = [(); 2].map(|()| random_digits(state, radix, 6));
     let exponent = random_digits(state, 10, 3);
@@ -582,14 +580,14 @@ fn random_literal(state: &mut u64, target: &Syntax, index: usize) -> (Syntax, St
 /// Each number is written in one of eight styles and, if `ALL_STYLES` is in the environment, in all.
 #[test]
 fn numbers_are_read_back_or_refused_in_any_syntax() {
-    let state = &mut 20_261_127;
+    let state = &mut Random::new(20_261_127);
     let all = std::env::var_os("ALL_STYLES").is_some();
     for turn in 0..500 {
         let target = random_syntax(state);
         // What no literal has is searched in vain.
         let (values, integers) = literals_of(&target, if all { 8 } else { u32::from(turn % 10 == 0) * 5 });
-        let size = 1 + below(state, 4) as usize;
-        let least = Style::PLAIN.min_digits(below(state, 12) as u8);
+        let size = 1 + state.below(4) as usize;
+        let least = Style::PLAIN.min_digits(state.below(12) as u8);
         let styles = [
             Style::PLAIN,
             Style::PLAIN.without_base(),
@@ -602,7 +600,7 @@ fn numbers_are_read_back_or_refused_in_any_syntax() {
         ];
         let chosen = |index: usize| if all { &styles[..] } else { &styles[index % 8..][..1] };
         for index in 0..400 {
-            let value = (u64::from(below(state, 1 << 32) as u32) << 32) as i64 >> below(state, 64);
+            let value = (state.next() << 32) as i64 >> state.below(64);
             for style in chosen(index) {
                 match target.format_integer(value, *style).map(|text| text.to_string()) {
                     Ok(text) if style.exponent == ExponentStyle::Always => assert!(is_integer(&text, value, &target)),
