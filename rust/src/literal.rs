@@ -51,6 +51,8 @@
 #[allow(clippy::redundant_pattern_matching, reason = "as it is proved")]
 mod cause;
 mod conditions;
+#[allow(clippy::match_like_matches_macro, clippy::redundant_pattern_matching, reason = "as it is proved")]
+mod exclude;
 mod forms;
 mod groups;
 mod kind;
