@@ -51,17 +51,13 @@
 #[allow(clippy::redundant_pattern_matching, reason = "as it is proved")]
 mod cause;
 mod conditions;
+#[allow(clippy::match_like_matches_macro, clippy::redundant_pattern_matching, reason = "as it is proved")]
+mod exclude;
 mod forms;
 mod groups;
 mod kind;
 mod language;
-#[allow(
-    clippy::len_zero,
-    clippy::match_like_matches_macro,
-    clippy::redundant_pattern_matching,
-    clippy::exhaustive_enums,
-    reason = "as it is proved, and numbers are of two kinds"
-)]
+#[allow(clippy::len_zero, clippy::exhaustive_enums, reason = "as it is proved, and numbers are of two kinds")]
 mod list;
 #[allow(clippy::module_inception, reason = "as it is proved")]
 mod literal;

@@ -6,6 +6,7 @@
 #![tactic(auto)]
 
 pub mod cause;
+mod exclude;
 mod groups;
 pub mod kind;
 pub mod laws;

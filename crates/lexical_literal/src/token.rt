@@ -15,7 +15,8 @@ ghost use Rattle.lexical_literal.specs.Suffix.{is_digit, kind_with, stop_end};
 ghost use Rattle.lexical_literal.specs.Token.{HasNone, IsAhead, IsReadByTokens, IsToken, IsTokenError, IsRefused, IsWordUpTo, NoCandidate, gives_back, is_shorter};
 ghost use Rattle.lexical_util.specs.Record.{raw};
 
-use crate::list::{Form, FormError, Forms, Tokens, further, sign_size};
+use crate::exclude::sign_size;
+use crate::list::{Form, FormError, Forms, Tokens, further};
 use crate::literal::Literal;
 use crate::plain::{At, Counted};
 use crate::read::{Found, byte_at};

@@ -2,16 +2,15 @@
 
 //! Numbers that have several forms, such as `10`, `0x1F` and `0b1`.
 
-use crate::literal::cause::{other_case, ReadError};
+use crate::literal::cause::ReadError;
+use crate::literal::exclude::{excludes, is_behind, is_settled, sign_size};
 use crate::literal::kind::Kind;
 use crate::literal::literal::Literal;
 use crate::literal::plain::{At, Counted};
 use crate::literal::read::Found;
 use crate::literal::specials::{Special, Specials};
-use crate::literal::steps::{is_digit, role_at};
 use crate::literal::suffix::Suffixes;
-use crate::literal::syntax::{Condition, Grammar, Syntax};
-use crate::word::{Part, Role};
+use crate::literal::syntax::Syntax;
 
 /// A form of numbers: its name, such as `hexadecimal`, its syntax, the suffixes of its tokens, and its kind.
 #[derive(Debug, Clone, Copy, PartialEq, Eq, Hash)]
@@ -440,72 +439,5 @@ impl Syntax {
     pub(crate) const fn stop_in(&self, text: &[u8]) -> At {
         let counted = self.begin_any(text, false);
         self.reach(text, counted)
-    }
-}
-
-// Returns whether the first bytes behind the sign, which has this length, exclude that `text` is a literal: there is not the prefix
-// that is required, or the second plays no role. Then no literal begins with both.
-#[inline(always)]
-const fn excludes(grammar: Grammar, text: &[u8], sign: usize) -> bool {
-    let is_long = sign + 1 < text.len();
-    if grammar.conditions.has(Condition::BasePrefix) {
-        !(is_long && text[sign] == b'0' && grammar.view().is_base_prefix(text[sign + 1]))
-    } else {
-        is_long && plays_no_role(grammar, text[sign + 1])
-    }
-}
-
-// Returns whether a form need not be asked whether `text` is a literal of it: its first bytes exclude that, or the byte where the
-// furthest form stops is a stranger. Then it goes no further.
-#[inline(always)]
-const fn is_behind(grammar: Grammar, text: &[u8], sign: usize, furthest: Option<(usize, At)>) -> bool {
-    excludes(grammar, text, sign)
-        || match furthest {
-            None => false,
-            Some((_, stop)) => is_stranger_at(grammar, text, stop.size),
-        }
-}
-
-// Returns whether no error of a form goes further than one up to `size` whose cause is a wrong byte: the first bytes exclude the form,
-// or the byte there is a stranger.
-const fn is_settled(grammar: Grammar, text: &[u8], size: usize) -> bool {
-    let start = sign_size(text);
-    size > start + 1 && (excludes(grammar, text, start) || is_stranger_at(grammar, text, size))
-}
-
-// Returns whether the byte at `index` is a stranger, if there is one.
-#[inline(always)]
-const fn is_stranger_at(grammar: Grammar, text: &[u8], index: usize) -> bool {
-    index < text.len() && is_stranger(grammar, text[index])
-}
-
-// Returns whether `byte` plays no role behind the base prefix, and its other case neither.
-const fn is_stranger(grammar: Grammar, byte: u8) -> bool {
-    is_spare(grammar, byte) && is_spare(grammar, other_case(byte))
-}
-
-// Returns whether `byte` plays no role, or is only the base prefix.
-#[inline(always)]
-const fn is_spare(grammar: Grammar, byte: u8) -> bool {
-    !is_digit(grammar, Part::Exponent, byte)
-        && match role_at(grammar, Part::Integer, byte) {
-            None => true,
-            Some(Role::Prefix) => true,
-            _ => false,
-        }
-}
-
-// Returns whether `byte` plays no role. Bytes up to `9` are said to play one: most are digits, and a prefix begins with a zero.
-#[inline(always)]
-const fn plays_no_role(grammar: Grammar, byte: u8) -> bool {
-    byte > b'9' && matches!(role_at(grammar, Part::Integer, byte), None) && !is_digit(grammar, Part::Exponent, byte)
-}
-
-// Returns the length of the sign with which `text` begins.
-#[inline(always)]
-pub(crate) const fn sign_size(text: &[u8]) -> usize {
-    match text {
-        [b'+' | b'-', ..] => 1,
-        _ => 0,
     }
 }

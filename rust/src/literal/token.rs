@@ -2,7 +2,8 @@
 
 //! Tokens: numbers in the middle of a text, each with its suffix.
 
-use crate::literal::list::{further, sign_size, Form, FormError, Forms, Tokens};
+use crate::literal::exclude::sign_size;
+use crate::literal::list::{further, Form, FormError, Forms, Tokens};
 use crate::literal::literal::Literal;
 use crate::literal::plain::{At, Counted};
 use crate::literal::read::{byte_at, Found};

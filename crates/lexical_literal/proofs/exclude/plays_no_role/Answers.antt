@@ -1,7 +1,7 @@
 use Rattle.lexical_literal.proofs.Common.{◌∙◌, sym, arith, false≢true, nat_tests}
 use Rattle.lexical_literal.proofs.ExcludeLemmas.{plays_none}
-use Rattle.lexical_literal.proofs.list.plays_no_role.Goals as goal
-use Rattle.lexical_literal.proofs.list.plays_no_role.Goals.{then-byte-gt57+in-None, then-byte-gt57+in_default, else-byte-gt57}
+use Rattle.lexical_literal.proofs.exclude.plays_no_role.Goals as goal
+use Rattle.lexical_literal.proofs.exclude.plays_no_role.Goals.{then-byte-gt57+in-None, then-byte-gt57+in_default, else-byte-gt57}
 
 pub returns-then-matches : goal.returns-then-matches
 returns-then-matches c = λ is. elim c.if-byte-gt57.branch [

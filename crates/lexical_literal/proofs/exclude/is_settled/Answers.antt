@@ -1,7 +1,7 @@
 -- The form goes no further, and if it goes as far, its cause is a wrong byte.
 use Rattle.lexical_literal.proofs.Common.{◌+◌, ◌<◌, subst, notation_of}
 use Rattle.lexical_literal.proofs.StrangerLemmas.{near_is, stranger_is}
-use Rattle.lexical_literal.proofs.list.is_settled.Goals as goal
+use Rattle.lexical_literal.proofs.exclude.is_settled.Goals as goal
 
 pub returns-then-excludes : goal.returns-then-excludes
 returns-then-excludes c = λ is. near_is (notation_of c.args.grammar) c.args.text.now c.args.size

@@ -3,7 +3,7 @@ use Rattle.lexical_literal.proofs.Common.{ℕ, ◌<◌, ◌≤◌, ◌+◌, IfSo
 use Rattle.lexical_literal.specs.Additions.Forms.{bound}
 use Rattle.lexical_literal.specs.declared.plain.At.{At}
 use Rattle.lexical_literal.proofs.StrangerLemmas.{near_spare, spare_excludes}
-use Rattle.lexical_literal.proofs.list.is_behind.Goals as goal
+use Rattle.lexical_literal.proofs.exclude.is_behind.Goals as goal
 
 pub returns-in-Some-clause-none : goal.returns-in-Some-clause-none
 returns-in-Some-clause-none c = λ is.

@@ -1,6 +1,6 @@
 use Rattle.lexical_literal.proofs.Common.{subst, notation_of}
 use Rattle.lexical_literal.specs.Additions.Forms.{IsSpare}
-use Rattle.lexical_literal.proofs.list.is_stranger.Goals as goal
+use Rattle.lexical_literal.proofs.exclude.is_stranger.Goals as goal
 
 pub returns-then-is_spare : goal.returns-then-is_spare
 returns-then-is_spare c = λ is. (

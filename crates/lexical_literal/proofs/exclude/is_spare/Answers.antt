@@ -3,7 +3,7 @@ use Rattle.lexical_util.specs.declared.feature_format.roles.Role.TheVariants as 
 use Rattle.lexical_util.specs.declared.format_flags.Part.TheVariants as parts
 use Rattle.lexical_literal.specs.Additions.Summary.{role_at}
 use Rattle.lexical_literal.proofs.StrangerLemmas.{spare_prefix}
-use Rattle.lexical_literal.proofs.list.is_spare.Goals as goal
+use Rattle.lexical_literal.proofs.exclude.is_spare.Goals as goal
 
 pub returns-in-Some-Prefix : goal.returns-in-Some-Prefix
 returns-in-Some-Prefix c = λ is.

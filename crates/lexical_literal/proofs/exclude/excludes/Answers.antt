@@ -1,7 +1,7 @@
 -- A literal has the prefix that is required, and each of its bytes plays a role.
 use Rattle.lexical_literal.proofs.Common.{◌+◌, ◌∙◌, sym, arith, nat_tests, notation_of}
 use Rattle.lexical_literal.proofs.ExcludeLemmas.{near_no_role, near_prefix, no_role_excludes, prefix_begins}
-use Rattle.lexical_literal.proofs.list.excludes.Goals as goal
+use Rattle.lexical_literal.proofs.exclude.excludes.Goals as goal
 
 pub returns-after-text-sign-eq48-clause-none : goal.returns-after-text-sign-eq48-clause-none
 returns-after-text-sign-eq48-clause-none c = λ is l reads.
