@@ -9,46 +9,21 @@ part word s n = word / 2 ^ s % 2 ^ n
 
 -- `Flag` is the type of the flags.
 pub data Flag : Type 0 where
-  required_integer_digits : Flag
-  required_fraction_digits : Flag
-  required_exponent_digits : Flag
-  required_mantissa_digits : Flag
-  no_positive_mantissa_sign : Flag
-  required_mantissa_sign : Flag
-  no_exponent_notation : Flag
-  no_positive_exponent_sign : Flag
-  required_exponent_sign : Flag
-  no_exponent_without_fraction : Flag
-  no_special : Flag
-  case_sensitive_special : Flag
-  no_integer_leading_zeros : Flag
-  no_float_leading_zeros : Flag
-  required_exponent_notation : Flag
-  case_sensitive_exponent : Flag
-  case_sensitive_base_prefix : Flag
-  case_sensitive_base_suffix : Flag
-  integer_internal_digit_separator : Flag
-  fraction_internal_digit_separator : Flag
-  exponent_internal_digit_separator : Flag
-  integer_leading_digit_separator : Flag
-  fraction_leading_digit_separator : Flag
-  exponent_leading_digit_separator : Flag
-  integer_trailing_digit_separator : Flag
-  fraction_trailing_digit_separator : Flag
-  exponent_trailing_digit_separator : Flag
-  integer_consecutive_digit_separator : Flag
-  fraction_consecutive_digit_separator : Flag
-  exponent_consecutive_digit_separator : Flag
+  required_integer_digits required_fraction_digits required_exponent_digits required_mantissa_digits : Flag
+  no_positive_mantissa_sign required_mantissa_sign no_exponent_notation : Flag
+  no_positive_exponent_sign required_exponent_sign no_exponent_without_fraction : Flag
+  no_special case_sensitive_special : Flag
+  no_integer_leading_zeros no_float_leading_zeros required_exponent_notation : Flag
+  case_sensitive_exponent case_sensitive_base_prefix case_sensitive_base_suffix : Flag
+  integer_internal_digit_separator fraction_internal_digit_separator exponent_internal_digit_separator : Flag
+  integer_leading_digit_separator fraction_leading_digit_separator exponent_leading_digit_separator : Flag
+  integer_trailing_digit_separator fraction_trailing_digit_separator exponent_trailing_digit_separator : Flag
+  integer_consecutive_digit_separator fraction_consecutive_digit_separator exponent_consecutive_digit_separator : Flag
   special_digit_separator : Flag
 
 -- `Byte` is the type of the six bytes.
 pub data Byte : Type 0 where
-  digit_separator : Byte
-  base_prefix : Byte
-  base_suffix : Byte
-  mantissa_radix : Byte
-  exponent_base : Byte
-  exponent_radix : Byte
+  digit_separator base_prefix base_suffix mantissa_radix exponent_base exponent_radix : Byte
 
 -- `bit f` is the bit of the flag `f`.
 abbrev pub bit : Flag → ℕ
@@ -86,12 +61,7 @@ bit special_digit_separator = 44
 
 -- `shift b` is the lowest bit of the byte `b`.
 abbrev pub shift : Byte → ℕ
-shift digit_separator = 64
-shift base_prefix = 88
-shift base_suffix = 96
-shift mantissa_radix = 104
-shift exponent_base = 112
-shift exponent_radix = 120
+shift b = elim b [ digit_separator ↦ 64 | base_prefix ↦ 88 | base_suffix ↦ 96 | mantissa_radix ↦ 104 | exponent_base ↦ 112 | exponent_radix ↦ 120 ]
 
 -- `base_flags` lists the flags below bit 32.
 abbrev pub base_flags : List Flag

@@ -1,5 +1,5 @@
 -- A format as a record of its fields, and the words that express it.
-use Rattle.std.specs.Prelude.{ℕ, ◌+◌, ◌*◌, ◌^◌, ◌<◌, ◌≡◌, ◌==◌, ◌⊎◌, Bool, IsTrue, if◌then◌else◌, sum_by}
+use Rattle.std.specs.Prelude.{ℕ, ◌+◌, ◌*◌, ◌/◌, ◌%◌, ◌^◌, ◌<◌, ◌≡◌, ◌==◌, ◌⊎◌, Bool, IsTrue, if◌then◌else◌, sum_by}
 use Rattle.std.specs.List.{list_any}
 use Rattle.lexical_flags.specs.Layout.{part, Flag, Byte, bit, shift, flags, bytes, digit_separator_flags, IsClean}
 use Rattle.lexical_flags.specs.Layout as layout
@@ -13,9 +13,12 @@ pub record Record : Type 0 where
 abbrev pub set_byte : Record → Byte → ℕ → Record
 set_byte r b value = record r { byte = λ c. if shift c == shift b then value else r.byte c }
 
--- `raw word` is the record of the fields of `word`.
+-- `bytes_of word b` is the byte `b` of `word`, and `raw word` is the record of all fields of `word`.
+abbrev pub bytes_of : ℕ → Byte → ℕ
+bytes_of word b = word / 2 ^ shift b % 2 ^ 8
+
 abbrev pub raw : ℕ → Record
-raw word = record { flag = λ f. part word (bit f) 1 == 1; byte = λ b. part word (shift b) 8 }
+raw word = record { flag = λ f. part word (bit f) 1 == 1; byte = bytes_of word }
 
 -- `effective byte mantissa_radix` is the exponent byte `byte`, or the mantissa radix if `byte` is 0.
 abbrev pub effective : ℕ → ℕ → ℕ

@@ -69,7 +69,7 @@ has_leading_zero D (byte ∷ bytes) = if D byte then (byte == 48) && list_any D 
 
 -- `is_float l` is true if `l` has a decimal point or an exponent. Otherwise, `l` is an integer.
 abbrev pub is_float : Literal → Bool
-is_float l = is_present l.point || is_present l.exponent_character
+is_float l = not (is_absent l.point) || not (is_absent l.exponent_character)
 
 -- `is_zero_led m l` is true if the integer digits of `l` have a leading zero. After a prefix, no zero is a leading one.
 abbrev pub is_zero_led : Notation → Literal → Bool

@@ -4,13 +4,11 @@ use Rattle.std.specs.List.{filter_map}
 use Rattle.std.specs.Int.Digits.{number_from_digits, number_from_digits_after}
 use Rattle.lexical_base.specs.Digits.{digit_of}
 
--- `digits_in radix bytes` lists the values of the digits of `radix` among `bytes`. Other bytes, such as separators, are
--- left out.
+-- `digits_in radix bytes` lists the values of the digits of `radix` among `bytes`. Other bytes, such as separators, are left out.
 abbrev pub digits_in : ℕ → List ℕ → List ℕ
 digits_in radix bytes = filter_map (λ byte. digit_of byte radix) bytes
 
--- `number radix bytes` is the number that the digits among `bytes` represent in `radix`, with the highest digit first.
--- Without digits, it is 0.
+-- `number radix bytes` is the number that the digits among `bytes` represent in `radix`, the highest first. Without digits, it is 0.
 abbrev pub number : ℕ → List ℕ → ℕ
 number radix bytes = number_from_digits radix (digits_in radix bytes)
 

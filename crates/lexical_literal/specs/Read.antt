@@ -1,7 +1,8 @@
 -- A literal that was read.
 use Rattle.std.specs.Prelude.{ℕ, ◌++◌}
+use Rattle.lexical_util.specs.Layout.{Byte}
 use Rattle.lexical_util.specs.Layout as layout
-use Rattle.lexical_util.specs.Record.{Record, effective_exponent_radix}
+use Rattle.lexical_util.specs.Record.{effective}
 use Rattle.lexical_literal.specs.Literal.{Literal}
 use Rattle.lexical_literal.specs.declared.kind.Kind.{Kind}
 use Rattle.lexical_literal.specs.Number.{number}
@@ -12,10 +13,10 @@ pub record Read : Type 0 where
   pub literal : Literal
   pub kind : Kind
 
--- `mantissa r l` is the number that the integer and fraction digits of `l` represent together, and `exponent r l` the number that its
--- exponent digits represent.
-abbrev pub mantissa : Record → Literal → ℕ
-mantissa r l = number (r.byte layout.mantissa_radix) (l.integer ++ l.fraction)
+-- `mantissa b l` is the number of the integer and fraction digits of `l` together in a format with the bytes `b`.
+abbrev pub mantissa : (Byte → ℕ) → Literal → ℕ
+mantissa b l = number (b layout.mantissa_radix) (l.integer ++ l.fraction)
 
-abbrev pub exponent : Record → Literal → ℕ
-exponent r l = number (effective_exponent_radix r) l.exponent
+-- `exponent b l` is the number of the exponent digits of `l`.
+abbrev pub exponent : (Byte → ℕ) → Literal → ℕ
+exponent b l = number (effective (b layout.exponent_radix) (b layout.mantissa_radix)) l.exponent

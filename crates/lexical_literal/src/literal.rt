@@ -13,7 +13,7 @@ ghost use Rattle.lexical_literal.specs.declared.syntax.Grammar.{Grammar};
 ghost use Rattle.lexical_literal.specs.Number.{number, places};
 ghost use Rattle.lexical_literal.specs.Word.{IsShort, IsWord};
 ghost use Rattle.lexical_util.specs.Layout as layout;
-ghost use Rattle.lexical_util.specs.Record.{effective_exponent_radix, raw};
+ghost use Rattle.lexical_util.specs.Record.{bytes_of, effective, raw};
 ghost use Rattle.lexical_util.specs.Rules.{IsRadix};
 
 use crate::kind::Kind;
@@ -150,9 +150,9 @@ impl<'a> Literal<'a> {
     #[must_use]
     #[inline(always)]
     pub const fn mantissa(&self) -> Option<u64>
-        ensures some { IsShort ((raw self.now.format).byte layout.mantissa_radix) (mantissa (raw self.now.format) self.now.literal)
+        ensures some { IsShort (bytes_of self.now.format layout.mantissa_radix) (mantissa (bytes_of self.now.format) self.now.literal)
             → IsSome result }
-        ensures value { IfSome result (λ m. m ≡ mantissa (raw self.now.format) self.now.literal) }
+        ensures value { IfSome result (λ m. m ≡ mantissa (bytes_of self.now.format) self.now.literal) }
     {
         self.mantissa
     }
@@ -161,7 +161,7 @@ impl<'a> Literal<'a> {
     #[must_use]
     #[inline(always)]
     pub const fn places(&self) -> usize
-        ensures { result ≡ places ((raw self.now.format).byte layout.mantissa_radix) self.now.literal.fraction }
+        ensures { result ≡ places (bytes_of self.now.format layout.mantissa_radix) self.now.literal.fraction }
     {
         self.places
     }
@@ -170,9 +170,9 @@ impl<'a> Literal<'a> {
     #[must_use]
     #[inline(always)]
     pub const fn scale(&self) -> Option<u64>
-        ensures some { IsShort (effective_exponent_radix (raw self.now.format)) (exponent (raw self.now.format) self.now.literal)
-            → IsSome result }
-        ensures value { IfSome result (λ e. e ≡ exponent (raw self.now.format) self.now.literal) }
+        ensures some { IsShort (effective (bytes_of self.now.format layout.exponent_radix) (bytes_of self.now.format layout.mantissa_radix))
+            (exponent (bytes_of self.now.format) self.now.literal) → IsSome result }
+        ensures value { IfSome result (λ e. e ≡ exponent (bytes_of self.now.format) self.now.literal) }
     {
         given(self.has_exponent, self.exponent)
     }

@@ -7,7 +7,7 @@ pub use Rattle.core.specs.Dec2flt.Rounding.{IsNearestBits}
 pub use Rattle.lexical_literal.specs.Number.{number, number_after, places}
 pub use Rattle.lexical_literal.specs.Read.{mantissa}
 pub use Rattle.lexical_util.specs.Record.{raw}
-pub use Rattle.lexical_value.specs.Binary.{format_of, raised_down, raised_up}
+pub use Rattle.lexical_value.specs.Float.{format_of, raised_down, raised_up}
 pub use Rattle.std.proofs.lemmas.Bool.Decides.{nat_tests}
 pub use Rattle.std.specs.Cmp.{nat_cmp_is}
 pub use lib.Count.{count_leading_zeros, leading_top}

@@ -14,13 +14,13 @@ use Rattle.lexical_value.specs.Leading.{Leads}
 use Rattle.lexical_value.specs.Value.{denominator, numerator}
 
 -- What holds of the fraction by its parts holds of the value of the literal.
-pub of_value : (P : ℕ → ℕ → Type 0) (r : Record) (l : Literal) (n m b e k : ℕ) (s : Bool) → n ≡ mantissa r l → m ≡ r.byte layout.mantissa_radix
+pub of_value : (P : ℕ → ℕ → Type 0) (r : Record) (l : Literal) (n m b e k : ℕ) (s : Bool) → n ≡ mantissa r.byte l → m ≡ r.byte layout.mantissa_radix
     → b ≡ effective_exponent_base r → e ≡ number (effective_exponent_radix r) l.exponent → k ≡ places (r.byte layout.mantissa_radix) l.fraction
-    → s ≡ is_minus l.exponent_sign → P (n * raised_up s b e) (m ^ k * raised_down s b e) → P (numerator r l) (denominator r l)
+    → s ≡ is_minus l.exponent_sign → P (n * raised_up s b e) (m ^ k * raised_down s b e) → P (numerator r.byte l) (denominator r.byte l)
 of_value P r l n m b e k s N M B E K S is =
-    let up : n * raised_up s b e ≡ numerator r l = λ i. N i * raised_up (S i) (B i) (E i) in
-    let down : m ^ k * raised_down s b e ≡ denominator r l = λ i. M i ^ K i * raised_down (S i) (B i) (E i) in
-    subst (λ d. P (numerator r l) d) down (subst (λ n. P n (m ^ k * raised_down s b e)) up is)
+    let up : n * raised_up s b e ≡ numerator r.byte l = λ i. N i * raised_up (S i) (B i) (E i) in
+    let down : m ^ k * raised_down s b e ≡ denominator r.byte l = λ i. M i ^ K i * raised_down (S i) (B i) (E i) in
+    subst (λ d. P (numerator r.byte l) d) down (subst (λ n. P n (m ^ k * raised_down s b e)) up is)
 
 -- A rounded fraction is no NaN.
 odd_number : (d : ℕ) (s : Bool) (q k l : ℕ) → is_nan (odd d s q k l) ≡ false
@@ -51,6 +51,6 @@ not_true true apart = sym (apart refl)
 not_true false apart = refl
 
 -- In a decimal format, the radix and the base are 10.
-pub decimals : (r : Record) → is_decimal r ≡ true → (10 ≡ r.byte layout.mantissa_radix) × (10 ≡ effective_exponent_base r)
+pub decimals : (r : Record) → is_decimal r.byte ≡ true → (10 ≡ r.byte layout.mantissa_radix) × (10 ≡ effective_exponent_base r)
 decimals r is = let both = and_parts (r.byte layout.mantissa_radix == 10) (effective_exponent_base r == 10) is in
     (sym (eqb-true _ _ both.0), sym (eqb-true _ _ both.1))

@@ -4,7 +4,8 @@ use Rattle.std.proofs.Math.Pow.{mod-mod-pow}
 use Rattle.std.proofs.lemmas.Bool.{false≢true}
 use Rattle.std.specs.Float.{Float, Format}
 use Rattle.lexical_util.specs.Record.{Record}
-use Rattle.lexical_literal.specs.Kind.{exact, width}
+use Rattle.lexical_literal.specs.Kind.{exact}
+use Rattle.lexical_value.specs.Kind.{width}
 use Rattle.lexical_literal.specs.Literal.{Literal}
 use Rattle.lexical_literal.specs.declared.kind.IntegerKind.TheVariants as integers
 use Rattle.lexical_value.specs.Float.{is_binary, is_decimal, nearest}
@@ -22,8 +23,8 @@ pub lowest_bits : (n bits : ℕ) → n % 2 ^ 64 % 2 ^ width bits ≡ n % 2 ^ wid
 lowest_bits n bits = low n (width bits) (omega arith)
 
 -- A literal of the exact kind is worth the number that it represents.
-pub exact_error : (least largest : ℕ) (r : Record) (l : Literal) (error : ValueErrorKind) → IsNotWorth integers.Exact least largest r l error
-    → IsNoInteger least largest r l error
+pub exact_error : (least largest : ℕ) (r : Record) (l : Literal) (error : ValueErrorKind) → IsNotWorth integers.Exact least largest r.byte l error
+    → IsNoInteger least largest r.byte l error
 exact_error least largest r l kinds.Float is = is
 exact_error least largest r l kinds.TooLarge (whole, (sign, above)) = (whole, sign, above)
 exact_error least largest r l kinds.TooSmall (whole, (sign, below)) = (whole, sign, below)
@@ -45,15 +46,15 @@ is_ok (Err error) = false
 abbrev chosen : Bool → Float → Result Float ValueErrorKind
 chosen known x = if not known then Err kinds.UnsupportedRadix else Ok x
 
-pub exact_float : (f : Format) (r : Record) (l : Literal) (x : Float) → float_worth exact f r l ≡ Ok x → x ≡ nearest f r l
-exact_float f r l x same = go (is_decimal r || is_binary r) same where
-  go : (known : Bool) → chosen known (nearest f r l) ≡ Ok x → x ≡ nearest f r l
+pub exact_float : (f : Format) (r : Record) (l : Literal) (x : Float) → float_worth exact f r.byte l ≡ Ok x → x ≡ nearest f r.byte l
+exact_float f r l x same = go (is_decimal r.byte || is_binary r.byte) same where
+  go : (known : Bool) → chosen known (nearest f r.byte l) ≡ Ok x → x ≡ nearest f r.byte l
   go true same = λ i. value_of x (sym same i)
   go false same = absurd (false≢true (ap is_ok same))
 
-pub exact_radix : (f : Format) (r : Record) (l : Literal) (error : ValueErrorKind) → float_worth exact f r l ≡ Err error
-    → ((is_decimal r || is_binary r) ≡ false) × (error ≡ kinds.UnsupportedRadix)
-exact_radix f r l error same = go (is_decimal r || is_binary r) same where
-  go : (known : Bool) → chosen known (nearest f r l) ≡ Err error → (known ≡ false) × (error ≡ kinds.UnsupportedRadix)
+pub exact_radix : (f : Format) (r : Record) (l : Literal) (error : ValueErrorKind) → float_worth exact f r.byte l ≡ Err error
+    → ((is_decimal r.byte || is_binary r.byte) ≡ false) × (error ≡ kinds.UnsupportedRadix)
+exact_radix f r l error same = go (is_decimal r.byte || is_binary r.byte) same where
+  go : (known : Bool) → chosen known (nearest f r.byte l) ≡ Err error → (known ≡ false) × (error ≡ kinds.UnsupportedRadix)
   go true same = absurd (false≢true (ap is_ok (sym same)))
   go false same = (refl, λ i. error_of error (sym same i))

@@ -17,7 +17,7 @@ use Rattle.lexical_value.specs.Integer.{integer_size}
 use Rattle.lexical_value.specs.Value.{SameDigits, SameValue, numerator, power, spelled}
 
 -- The value depends on the mantissa radix, and on the effective exponent base and radix.
-pub same_word : (r s : Record) (l : Literal) → SameFormat r s → SameValue r l s l
+pub same_word : (r s : Record) (l : Literal) → SameFormat r s → SameValue r.byte l s.byte l
 same_word r s l same = record {
   sign = refl;
   numerator = grind (arith, same.mantissa_radix, same.exponent_base, same.exponent_radix);
@@ -56,15 +56,15 @@ module _ (r : Record) (m : Notation) (l k : Literal) (same : SameDigits m l k)
   same_fraction : digits_in radix l.fraction ≡ digits_in radix k.fraction
   same_fraction = same_digits m radix mantissa_apart l.fraction k.fraction same.fraction
 
-  same_mantissa : mantissa r l ≡ mantissa r k
+  same_mantissa : mantissa r.byte l ≡ mantissa r.byte k
   same_mantissa = ap (number_from_digits radix) (filter_map-append _ l.integer l.fraction
       ∙ (λ i. same_digits m radix mantissa_apart l.integer k.integer same.integer i ++ same_fraction i) ∙ sym (filter_map-append _ k.integer k.fraction))
 
-  same_power : power r l ≡ power r k
+  same_power : power r.byte l ≡ power r.byte k
   same_power = ap (λ digits. effective_exponent_base r ^ number_from_digits (effective_exponent_radix r) digits)
       (same_digits m (effective_exponent_radix r) exponent_apart l.exponent k.exponent same.exponent)
 
-  pub same_value : SameValue r l r k
+  pub same_value : SameValue r.byte l r.byte k
   same_value = record {
     sign = same.sign;
     numerator = λ i. same_mantissa i * (if same.exponent_sign i then 1 else same_power i);
@@ -72,7 +72,7 @@ module _ (r : Record) (m : Notation) (l k : Literal) (same : SameDigits m l k)
   }
 
 -- Without fraction digits, the mantissa is the number that the integer digits represent.
-pub integer_mantissa : (r : Record) (l : Literal) → l.fraction ≡ [] → mantissa r l ≡ integer_size r l
+pub integer_mantissa : (r : Record) (l : Literal) → l.fraction ≡ [] → mantissa r.byte l ≡ integer_size r.byte l
 integer_mantissa r l none = ap (number (r.byte layout.mantissa_radix)) (ap (λ bytes. l.integer ++ bytes) none ∙ append-nil l.integer)
 
 -- Without a decimal point, there is no fraction.
@@ -81,11 +81,11 @@ no_fraction m l text reads whole = reads.literal.spelled.after_point (grind arit
 
 -- Without fraction and exponent, the numerator is the number that the integer digits represent.
 pub integer_numerator : (m : Notation) (r : Record) (l : Literal) (text : List ℕ) → Reads m l text → IsFalse (is_float l)
-    → numerator r l ≡ integer_size r l
+    → numerator r.byte l ≡ integer_size r.byte l
 integer_numerator m r l text reads whole =
     let fraction = no_fraction m l text reads whole in
     let exponent : l.exponent ≡ [] = (reads.literal.spelled.after_character (grind arith)).1 in
     let same = integer_mantissa r l fraction in
     let base = effective_exponent_base r in
-    let one : power r l ≡ 1 = ap (λ bytes. base ^ number (effective_exponent_radix r) bytes) exponent ∙ pow-zero base in
+    let one : power r.byte l ≡ 1 = ap (λ bytes. base ^ number (effective_exponent_radix r) bytes) exponent ∙ pow-zero base in
     grind (arith, same, one)

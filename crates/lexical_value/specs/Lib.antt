@@ -1,5 +1,4 @@
 pub mod Numeral
-pub mod Binary
 pub mod Leading
 pub mod Nearest
 pub mod Value

@@ -1,33 +1,34 @@
 -- The value of a literal, which is a fraction with a sign.
-use Rattle.std.specs.Prelude.{ℕ, ◌≡◌, ◌*◌, ◌^◌, not, if◌then◌else◌, List, filter, map}
+use Rattle.std.specs.Prelude.{ℕ, ◌≡◌, ◌*◌, ◌^◌, not, if◌then◌else◌, List, filter, length, map}
 use Rattle.lexical_util.specs.Digits.{uppercase}
+use Rattle.lexical_util.specs.Layout.{Byte}
 use Rattle.lexical_util.specs.Layout as layout
-use Rattle.lexical_util.specs.Record.{Record, effective_exponent_base}
+use Rattle.lexical_util.specs.Record.{effective}
 use Rattle.lexical_literal.specs.Literal.{Literal, is_minus}
 use Rattle.lexical_literal.specs.Notation.{Notation}
 use Rattle.lexical_literal.specs.Read.{exponent, mantissa}
-use Rattle.lexical_literal.specs.Number.{places}
+use Rattle.lexical_literal.specs.Number.{digits_in}
 
--- `scale r l` is the mantissa radix to the power of the number of fraction digits of `l`.
-abbrev pub scale : Record → Literal → ℕ
-scale r l = r.byte layout.mantissa_radix ^ places (r.byte layout.mantissa_radix) l.fraction
+-- `scale b l` is the mantissa radix to the power of the number of fraction digits of `l`, where `b` has the bytes of the format.
+abbrev pub scale : (Byte → ℕ) → Literal → ℕ
+scale b l = b layout.mantissa_radix ^ length (digits_in (b layout.mantissa_radix) l.fraction)
 
--- `power r l` is the exponent base to the power of the number that the exponent digits of `l` represent.
-abbrev pub power : Record → Literal → ℕ
-power r l = effective_exponent_base r ^ exponent r l
+-- `power b l` is the exponent base to the power of the number that the exponent digits of `l` represent.
+abbrev pub power : (Byte → ℕ) → Literal → ℕ
+power b l = effective (b layout.exponent_base) (b layout.mantissa_radix) ^ exponent b l
 
--- The value of `l` is `numerator r l` over `denominator r l`, with the sign of `l`.
-abbrev pub numerator : Record → Literal → ℕ
-numerator r l = mantissa r l * (if is_minus l.exponent_sign then 1 else power r l)
+-- The value of `l` is `numerator b l` over `denominator b l`, with the sign of `l`.
+abbrev pub numerator : (Byte → ℕ) → Literal → ℕ
+numerator b l = mantissa b l * (if is_minus l.exponent_sign then 1 else power b l)
 
-abbrev pub denominator : Record → Literal → ℕ
-denominator r l = scale r l * (if is_minus l.exponent_sign then power r l else 1)
+abbrev pub denominator : (Byte → ℕ) → Literal → ℕ
+denominator b l = scale b l * (if is_minus l.exponent_sign then power b l else 1)
 
--- `SameValue r l s k` holds if the value of `l` in the format `r` is that of `k` in the format `s`.
-pub record SameValue (r : Record) (l : Literal) (s : Record) (k : Literal) : Type 0 where
+-- `SameValue a l b k` holds if the value of `l` in a format with the bytes `a` is that of `k` in one with the bytes `b`.
+pub record SameValue (a : Byte → ℕ) (l : Literal) (b : Byte → ℕ) (k : Literal) : Type 0 where
   pub sign : is_minus l.sign ≡ is_minus k.sign
-  pub numerator : numerator r l ≡ numerator s k
-  pub denominator : denominator r l ≡ denominator s k
+  pub numerator : numerator a l ≡ numerator b k
+  pub denominator : denominator a l ≡ denominator b k
 
 -- `spelled m bytes` is what is left of `bytes` without digit separators, with uppercase letters.
 abbrev pub spelled : Notation → List ℕ → List ℕ

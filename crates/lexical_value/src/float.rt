@@ -5,10 +5,10 @@ ghost use Rattle.std.specs.Float.{NotNan, binary32};
 ghost use Rattle.std.specs.Float.Ieee.{round};
 ghost use Rattle.core.specs.Dec2flt.Rounding.{IsNearestBits};
 ghost use Rattle.lexical_util.specs.Layout as layout;
-ghost use Rattle.lexical_util.specs.Record.{effective_exponent_base, raw};
+ghost use Rattle.lexical_util.specs.Record.{bytes_of, effective_exponent_base, raw};
 ghost use Rattle.lexical_literal.specs.Literal.{is_float, is_minus};
 ghost use Rattle.lexical_literal.specs.Read.{exponent, mantissa};
-ghost use Rattle.lexical_value.specs.Binary.{format_of};
+ghost use Rattle.lexical_value.specs.Float.{format_of};
 ghost use Rattle.lexical_value.specs.Leading.{Leads};
 ghost use Rattle.lexical_value.specs.Float.{is_binary, is_decimal, nearest};
 ghost use Rattle.lexical_value.specs.Kind.{float_worth, format_by, is_exact};
@@ -34,10 +34,9 @@ use lexical_util::format::NumberFormat;
 /// too large for its kind.
 #[inline(always)]
 pub fn to_float<F: Float>(literal: &Literal) -> Result<F, ValueErrorKind>
-    ensures value { IfOk result (λ value. float_worth literal.now.kind (format_of F.DOUBLE) (raw literal.now.format) literal.now.literal
+    ensures value { IfOk result (λ value. float_worth literal.now.kind (format_of F.DOUBLE) (bytes_of literal.now.format) literal.now.literal
         ≡ Ok (F.value value)) }
-    ensures error { IfErr result (λ error. float_worth literal.now.kind (format_of F.DOUBLE) (raw literal.now.format) literal.now.literal
-        ≡ Err error) }
+    ensures error { IfErr result (λ error. float_worth literal.now.kind (format_of F.DOUBLE) (bytes_of literal.now.format) literal.now.literal ≡ Err error) }
     ensures no_nan { IfOk result (λ value. NotNan (F.value value)) }
 {
     let kind = literal.kind();
@@ -51,9 +50,9 @@ pub fn to_float<F: Float>(literal: &Literal) -> Result<F, ValueErrorKind>
 // Returns the nearest float, or the nearest `f32` if floats are single.
 #[inline(always)]
 fn float_of_kind<F: Float>(kind: FloatKind, literal: &Literal) -> Result<F, ValueErrorKind>
-    ensures supported { IsTrue (is_decimal (raw literal.now.format) || is_binary (raw literal.now.format)) ↔ IsOk result }
+    ensures supported { IsTrue (is_decimal (bytes_of literal.now.format) || is_binary (bytes_of literal.now.format)) ↔ IsOk result }
     ensures error { IfErr result (λ error. error ≡ kinds.UnsupportedRadix) }
-    ensures value { IfOk result (λ value. F.value value ≡ nearest (format_by kind (format_of F.DOUBLE)) (raw literal.now.format) literal.now.literal) }
+    ensures value { IfOk result (λ value. F.value value ≡ nearest (format_by kind (format_of F.DOUBLE)) (bytes_of literal.now.format) literal.now.literal) }
     ensures no_nan { IfOk result (λ value. NotNan (F.value value)) }
 {
     match kind {
@@ -69,9 +68,9 @@ fn float_of_kind<F: Float>(kind: FloatKind, literal: &Literal) -> Result<F, Valu
 #[cold]
 #[inline(never)]
 fn nearest_single(literal: &Literal) -> Result<f32, ValueErrorKind>
-    ensures supported { IsTrue (is_decimal (raw literal.now.format) || is_binary (raw literal.now.format)) ↔ IsOk result }
+    ensures supported { IsTrue (is_decimal (bytes_of literal.now.format) || is_binary (bytes_of literal.now.format)) ↔ IsOk result }
     ensures error { IfErr result (λ error. error ≡ kinds.UnsupportedRadix) }
-    ensures value { IfOk result (λ value. value ≡ nearest binary32 (raw literal.now.format) literal.now.literal) }
+    ensures value { IfOk result (λ value. value ≡ nearest binary32 (bytes_of literal.now.format) literal.now.literal) }
     ensures no_nan { IfOk result (λ value. NotNan value) }
 {
     nearest_float(literal)
@@ -82,10 +81,9 @@ fn nearest_single(literal: &Literal) -> Result<f32, ValueErrorKind>
 fn whole_float<F: Float>(literal: &Literal) -> Result<F, ValueErrorKind>
     requires kind { is_exact literal.now.kind.integers ≡ false }
     requires integer { is_float literal.now.literal ≡ false }
-    ensures value { IfOk result (λ value. float_worth literal.now.kind (format_of F.DOUBLE) (raw literal.now.format) literal.now.literal
+    ensures value { IfOk result (λ value. float_worth literal.now.kind (format_of F.DOUBLE) (bytes_of literal.now.format) literal.now.literal
         ≡ Ok (F.value value)) }
-    ensures error { IfErr result (λ error. float_worth literal.now.kind (format_of F.DOUBLE) (raw literal.now.format) literal.now.literal
-        ≡ Err error) }
+    ensures error { IfErr result (λ error. float_worth literal.now.kind (format_of F.DOUBLE) (bytes_of literal.now.format) literal.now.literal ≡ Err error) }
     ensures no_nan { IfOk result (λ value. NotNan (F.value value)) }
 {
     if !supports_floats(literal.format()) {
@@ -109,9 +107,9 @@ fn whole_float<F: Float>(literal: &Literal) -> Result<F, ValueErrorKind>
 /// If the mantissa radix and the exponent base are neither both 10 nor both powers of two.
 #[inline(always)]
 pub fn nearest_float<F: Float>(literal: &Literal) -> Result<F, ValueErrorKind>
-    ensures supported { IsTrue (is_decimal (raw literal.now.format) || is_binary (raw literal.now.format)) ↔ IsOk result }
+    ensures supported { IsTrue (is_decimal (bytes_of literal.now.format) || is_binary (bytes_of literal.now.format)) ↔ IsOk result }
     ensures error { IfErr result (λ kind. kind ≡ kinds.UnsupportedRadix) }
-    ensures value { IfOk result (λ value. F.value value ≡ nearest (format_of F.DOUBLE) (raw literal.now.format) literal.now.literal) }
+    ensures value { IfOk result (λ value. F.value value ≡ nearest (format_of F.DOUBLE) (bytes_of literal.now.format) literal.now.literal) }
     ensures no_nan { IfOk result (λ value. NotNan (F.value value)) }
 {
     let size = if has_decimal_floats(literal.format()) {
@@ -138,7 +136,7 @@ pub fn signed<F: Float>(size: F, negative: bool) -> F
 /// both 10 or both powers of two.
 #[must_use]
 pub const fn supports_floats(format: NumberFormat) -> bool
-    ensures { result ≡ (is_decimal (raw format) || is_binary (raw format)) }
+    ensures { result ≡ (is_decimal (bytes_of format) || is_binary (bytes_of format)) }
 {
     let radixes = (
         bits_of(format.mantissa_radix()),
@@ -150,7 +148,7 @@ pub const fn supports_floats(format: NumberFormat) -> bool
 // Returns whether floats of `format` are decimal.
 #[inline(always)]
 const fn has_decimal_floats(format: NumberFormat) -> bool
-    ensures { result ≡ is_decimal (raw format) }
+    ensures { result ≡ is_decimal (bytes_of format) }
 {
     format.mantissa_radix() == 10 && format.exponent_base() == 10
 }
@@ -158,7 +156,7 @@ const fn has_decimal_floats(format: NumberFormat) -> bool
 // Returns the number that the exponent digits of a literal represent, or `2 ^ 90` if that is less.
 #[inline(always)]
 fn exponent_of(literal: &Literal) -> u128
-    ensures { result ≡ min (exponent (raw literal.now.format) literal.now.literal) (2 ^ 90) }
+    ensures { result ≡ min (exponent (bytes_of literal.now.format) literal.now.literal) (2 ^ 90) }
 {
     match literal.scale() {
         Some(exponent) => exponent as u128,
@@ -169,9 +167,9 @@ fn exponent_of(literal: &Literal) -> u128
 // Returns the float nearest to a decimal literal, without its sign.
 #[inline(always)]
 fn decimal_size<F: Float>(literal: &Literal) -> F
-    requires { IsTrue (is_decimal (raw literal.now.format)) }
-    ensures { F.value result ≡ round (format_of F.DOUBLE) false (numerator (raw literal.now.format) literal.now.literal)
-        (denominator (raw literal.now.format) literal.now.literal) }
+    requires { IsTrue (is_decimal (bytes_of literal.now.format)) }
+    ensures { F.value result ≡ round (format_of F.DOUBLE) false (numerator (bytes_of literal.now.format) literal.now.literal)
+        (denominator (bytes_of literal.now.format) literal.now.literal) }
 {
     let negative = literal.has_negative_exponent();
     if let (Some(mantissa), Some(exponent)) = (literal.mantissa(), literal.scale()) {
@@ -188,9 +186,9 @@ fn decimal_size<F: Float>(literal: &Literal) -> F
 
 // Returns the bits of the float nearest to a literal, without its sign, or `None` if a radix is not a power of two.
 pub(crate) fn binary_size(double: bool, literal: &Literal) -> Option<u64>
-    ensures some { IsTrue (is_binary (raw literal.now.format)) ↔ IsSome result }
-    ensures value { IfSome result (λ bits. IsNearestBits (format_of double) (numerator (raw literal.now.format) literal.now.literal)
-        (denominator (raw literal.now.format) literal.now.literal) bits) }
+    ensures some { IsTrue (is_binary (bytes_of literal.now.format)) ↔ IsSome result }
+    ensures value { IfSome result (λ bits. IsNearestBits (format_of double) (numerator (bytes_of literal.now.format) literal.now.literal)
+        (denominator (bytes_of literal.now.format) literal.now.literal) bits) }
 {
     let format = literal.format();
     let Some(radix_bits) = bits_of(format.mantissa_radix()) else {
@@ -214,8 +212,8 @@ pub(crate) fn binary_size(double: bool, literal: &Literal) -> Option<u64>
 fn long_binary_size(double: bool, literal: &Literal, radix_bits: u32, base_bits: u32) -> u64
     requires radix { (1 ≤ radix_bits) × (radix_bits ≤ 5) × ((raw literal.now.format).byte layout.mantissa_radix ≡ 2 ^ radix_bits) }
     requires base { (1 ≤ base_bits) × (base_bits ≤ 5) × (effective_exponent_base (raw literal.now.format) ≡ 2 ^ base_bits) }
-    ensures { IsNearestBits (format_of double) (numerator (raw literal.now.format) literal.now.literal)
-        (denominator (raw literal.now.format) literal.now.literal) result }
+    ensures { IsNearestBits (format_of double) (numerator (bytes_of literal.now.format) literal.now.literal)
+        (denominator (bytes_of literal.now.format) literal.now.literal) result }
 {
     let leading = leading_of(literal, literal.format().mantissa_radix());
     let places = literal.places() as u64;
@@ -230,7 +228,7 @@ fn long_binary_size(double: bool, literal: &Literal, radix_bits: u32, base_bits:
 fn leading_of(literal: &Literal, radix: u32) -> Leading
     requires some { 1 ≤ radix }
     requires radix { radix ≡ (raw literal.now.format).byte layout.mantissa_radix }
-    ensures leads { Leads radix (mantissa (raw literal.now.format) literal.now.literal) result.digits result.more result.dropped }
+    ensures leads { Leads radix (mantissa (bytes_of literal.now.format) literal.now.literal) result.digits result.more result.dropped }
     ensures dropped { result.dropped ≤ 2 ^ 65 }
 {
     match literal.mantissa() {

@@ -1,7 +1,7 @@
 //! The value of a literal as a value of an integer type.
 
 ghost use Rattle.std.specs.Prelude.{◌≡◌, ◌↔◌, ℕ, if◌then◌else◌, [], IfSome, IsFalse, IsNone, IsTrue, MatchResult, Some};
-ghost use Rattle.lexical_util.specs.Record.{raw};
+ghost use Rattle.lexical_util.specs.Record.{bytes_of};
 ghost use Rattle.lexical_literal.specs.Literal.{is_float, is_minus};
 ghost use Rattle.lexical_value.specs.Numeral.{magnitude_size, size_of};
 ghost use Rattle.lexical_value.specs.Integer.{integer_size};
@@ -50,8 +50,8 @@ impl ValueErrorKind {
 /// the type, returns which.
 #[inline(always)]
 pub fn to_integer<T: Integer>(literal: &Literal) -> Result<T, ValueErrorKind>
-    ensures { MatchResult result (λ value. IsWorth literal.now.kind.integers (raw literal.now.format) literal.now.literal (T.range.value value))
-        (IsNotWorth literal.now.kind.integers T.range.least T.range.largest (raw literal.now.format) literal.now.literal) }
+    ensures { MatchResult result (λ value. IsWorth literal.now.kind.integers (bytes_of literal.now.format) literal.now.literal (T.range.value value))
+        (IsNotWorth literal.now.kind.integers T.range.least T.range.largest (bytes_of literal.now.format) literal.now.literal) }
 {
     match own_numeral(literal) {
         Err(error) => Err(error),
@@ -70,8 +70,8 @@ pub fn to_integer<T: Integer>(literal: &Literal) -> Result<T, ValueErrorKind>
 #[inline(always)]
 pub fn own_numeral<'a>(literal: &Literal<'a>) -> Result<Numeral<'a>, ValueErrorKind>
     ensures { MatchResult result (λ own. IsFalse (is_float literal.now.literal)
-        × (integer_worth literal.now.kind.integers (raw literal.now.format) literal.now.literal ≡ Some (own.negative, size_of own)))
-        (λ error. (least largest : ℕ) → IsNotWorth literal.now.kind.integers least largest (raw literal.now.format) literal.now.literal error) }
+        × (integer_worth literal.now.kind.integers (bytes_of literal.now.format) literal.now.literal ≡ Some (own.negative, size_of own)))
+        (λ error. (least largest : ℕ) → IsNotWorth literal.now.kind.integers least largest (bytes_of literal.now.format) literal.now.literal error) }
 {
     let Some(numeral) = integer_numeral(literal) else {
         return Err(ValueErrorKind::Float);
@@ -87,7 +87,7 @@ pub fn own_numeral<'a>(literal: &Literal<'a>) -> Result<Numeral<'a>, ValueErrorK
 pub fn integer_numeral<'a>(literal: &Literal<'a>) -> Option<Numeral<'a>>
     ensures float { IsTrue (is_float literal.now.literal) ↔ IsNone result }
     ensures negative { IfSome result (λ numeral. numeral.negative ≡ is_minus literal.now.literal.sign) }
-    ensures size { IfSome result (λ numeral. size_of numeral ≡ integer_size (raw literal.now.format) literal.now.literal) }
+    ensures size { IfSome result (λ numeral. size_of numeral ≡ integer_size (bytes_of literal.now.format) literal.now.literal) }
 {
     if literal.is_float() {
         return None;
@@ -102,7 +102,7 @@ pub fn integer_numeral<'a>(literal: &Literal<'a>) -> Option<Numeral<'a>>
 #[inline(always)]
 fn magnitude<'a>(literal: &Literal<'a>) -> Magnitude<'a>
     requires fraction { literal.now.literal.fraction ≡ [] }
-    ensures { magnitude_size result ≡ integer_size (raw literal.now.format) literal.now.literal }
+    ensures { magnitude_size result ≡ integer_size (bytes_of literal.now.format) literal.now.literal }
 {
     match literal.mantissa() {
         Some(size) => Magnitude::Word(size),

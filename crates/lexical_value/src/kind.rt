@@ -1,7 +1,7 @@
 //! What an integer is worth by its kind.
 
 ghost use Rattle.std.specs.Prelude.{◌≡◌, ◌-◌, ◌%◌, ◌^◌, ◌<◌, ◌≤◌, false, option_map};
-ghost use Rattle.lexical_literal.specs.Kind.{width, worth, wrapped};
+ghost use Rattle.lexical_value.specs.Kind.{width, worth, wrapped};
 ghost use Rattle.lexical_value.specs.Numeral.{size_of};
 ghost use Rattle.lexical_value.specs.declared.number.numeral.Numeral.{Numeral};
 ghost use Rattle.lexical_value.specs.Kind.{is_exact};

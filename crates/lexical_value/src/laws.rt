@@ -2,7 +2,7 @@
 
 ghost use Rattle.std.specs.Prelude.{◌≡◌, ℕ, IsFalse, List};
 ghost use Rattle.lexical_util.specs.NormalForm.{normal_form_of};
-ghost use Rattle.lexical_util.specs.Record.{raw};
+ghost use Rattle.lexical_util.specs.Record.{bytes_of};
 ghost use Rattle.lexical_literal.specs.Literal.{Literal, Reads, is_float};
 ghost use Rattle.lexical_literal.specs.Notation.{notation_of};
 ghost use Rattle.lexical_literal.specs.Syntax.{IsSyntax};
@@ -16,17 +16,17 @@ use lexical_util::laws::{byte_facts, normal_form_facts};
 pub fn value_facts()
     // Equivalent words give a literal the same value. The words may be any.
     ensures same_word { (a b : ℕ) → normal_form_of a ≡ normal_form_of b → (l : Literal)
-        → SameValue (raw a) l (raw b) l }
+        → SameValue (bytes_of a) l (bytes_of b) l }
 
     // Two literals with the same digits have the same value, whatever their separators, prefixes and suffixes are.
     ensures same_digits { (g : Grammar) → IsSyntax g → (l k : Literal) → SameDigits (notation_of g) l k
-        → SameValue (raw g.word) l (raw g.word) k }
+        → SameValue (bytes_of g.word) l (bytes_of g.word) k }
 
     // Without a decimal point and an exponent, the value is the number that the integer digits represent.
     ensures numerator { (g : Grammar) → (l : Literal) → (text : List ℕ) → Reads (notation_of g) l text
-        → IsFalse (is_float l) → numerator (raw g.word) l ≡ integer_size (raw g.word) l }
+        → IsFalse (is_float l) → numerator (bytes_of g.word) l ≡ integer_size (bytes_of g.word) l }
     ensures denominator { (g : Grammar) → (l : Literal) → (text : List ℕ) → Reads (notation_of g) l text
-        → IsFalse (is_float l) → denominator (raw g.word) l ≡ 1 }
+        → IsFalse (is_float l) → denominator (bytes_of g.word) l ≡ 1 }
 {
     normal_form_facts();
     byte_facts();

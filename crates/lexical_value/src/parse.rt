@@ -2,7 +2,7 @@
 
 ghost use Rattle.std.specs.Prelude.{IfOk};
 ghost use Rattle.std.specs.Float.{NotNan};
-ghost use Rattle.lexical_value.specs.Binary.{format_of};
+ghost use Rattle.lexical_value.specs.Float.{format_of};
 ghost use Rattle.lexical_value.specs.Parsed.{IsParsed, IsParsedFloat};
 
 use crate::float::to_float;

@@ -8,7 +8,7 @@ pub use Rattle.lexical_literal.specs.declared.syntax.Grammar.{Grammar}
 unfoldable pub use Rattle.lexical_util.specs.Digits.{byte_value}
 pub use Rattle.lexical_util.specs.Digits.{digit_of}
 pub use Rattle.lexical_util.specs.Record.{Record, effective_exponent_base, effective_exponent_radix, raw}
-pub use Rattle.lexical_value.specs.Binary.{format_of, raised_down, raised_up}
+pub use Rattle.lexical_value.specs.Float.{format_of, raised_down, raised_up}
 pub use Rattle.lexical_writer.specs.Digits.{at_least, character, grouped, grouped_front, padded_values, size_of, values_of}
 pub use Rattle.lexical_writer.specs.declared.layout.Amount.{Amount}
 pub use Rattle.lexical_writer.specs.declared.layout.Layout.{Layout}

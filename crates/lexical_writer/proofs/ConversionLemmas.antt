@@ -81,22 +81,22 @@ same_fraction r parts g amount same is l has =
     let front = number radix parts.integer.now in
     let places = digits_in radix parts.fraction.now in
     let factor = zero_scaled radix front has.zero places in
-    let given_mantissa : mantissa r k ≡ number_from_digits_after radix front places =
+    let given_mantissa : mantissa r.byte k ≡ number_from_digits_after radix front places =
     ap (λ b. number b (parts.integer.now ++ parts.fraction.now)) same ∙ number_after-append radix 0 parts.integer.now parts.fraction.now in
-    let given_scale : scale r k ≡ radix ^ length places = ap (λ b. b ^ length (digits_in b parts.fraction.now)) same in
+    let given_scale : scale r.byte k ≡ radix ^ length places = ap (λ b. b ^ length (digits_in b parts.fraction.now)) same in
     let fraction : digits_in radix l.fraction ≡ at_least (one_if has.zero) places = has.fraction ∙ ap (at_least (one_if has.zero)) a.fraction in
-    let written_mantissa : mantissa s l ≡ number_from_digits_after radix front places * factor.0 =
+    let written_mantissa : mantissa s.byte l ≡ number_from_digits_after radix front places * factor.0 =
     number_after-append radix 0 l.integer l.fraction ∙ (λ i. number_from_digits_after radix ((has.integer ∙ a.integer) i) (fraction i)) ∙ factor.1 in
-    let written_scale : scale s l ≡ radix ^ length places * factor.0 = ap (λ digits. radix ^ length digits) fraction ∙ factor.2 in
-    let written_power : power s l ≡ effective_exponent_base s ^ number (effective_exponent_radix r) parts.exponent.now =
+    let written_scale : scale s.byte l ≡ radix ^ length places * factor.0 = ap (λ digits. radix ^ length digits) fraction ∙ factor.2 in
+    let written_power : power s.byte l ≡ effective_exponent_base s ^ number (effective_exponent_radix r) parts.exponent.now =
     ap (λ n. effective_exponent_base s ^ n) (has.exponent ∙ a.exponent) in
     record {
       sign = sym (has.sign ∙ a.negative);
       fraction =
-          let up = if is_minus k.exponent_sign then 1 else power r k in
-          let down = if is_minus k.exponent_sign then power r k else 1 in
+          let up = if is_minus k.exponent_sign then 1 else power r.byte k in
+          let down = if is_minus k.exponent_sign then power r.byte k else 1 in
           let powers = same_powers (is_minus k.exponent_sign) (given_power amount).negative (is_minus l.exponent_sign) (effective_exponent_base r)
-          (effective_exponent_base s) (number (effective_exponent_radix r) parts.exponent.now) (power s l) has.exponent_sign written_power a.power in
+          (effective_exponent_base s) (number (effective_exponent_radix r) parts.exponent.now) (power s.byte l) has.exponent_sign written_power a.power in
           (λ i. (given_mantissa i * up) * (written_scale i * powers.1 i))
           ∙ cross (number_from_digits_after radix front places) (radix ^ length places) factor.0 up down
           ∙ sym (λ i. (written_mantissa i * powers.0 i) * (given_scale i * down));

@@ -69,10 +69,10 @@ all_digits radix k bytes all =
 -- `HasParts r l n places negative e` holds if the mantissa of `l` is `n` over the radix to the power of `places`, and its exponent is `e`.
 record HasParts (r : Record) (l : Literal) (n places : ℕ) (negative : Bool) (e : ℕ) : Type 0 where
   factor : ℕ
-  mantissa : mantissa r l ≡ n * factor
-  scale : scale r l ≡ r.byte layout.mantissa_radix ^ places * factor
-  up : raised_up (is_minus l.exponent_sign) (effective_exponent_base r) (exponent r l) ≡ raised_up negative (effective_exponent_base r) e
-  down : raised_down (is_minus l.exponent_sign) (effective_exponent_base r) (exponent r l) ≡ raised_down negative (effective_exponent_base r) e
+  mantissa : mantissa r.byte l ≡ n * factor
+  scale : scale r.byte l ≡ r.byte layout.mantissa_radix ^ places * factor
+  up : raised_up (is_minus l.exponent_sign) (effective_exponent_base r) (exponent r.byte l) ≡ raised_up negative (effective_exponent_base r) e
+  down : raised_down (is_minus l.exponent_sign) (effective_exponent_base r) (exponent r.byte l) ≡ raised_down negative (effective_exponent_base r) e
 
 -- What has the digits of an amount has its mantissa and its exponent.
 has_parts : (g : Grammar) (amount : Amount) (n places e : ℕ) (negative : Bool)
@@ -114,8 +114,8 @@ pub same_worth : (g : Grammar) (amount : Amount) (n places e : ℕ) (negative : 
     → raised_down (given_power amount).negative (effective_exponent_base (raw g.word)) (size_of (effective_exponent_radix (raw g.word)) (given_power amount).source)
     ≡ raised_down negative (effective_exponent_base (raw g.word)) e
     → 2 ≤ (raw g.word).byte layout.mantissa_radix → (l : Literal) → HasNumber g amount l
-    → (n * raised_up negative (effective_exponent_base (raw g.word)) e) * denominator (raw g.word) l
-    ≡ numerator (raw g.word) l * ((raw g.word).byte layout.mantissa_radix ^ places * raised_down negative (effective_exponent_base (raw g.word)) e)
+    → (n * raised_up negative (effective_exponent_base (raw g.word)) e) * denominator (raw g.word).byte l
+    ≡ numerator (raw g.word).byte l * ((raw g.word).byte layout.mantissa_radix ^ places * raised_down negative (effective_exponent_base (raw g.word)) e)
 same_worth g amount n places e negative digits count up down two l has =
     let p = has_parts g amount n places e negative digits count up down two l has in
     let unit = (raw g.word).byte layout.mantissa_radix ^ places in
@@ -209,19 +209,19 @@ some_product : (m n : ℕ) → 0 < m → 0 < n → 0 < m * n
 some_product m n some more = grind arith
 
 -- Radixes in which floats are written are not 0.
-some_radixes : (r : Record) → (is_decimal r || is_binary r) ≡ true → (0 < r.byte layout.mantissa_radix) × (0 < effective_exponent_base r)
+some_radixes : (r : Record) → (is_decimal r.byte || is_binary r.byte) ≡ true → (0 < r.byte layout.mantissa_radix) × (0 < effective_exponent_base r)
 some_radixes r is = grind (arith, nat_tests)
 
 some_down : (negative : Bool) (b e : ℕ) → 0 < b → 0 < raised_down negative b e
 some_down true b e some = one-le-pow e b some
 some_down false b e some = omega arith
 
-some_denominator : (r : Record) (l : Literal) → (is_decimal r || is_binary r) ≡ true → 0 < denominator r l
+some_denominator : (r : Record) (l : Literal) → (is_decimal r.byte || is_binary r.byte) ≡ true → 0 < denominator r.byte l
 some_denominator r l is =
     let radixes = some_radixes r is in
-    some_product (scale r l) _ (one-le-pow _ _ radixes.0) (some (is_minus l.exponent_sign))
+    some_product (scale r.byte l) _ (one-le-pow _ _ radixes.0) (some (is_minus l.exponent_sign))
   where
-    some : (b : Bool) → 0 < (if b then power r l else 1)
+    some : (b : Bool) → 0 < (if b then power r.byte l else 1)
     some true = one-le-pow _ _ (some_radixes r is).1
     some false = omega arith
 
@@ -253,16 +253,16 @@ same_scales f x rb bb r b n after places e up down negative radix base above bel
     once a = omega arith
 
 -- A literal that is worth a fraction is read as the float nearest to it.
-pub same_nearest : (f : Format) (r : Record) (l : Literal) (sign negative : Bool) (num places e : ℕ) → (is_decimal r || is_binary r) ≡ true
+pub same_nearest : (f : Format) (r : Record) (l : Literal) (sign negative : Bool) (num places e : ℕ) → (is_decimal r.byte || is_binary r.byte) ≡ true
     → is_minus l.sign ≡ sign
-    → num * denominator r l ≡ numerator r l * (r.byte layout.mantissa_radix ^ places * raised_down negative (effective_exponent_base r) e)
-    → round f sign num (r.byte layout.mantissa_radix ^ places * raised_down negative (effective_exponent_base r) e) ≡ nearest f r l
+    → num * denominator r.byte l ≡ numerator r.byte l * (r.byte layout.mantissa_radix ^ places * raised_down negative (effective_exponent_base r) e)
+    → round f sign num (r.byte layout.mantissa_radix ^ places * raised_down negative (effective_exponent_base r) e) ≡ nearest f r.byte l
 same_nearest f r l sign negative num places e is minus same =
     let radixes = some_radixes r is in
     let den = r.byte layout.mantissa_radix ^ places * raised_down negative (effective_exponent_base r) e in
-    round_same f sign num den (numerator r l) (denominator r l)
+    round_same f sign num den (numerator r.byte l) (denominator r.byte l)
     (some_product _ _ (one-le-pow _ _ radixes.0) (some_down negative (effective_exponent_base r) e radixes.1)) (some_denominator r l is) same
-    ∙ ap (λ sign. round f sign (numerator r l) (denominator r l)) (sym minus)
+    ∙ ap (λ sign. round f sign (numerator r.byte l) (denominator r.byte l)) (sym minus)
 
 -- What follows from what holds of a result that is `Ok`.
 pub if_ok : {A E : Type 0} (P Q : A → Type 0) (result : Result A E) → ((x : A) → P x → Q x) → IfOk result P → IfOk result Q

@@ -330,7 +330,7 @@ times_worth false written factor f whole b p rest raised worth =
 -- The digits of a number whose point has moved are worth the literal.
 pub moved_is_worth : (only : Bool) (r : Record) (parts : Parts) (amount : Amount) (move : Move) → moved_by only r parts ≡ Ok move
     → IsMoved (r.byte layout.mantissa_radix) (is_minus parts.exponent_sign.now) move.places parts amount → 2 ≤ r.byte layout.mantissa_radix
-    → IsWorthTimes (r.byte layout.mantissa_radix) amount move.factor (numerator r (literal_of parts)) (denominator r (literal_of parts))
+    → IsWorthTimes (r.byte layout.mantissa_radix) amount move.factor (numerator r.byte (literal_of parts)) (denominator r.byte (literal_of parts))
 moved_is_worth only r parts amount move by m two =
     let n = move.places in
     let radix = r.byte layout.mantissa_radix in
@@ -343,7 +343,7 @@ moved_is_worth only r parts amount move by m two =
     let rest = trimmed (moved_fraction left n i f) in
     let whole = number_from_digits radix (i ++ f) in
     let written = number_from_digits radix (front ++ rest) in
-    let mantissa_is : mantissa r (literal_of parts) ≡ whole = ap (number_from_digits radix) (filter_map-append _ parts.integer.now parts.fraction.now) in
+    let mantissa_is : mantissa r.byte (literal_of parts) ≡ whole = ap (number_from_digits radix) (filter_map-append _ parts.integer.now parts.fraction.now) in
     let digits : number_from_digits radix (values_of radix amount.integer ++ values_of radix (given_fraction amount)) ≡ written =
     (λ j. number_from_digits radix (m.integer j ++ m.fraction j))
     ∙ ap (λ n. number_from_digits_after radix n (front ++ rest)) {x = 0 * radix + 0} {y = 0} (omega arith) in
@@ -382,7 +382,7 @@ moved_is_worth only r parts amount move by m two =
 -- What has the digits of an amount without an exponent has its worth.
 pub same_worth : (g : Grammar) (amount : Amount) (up down : ℕ) → IsWorth ((raw g.word).byte layout.mantissa_radix) amount up down
     → amount.exponent ≡ None → 2 ≤ (raw g.word).byte layout.mantissa_radix → (l : Literal) → HasNumber g amount l
-    → up * denominator (raw g.word) l ≡ numerator (raw g.word) l * down
+    → up * denominator (raw g.word).byte l ≡ numerator (raw g.word).byte l * down
 same_worth g amount up down worth none two l has =
     let s = raw g.word in
     let radix = s.byte layout.mantissa_radix in
@@ -391,14 +391,14 @@ same_worth g amount up down worth none two l has =
     let whole = number_from_digits radix (front ++ rest) in
     let factor = zero_scaled radix (number_from_digits radix front) has.zero rest in
     let integer : number radix l.integer ≡ number_from_digits radix front = has.integer ∙ size_values radix amount.integer two in
-    let mantissa_is : mantissa s l ≡ whole * factor.0 = ap (number_from_digits radix) (filter_map-append _ l.integer l.fraction)
+    let mantissa_is : mantissa s.byte l ≡ whole * factor.0 = ap (number_from_digits radix) (filter_map-append _ l.integer l.fraction)
     ∙ number_after_append radix 0 (digits_in radix l.integer) (digits_in radix l.fraction)
     ∙ (λ j. number_from_digits_after radix (integer j) (has.fraction j)) ∙ factor.1 ∙ ap (λ m. m * factor.0) (sym (number_after_append radix 0 front rest)) in
-    let scale_is : scale s l ≡ radix ^ length rest * factor.0 = ap (λ (ds : List ℕ). radix ^ length ds) has.fraction ∙ factor.2 in
+    let scale_is : scale s.byte l ≡ radix ^ length rest * factor.0 = ap (λ (ds : List ℕ). radix ^ length ds) has.fraction ∙ factor.2 in
     let no_power : given_power amount ≡ record { negative = false; source = sources.Number 0 } =
     ap (λ (power : Option Power). unwrap_or power (record { negative = false; source = sources.Number 0 })) none in
     let no_sign : is_minus l.exponent_sign ≡ false = has.exponent_sign ∙ ap (λ (power : Power). power.negative) no_power in
-    let one : power s l ≡ 1 =
+    let one : power s.byte l ≡ 1 =
     ap (λ n. effective_exponent_base s ^ n) (has.exponent ∙ ap (λ (power : Power). size_of (effective_exponent_radix s) power.source) no_power)
     ∙ pow-zero (effective_exponent_base s) in
     (λ j. up * (scale_is j * (if no_sign j then one j else 1))) ∙ crossed whole up down (radix ^ length rest) factor.0 worth
@@ -420,12 +420,12 @@ pub same_moved : (only : Bool) (r : Record) (parts : Parts) (g : Grammar) (amoun
     → (l : Literal) → HasNumber g amount l → SameFraction r (literal_of parts) (raw g.word) l
 same_moved only r parts g amount move by m whole same two l has =
     let worth = moved_is_worth only r parts amount move by m (subst (λ radix. 2 ≤ radix) (sym same) two) in
-    let down = denominator r (literal_of parts) in
+    let down = denominator r.byte (literal_of parts) in
     let radix = r.byte layout.mantissa_radix in
     let digits = number_from_digits radix (values_of radix amount.integer ++ values_of radix (given_fraction amount)) in
     record {
       sign = sym (has.sign ∙ m.negative);
-      fraction = same_worth g amount _ _ (subst (λ radix. IsWorth radix amount (numerator r (literal_of parts)) down) same
+      fraction = same_worth g amount _ _ (subst (λ radix. IsWorth radix amount (numerator r.byte (literal_of parts)) down) same
           (ap (λ n. n * down) (one digits) ∙ sym (ap (λ k. (digits * k) * down) whole) ∙ worth)) m.exponent two l has;
     }
   where
@@ -435,10 +435,10 @@ same_moved only r parts g amount move by m whole same two l has =
 -- The whole number that a number is whose point has moved is the value of the literal.
 pub is_size : (only : Bool) (r : Record) (parts : Parts) (amount : Amount) (move : Move) (n : ℕ) → moved_by only r parts ≡ Ok move
     → IsMoved (r.byte layout.mantissa_radix) (is_minus parts.exponent_sign.now) move.places parts amount → 2 ≤ r.byte layout.mantissa_radix
-    → IsWhole (r.byte layout.mantissa_radix) move.factor amount n → n * denominator r (literal_of parts) ≡ numerator r (literal_of parts)
+    → IsWhole (r.byte layout.mantissa_radix) move.factor amount n → n * denominator r.byte (literal_of parts) ≡ numerator r.byte (literal_of parts)
 is_size only r parts amount move n by m two whole =
     let radix = r.byte layout.mantissa_radix in
-    let down = denominator r (literal_of parts) in
+    let down = denominator r.byte (literal_of parts) in
     let scale = radix ^ length (values_of radix (given_fraction amount)) in
     cancelled _ _ scale (one-le-pow (length (values_of radix (given_fraction amount))) radix (omega (arith, two)))
     (turned n down scale ∙ sym (ap (λ m. m * down) whole) ∙ moved_is_worth only r parts amount move by m two)
@@ -453,8 +453,8 @@ pub same_number : (only : Bool) (r : Record) (parts : Parts) (g : Grammar) (amou
     → HasNumber g (number_of_size amount.negative n) l → SameFraction r (literal_of parts) (raw g.word) l
 same_number only r parts g amount move n by m two_r two_s whole l has =
     let other = (raw g.word).byte layout.mantissa_radix in
-    let up = numerator r (literal_of parts) in
-    let down = denominator r (literal_of parts) in
+    let up = numerator r.byte (literal_of parts) in
+    let down = denominator r.byte (literal_of parts) in
     let worth = is_size only r parts amount move n by m two_r whole in
     record {
       sign = sym (has.sign ∙ m.negative);

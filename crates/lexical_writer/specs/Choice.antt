@@ -2,7 +2,7 @@
 use Rattle.std.specs.Prelude.{ℕ, ◌≡◌, ◌==◌, ◌⊎◌, if◌then◌else◌, List, Ok, ℤ}
 use Rattle.std.specs.Float.{Float, Format, binary64}
 use Rattle.lexical_util.specs.Layout as layout
-use Rattle.lexical_util.specs.Record.{raw}
+use Rattle.lexical_util.specs.Record.{bytes_of, raw}
 use Rattle.lexical_literal.specs.FormList.{FormList}
 use Rattle.lexical_literal.specs.Forms.{HasKind, IsFirst}
 use Rattle.lexical_literal.specs.Kind.{exact}
@@ -26,12 +26,12 @@ exact_read word l = record { format = word; literal = l; kind = exact }
 
 -- `IsWhole z read` holds if `read` is worth the integer `z` by its kind, or if it is of the exact kind, and its value is `z`.
 abbrev pub IsWhole : ℤ → Read → Type 0
-IsWhole z read = IsWorth read.kind.integers (raw read.format) read.literal z ⊎ ((read.kind ≡ exact) × HasValue (raw read.format) read.literal z)
+IsWhole z read = IsWorth read.kind.integers (bytes_of read.format) read.literal z ⊎ ((read.kind ≡ exact) × HasValue (raw read.format) read.literal z)
 
 -- `IsReal f value read` holds if `read` is worth the float `value` of `f` by its kind, or if it is of the exact kind, and `value` is nearest to it.
 abbrev pub IsReal : Format → Float → Read → Type 0
-IsReal f value read = (float_worth read.kind f (raw read.format) read.literal ≡ Ok value)
-    ⊎ ((read.kind ≡ exact) × (value ≡ nearest f (raw read.format) read.literal))
+IsReal f value read = (float_worth read.kind f (bytes_of read.format) read.literal ≡ Ok value)
+    ⊎ ((read.kind ≡ exact) × (value ≡ nearest f (bytes_of read.format) read.literal))
 
 -- `IsSameNumber a b` holds if `a` and `b` are worth the same integer or the same `f64` by their kinds, or if they are of the exact kind, and
 -- have the same value as fractions with a sign.

@@ -32,12 +32,12 @@ use Rattle.lexical_writer.specs.declared.run.Source.TheVariants as sources
 -- `SameFraction r l s k` holds if the value of `l` in the format `r` is that of `k` in the format `s`, as a fraction with a sign.
 pub record SameFraction (r : Record) (l : Literal) (s : Record) (k : Literal) : Type 0 where
   pub sign : is_minus l.sign ≡ is_minus k.sign
-  pub fraction : numerator r l * denominator s k ≡ numerator s k * denominator r l
+  pub fraction : numerator r.byte l * denominator s.byte k ≡ numerator s.byte k * denominator r.byte l
 
 -- `IsNear f r l s k` holds if the value of `l` in the format `r` is that of `k` in the format `s`, or if the float of `f` that is nearest to
 -- one is nearest to the other.
 abbrev pub IsNear : Format → Record → Literal → Record → Literal → Type 0
-IsNear f r l s k = SameFraction r l s k ⊎ (nearest f r l ≡ nearest f s k)
+IsNear f r l s k = SameFraction r l s k ⊎ (nearest f r.byte l ≡ nearest f s.byte k)
 
 -- `source_of bytes from to` has the digits among `bytes`, converted from the radix `from` to the radix `to`. If the radixes differ and
 -- the digits represent a number of more than 128 bits, it is an error.

@@ -256,7 +256,7 @@ whole (negsuc n) = number_of_size true (suc n)
 pub record HasValue (r : Record) (l : Literal) (z : ℤ) : Type 0 where
   pub size : ℕ
   pub sign : z ≡ with_sign (is_minus l.sign) size
-  pub fraction : size * denominator r l ≡ numerator r l
+  pub fraction : size * denominator r.byte l ≡ numerator r.byte l
 
 -- `whole_refusal g z` is why the integer `z` cannot be written as a literal of `g`, or `None` if it can: `z` is below 0 and no literal
 -- is, or else each literal has an exponent.

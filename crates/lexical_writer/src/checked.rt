@@ -3,8 +3,8 @@
 ghost use Rattle.std.specs.Prelude.{◌≡◌, ◌+◌, ◌*◌, ◌^◌, ◌||◌, ℕ, true, false, IfSome, IsTrue};
 ghost use Rattle.std.specs.Float.Ieee.{round};
 ghost use Rattle.lexical_util.specs.Layout as layout;
-ghost use Rattle.lexical_util.specs.Record.{raw, effective_exponent_base};
-ghost use Rattle.lexical_value.specs.Binary.{format_of, raised_down, raised_up};
+ghost use Rattle.lexical_util.specs.Record.{bytes_of, effective_exponent_base, raw};
+ghost use Rattle.lexical_value.specs.Float.{format_of, raised_down, raised_up};
 ghost use Rattle.lexical_value.specs.Float.{is_binary, is_decimal};
 ghost use lib.Ieee.{emax, low, prec};
 ghost use lib.Ieee.Exact.{HasValue};
@@ -33,7 +33,7 @@ fn nearest_binary<F: Float>(number: u64, up: u64, down: u64) -> F
 // Returns the float nearest to the digits of a number in a form, or `None` if no literal of `format` has a float.
 #[inline(always)]
 fn nearest_to<F: Float>(number: u64, form: Form, format: NumberFormat) -> Option<F>
-    ensures supported { IfSome result (λ _. IsTrue (is_decimal (raw format) || is_binary (raw format))) }
+    ensures supported { IfSome result (λ _. IsTrue (is_decimal (bytes_of format) || is_binary (bytes_of format))) }
     ensures value { IfSome result (λ near. F.value near ≡ round (format_of F.DOUBLE) false
         (number * (raw format).byte layout.mantissa_radix ^ form.after * raised_up form.negative (effective_exponent_base (raw format)) form.exponent)
         ((raw format).byte layout.mantissa_radix ^ form.places * raised_down form.negative (effective_exponent_base (raw format)) form.exponent)) }
@@ -74,7 +74,7 @@ pub(crate) fn is_read<F: Float>(
     form: Form,
     format: NumberFormat,
 ) -> bool
-    ensures supported { result ≡ true → IsTrue (is_decimal (raw format) || is_binary (raw format)) }
+    ensures supported { result ≡ true → IsTrue (is_decimal (bytes_of format) || is_binary (bytes_of format)) }
     ensures value { result ≡ true → F.value value ≡ round (format_of F.DOUBLE) negative
         (number * (raw format).byte layout.mantissa_radix ^ form.after * raised_up form.negative (effective_exponent_base (raw format)) form.exponent)
         ((raw format).byte layout.mantissa_radix ^ form.places * raised_down form.negative (effective_exponent_base (raw format)) form.exponent) }

@@ -1,12 +1,12 @@
 //! A list of forms writes numbers: in the first form whose text the list reads as the number.
 
 ghost use Rattle.std.specs.Prelude.{◌≡◌, ◌≤◌, ◌<◌, true, IfOk, IfSome, IsFalse, None, Ok, Some, from_bits, length, take};
-ghost use Rattle.lexical_util.specs.Record.{raw};
+ghost use Rattle.lexical_util.specs.Record.{bytes_of};
 ghost use Rattle.lexical_literal.specs.Kind.{exact};
 ghost use Rattle.lexical_literal.specs.Literal.{Literal as Parts, Reads, is_float, text_of};
 ghost use Rattle.lexical_literal.specs.Notation.{notation_of};
 ghost use Rattle.lexical_literal.specs.Read.{Read};
-ghost use Rattle.lexical_value.specs.Binary.{format_of};
+ghost use Rattle.lexical_value.specs.Float.{format_of};
 ghost use Rattle.lexical_value.specs.Numeral.{size_of};
 ghost use Rattle.lexical_value.specs.Kind.{float_worth, integer_worth};
 ghost use Rattle.lexical_writer.specs.Buffer.{IsTaken};
@@ -105,7 +105,7 @@ pub struct Real<F> {
 
 impl<F: Float> Writable for Real<F> {
     ghost use Rattle.std.specs.Prelude.{⊤};
-    ghost use Rattle.lexical_value.specs.Binary.{format_of};
+    ghost use Rattle.lexical_value.specs.Float.{format_of};
     ghost use Rattle.lexical_writer.specs.Choice.{IsReal};
 
     ghost is = { λ number read. IsReal (format_of F.DOUBLE) (F.value number.value) read };
@@ -136,7 +136,7 @@ impl<F: Float> Writable for Real<F> {
 // Returns the bits of what a literal is worth as a float, if it is one. Programs have one copy of this for a type.
 #[inline(never)]
 fn bits_in<F: Float>(literal: &Literal) -> Option<u64>
-    ensures { IfSome result (λ bits. float_worth literal.now.kind (format_of F.DOUBLE) (raw literal.now.format) literal.now.literal
+    ensures { IfSome result (λ bits. float_worth literal.now.kind (format_of F.DOUBLE) (bytes_of literal.now.format) literal.now.literal
         ≡ Ok (from_bits (format_of F.DOUBLE) bits)) }
 {
     match to_float::<F>(literal) {
@@ -184,7 +184,7 @@ impl Writable for Literal<'_> {
 // Returns the sign and the size of what an integer literal is worth, if it has at most 128 bits.
 fn whole_worth(literal: &Literal) -> Option<(bool, u128)>
     ensures { IfSome result (λ own. IsFalse (is_float literal.now.literal)
-        × (integer_worth literal.now.kind.integers (raw literal.now.format) literal.now.literal ≡ Some own)) }
+        × (integer_worth literal.now.kind.integers (bytes_of literal.now.format) literal.now.literal ≡ Some own)) }
 {
     match own_numeral(literal) {
         Ok(numeral) => match numeral.wide_size(u128::MAX, u128::MAX) {

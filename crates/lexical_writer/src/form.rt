@@ -6,7 +6,7 @@ ghost use Rattle.std.specs.Float.Ieee.{hid, ones};
 ghost use Rattle.lexical_literal.specs.Literal.{Reads, text_of};
 ghost use Rattle.lexical_literal.specs.Notation.{notation_of};
 ghost use Rattle.lexical_literal.specs.Syntax.{IsSyntax};
-ghost use Rattle.lexical_value.specs.Binary.{format_of, raised_down, raised_up};
+ghost use Rattle.lexical_value.specs.Float.{format_of, raised_down, raised_up};
 ghost use Rattle.lexical_literal.specs.Number.{number, places as digit_count};
 ghost use Rattle.lexical_writer.specs.Digits.{size_of, values_of};
 ghost use Rattle.lexical_writer.specs.Layout.{HasNumber, given_fraction, given_power, literal_of as written, no_power};

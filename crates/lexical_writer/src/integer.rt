@@ -1,7 +1,7 @@
 //! Integers are written.
 
 ghost use Rattle.std.specs.Prelude.{◌≡◌, false, Some, IfErr, IfOk};
-ghost use Rattle.lexical_util.specs.Record.{raw};
+ghost use Rattle.lexical_util.specs.Record.{bytes_of, raw};
 ghost use Rattle.lexical_literal.specs.Literal.{Reads, text_of};
 ghost use Rattle.lexical_literal.specs.Notation.{notation_of};
 ghost use Rattle.lexical_value.specs.Integer.{IsInteger};
@@ -28,7 +28,7 @@ pub fn format_integer<T: Integer>(
     ensures value { IfOk result (λ layout. HasValue (raw syntax.now.word) (literal_of layout) (T.range.value value)) }
     // It has neither a decimal point nor an exponent, unless the style is to have one.
     ensures integer { wants_exponent style.exponent ≡ false
-        → IfOk result (λ layout. IsInteger (raw syntax.now.word) (literal_of layout) (T.range.value value)) }
+        → IfOk result (λ layout. IsInteger (bytes_of syntax.now.word) (literal_of layout) (T.range.value value)) }
     ensures parts { IfOk result (λ layout. IsWhole syntax.now style (T.range.value value) (literal_of layout)) }
     // Each integer can be written, unless it is below 0 and no literal is, or each literal has an exponent.
     ensures error { IfErr result (λ error. whole_refusal syntax.now (T.range.value value) ≡ Some error) }

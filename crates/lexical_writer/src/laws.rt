@@ -1,7 +1,7 @@
 //! Theorems on numbers that are not written. Each is a clause of a function with an empty body.
 
 ghost use Rattle.std.specs.Prelude.{◌≡◌, ℕ, List, false, true, ℤ};
-ghost use Rattle.lexical_util.specs.Record.{raw};
+ghost use Rattle.lexical_util.specs.Record.{bytes_of};
 ghost use Rattle.lexical_literal.specs.Literal.{Literal, Reads, is_minus};
 ghost use Rattle.lexical_literal.specs.Notation.{has, lacks_options, notation_of};
 ghost use Rattle.lexical_literal.specs.declared.syntax.Condition.TheVariants as conditions;
@@ -18,9 +18,9 @@ pub fn refusal_facts()
 
     // Where literals are integers, the value of each is whole.
     ensures fraction { (g : Grammar) → (l : Literal) → (text : List ℕ) → lacks_options g.options ≡ true
-        → Reads (notation_of g) l text → denominator (raw g.word) l ≡ 1 }
+        → Reads (notation_of g) l text → denominator (bytes_of g.word) l ≡ 1 }
 
     // Where each literal has an exponent, none is an integer.
     ensures float { (g : Grammar) → (l : Literal) → (text : List ℕ) → (z : ℤ) → needs_exponent g ≡ true
-        → Reads (notation_of g) l text → IsInteger (raw g.word) l z → ⊥ }
+        → Reads (notation_of g) l text → IsInteger (bytes_of g.word) l z → ⊥ }
 {}

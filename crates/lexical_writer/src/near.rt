@@ -1,10 +1,10 @@
 //! Literals are written by the float that is nearest to them.
 
 ghost use Rattle.std.specs.Prelude.{◌≡◌, ◌⊎◌, ℕ, false, None, Some, IfOk};
-ghost use Rattle.lexical_util.specs.Record.{raw};
+ghost use Rattle.lexical_util.specs.Record.{bytes_of, raw};
 ghost use Rattle.lexical_literal.specs.Literal.{Reads, text_of};
 ghost use Rattle.lexical_literal.specs.Notation.{notation_of};
-ghost use Rattle.lexical_value.specs.Binary.{format_of};
+ghost use Rattle.lexical_value.specs.Float.{format_of};
 ghost use Rattle.lexical_value.specs.Float.{nearest};
 ghost use Rattle.lexical_writer.specs.Conversion.{IsNear, SameFraction};
 ghost use Rattle.lexical_writer.specs.Layout.{literal_of as written};
@@ -31,7 +31,7 @@ pub fn float_instead<F: Float>(
     style: Style,
     error: WriteError,
 ) -> Result<F, WriteError>
-    ensures nearest { IfOk result (λ value. F.value value ≡ nearest (format_of F.DOUBLE) (raw literal.now.format) literal.now.literal) }
+    ensures nearest { IfOk result (λ value. F.value value ≡ nearest (format_of F.DOUBLE) (bytes_of literal.now.format) literal.now.literal) }
     ensures wish { style.nearest ≡ false → result ≡ Err error }
 {
     if !style.nearest || !matches!(error, WriteError::Radix | WriteError::Exponent) {
@@ -62,7 +62,7 @@ pub fn format_near<'a, F: Float>(
     // Or this float is rounded to a number of digits behind the point.
     ensures rounded { (n : ℕ) → style.decimals ≡ Some n → IfOk result (λ layout.
         SameFraction (raw literal.now.format) literal.now.literal (raw syntax.now.word) (written layout)
-        ⊎ IsRounded (nearest (format_of F.DOUBLE) (raw literal.now.format) literal.now.literal) (raw syntax.now.word) (written layout)
+        ⊎ IsRounded (nearest (format_of F.DOUBLE) (bytes_of literal.now.format) literal.now.literal) (raw syntax.now.word) (written layout)
         (decimals_in syntax.now n)) }
     // Without the wish, the value is the same.
     ensures exact { style.nearest ≡ false → IfOk result (λ layout.

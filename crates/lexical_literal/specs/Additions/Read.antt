@@ -1,7 +1,7 @@
 -- The parts of a literal by their lengths, and the sums of their digits.
 use Rattle.std.specs.Prelude.{ℕ, ◌≡◌, ◌+◌, ◌%◌, ◌^◌, ◌++◌, Bool, if◌then◌else◌, IsTrue, List, Option, Some, None, drop, take}
 use Rattle.lexical_util.specs.Layout as layout
-use Rattle.lexical_util.specs.Record.{Record, raw, effective_exponent_radix}
+use Rattle.lexical_util.specs.Record.{Record, bytes_of, effective_exponent_radix, raw}
 use Rattle.lexical_literal.specs.Literal.{Literal, Reads}
 use Rattle.lexical_literal.specs.Notation.{Notation, notation_of}
 use Rattle.lexical_literal.specs.Read.{exponent, mantissa}
@@ -88,6 +88,6 @@ pub record IsMade (word : ℕ) (text : List ℕ) (c : Cuts) (m : Option ℕ) (n 
   pub syntax : IsSyntax grammar
   pub format : grammar.word ≡ word
   pub is_cut : IsCut (notation_of grammar) text c
-  pub word_mantissa : IsWord ((raw word).byte layout.mantissa_radix) (mantissa (raw word) (cut text c)) m
+  pub word_mantissa : IsWord ((raw word).byte layout.mantissa_radix) (mantissa (bytes_of word) (cut text c)) m
   pub fraction_places : n ≡ places ((raw word).byte layout.mantissa_radix) (cut text c).fraction
-  pub word_exponent : IsWord (effective_exponent_radix (raw word)) (exponent (raw word) (cut text c)) e
+  pub word_exponent : IsWord (effective_exponent_radix (raw word)) (exponent (bytes_of word) (cut text c)) e

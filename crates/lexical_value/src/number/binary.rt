@@ -4,7 +4,7 @@ ghost use Rattle.std.specs.Prelude.{◌≡◌, ℕ, Bool, true, false, ◌+◌, 
 ghost use Rattle.std.specs.Float.{Format};
 ghost use Rattle.std.specs.Float.Ieee.{prec, low, hid, ones};
 ghost use Rattle.core.specs.Dec2flt.Rounding.{scaled_bits, IsNearestBits, IsSignificand, IsCut};
-ghost use Rattle.lexical_value.specs.Binary.{format_of};
+ghost use Rattle.lexical_value.specs.Float.{format_of};
 ghost use Rattle.lexical_value.specs.Leading.{IsCutTo};
 
 #[inline(always)]

@@ -3,7 +3,7 @@
 ghost use Rattle.std.specs.Prelude.{◌≡◌, ◌*◌, ◌^◌, ◌<◌, ◌≤◌, ◌↔◌, Bool, true, false, IfSome, IsNone, IsTrue, from_bits, is_nan, if◌then◌else◌};
 ghost use Rattle.std.specs.Float as float;
 ghost use Rattle.std.specs.Float.Ieee.{hid, neg, ones, round};
-ghost use Rattle.lexical_value.specs.Binary.{format_of};
+ghost use Rattle.lexical_value.specs.Float.{format_of};
 
 /// A float type.
 pub trait Float: Copy {

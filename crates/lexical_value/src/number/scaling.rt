@@ -2,7 +2,7 @@
 
 ghost use Rattle.std.specs.Prelude.{◌≡◌, ℕ, ◌+◌, ◌*◌, ◌^◌, ◌<◌, ◌≤◌, min, IfSome, is_some, if◌then◌else◌};
 ghost use Rattle.core.specs.Dec2flt.Rounding.{IsNearestBits};
-ghost use Rattle.lexical_value.specs.Binary.{format_of, is_power_of_two, raised_up, raised_down};
+ghost use Rattle.lexical_value.specs.Float.{format_of, is_power_of_two, raised_up, raised_down};
 ghost use Rattle.lexical_value.specs.Leading.{Leads};
 ghost use Rattle.lexical_literal.specs.Number.{places};
 

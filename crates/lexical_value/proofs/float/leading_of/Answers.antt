@@ -16,7 +16,7 @@ pub returns-in-None-clause-leads : goal.returns-in-None-clause-leads
 returns-in-None-clause-leads c =
     let radix = c.args.radix in
     let l = literal_of c.cut-parts.result in
-    let whole : number_after radix (number_after radix 0 l.integer) l.fraction ≡ mantissa (raw c.args.literal.now.format) c.args.literal.now.literal =
+    let whole : number_after radix (number_after radix 0 l.integer) l.fraction ≡ mantissa (raw c.args.literal.now.format).byte c.args.literal.now.literal =
     sym (number_after-append radix 0 l.integer l.fraction)
     ∙ (λ j. number (c.requires.radix j) ((c.cut-parts.ensures.parts j).integer ++ (c.cut-parts.ensures.parts j).fraction)) in
     subst (λ n. Leads radix n c.push_all.result.digits c.push_all.result.more c.push_all.result.dropped) whole

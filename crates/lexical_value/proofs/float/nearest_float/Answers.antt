@@ -11,8 +11,8 @@ use Rattle.lexical_value.proofs.float.nearest_float.Goals.{then-has_decimal_floa
 pub returns-clause-value : goal.returns-clause-value
 returns-clause-value g c =
     let f = format_of g.F.Float.DOUBLE in
-    let num = numerator (raw c.args.literal.now.format) c.args.literal.now.literal in
-    let den = denominator (raw c.args.literal.now.format) c.args.literal.now.literal in
+    let num = numerator (raw c.args.literal.now.format).byte c.args.literal.now.literal in
+    let den = denominator (raw c.args.literal.now.format).byte c.args.literal.now.literal in
     let size : g.F.Float.value c.if-has_decimal_floats.size ≡ round f false num den =
     elim c.if-has_decimal_floats.branch [
       | then-has_decimal_floats w ↦ ap g.F.Float.value w.size-is ∙ w.decimal_size-size.ensures

@@ -13,8 +13,8 @@ returns-in-Ok-to_float-clause-value g c =
     let f = format_of g.F.Float.DOUBLE in
     let value = g.F.Float.value c.in-Ok-to_float.value in
     let is = exact_float f (raw c.in-Ok.literal.format) l value
-    (subst (λ kind. float_worth kind f (raw c.in-Ok.literal.format) l ≡ Ok value) c.in-Ok.ensures.kind c.in-Ok-to_float.ensures.value) in
-    (l, read.1, subst (λ w. value ≡ nearest f (raw w) l) read.0 is)
+    (subst (λ kind. float_worth kind f (raw c.in-Ok.literal.format).byte l ≡ Ok value) c.in-Ok.ensures.kind c.in-Ok-to_float.ensures.value) in
+    (l, read.1, subst (λ w. value ≡ nearest f (raw w).byte l) read.0 is)
 
 pub returns-in-Err-to_float-clause-value : goal.returns-in-Err-to_float-clause-value
 returns-in-Err-to_float-clause-value g c =
@@ -22,6 +22,6 @@ returns-in-Err-to_float-clause-value g c =
     let l = c.in-Ok.literal.literal in
     let f = format_of g.F.Float.DOUBLE in
     let is = exact_radix f (raw c.in-Ok.literal.format) l c.in-Err-to_float.kind
-    (subst (λ kind. float_worth kind f (raw c.in-Ok.literal.format) l ≡ Err c.in-Err-to_float.kind) c.in-Ok.ensures.kind
+    (subst (λ kind. float_worth kind f (raw c.in-Ok.literal.format).byte l ≡ Err c.in-Err-to_float.kind) c.in-Ok.ensures.kind
     c.in-Err-to_float.ensures.error) in
-    (l, read.1, subst (λ w. (is_decimal (raw w) || is_binary (raw w)) ≡ false) read.0 is.0, is.1)
+    (l, read.1, subst (λ w. (is_decimal (raw w).byte || is_binary (raw w).byte) ≡ false) read.0 is.0, is.1)

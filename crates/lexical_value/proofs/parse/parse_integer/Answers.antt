@@ -12,8 +12,8 @@ returns-in-Ok-to_integer g c =
     let read = c.in-Ok.ensures.found in
     let l = c.in-Ok.literal.literal in
     let value = g.T.Integer.range.value c.in-Ok-to_integer.value in
-    let is = subst (λ (kind : Kind). IsWorth kind.integers (raw c.in-Ok.literal.format) l value) c.in-Ok.ensures.kind c.in-Ok-to_integer.ensures in
-    (l, read.1, subst (λ w. IsInteger (raw w) l value) read.0 is)
+    let is = subst (λ (kind : Kind). IsWorth kind.integers (raw c.in-Ok.literal.format).byte l value) c.in-Ok.ensures.kind c.in-Ok-to_integer.ensures in
+    (l, read.1, subst (λ w. IsInteger (raw w).byte l value) read.0 is)
 
 pub returns-in-Err-to_integer : goal.returns-in-Err-to_integer
 returns-in-Err-to_integer g c =
@@ -23,6 +23,6 @@ returns-in-Err-to_integer g c =
     let least = g.T.Integer.range.least in
     let largest = g.T.Integer.range.largest in
     let is = exact_error least largest (raw c.in-Ok.literal.format) l error
-    (subst (λ (kind : Kind). IsNotWorth kind.integers least largest (raw c.in-Ok.literal.format) l error) c.in-Ok.ensures.kind
+    (subst (λ (kind : Kind). IsNotWorth kind.integers least largest (raw c.in-Ok.literal.format).byte l error) c.in-Ok.ensures.kind
     c.in-Err-to_integer.ensures) in
-    (l, read.1, subst (λ w. IsNoInteger least largest (raw w) l error) read.0 is)
+    (l, read.1, subst (λ w. IsNoInteger least largest (raw w).byte l error) read.0 is)

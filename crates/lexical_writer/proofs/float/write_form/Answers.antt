@@ -22,14 +22,14 @@ returns-clause-value g c =
     let two = (radixes s.word c.laid-2.ensures.lawful.lawful part.Integer).0 in
     let all = c.requires.places in
     let word = c.view-format.ensures.word ∙ c.format.ensures.word in
-    let supported : (is_decimal r || is_binary r) ≡ true =
-    subst (λ w. (is_decimal (raw w) || is_binary (raw w)) ≡ true) word (c.if-not-is_read.ensures.supported refl) in
+    let supported : (is_decimal r.byte || is_binary r.byte) ≡ true =
+    subst (λ w. (is_decimal (raw w).byte || is_binary (raw w).byte) ≡ true) word (c.if-not-is_read.ensures.supported refl) in
     let value : g.F.Float.value c.args.value ≡ round f c.args.negative num (radix ^ form.places * raised_down form.negative base form.exponent) =
     subst (λ w. g.F.Float.value c.args.value ≡ round f c.args.negative
     (c.args.number * (raw w).byte layouts.mantissa_radix ^ form.after * raised_up form.negative (effective_exponent_base (raw w)) form.exponent)
     ((raw w).byte layouts.mantissa_radix ^ form.places * raised_down form.negative (effective_exponent_base (raw w)) form.exponent)) word
     (c.if-not-is_read.ensures.value refl) in
-    if_ok (λ layout. HasNumber s c.amount_in-amount.result (literal_of layout)) (λ layout. g.F.Float.value c.args.value ≡ nearest f r (literal_of layout))
+    if_ok (λ layout. HasNumber s c.amount_in-amount.result (literal_of layout)) (λ layout. g.F.Float.value c.args.value ≡ nearest f r.byte (literal_of layout))
     c.laid-2.result
     (λ layout has. value
     ∙ same_nearest f r (literal_of layout) c.args.negative form.negative num form.places form.exponent supported

@@ -51,7 +51,7 @@ no_exponent needs wants allows none unwanted = grind arith
 integer : (g : Grammar) (style : Style) (negative : Bool) (n : ℕ) (z : ℤ) → with_sign negative n ≡ z → needs_exponent g ≡ false
     → wants_exponent style.exponent ≡ false → (result : Result Layout WriteError) → IsLaidOut g style (number_of_size negative n) result
     → IfOk result (λ layout. HasNumber g (number_of_size negative n) (literal_of layout))
-    → IfOk result (λ layout. IsInteger (raw g.word) (literal_of layout) z)
+    → IfOk result (λ layout. IsInteger (raw g.word).byte (literal_of layout) z)
 integer g style negative n z is needs wants (Ok layout) out has =
     let none : has_exponent g style (number_of_size negative n) ≡ false = no_exponent _ _ _ needs wants in
     let point : has_point g style (number_of_size negative n) ≡ false =

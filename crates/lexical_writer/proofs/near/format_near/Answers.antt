@@ -11,7 +11,7 @@ pub returns-in-Ok-float_instead-clause-rounded : goal.returns-in-Ok-float_instea
 returns-in-Ok-float_instead-clause-rounded g c n some =
     let from = raw c.args.literal.now.format in
     let to = raw c.args.syntax.now.word in
-    let value = nearest (format_of g.F.Float.DOUBLE) from c.args.literal.now.literal in
+    let value = nearest (format_of g.F.Float.DOUBLE) from.byte c.args.literal.now.literal in
     let places = decimals_in c.args.syntax.now n in
     if_ok (λ layout. IsRounded (g.F.Float.value c.in-Ok-float_instead.value) to (literal_of layout) places)
     (λ layout. SameFraction from c.args.literal.now.literal to (literal_of layout) ⊎ IsRounded value to (literal_of layout) places) c.format_float.result

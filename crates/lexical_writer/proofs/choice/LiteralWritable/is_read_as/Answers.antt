@@ -10,7 +10,7 @@ use Rattle.lexical_writer.specs.Choice.{IsWhole}
 use Rattle.lexical_writer.proofs.choice.LiteralWritable.is_read_as.Goals as goal
 
 worth_is : (read : Read) (s : Bool) (n : ℕ) (z : ℤ) → IsFalse (is_float read.literal)
-    → integer_worth read.kind.integers (raw read.format) read.literal ≡ Some (s, n) → z ≡ with_sign s n → IsWhole z read
+    → integer_worth read.kind.integers (raw read.format).byte read.literal ≡ Some (s, n) → z ≡ with_sign s n → IsWhole z read
 worth_is read s n z whole is same = inl (whole, subst (λ o. IsSomeAnd o (λ w. z ≡ with_sign w.0 w.1)) (sym is) same)
 
 pub returns-in-Some-Some : goal.returns-in-Some-Some

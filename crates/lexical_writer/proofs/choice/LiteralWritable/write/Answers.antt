@@ -13,7 +13,7 @@ same : (read : Read) (word : ℕ) (l : Literal) → read.kind ≡ exact → IsNe
     → IsSameNumber read (exact_read word l)
 same read word l plain near = elim near [
   | inl value ↦ inr (inr (plain, refl, value))
-  | inr float ↦ inr (inl (nearest binary64 (raw read.format) read.literal, inr (plain, refl), inr (refl, float)))
+  | inr float ↦ inr (inl (nearest binary64 (raw read.format).byte read.literal, inr (plain, refl), inr (refl, float)))
 ]
 
 pub returns : goal.returns
