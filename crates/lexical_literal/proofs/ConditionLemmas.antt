@@ -95,7 +95,8 @@ module _ (m : Notation) (h : HasRoles m) where
   abbrev fits_first : ByteSet
   fits_first b = m.digit parts.Integer b && is_first m b
 
-  sign_counts : (b : ℕ) (rest : List ℕ) → role_at m parts.Integer b ≡ Some roles.Sign → nat_lt 0 (tally_by O m (Some start) no_cuts (b ∷ rest) pieces.Sign) ≡ true
+  sign_counts : (b : ℕ) (rest : List ℕ) → role_at m parts.Integer b ≡ Some roles.Sign
+      → nat_lt 0 (tally_by O m (Some start) no_cuts (b ∷ rest) pieces.Sign) ≡ true
   sign_counts b rest sign = subst (λ o. nat_lt 0 (tally_by O m (step_by O m start b) (count parts.Integer o no_cuts) rest pieces.Sign) ≡ true) (sym sign)
       (stays (step_by O m start b) (add no_cuts pieces.Sign) rest pieces.Sign (λ e. cc) refl)
 
@@ -188,7 +189,11 @@ module _ (m : Notation) (h : HasRoles m) where
   calm_admits s b x2 calm taken = grind arith
 
   calm_after : (s : Summary) (zero : Bool) (r : Role) → Calm s → Calm (after s zero r)
-  calm_after s zero r calm = record { prefix = let a = calm.prefix in grind arith; sign = let b = calm.sign in grind arith; first = let b = calm.first in grind arith }
+  calm_after s zero r calm = record {
+    prefix = let a = calm.prefix in grind arith;
+    sign = let b = calm.sign in grind arith;
+    first = let b = calm.first in grind arith;
+  }
 
   peel : (s : Summary) (b : ℕ) (c : Cuts) (text : List ℕ) (d : Cuts) → Arrives O m (Some s) c (b ∷ text) d
       → Took O m s b (λ o. Arrives O m o (count (part_of s.stage) (role_at m (part_of s.stage) b) c) text d)

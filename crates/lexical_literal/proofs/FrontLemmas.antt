@@ -10,7 +10,8 @@ use Rattle.lexical_util.specs.declared.format_flags.Part.TheVariants as parts
 use Rattle.lexical_literal.specs.Additions.Plain.{IsReady, HasRoles}
 use Rattle.lexical_literal.specs.Front.{IsFront}
 use Rattle.lexical_literal.specs.Additions.Summary.{admits, continues, implies, has_digit, is_fresh, is_led, after_digit, after_mark, after_point, may_lead}
-use Rattle.lexical_literal.specs.Additions.Summary.{is_negative, lacks_prefix, leads_to_prefix, needs_exponent, may_follow, gap_fits, ends, is_open, is_signed, takes, after}
+use Rattle.lexical_literal.specs.Additions.Summary.{is_negative, lacks_prefix, leads_to_prefix, needs_exponent, may_follow, gap_fits, ends, is_open, is_signed}
+use Rattle.lexical_literal.specs.Additions.Summary.{takes, after}
 use Rattle.lexical_literal.specs.Additions.Summary.{scan, is_accepted, start, no_cuts, role_at, part_of, awaits_integer, digits_suffice, takes_in}
 use Rattle.lexical_literal.specs.Additions.Summary.{forbids_plus, is_run}
 use Rattle.lexical_literal.specs.declared.steps.Stage.{Stage}

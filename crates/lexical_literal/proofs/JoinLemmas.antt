@@ -3,7 +3,8 @@ use Rattle.lexical_literal.proofs.Common.{ℕ, ◌≡◌, ◌<◌, ◌+◌, ◌-
 use Rattle.std.proofs.Common.{length}
 use Rattle.lexical_util.specs.declared.feature_format.roles.Role.TheVariants as roles
 use Rattle.lexical_util.specs.declared.format_flags.Part.TheVariants as parts
-use Rattle.lexical_literal.specs.Additions.Plain.{HasRoles, IsAt, IsBegun, IsOpened, IsReadOn, IsSign, behind_sign, counts_of, has_first, integer_sizes, is_free, at_stage}
+use Rattle.lexical_literal.specs.Additions.Plain.{HasRoles, IsAt, IsBegun, IsOpened, IsReadOn, IsSign, behind_sign, counts_of, has_first, integer_sizes}
+use Rattle.lexical_literal.specs.Additions.Plain.{is_free, at_stage}
 use Rattle.lexical_literal.specs.Additions.Summary.{Cuts, after_point, cuts_of, has_digit, awaits_integer, is_signed, takes, part_of, piece_number, with_prefix}
 use Rattle.lexical_literal.specs.declared.plain.At.{At}
 use Rattle.lexical_literal.specs.declared.plain.Opening.{Opening}

@@ -86,7 +86,8 @@ module _ (m : Notation) (text : List ℕ) where
   -- No literal goes on behind a byte that plays no role.
   over : (size : ℕ) → size < length text → PlaysNoRole m (get_or text size 0) → IsWithin m text size
   over size inside none more below within front =
-      let long : size < length (take more text ++ front.more) = omega (arith, below, length-append (take more text) front.more, length-take-le more text within) in
+      let long : size < length (take more text ++ front.more) =
+      omega (arith, below, length-append (take more text) front.more, length-take-le more text within) in
       no_role_excludes m (take more text ++ front.more) size long
       (subst (PlaysNoRole m) (sym (front_byte text front.more more size within below)) none) front.literal front.reads
 
@@ -103,15 +104,13 @@ module _ (m : Notation) (text : List ℕ) where
         let zero : get_or text (sign_size text) 0 ≡ 48 =
         sym (front_byte text rest more (sign_size text) within (omega (arith, below))) ∙ ap (λ n. get_or (take more text ++ rest) n 0) (sym sign) ∙ is.zero in
         let prefix : m.prefix (get_or text (sign_size text + 1) 0) ≡ true =
-        ap m.prefix (sym (front_byte text rest more (sign_size text + 1) within below) ∙ ap (λ n. get_or (take more text ++ rest) (n + 1) 0) (sym sign)) ∙ is.prefix in
+        ap m.prefix (sym (front_byte text rest more (sign_size text + 1) within below) ∙ ap (λ n. get_or (take more text ++ rest) (n + 1) 0) (sym sign))
+        ∙ is.prefix in
         grind (arith, nat_tests)
 
     pub lacking_within : IsWithin m text (sign_size text + 1)
     lacking_within more below within front =
         not_begun more front.more below within (prefix_begins m front.literal (take more text ++ front.more) front.reads required)
-
-    pub lacking_more : (size : ℕ) → sign_size text < size → IsWithin m text size
-    lacking_more size sign more below = lacking_within more (omega (arith, sign, below))
 
 -- A form of which no literal goes on behind `size` bytes has no longer front.
 pub fronts_within : (text : List ℕ) (size : ℕ) (form : Form) → IsWithin (notation_of form.syntax) text size → FrontsWithin text size form
@@ -234,7 +233,8 @@ front_before back text form stop size is stop_is gives kept l reads = go (goes (
         reads = reads;
         no_longer = λ n past inside l reads. elim (cases_lt stop.size n) [
           | inl beyond ↦ is.valid.no_longer n beyond inside (as_front (notation_of form.syntax) (take n text) l reads)
-          | inr near ↦ is.incomplete off l (subst (λ n. Reads (notation_of form.syntax) l (take n text)) (let same : n ≡ stop.size = omega (arith, past, near, stop_is) in same) reads)
+          | inr near ↦ is.incomplete off l
+              (subst (λ n. Reads (notation_of form.syntax) l (take n text)) (let same : n ≡ stop.size = omega (arith, past, near, stop_is) in same) reads)
         ];
       },
     ),
@@ -347,7 +347,8 @@ module _ (list : FormList) (t : Tokens) (text : List ℕ) (index : ℕ) (form : 
         ]
 
     pub leading_token : (token : Token) → token.form ≡ index → ReadsForm (take size text) token.literal form
-        → token.literal.kind ≡ kind_with form.suffixes token.suffix.now form.kind → token.suffix.now ≡ take more (drop size text) → token.rest.now ≡ drop (size + more) text → IsToken list t text token
+        → token.literal.kind ≡ kind_with form.suffixes token.suffix.now form.kind → token.suffix.now ≡ take more (drop size text)
+        → token.rest.now ≡ drop (size + more) text → IsToken list t text token
     leading_token token same literal kind suffix rest = token_is list t text index form found picked token same literal kind
         (suffix ∙ ap (λ n. take n (drop size text)) (let sum : more ≡ size + more - size = omega arith in sum)) rest
         (inr (λ k d below. not_ahead (get_or list.forms k d) (near k d below), ended))
@@ -369,7 +370,8 @@ total l c has =
     let v = length-append l.point (l.fraction ++ (l.exponent_character ++ (l.exponent_sign ++ (l.exponent ++ l.suffix)))) in
     let u = length-append l.integer (l.point ++ (l.fraction ++ (l.exponent_character ++ (l.exponent_sign ++ (l.exponent ++ l.suffix))))) in
     let t = length-append l.prefix (l.integer ++ (l.point ++ (l.fraction ++ (l.exponent_character ++ (l.exponent_sign ++ (l.exponent ++ l.suffix)))))) in
-    let s = length-append l.sign (l.prefix ++ (l.integer ++ (l.point ++ (l.fraction ++ (l.exponent_character ++ (l.exponent_sign ++ (l.exponent ++ l.suffix))))))) in
+    let s = length-append l.sign
+    (l.prefix ++ (l.integer ++ (l.point ++ (l.fraction ++ (l.exponent_character ++ (l.exponent_sign ++ (l.exponent ++ l.suffix))))))) in
     omega (arith, a, b, d, e, f, g, h, i, s, t, u, v, w, x, y, z)
 
 pub sums_of_front : (r : Record) (text : List ℕ) (size : ℕ) (c : Cuts) (sums : Sums) → (m : Notation) (l : Literal) → size ≤ length text

@@ -1,6 +1,6 @@
 -- What is read of a text part after part.
 use Rattle.lexical_literal.proofs.Common.{ℕ, ◌≡◌, ◌<◌, ◌≤◌, ◌+◌, ◌-◌, ◌&&◌, ◌||◌, Bool, true, false, not, List, Some, get_or, refl, sym, ap, subst, ◌∙◌}
-use Rattle.lexical_literal.proofs.Common.{arith, false≢true, and_from, and_parts, or_left, nat_tests, take_more, separators_in, Role, Part, Notation}
+use Rattle.lexical_literal.proofs.Common.{arith, false≢true, and_from, and_parts, or_left, take_more, separators_in, Role, Part, Notation}
 use Rattle.lexical_literal.proofs.Common.{common_steps}
 use Rattle.lexical_literal.proofs.StepLemmas.{awaited_part}
 use Rattle.std.proofs.Common.{◌==◌, IsTrue, if◌then◌else◌, length}
@@ -60,14 +60,6 @@ admits_settled m s b r settled other = admits_free m s b r other (settled_free m
 pub admits_first : (m : Notation) (text : List ℕ) (size : ℕ) (stage : Stage) → may_read m text size stage ≡ true
     → admits m.condition (at_stage size stage).read (get_or text size 0) roles.Digit ≡ true
 admits_first m text size stage first = grind arith
-
-pub free_behind_zero : (m : Notation) (text : List ℕ) (size : ℕ) (stage : Stage) → may_read m text size stage ≡ true → awaits_integer stage ≡ true
-    → is_free m stages.Bare ≡ true
-free_behind_zero m text size stage first begun = grind arith
-
-pub free_without : (m : Notation) (text : List ℕ) (size : ℕ) (stage : Stage) → may_read m text size stage ≡ true
-    → (size < length text → m.digit (part_of stage) (get_or text size 0) ≡ false) → is_free m stage ≡ true
-free_without m text size stage first none = grind (arith, nat_tests)
 
 -- A stage that another digit does not change.
 module _ (m : Notation) (stage : Stage) (run : is_run stage ≡ true) where

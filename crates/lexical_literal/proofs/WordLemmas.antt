@@ -27,7 +27,8 @@ most radix = slice_index_or MOST radix 0
 
 is_most : (radix : ℕ) → 2 ≤ radix → radix ≤ 36 → (radix ^ most radix ≤ 2 ^ 64) × (2 ^ 64 < radix ^ (most radix + 1))
 is_most radix low high =
-    let all = agree_below_at (λ r. nat_lt r 2 || (nat_le (r ^ most r) (2 ^ 64) && nat_lt (2 ^ 64) (r ^ (most r + 1)))) (λ _. true) 37 radix refl (omega arith) in
+    let all = agree_below_at (λ r. nat_lt r 2 || (nat_le (r ^ most r) (2 ^ 64) && nat_lt (2 ^ 64) (r ^ (most r + 1)))) (λ _. true) 37 radix refl
+    (omega arith) in
     grind (arith, nat_tests)
 
 pub twelve_fit : (radix digits : ℕ) → 2 ≤ radix → radix ≤ 36 → digits ≤ 12 → radix ^ digits ≤ 2 ^ 64

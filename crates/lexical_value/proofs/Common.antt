@@ -2,7 +2,7 @@
 pub use Rattle.core.proofs.dec2flt.ExactLemmas.{ten_to_pos}
 pub use Rattle.core.proofs.dec2flt.Extremes.{nearest_of_zero}
 pub use Rattle.core.proofs.dec2flt.LimbsLemmas.{limb_weight-suc, limb_weight-zero, power_pos, value_below-suc, value_below-zero}
-pub use Rattle.core.specs.Dec2flt.Limbs.{limb_weight, value_below}
+unfoldable pub use Rattle.core.specs.Dec2flt.Limbs.{limb_weight, value_below}
 pub use Rattle.core.specs.Dec2flt.Rounding.{IsNearestBits}
 pub use Rattle.lexical_literal.specs.Number.{number, number_after, places}
 pub use Rattle.lexical_literal.specs.Read.{mantissa}

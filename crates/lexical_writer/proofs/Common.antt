@@ -5,7 +5,8 @@ pub use Rattle.lexical_literal.specs.Number.{digits_in, number, number_after}
 pub use Rattle.lexical_literal.specs.Syntax.{IsSyntax}
 pub use Rattle.lexical_literal.specs.declared.read.Parts.{Parts}
 pub use Rattle.lexical_literal.specs.declared.syntax.Grammar.{Grammar}
-pub use Rattle.lexical_util.specs.Digits.{byte_value, digit_of}
+unfoldable pub use Rattle.lexical_util.specs.Digits.{byte_value}
+pub use Rattle.lexical_util.specs.Digits.{digit_of}
 pub use Rattle.lexical_util.specs.Record.{Record, effective_exponent_base, effective_exponent_radix, raw}
 pub use Rattle.lexical_value.specs.Binary.{format_of, raised_down, raised_up}
 pub use Rattle.lexical_writer.specs.Digits.{at_least, character, grouped, grouped_front, padded_values, size_of, values_of}

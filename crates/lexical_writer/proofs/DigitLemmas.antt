@@ -2,7 +2,7 @@
 use Rattle.lexical_writer.proofs.Common.{ℕ, ◌≡◌, ◌+◌, ◌*◌, ◌<◌, ◌≤◌, ◌||◌, Bool, true, false, cond, nat_lt, List, [], ◌∷◌, ◌++◌, length, drop, get_or}
 use Rattle.lexical_writer.proofs.Common.{Option, ◌-◌, ◌/◌, ◌%◌, map, set, slice_get, option_to_list, Some, None, refl, sym, ap, ◌∙◌, arith, suc, zero}
 use Rattle.lexical_writer.proofs.Common.{drop-cons, add-one, replicate, append-nil, subst, inl, inr, cases_lt, false≢true, number_after_append}
-use Rattle.lexical_writer.proofs.Common.{append_assoc, drop_all, length-append, nat_tests, AllBelowBase, digits_of, number_from_digits}
+use Rattle.lexical_writer.proofs.Common.{append_assoc, length-append, nat_tests, AllBelowBase, digits_of, number_from_digits}
 use Rattle.lexical_writer.proofs.Common.{number_from_digits_after, cons_option, byte_value, digit_of, is_present, digits_in, number, at_least, character}
 use Rattle.lexical_writer.proofs.Common.{grouped, grouped_front, padded_values, values_of, Source}
 use Rattle.std.proofs.lemmas.Bool.{ltb-true}
@@ -296,10 +296,6 @@ run_longer pattern least digits =
     omega (arith, longer, all)
 
 -- Bytes from an index on that are uppercase digits.
-pub no_characters : (radix i : ℕ) (bytes : List ℕ) → length bytes ≤ i → drop i bytes ≡ map (character false) (digits_in radix (drop i bytes))
-no_characters radix i bytes behind =
-    let none = drop_all i bytes behind in none ∙ sym (ap (λ bytes. map (character false) (digits_in radix bytes)) none)
-
 pub more_characters : (radix i d : ℕ) (bytes : List ℕ) (digit : Option ℕ) → i < length bytes → digit ≡ digit_of (get_or bytes i 0) radix
     → digit ≡ Some d → character false d ≡ get_or bytes i 0 → drop (i + 1) bytes ≡ map (character false) (digits_in radix (drop (i + 1) bytes))
     → drop i bytes ≡ map (character false) (digits_in radix (drop i bytes))

@@ -35,7 +35,8 @@ use Rattle.lexical_writer.specs.Layout.{IsLaidOut, after_zero, base_byte, intege
 use Rattle.lexical_writer.specs.Layout.{kept_digits, pattern_of, refusal, sign_of, takes_zeros}
 use Rattle.lexical_writer.specs.declared.layout.WriteError.TheVariants as errors
 use Rattle.lexical_writer.specs.declared.run.Pattern.{Pattern}
-use Rattle.lexical_writer.proofs.DigitLemmas.{character_value, decimal_first, grouped_digits, grouped_present, least_below, least_number, values_below, zero_first}
+use Rattle.lexical_writer.proofs.DigitLemmas.{character_value, decimal_first, grouped_digits, grouped_present, least_below, least_number, values_below}
+use Rattle.lexical_writer.proofs.DigitLemmas.{zero_first}
 use Rattle.lexical_writer.proofs.GroupLemmas.{Between, grouped_rest, left_first, no_leading_zero, right_groups, single_fits}
 
 -- The flags of a lawful format agree.

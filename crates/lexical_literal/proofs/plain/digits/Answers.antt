@@ -16,7 +16,8 @@ use Rattle.lexical_literal.proofs.plain.digits.Goals.{else-text-begun-eq48-via-t
 use Rattle.lexical_literal.proofs.plain.digits.Goals.{else-text-begun-eq48-via-else-text-begun-eq48}
 
 first_digit : (g : Grammar) (text : List ℕ) (part : Part) (none one last : Run) (v : ℕ) (stage : Stage) (leads : Bool) → HasRoles (steps_of g)
-    → part_of none.stage ≡ part → has_digit none.stage ≡ false → is_signed (steps_of g) part none.stage ≡ true → may_read (steps_of g) text none.size none.stage ≡ true
+    → part_of none.stage ≡ part → has_digit none.stage ≡ false → is_signed (steps_of g) part none.stage ≡ true
+    → may_read (steps_of g) text none.size none.stage ≡ true
     → IsDigitAt (radix_of (raw g.word) part) text none.size v → one ≡ pushed (radix_of (raw g.word) part) none v 1
     → ((get_or text none.size 0 == 48) && awaits_integer none.stage) ≡ leads → (if leads then stages.Bare else digits_of part) ≡ stage
     → IsRunOn (steps_of g) (radix_of (raw g.word) part) text part (record one { stage = stage }) last

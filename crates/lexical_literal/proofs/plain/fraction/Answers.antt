@@ -30,6 +30,7 @@ stopped-requires-clause-begun c =
     let run = c.digits-run.result in
     let from = c.args.integer.size + 1 in
     subst (IsBegun m text) (sym c.at_stage.ensures)
-    (fraction_at m text (record c.args.sizes { point = 1 }) from run.size (after_point (has_digit c.args.integer.stage)) run.stage c.requires.none.1 c.requires.at
+    (fraction_at m text (record c.args.sizes { point = 1 }) from run.size
+    (after_point (has_digit c.args.integer.stage)) run.stage c.requires.none.1 c.requires.at
     (subst (λ stage. IsReadOn m text (at_stage from stage) pieces.Fraction (at_stage run.size run.stage)) c.after_point-stage.ensures
     c.digits-run.ensures.run.on)).begun

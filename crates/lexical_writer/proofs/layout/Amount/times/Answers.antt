@@ -37,7 +37,8 @@ returns-in_default c =
     let digit = c.last_digit.ensures.digit ∙ ap (λ s. number_from_digits c.args.radix (values_of c.args.radix s)) c.fraction-fraction.ensures in
     let size = size_of c.args.radix c.args.self.now.integer in
     let large = over size c.in_default.ensures in
-    let more = grown size c.args.factor (number_from_digits c.args.radix (values_of c.args.radix (given_fraction c.args.self.now)) * c.args.factor / c.args.radix)
+    let more = grown size c.args.factor
+    (number_from_digits c.args.radix (values_of c.args.radix (given_fraction c.args.self.now)) * c.args.factor / c.args.radix)
     (some_factor c.args.radix c.args.factor c.requires.radix.0 c.requires.factor) in (
       size_of c.args.radix c.args.self.now.integer * c.args.factor
           + number_from_digits c.args.radix (values_of c.args.radix (given_fraction c.args.self.now)) * c.args.factor / c.args.radix,
