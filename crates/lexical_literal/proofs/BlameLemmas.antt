@@ -1,8 +1,7 @@
 -- The flags that are found are to blame.
-use Rattle.lexical_literal.proofs.Common.{ℕ, ◌≡◌, ◌≤◌, ◌↔◌, ◌⊎◌, Bool, true, false, not, ◌&&◌, ◌||◌, inl, inr, List, take, Option, None, Some, refl, sym}
-use Rattle.lexical_literal.proofs.Common.{ap, subst, ◌∙◌, arith, false≢true, and_parts, and_from, cases_Bool, length-take-le, Flag, raw, Role, Part}
-use Rattle.lexical_literal.proofs.Common.{all_conditions, Notation, has, notation_of, Condition, Grammar}
-use Rattle.std.proofs.Common.{◌==◌, IsTrue, if◌then◌else◌, length}
+use Rattle.lexical_literal.proofs.Common.{ℕ, ◌≡◌, ◌≤◌, ◌↔◌, ◌⊎◌, Bool, true, false, not, ◌&&◌, ◌||◌, inl, inr, List, take, Option, None, Some, refl, sym, ap}
+use Rattle.lexical_literal.proofs.Common.{subst, ◌∙◌, arith, false≢true, and_parts, and_from, cases_Bool, length-take-le, Flag, raw, Role, Part, all_conditions}
+use Rattle.lexical_literal.proofs.Common.{Notation, has, notation_of, Condition, Grammar, ◌==◌, IsTrue, if◌then◌else◌, length}
 use Rattle.std.specs.Prelude.{slice_get}
 use Rattle.lexical_util.specs.Groups.{bits_of}
 use Rattle.lexical_util.specs.Layout as layout

@@ -1,9 +1,7 @@
 -- The flags of masks, and the bytes to show.
 use Rattle.lexical_literal.proofs.Common.{ℕ, ◌≡◌, ◌<◌, ◌+◌, ◌^◌, ◌&&◌, ◌||◌, not, Bool, true, false, bit_and, bit_or, inl, inr, List, [], ◌∷◌, ◌++◌, sum_by}
 use Rattle.lexical_literal.proofs.Common.{refl, sym, ap, ◌∙◌, arith, nat_tests, false≢true, cases_Bool, eqb-true, ByteSet, Flag, bit, raw, Record, list_any}
-use Rattle.lexical_literal.proofs.Common.{Notation}
-use Rattle.std.proofs.Common.{◌==◌, if◌then◌else◌}
-use Rattle.std.proofs.Common.{length}
+use Rattle.lexical_literal.proofs.Common.{Notation, ◌==◌, if◌then◌else◌, length}
 use Rattle.std.proofs.lemmas.List.Folds.{list_any-append}
 use Rattle.std.proofs.lemmas.Nat.Bits.{bit_at_and, bit_at_or, bit_at_not, bit_at-zero, bit_at-pow_same, bit_at-pow_other}
 use Rattle.std.proofs.Math.Nat.{mod-lt}

@@ -15,6 +15,7 @@ pub use Rattle.std.proofs.Common.{All, Bool, Err, IfSome, IsErrAnd, IsFalse, IsN
 pub use Rattle.std.proofs.Common.{add-one, ap, append-nil, arith, bit_and, bit_or, cond, drop, drop-cons, false, get_or, inl, inr, nat_lt, not, refl}
 pub use Rattle.std.proofs.Common.{replicate, set, slice_index_or, subst, suc, sum_by, sym, take, take-append-drop, true, zero, ℕ, ◌%◌, ◌&&◌, ◌*◌, ◌++◌, ◌+◌}
 pub use Rattle.std.proofs.Common.{◌-◌, ◌<◌, ◌^◌, ◌||◌, ◌↔◌, ◌∙◌, ◌∷◌, ◌≡◌, ◌≢◌, ◌≤◌, ◌⊎◌}
+pub use Rattle.std.proofs.Common.{IsTrue, append_assoc, if◌then◌else◌, length, length-append, nat_le, option_map, slice_get, ◌==◌}
 pub use Rattle.std.proofs.lemmas.Bool.{and_from, and_parts, cases_Bool, cases_lt, eqb-true, false_from_ne_true, false≢true, or_left, or_right}
 pub use Rattle.std.proofs.lemmas.Bool.Decides.{nat_tests}
 pub use Rattle.std.proofs.lemmas.Grind.{common_steps}

@@ -1,9 +1,8 @@
 -- The texts that are accepted with the conditions of a notation are its literals.
-use Rattle.lexical_literal.proofs.Common.{ℕ, ◌≡◌, Bool, true, false, not, ◌&&◌, ◌||◌, inl, inr, nat_lt, List, [], ◌∷◌, ◌++◌, Option, Some, None, refl, sym}
-use Rattle.lexical_literal.proofs.Common.{ap, subst, ◌∙◌, arith, false≢true, and_from, and_parts, cases_Bool, eqb-true, or_left, or_right, nat_tests}
-use Rattle.lexical_literal.proofs.Common.{ByteSet, signs, Role, Part, Notation, Literal, IsLiteral, IsSpelled, Reads, is_absent, is_none_or_one}
-use Rattle.lexical_literal.proofs.Common.{is_none_or_prefix, is_present, text_of, Condition}
-use Rattle.std.proofs.Common.{◌==◌, if◌then◌else◌, length}
+use Rattle.lexical_literal.proofs.Common.{ℕ, ◌≡◌, Bool, true, false, not, ◌&&◌, ◌||◌, inl, inr, nat_lt, List, [], ◌∷◌, ◌++◌, Option, Some, None, refl, sym, ap}
+use Rattle.lexical_literal.proofs.Common.{subst, ◌∙◌, arith, false≢true, and_from, and_parts, cases_Bool, eqb-true, or_left, or_right, nat_tests, ByteSet}
+use Rattle.lexical_literal.proofs.Common.{signs, Role, Part, Notation, Literal, IsLiteral, IsSpelled, Reads, is_absent, is_none_or_one, is_none_or_prefix}
+use Rattle.lexical_literal.proofs.Common.{is_present, text_of, Condition, ◌==◌, if◌then◌else◌, length}
 use Rattle.lexical_util.specs.declared.feature_format.roles.Role.TheVariants as roles
 use Rattle.lexical_util.specs.declared.format_flags.Part.TheVariants as parts
 use Rattle.lexical_literal.specs.Additions.Plain.{HasRoles, is_first, needs_first}

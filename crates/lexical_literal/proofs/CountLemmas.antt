@@ -1,6 +1,5 @@
 -- The lengths of parts.
-use Rattle.lexical_literal.proofs.Common.{ℕ, ◌≡◌, ◌+◌, List, [], ◌∷◌, get_or, set, arith}
-use Rattle.std.proofs.Common.{length}
+use Rattle.lexical_literal.proofs.Common.{ℕ, ◌≡◌, ◌+◌, List, [], ◌∷◌, get_or, set, arith, length}
 use Rattle.lexical_literal.specs.Additions.Plain.{counts_of, integer_sizes}
 use Rattle.lexical_literal.specs.Additions.Summary.{add_more, cuts_of, piece_number, with_prefix}
 use Rattle.lexical_literal.specs.declared.steps.Piece.{Piece}

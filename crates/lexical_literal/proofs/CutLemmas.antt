@@ -1,7 +1,6 @@
 -- A text that is accepted, cut into parts.
-use Rattle.lexical_literal.proofs.Common.{ℕ, ◌≡◌, Bool, true, false, not, ◌&&◌, ◌||◌, List, [], ◌∷◌, ◌++◌, Some, refl, sym, ap, subst, ◌∙◌, arith}
-use Rattle.lexical_literal.proofs.Common.{false≢true, and_parts, and_from, separators_in, signs, Role, Part, Notation, Literal, is_none_or_one, Condition}
-use Rattle.std.proofs.Common.{◌==◌}
+use Rattle.lexical_literal.proofs.Common.{ℕ, ◌≡◌, Bool, true, false, not, ◌&&◌, ◌||◌, List, [], ◌∷◌, ◌++◌, Some, refl, sym, ap, subst, ◌∙◌, arith, false≢true}
+use Rattle.lexical_literal.proofs.Common.{and_parts, and_from, separators_in, signs, Role, Part, Notation, Literal, is_none_or_one, Condition, ◌==◌}
 use Rattle.lexical_util.specs.declared.feature_format.roles.Role.TheVariants as roles
 use Rattle.lexical_util.specs.declared.format_flags.Part.TheVariants as parts
 use Rattle.lexical_literal.specs.Additions.Summary.{implies, has_digit, is_fresh, is_bare, after_digit, after_mark, after_point, is_open, may_follow, part_of}

@@ -1,9 +1,7 @@
 -- What some literal of a notation with sizes of groups begins with: what one without begins with, if its groups fit byte by byte.
-use Rattle.lexical_literal.proofs.Common.{ℕ, ◌≡◌, ◌≤◌, ◌+◌, ◌-◌, inl, inr, Bool, true, false, not, ◌&&◌, ◌||◌, nat_lt, List, [], ◌∷◌, ◌++◌, Option, Some}
-use Rattle.lexical_literal.proofs.Common.{None, refl, sym, ap, subst, ◌∙◌, arith, zero, suc, false≢true, and_parts, and_from, cases_Bool, or_left, or_right}
-use Rattle.lexical_literal.proofs.Common.{nat_tests, list_any, separators_in, Role, Part, Literal, Reads, Notation}
-use Rattle.std.proofs.Common.{◌==◌, if◌then◌else◌, nat_le}
-use Rattle.std.proofs.Common.{append_assoc}
+use Rattle.lexical_literal.proofs.Common.{ℕ, ◌≡◌, ◌≤◌, ◌+◌, ◌-◌, inl, inr, Bool, true, false, not, ◌&&◌, ◌||◌, nat_lt, List, [], ◌∷◌, ◌++◌, Option, Some, None}
+use Rattle.lexical_literal.proofs.Common.{refl, sym, ap, subst, ◌∙◌, arith, zero, suc, false≢true, and_parts, and_from, cases_Bool, or_left, or_right}
+use Rattle.lexical_literal.proofs.Common.{nat_tests, list_any, separators_in, Role, Part, Literal, Reads, Notation, ◌==◌, if◌then◌else◌, nat_le, append_assoc}
 use Rattle.std.proofs.lemmas.Bool.{or_parts}
 use Rattle.lexical_util.specs.declared.feature_format.roles.Role.TheVariants as roles
 use Rattle.lexical_util.specs.declared.format_flags.Part.TheVariants as parts

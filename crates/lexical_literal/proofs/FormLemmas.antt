@@ -1,9 +1,7 @@
 -- Several forms: what has been found in the first of them, and what one form more adds.
 use Rattle.lexical_literal.proofs.Common.{ℕ, ◌≡◌, ◌*◌, inl, inr, nat_lt, Bool, true, false, ◌<◌, ◌≤◌, ◌+◌, List, Ok, Option, Some, None, All, IsSomeAnd, []}
-use Rattle.lexical_literal.proofs.Common.{◌∷◌, take, get_or, IfSome, IsNone, refl, sym, subst, ap, arith, nat_tests, cases_lt, false≢true, take_all}
-use Rattle.lexical_literal.proofs.Common.{All-more, slice_get-get_or, Literal, Reads, Notation, notation_of, common_steps}
-use Rattle.std.proofs.Common.{if◌then◌else◌}
-use Rattle.std.proofs.Common.{length, slice_get}
+use Rattle.lexical_literal.proofs.Common.{◌∷◌, take, get_or, IfSome, IsNone, refl, sym, subst, ap, arith, nat_tests, cases_lt, false≢true, take_all, All-more}
+use Rattle.lexical_literal.proofs.Common.{slice_get-get_or, Literal, Reads, Notation, notation_of, common_steps, if◌then◌else◌, length, slice_get}
 use Rattle.std.specs.Option.{ForSome}
 use Rattle.std.proofs.Math.Nat.{le_antisymm}
 use Rattle.std.proofs.lemmas.Option.{slice_get_within}

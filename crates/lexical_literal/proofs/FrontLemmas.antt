@@ -1,8 +1,7 @@
 -- What has been read without an error can be completed to a literal.
-use Rattle.lexical_literal.proofs.Common.{ℕ, ◌≡◌, Bool, true, false, not, ◌&&◌, ◌||◌, ◌⊎◌, inl, inr, List, [], ◌∷◌, ◌++◌, Some, None, refl, sym, ap, subst}
-use Rattle.lexical_literal.proofs.Common.{◌∙◌, arith, false≢true, and_parts, and_from, cases_Bool, false_from_ne_true, list_any, ByteSet, Role, Part}
-use Rattle.lexical_literal.proofs.Common.{Notation, set_of_role, Literal, Reads, Condition}
-use Rattle.std.proofs.Common.{◌==◌}
+use Rattle.lexical_literal.proofs.Common.{ℕ, ◌≡◌, Bool, true, false, not, ◌&&◌, ◌||◌, ◌⊎◌, inl, inr, List, [], ◌∷◌, ◌++◌, Some, None, refl, sym, ap, subst, ◌∙◌}
+use Rattle.lexical_literal.proofs.Common.{arith, false≢true, and_parts, and_from, cases_Bool, false_from_ne_true, list_any, ByteSet, Role, Part, Notation}
+use Rattle.lexical_literal.proofs.Common.{set_of_role, Literal, Reads, Condition, ◌==◌}
 use Rattle.std.proofs.lemmas.Bool.{or_from}
 use Rattle.lexical_util.specs.Layout as layout
 use Rattle.lexical_util.specs.declared.feature_format.roles.Role.TheVariants as roles

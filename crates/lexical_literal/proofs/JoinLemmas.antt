@@ -1,6 +1,5 @@
 -- What has been read where one part ends and the next one begins.
-use Rattle.lexical_literal.proofs.Common.{ℕ, ◌≡◌, ◌<◌, ◌+◌, ◌-◌, true, false, List, get_or, refl, ap, subst, ◌∙◌, arith, set, Notation}
-use Rattle.std.proofs.Common.{length}
+use Rattle.lexical_literal.proofs.Common.{ℕ, ◌≡◌, ◌<◌, ◌+◌, ◌-◌, true, false, List, get_or, refl, ap, subst, ◌∙◌, arith, set, Notation, length}
 use Rattle.lexical_util.specs.declared.feature_format.roles.Role.TheVariants as roles
 use Rattle.lexical_util.specs.declared.format_flags.Part.TheVariants as parts
 use Rattle.lexical_literal.specs.Additions.Plain.{HasRoles, IsAt, IsBegun, IsOpened, IsReadOn, IsSign, behind_sign, counts_of, has_first, integer_sizes}

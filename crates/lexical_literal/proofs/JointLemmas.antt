@@ -1,7 +1,6 @@
 -- Which flags refuse what is allowed without requirements: flags that refuse alone, or those on leading zeros.
 use Rattle.lexical_literal.proofs.Common.{ℕ, ◌≡◌, Bool, true, false, not, ◌&&◌, ◌||◌, Option, Some, None, refl, sym, ap, subst, ◌∙◌, arith, false≢true}
-use Rattle.lexical_literal.proofs.Common.{and_from, and_parts, Flag, Role, Part, Notation, is_same, Condition}
-use Rattle.std.proofs.Common.{◌==◌, if◌then◌else◌}
+use Rattle.lexical_literal.proofs.Common.{and_from, and_parts, Flag, Role, Part, Notation, is_same, Condition, ◌==◌, if◌then◌else◌}
 use Rattle.std.specs.Prelude.{is_some}
 use Rattle.lexical_util.specs.Layout as layout
 use Rattle.lexical_util.specs.declared.feature_format.roles.Role.TheVariants as roles

@@ -1,9 +1,8 @@
 -- Tokens that are found by reading the forms of a list once.
 use Rattle.lexical_literal.proofs.Common.{ℕ, ◌≡◌, ◌&&◌, ◌||◌, Bool, true, false, ◌<◌, ◌≤◌, ◌+◌, ◌-◌, inl, inr, List, [], ◌∷◌, ◌++◌, Option, Some, None, All}
 use Rattle.lexical_literal.proofs.Common.{IsSomeAnd, take, drop, get_or, append-nil, refl, sym, subst, ap, ◌∙◌, arith, cases_lt, false≢true, nat_tests}
-use Rattle.lexical_literal.proofs.Common.{length-take-le, All-more, slice_get-get_or, Literal, Reads, is_float, text_of, Notation, notation_of, Record}
-use Rattle.std.proofs.Common.{◌==◌, if◌then◌else◌, IsTrue}
-use Rattle.std.proofs.Common.{length, slice_get}
+use Rattle.lexical_literal.proofs.Common.{length-take-le, All-more, slice_get-get_or, Literal, Reads, is_float, text_of, Notation, notation_of, Record, ◌==◌}
+use Rattle.lexical_literal.proofs.Common.{if◌then◌else◌, IsTrue, length, slice_get}
 use Rattle.std.specs.Borrow.{Bor}
 use Rattle.std.proofs.lemmas.List.{drop-take, get_or-take, get_or_append_left, length-append, take-take}
 use Rattle.std.proofs.lemmas.Option.{slice_get_within}

@@ -1,8 +1,7 @@
 -- The texts that are accepted are spelled as literals are.
 use Rattle.lexical_literal.proofs.Common.{ℕ, ◌≡◌, Bool, true, false, not, ◌&&◌, ◌||◌, inl, inr, List, [], ◌∷◌, ◌++◌, Some, refl, sym, subst, ◌∙◌, arith}
 use Rattle.lexical_literal.proofs.Common.{false≢true, and_parts, and_from, cases_Bool, or_left, or_right, eqb-true, list_any, ByteSet, Flag, Part, Notation}
-use Rattle.lexical_literal.proofs.Common.{Literal, IsSpelled, text_of, is_present, is_absent, is_none_or_one, is_none_or_prefix, Condition}
-use Rattle.std.proofs.Common.{◌==◌, if◌then◌else◌}
+use Rattle.lexical_literal.proofs.Common.{Literal, IsSpelled, text_of, is_present, is_absent, is_none_or_one, is_none_or_prefix, Condition, ◌==◌, if◌then◌else◌}
 use Rattle.std.proofs.lemmas.Bool.{and_right}
 use Rattle.lexical_util.specs.Layout as layout
 use Rattle.lexical_util.specs.declared.feature_format.roles.Role.TheVariants as roles

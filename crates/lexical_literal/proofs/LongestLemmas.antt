@@ -1,10 +1,8 @@
 -- Fronts of a text, and where the loop is left.
-use Rattle.lexical_literal.proofs.Common.{ℕ, Bool, IsNone, Option, ◌≡◌, ◌<◌, ◌≤◌, ◌+◌, ◌||◌, ◌↔◌, ◌⊎◌, not, inl, inr, true, false, List, [], ◌∷◌, ◌++◌}
-use Rattle.lexical_literal.proofs.Common.{get_or, replicate, take, drop, Some, None, refl, sym, ap, subst, append-nil, take-append-drop, ◌∙◌, arith}
-use Rattle.lexical_literal.proofs.Common.{false≢true, and_parts, cases_Bool, cases_lt, false_from_ne_true, slice_get-get_or, length-take-le, take_more}
-use Rattle.lexical_literal.proofs.Common.{take_all, Notation, Literal, IsLiteral, Reads, Role, common_steps}
-use Rattle.std.proofs.Common.{if◌then◌else◌}
-use Rattle.std.proofs.Common.{length, append_assoc}
+use Rattle.lexical_literal.proofs.Common.{ℕ, Bool, IsNone, Option, ◌≡◌, ◌<◌, ◌≤◌, ◌+◌, ◌||◌, ◌↔◌, ◌⊎◌, not, inl, inr, true, false, List, [], ◌∷◌, ◌++◌, get_or}
+use Rattle.lexical_literal.proofs.Common.{replicate, take, drop, Some, None, refl, sym, ap, subst, append-nil, take-append-drop, ◌∙◌, arith, false≢true}
+use Rattle.lexical_literal.proofs.Common.{and_parts, cases_Bool, cases_lt, false_from_ne_true, slice_get-get_or, length-take-le, take_more, take_all, Notation}
+use Rattle.lexical_literal.proofs.Common.{Literal, IsLiteral, Reads, Role, common_steps, if◌then◌else◌, length, append_assoc}
 use Rattle.std.specs.Prelude.{is_some, slice_get}
 use Rattle.std.proofs.lemmas.Bool.{or_parts}
 use Rattle.std.proofs.lemmas.Option.{slice_get_past}

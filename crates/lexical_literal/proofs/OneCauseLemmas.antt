@@ -1,7 +1,6 @@
 -- A refusal has one cause, and a text has one refusal.
 use Rattle.lexical_literal.proofs.Common.{ℕ, ◌≡◌, ◌<◌, ◌≤◌, ◌↔◌, ◌^◌, Bool, true, List, Option, Some, None, sum_by, take, refl, sym, ap, subst, ◌∙◌, arith}
-use Rattle.lexical_literal.proofs.Common.{nat_tests, Flag, bit, raw, Part, Notation, has, Condition}
-use Rattle.std.proofs.Common.{if◌then◌else◌}
+use Rattle.lexical_literal.proofs.Common.{nat_tests, Flag, bit, raw, Part, Notation, has, Condition, if◌then◌else◌}
 use Rattle.std.proofs.Math.Nat.{le_antisymm}
 use Rattle.std.specs.Prelude.{slice_get}
 use Rattle.lexical_util.specs.Groups.{bits_of}

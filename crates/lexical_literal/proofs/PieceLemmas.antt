@@ -1,7 +1,6 @@
 -- A literal is cut by the lengths of its parts.
 use Rattle.lexical_literal.proofs.Common.{ℕ, ◌≡◌, ◌+◌, List, [], ◌++◌, take, drop, Ok, refl, sym, ap, subst, ◌∙◌, arith, Literal, Reads, text_of, Notation}
-use Rattle.lexical_literal.proofs.Common.{notation_of, Grammar}
-use Rattle.std.proofs.Common.{length}
+use Rattle.lexical_literal.proofs.Common.{notation_of, Grammar, length}
 use Rattle.std.proofs.lemmas.List.{append_assoc}
 use Rattle.std.proofs.Math.Seq.{drop-append_seam, take-append_seam}
 use lib.ListN.{length-append}

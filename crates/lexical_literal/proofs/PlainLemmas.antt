@@ -1,9 +1,8 @@
 -- What is read of a text part after part.
-use Rattle.lexical_literal.proofs.Common.{ℕ, ◌≡◌, ◌<◌, ◌≤◌, ◌+◌, ◌-◌, ◌&&◌, ◌||◌, Bool, true, false, not, List, Some, get_or, refl, sym, ap, subst, ◌∙◌}
-use Rattle.lexical_literal.proofs.Common.{arith, false≢true, and_from, and_parts, or_left, take_more, separators_in, Role, Part, Notation}
-use Rattle.lexical_literal.proofs.Common.{common_steps}
+use Rattle.lexical_literal.proofs.Common.{ℕ, ◌≡◌, ◌<◌, ◌≤◌, ◌+◌, ◌-◌, ◌&&◌, ◌||◌, Bool, true, false, not, List, Some, get_or, refl, sym, ap, subst, ◌∙◌, arith}
+use Rattle.lexical_literal.proofs.Common.{false≢true, and_from, and_parts, or_left, take_more, separators_in, Role, Part, Notation, common_steps, ◌==◌, IsTrue}
+use Rattle.lexical_literal.proofs.Common.{if◌then◌else◌, length}
 use Rattle.lexical_literal.proofs.StepLemmas.{awaited_part}
-use Rattle.std.proofs.Common.{◌==◌, IsTrue, if◌then◌else◌, length}
 use Rattle.lexical_util.specs.declared.feature_format.roles.Role.TheVariants as roles
 use Rattle.lexical_util.specs.declared.format_flags.Part.TheVariants as parts
 use Rattle.lexical_literal.specs.Additions.Plain.{HasRoles, IsAt, IsReadOn, fresh, is_free, at_stage, may_read}

@@ -1,9 +1,8 @@
 -- In a syntax, no byte plays two roles.
-use Rattle.lexical_literal.proofs.Common.{ℕ, ◌≡◌, ◌<◌, ◌↔◌, Bool, true, false, not, nat_lt, List, [], ◌∷◌, ◌&&◌, ◌||◌, Option, Some, None, inl, inr, refl}
-use Rattle.lexical_literal.proofs.Common.{sym, ap, ◌∙◌, arith, false≢true, and_from, cases_Bool, nat_tests, AllByRecursion, ByteSet, Flag, separators_in}
-use Rattle.lexical_literal.proofs.Common.{Record, raw, Role, Part, Condition, all_conditions, has, notation_of, number_of, radix_of, set_of_role}
-use Rattle.lexical_literal.proofs.Common.{Conditions, Grammar}
-use Rattle.std.proofs.Common.{◌==◌, IsTrue}
+use Rattle.lexical_literal.proofs.Common.{ℕ, ◌≡◌, ◌<◌, ◌↔◌, Bool, true, false, not, nat_lt, List, [], ◌∷◌, ◌&&◌, ◌||◌, Option, Some, None, inl, inr, refl, sym}
+use Rattle.lexical_literal.proofs.Common.{ap, ◌∙◌, arith, false≢true, and_from, cases_Bool, nat_tests, AllByRecursion, ByteSet, Flag, separators_in, Record}
+use Rattle.lexical_literal.proofs.Common.{raw, Role, Part, Condition, all_conditions, has, notation_of, number_of, radix_of, set_of_role, Conditions, Grammar}
+use Rattle.lexical_literal.proofs.Common.{◌==◌, IsTrue}
 use Rattle.std.proofs.lemmas.Bool.{lt-ltb}
 use Rattle.lexical_flags.proofs.RuleLemmas.{Holds-from_lawful}
 use Rattle.lexical_flags.specs.Rules.{Meets, shape_of}

@@ -1,7 +1,6 @@
 -- Digit runs, byte by byte.
 use Rattle.lexical_literal.proofs.Common.{ℕ, ◌≡◌, Bool, true, false, not, ◌&&◌, ◌||◌, List, [], ◌∷◌, ◌++◌, refl, arith, or_right, list_any, ByteSet}
-use Rattle.lexical_literal.proofs.Common.{separators_in, Part, Notation, is_present}
-use Rattle.std.proofs.Common.{if◌then◌else◌}
+use Rattle.lexical_literal.proofs.Common.{separators_in, Part, Notation, is_present, if◌then◌else◌}
 use Rattle.std.proofs.lemmas.List.Folds.{list_any-append}
 use Rattle.lexical_literal.specs.Run.{ends_with, is_place, are_fit}
 use Rattle.lexical_literal.specs.Additions.Summary.{gap_fits, is_open}

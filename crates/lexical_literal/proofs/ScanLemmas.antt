@@ -1,7 +1,6 @@
 -- How a text is read, byte by byte.
 use Rattle.lexical_literal.proofs.Common.{ℕ, ◌≡◌, Bool, true, false, not, ◌+◌, ◌&&◌, List, [], ◌∷◌, ◌++◌, Option, Some, None, refl, sym, ap, ◌∙◌, arith}
-use Rattle.lexical_literal.proofs.Common.{false≢true, false_from_ne_true, nat_tests, Role, Part, Notation, set_of_role, Condition}
-use Rattle.std.proofs.Common.{◌==◌, if◌then◌else◌, length}
+use Rattle.lexical_literal.proofs.Common.{false≢true, false_from_ne_true, nat_tests, Role, Part, Notation, set_of_role, Condition, ◌==◌, if◌then◌else◌, length}
 use Rattle.lexical_util.specs.declared.feature_format.roles.Role.TheVariants as roles
 use Rattle.lexical_literal.specs.Additions.Plain.{HasRoles}
 use Rattle.lexical_literal.specs.Additions.Summary.{Cuts, add, admits, role_at, takes, after, part_of, takes_in}

@@ -1,10 +1,8 @@
 -- The literals of a notation with sizes of groups are those without, whose groups fit, at once or byte by byte.
-use Rattle.lexical_literal.proofs.Common.{ℕ, ◌≡◌, ◌+◌, inl, inr, Bool, true, false, not, ◌&&◌, ◌||◌, List, [], ◌∷◌, ◌++◌, Option, Some, None, ◌<◌, ◌≤◌}
-use Rattle.lexical_literal.proofs.Common.{drop, get_or, take, refl, sym, ap, subst, ◌∙◌, arith, false≢true, and_parts, cases_Bool, eqb-true, or_left}
-use Rattle.lexical_literal.proofs.Common.{or_right, length-take-le, Flag, separators_in, signs, Role, Part, Literal, IsSpelled, Reads, is_absent}
-use Rattle.lexical_literal.proofs.Common.{is_none_or_one, is_none_or_prefix, text_of, Notation}
-use Rattle.std.proofs.Common.{◌==◌, if◌then◌else◌}
-use Rattle.std.proofs.Common.{IsTrue, length}
+use Rattle.lexical_literal.proofs.Common.{ℕ, ◌≡◌, ◌+◌, inl, inr, Bool, true, false, not, ◌&&◌, ◌||◌, List, [], ◌∷◌, ◌++◌, Option, Some, None, ◌<◌, ◌≤◌, drop}
+use Rattle.lexical_literal.proofs.Common.{get_or, take, refl, sym, ap, subst, ◌∙◌, arith, false≢true, and_parts, cases_Bool, eqb-true, or_left, or_right}
+use Rattle.lexical_literal.proofs.Common.{length-take-le, Flag, separators_in, signs, Role, Part, Literal, IsSpelled, Reads, is_absent, is_none_or_one}
+use Rattle.lexical_literal.proofs.Common.{is_none_or_prefix, text_of, Notation, ◌==◌, if◌then◌else◌, IsTrue, length}
 use Rattle.std.proofs.lemmas.List.{drop_more, get_or-take}
 use Rattle.lexical_util.specs.declared.feature_format.roles.Role.TheVariants as roles
 use Rattle.lexical_util.specs.declared.format_flags.Part.TheVariants as parts

@@ -1,7 +1,6 @@
 -- Stages, and what may follow a part that ends at one.
 use Rattle.lexical_literal.proofs.Common.{ℕ, ◌≡◌, Bool, true, false, not, ◌&&◌, ◌||◌, List, [], ◌∷◌, ◌++◌, refl, ◌∙◌, arith, list_any, ByteSet, signs, Part}
-use Rattle.lexical_literal.proofs.Common.{Notation, Literal, is_absent, is_none_or_one, is_none_or_prefix}
-use Rattle.std.proofs.Common.{◌==◌, if◌then◌else◌}
+use Rattle.lexical_literal.proofs.Common.{Notation, Literal, is_absent, is_none_or_one, is_none_or_prefix, ◌==◌, if◌then◌else◌}
 use Rattle.lexical_util.specs.declared.feature_format.roles.Role.TheVariants as roles
 use Rattle.lexical_util.specs.declared.format_flags.Part.TheVariants as parts
 use Rattle.lexical_literal.specs.Literal.{is_plus, has_leading_zero}

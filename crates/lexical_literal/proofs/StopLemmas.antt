@@ -1,9 +1,7 @@
 -- The last group before the bytes that cannot follow, and what it allows.
-use Rattle.lexical_literal.proofs.Common.{ℕ, ◌≡◌, ◌+◌, ◌-◌, ◌↔◌, inl, inr, Bool, true, false, not, ◌&&◌, ◌||◌, List, [], ◌∷◌, ◌++◌, append-nil, Option}
-use Rattle.lexical_literal.proofs.Common.{Some, None, refl, sym, ap, subst, ◌∙◌, arith, cases_Bool, false_from_ne_true, ByteSet, Flag, Role, Part, Notation}
-use Rattle.lexical_literal.proofs.Common.{Condition}
-use Rattle.std.proofs.Common.{if◌then◌else◌, length, length-append}
-use Rattle.std.proofs.Common.{append_assoc}
+use Rattle.lexical_literal.proofs.Common.{ℕ, ◌≡◌, ◌+◌, ◌-◌, ◌↔◌, inl, inr, Bool, true, false, not, ◌&&◌, ◌||◌, List, [], ◌∷◌, ◌++◌, append-nil, Option, Some}
+use Rattle.lexical_literal.proofs.Common.{None, refl, sym, ap, subst, ◌∙◌, arith, cases_Bool, false_from_ne_true, ByteSet, Flag, Role, Part, Notation}
+use Rattle.lexical_literal.proofs.Common.{Condition, if◌then◌else◌, length, length-append, append_assoc}
 use Rattle.lexical_util.specs.declared.feature_format.roles.Role.TheVariants as roles
 use Rattle.lexical_util.specs.declared.format_flags.Part.TheVariants as parts
 use Rattle.lexical_literal.specs.Cause.{Allows, behind, marks_of, with_rules}

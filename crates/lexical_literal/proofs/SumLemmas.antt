@@ -1,8 +1,7 @@
 -- The digits of a run, their number, and the number that they represent, modulo `2 ^ 64`.
-use Rattle.lexical_literal.proofs.Common.{ℕ, ◌≡◌, ◌<◌, ◌≤◌, ◌+◌, ◌-◌, ◌*◌, ◌%◌, ◌^◌, ◌∙◌, true, false, List, [], ◌∷◌, ◌++◌, Option, Some, None, nat_lt}
-use Rattle.lexical_literal.proofs.Common.{cond, get_or, take, drop, sym, ap, subst, arith, filter_map-append, take_more, raw, Part, Notation, radix_of}
-use Rattle.lexical_literal.proofs.Common.{Grammar, common_steps}
-use Rattle.std.proofs.Common.{length}
+use Rattle.lexical_literal.proofs.Common.{ℕ, ◌≡◌, ◌<◌, ◌≤◌, ◌+◌, ◌-◌, ◌*◌, ◌%◌, ◌^◌, ◌∙◌, true, false, List, [], ◌∷◌, ◌++◌, Option, Some, None, nat_lt, cond}
+use Rattle.lexical_literal.proofs.Common.{get_or, take, drop, sym, ap, subst, arith, filter_map-append, take_more, raw, Part, Notation, radix_of, Grammar}
+use Rattle.lexical_literal.proofs.Common.{common_steps, length}
 use Rattle.std.proofs.lemmas.Int.Digits.{number_after_append}
 use Rattle.std.proofs.lemmas.List.{drop-drop, length-drop}
 use Rattle.std.proofs.Math.Nat.{mod-add-mod, mod-mod}

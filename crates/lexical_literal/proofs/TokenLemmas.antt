@@ -1,9 +1,7 @@
 -- Tokens: the best of the candidates of several forms.
 use Rattle.lexical_literal.proofs.Common.{ℕ, ◌≡◌, ◌&&◌, ◌||◌, Bool, true, false, ◌<◌, ◌≤◌, ◌+◌, ◌-◌, ◌⊎◌, inl, inr, List, Option, Some, None, All, IsNone}
 use Rattle.lexical_literal.proofs.Common.{IsSomeAnd, take, drop, get_or, refl, sym, subst, ap, ◌∙◌, arith, nat_tests, length-take-le, take_all, All-more}
-use Rattle.lexical_literal.proofs.Common.{slice_get-get_or, Literal, Reads, is_float, Notation, notation_of}
-use Rattle.std.proofs.Common.{◌==◌, if◌then◌else◌, IsTrue}
-use Rattle.std.proofs.Common.{length, slice_get}
+use Rattle.lexical_literal.proofs.Common.{slice_get-get_or, Literal, Reads, is_float, Notation, notation_of, ◌==◌, if◌then◌else◌, IsTrue, length, slice_get}
 use Rattle.lexical_literal.specs.Additions.Longest.{IsCountedFront}
 use Rattle.lexical_literal.specs.Additions.Summary.{HasLengths, cuts_of}
 use Rattle.lexical_literal.specs.Additions.Token.{IsBestMade, IsBestOf, IsMade, IsOwn, IsPicked, NoOwn, better, goes_on, has_float, suffixed, whole}

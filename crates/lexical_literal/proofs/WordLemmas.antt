@@ -1,8 +1,7 @@
 -- Numbers of 64 bits, by the number of their digits behind leading zeros.
-use Rattle.lexical_literal.proofs.Common.{◌≡◌, ℕ, zero, suc, ◌+◌, ◌-◌, ◌*◌, ◌%◌, ◌^◌, ◌<◌, ◌≤◌, ◌↔◌, ◌&&◌, ◌||◌, inl, inr, List, [], ◌∷◌, ◌++◌, nat_lt}
-use Rattle.lexical_literal.proofs.Common.{Bool, true, false, cond, Some, None, refl, sym, ap, subst, ◌∙◌, arith, slice_index_or, cases_lt, nat_tests}
-use Rattle.std.proofs.Common.{◌==◌, length}
-use Rattle.std.proofs.Common.{nat_le, if◌then◌else◌, IsTrue}
+use Rattle.lexical_literal.proofs.Common.{◌≡◌, ℕ, zero, suc, ◌+◌, ◌-◌, ◌*◌, ◌%◌, ◌^◌, ◌<◌, ◌≤◌, ◌↔◌, ◌&&◌, ◌||◌, inl, inr, List, [], ◌∷◌, ◌++◌, nat_lt, Bool}
+use Rattle.lexical_literal.proofs.Common.{true, false, cond, Some, None, refl, sym, ap, subst, ◌∙◌, arith, slice_index_or, cases_lt, nat_tests, ◌==◌, length}
+use Rattle.lexical_literal.proofs.Common.{nat_le, if◌then◌else◌, IsTrue}
 use Rattle.std.proofs.lemmas.Bool.{agree_below_at}
 use Rattle.std.proofs.lemmas.Int.Digits.{number_lt}
 use Rattle.std.proofs.lemmas.Nat.{mul-mod_first}

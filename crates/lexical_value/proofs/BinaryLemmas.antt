@@ -1,12 +1,9 @@
 -- From a number by its leading bits to units of least floats, and to the nearest float.
-use Rattle.lexical_value.proofs.Common.{pow_pos, pow_mono, pow-add, IsNearestBits, nat_tests}
-use Rattle.core.specs.Prelude.{◌≡◌, ℕ, suc, ◌+◌, ◌-◌, ◌*◌, ◌/◌, ◌%◌, ◌^◌, ◌<◌, ◌≤◌, ◌==◌, ◌||◌, ◌&&◌, nat_lt, Bool, true, false}
-use mathlib.Core.Path.{refl, sym, ap, ◌∙◌, subst}
-use mathlib.Core.Logic.{inl, inr}
+use Rattle.lexical_value.proofs.Common.{pow_pos, pow_mono, pow-add, IsNearestBits, nat_tests, ◌≡◌, ℕ, suc, ◌+◌, ◌-◌, ◌*◌, ◌/◌, ◌%◌, ◌^◌, ◌<◌, ◌≤◌, ◌==◌, ◌||◌}
+use Rattle.lexical_value.proofs.Common.{◌&&◌, nat_lt, Bool, true, false, refl, sym, ap, ◌∙◌, subst, inl, inr, arith, eq-zero-or-pos, mul-pos, mod-eq_of_lt}
+use Rattle.lexical_value.proofs.Common.{lt_of_mul-lt-mul_right, mul-le-mul_right, le_of_eq, le_trans, mul-le-mul_left}
+use native.Mathlib.Nat.{mod-lt, eq_of_mul-eq-mul_right, div-add-mod', div-eq_of_lt, le_of_mul-le-mul_right}
 use mir.Val.{bool_byte}
-use native.Mathlib.Omega.{arith}
-use native.Mathlib.Nat.{eq-zero-or-pos, mul-pos, mod-eq_of_lt, mod-lt, lt_of_mul-lt-mul_right, mul-le-mul_right, eq_of_mul-eq-mul_right}
-use native.Mathlib.Nat.{div-add-mod', div-eq_of_lt, le_of_eq, le_of_mul-le-mul_right, le_trans, mul-le-mul_left}
 use lib.Dec.{lit≤}
 use lib.Pow.{shl_lt}
 use lib.Ieee.{Format, hid, ones, prec, low}

@@ -8,6 +8,10 @@ pub use Rattle.lexical_literal.specs.Number.{number, number_after, places}
 pub use Rattle.lexical_literal.specs.Read.{mantissa}
 pub use Rattle.lexical_util.specs.Record.{raw}
 pub use Rattle.lexical_value.specs.Binary.{format_of, raised_down, raised_up}
+pub use Rattle.std.proofs.Common.{Bool, Equal, Greater, Less, List, ap, arith, drop, eq-zero-or-pos, false, get_or, inl, inr, le_of_eq, le_trans, length}
+pub use Rattle.std.proofs.Common.{lt_of_mul-lt-mul_right, lt_of_not-le, min, mod-eq_of_lt, mul-le-mul, mul-le-mul_left, mul-le-mul_right, mul-lt-mul_of_pos_right}
+pub use Rattle.std.proofs.Common.{mul-pos, nat_cmp, nat_lt, not, pow-suc, refl, set, slice_index, subst, suc, sym, true, zero, if◌then◌else◌, ℕ, ◌%◌, ◌&&◌, ◌*◌}
+pub use Rattle.std.proofs.Common.{◌+◌, ◌-◌, ◌/◌, ◌<◌, ◌==◌, ◌^◌, ◌||◌, ◌∙◌, ◌≡◌, ◌≤◌}
 pub use Rattle.std.proofs.lemmas.Bool.Decides.{nat_tests}
 pub use Rattle.std.specs.Cmp.{nat_cmp_is}
 pub use lib.Count.{count_leading_zeros, leading_top}

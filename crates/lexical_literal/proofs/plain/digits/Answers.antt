@@ -1,7 +1,6 @@
 -- The first digit, and those behind it.
-use Rattle.lexical_literal.proofs.Common.{ℕ, ◌≡◌, ◌+◌, ◌&&◌, Bool, List, true, false, get_or, refl, sym, ap, subst, ◌∙◌, arith, raw, Part, radix_of}
-use Rattle.lexical_literal.proofs.Common.{Grammar}
-use Rattle.std.proofs.Common.{◌==◌, if◌then◌else◌}
+use Rattle.lexical_literal.proofs.Common.{ℕ, ◌≡◌, ◌+◌, ◌&&◌, Bool, List, true, false, get_or, refl, sym, ap, subst, ◌∙◌, arith, raw, Part, radix_of, Grammar}
+use Rattle.lexical_literal.proofs.Common.{◌==◌, if◌then◌else◌}
 use Rattle.lexical_literal.specs.Additions.Sizes.{steps_of}
 use Rattle.lexical_literal.specs.Additions.Plain.{HasRoles, IsDigitAt, IsReadOn, IsRunOn, at_stage, may_read}
 use Rattle.lexical_literal.specs.Additions.Summary.{awaits_integer, digits_of, digits_piece, has_digit, is_signed, part_of}

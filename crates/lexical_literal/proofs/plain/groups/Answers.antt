@@ -1,6 +1,5 @@
 -- Digits, then a separator and the digit behind it.
-use Rattle.lexical_literal.proofs.Common.{◌≡◌, ◌≤◌, sym, ap, subst, ◌∙◌, arith, raw, radix_of}
-use Rattle.std.proofs.Common.{length}
+use Rattle.lexical_literal.proofs.Common.{◌≡◌, ◌≤◌, sym, ap, subst, ◌∙◌, arith, raw, radix_of, length}
 use Rattle.lexical_literal.specs.Additions.Sizes.{steps_of}
 use Rattle.lexical_literal.specs.Additions.Plain.{IsRunOn}
 use Rattle.lexical_literal.specs.Additions.Summary.{is_run, part_of}

@@ -1,5 +1,4 @@
-use Rattle.lexical_literal.proofs.Common.{◌≡◌, ◌≤◌, nat_lt}
-use Rattle.std.proofs.Common.{if◌then◌else◌, length}
+use Rattle.lexical_literal.proofs.Common.{◌≡◌, ◌≤◌, nat_lt, if◌then◌else◌, length}
 use Rattle.lexical_literal.specs.Suffix.{longest_word}
 use Rattle.lexical_literal.proofs.suffix.longest_word.Given as goal
 

@@ -1,5 +1,4 @@
-use Rattle.lexical_literal.proofs.Common.{ℕ, ◌≡◌, ◌<◌, ◌-◌, get_or, notation_of}
-use Rattle.std.proofs.Common.{length}
+use Rattle.lexical_literal.proofs.Common.{ℕ, ◌≡◌, ◌<◌, ◌-◌, get_or, notation_of, length}
 use Rattle.lexical_literal.specs.Additions.Forms.{sign_size}
 use Rattle.lexical_literal.specs.Additions.Token.{IsNear}
 use Rattle.lexical_literal.specs.declared.list.Form.{Form}

@@ -1,5 +1,4 @@
-use Rattle.lexical_literal.proofs.Common.{drop, ◌-◌, ◌≡◌, ◌+◌, ◌≤◌}
-use Rattle.std.proofs.Common.{length}
+use Rattle.lexical_literal.proofs.Common.{drop, ◌-◌, ◌≡◌, ◌+◌, ◌≤◌, length}
 use Rattle.lexical_literal.specs.Number.{places}
 use Rattle.lexical_literal.proofs.word.count.Given as goal
 

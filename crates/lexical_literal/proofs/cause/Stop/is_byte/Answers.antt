@@ -1,7 +1,6 @@
 -- The cause is a wrong byte if nothing else is the cause.
-use Rattle.lexical_literal.proofs.Common.{ℕ, ◌≡◌, ◌&&◌, Bool, true, false, not, Option, None, Some, refl, sym, subst, arith, nat_tests, Notation}
-use Rattle.lexical_literal.proofs.Common.{notation_of}
-use Rattle.std.proofs.Common.{if◌then◌else◌}
+use Rattle.lexical_literal.proofs.Common.{ℕ, ◌≡◌, ◌&&◌, Bool, true, false, not, Option, None, Some, refl, sym, subst, arith, nat_tests, Notation, notation_of}
+use Rattle.lexical_literal.proofs.Common.{if◌then◌else◌}
 use Rattle.std.specs.Prelude.{◌==◌}
 use Rattle.lexical_literal.specs.Forms.{is_byte}
 use Rattle.lexical_literal.specs.Additions.Causes.{place_of}

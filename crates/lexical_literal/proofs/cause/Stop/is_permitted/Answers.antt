@@ -1,6 +1,5 @@
 -- The flag is added to those that require nothing.
-use Rattle.lexical_literal.proofs.Common.{◌≡◌, ◌^◌, ◌*◌, ◌%◌, ◌||◌, bit_or, sym, ap, ◌∙◌, arith, Flag, bit, raw, notation_of}
-use Rattle.std.proofs.Common.{◌==◌}
+use Rattle.lexical_literal.proofs.Common.{◌≡◌, ◌^◌, ◌*◌, ◌%◌, ◌||◌, bit_or, sym, ap, ◌∙◌, arith, Flag, bit, raw, notation_of, ◌==◌}
 use Rattle.std.proofs.lemmas.Nat.{one_shl}
 use Rattle.lexical_literal.specs.Additions.Sizes.{goes}
 use Rattle.lexical_literal.specs.Additions.Summary.{no_condition}

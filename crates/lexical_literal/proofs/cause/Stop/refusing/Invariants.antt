@@ -1,5 +1,4 @@
-use Rattle.lexical_literal.proofs.Common.{◌≡◌, ◌-◌, ◌&&◌, nat_lt, not, true, Flag, bit, raw, notation_of}
-use Rattle.std.proofs.Common.{if◌then◌else◌}
+use Rattle.lexical_literal.proofs.Common.{◌≡◌, ◌-◌, ◌&&◌, nat_lt, not, true, Flag, bit, raw, notation_of, if◌then◌else◌}
 use Rattle.lexical_literal.specs.Additions.Sizes.{goes}
 use Rattle.lexical_literal.specs.Cause.{adding, bare}
 use Rattle.lexical_literal.proofs.cause.Stop.refusing.Given as goal

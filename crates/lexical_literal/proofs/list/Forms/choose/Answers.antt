@@ -1,6 +1,5 @@
 -- The longer of two candidates, with its form.
-use Rattle.lexical_literal.proofs.Common.{ℕ, ◌+◌, false, true, get_or, ap, refl, sym, subst}
-use Rattle.std.proofs.Common.{length}
+use Rattle.lexical_literal.proofs.Common.{ℕ, ◌+◌, false, true, get_or, ap, refl, sym, subst, length}
 use Rattle.std.specs.Borrow.{Bor}
 use Rattle.lexical_literal.specs.Additions.Token.{IsBestOf, IsMade, IsPicked}
 use Rattle.lexical_literal.specs.FormList.{FormList}

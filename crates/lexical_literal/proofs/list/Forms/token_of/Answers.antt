@@ -1,6 +1,5 @@
 -- The token that was chosen, or why there is none.
-use Rattle.lexical_literal.proofs.Common.{ℕ, ◌≡◌, All, IsSomeAnd, true, false, inl, inr, refl, sym, subst}
-use Rattle.std.proofs.Common.{slice_get}
+use Rattle.lexical_literal.proofs.Common.{ℕ, ◌≡◌, All, IsSomeAnd, true, false, inl, inr, refl, sym, subst, slice_get}
 use Rattle.lexical_literal.specs.Additions.Token.{IsBestOf}
 use Rattle.lexical_literal.specs.FormList.{FormList}
 use Rattle.lexical_literal.specs.Suffix.{is_followed}
