@@ -2,22 +2,13 @@
 use Rattle.lexical_literal.proofs.Common.{ℕ, ◌≡◌, ◌*◌, inl, inr, nat_lt, Bool, true, false, ◌<◌, ◌≤◌, ◌+◌, List, Ok, Option, Some, None, All, IsSomeAnd, []}
 use Rattle.lexical_literal.proofs.Common.{◌∷◌, take, get_or, IfSome, IsNone, refl, sym, subst, ap, arith, nat_tests, cases_lt, false≢true, take_all, All-more}
 use Rattle.lexical_literal.proofs.Common.{slice_get-get_or, Literal, Reads, Notation, notation_of, common_steps, if◌then◌else◌, length, slice_get}
+use Rattle.lexical_literal.proofs.Common.{IsFurthestForm, sign_size, IsCountedFront, IsStopped, IsRefusal, Refusal, FormList, NoForm, ReadsForm, is_byte, reach}
+use Rattle.lexical_literal.proofs.Common.{IsValidUpTo, NoFront, NoLiteral, ReadsFront, Read, Found, At, Form}
+use Rattle.lexical_literal.specs.Additions.Forms.{GoesTo, IsFoundForm, IsFoundFrontForm, IsNoBetter, bound, further, further_on, greater, longer}
+use Rattle.lexical_literal.specs.Forms.{HasFront, HasKind, IsErrorOfForm, IsFirst, IsFormError, IsGreatest, IsReadByForms, Reaches}
 use Rattle.std.specs.Option.{ForSome}
 use Rattle.std.proofs.Math.Nat.{le_antisymm}
 use Rattle.std.proofs.lemmas.Option.{slice_get_within}
-use Rattle.lexical_literal.specs.Additions.Forms.{GoesTo, IsFoundForm, IsFoundFrontForm, IsFurthestForm, IsNoBetter, bound, further, further_on, greater}
-use Rattle.lexical_literal.specs.Additions.Forms.{longer, sign_size}
-use Rattle.lexical_literal.specs.Additions.Longest.{IsCountedFront, IsStopped}
-use Rattle.lexical_literal.specs.Cause.{IsRefusal}
-use Rattle.lexical_literal.specs.declared.cause.Refusal.{Refusal}
-use Rattle.lexical_literal.specs.FormList.{FormList}
-use Rattle.lexical_literal.specs.Forms.{HasFront, HasKind, IsErrorOfForm, IsFirst, IsFormError, IsGreatest, IsReadByForms, NoForm, Reaches, ReadsForm, is_byte}
-use Rattle.lexical_literal.specs.Forms.{reach}
-use Rattle.lexical_literal.specs.Front.{IsValidUpTo, NoFront, NoLiteral, ReadsFront}
-use Rattle.lexical_literal.specs.Read.{Read}
-use Rattle.lexical_literal.specs.declared.read.Found.{Found}
-use Rattle.lexical_literal.specs.declared.plain.At.{At}
-use Rattle.lexical_literal.specs.declared.list.Form.{Form}
 use Rattle.lexical_literal.specs.declared.list.FormError.{FormError}
 use Rattle.lexical_literal.specs.declared.list.Number.TheVariants as numbers
 use Rattle.lexical_literal.proofs.OneCauseLemmas.{one_refusal}

@@ -2,30 +2,24 @@
 use Rattle.lexical_literal.proofs.Common.{ℕ, ◌≡◌, ◌&&◌, ◌||◌, Bool, true, false, ◌<◌, ◌≤◌, ◌+◌, ◌-◌, inl, inr, List, [], ◌∷◌, ◌++◌, Option, Some, None, All}
 use Rattle.lexical_literal.proofs.Common.{IsSomeAnd, take, drop, get_or, append-nil, refl, sym, subst, ap, ◌∙◌, arith, cases_lt, false≢true, nat_tests}
 use Rattle.lexical_literal.proofs.Common.{length-take-le, All-more, slice_get-get_or, Literal, Reads, is_float, text_of, Notation, notation_of, Record, ◌==◌}
-use Rattle.lexical_literal.proofs.Common.{if◌then◌else◌, IsTrue, length, slice_get}
+use Rattle.lexical_literal.proofs.Common.{if◌then◌else◌, IsTrue, length, slice_get, sign_size, IsMeasured, IsStopped, AreSums, cut, Cuts, HasLengths, IsWithin}
+use Rattle.lexical_literal.proofs.Common.{FormList, ReadsForm, IsFront, IsValidUpTo, NoLiteral, IsAhead, Form, At, Candidate}
+use Rattle.lexical_literal.specs.Additions.Forms.{PlaysNoRole}
+use Rattle.lexical_literal.specs.Additions.Read.{HasSums, before_exponent}
+use Rattle.lexical_literal.specs.Additions.Token.{FrontsWithin, IsLeading, IsNear, IsPicked, has_float, has_prefix}
+use Rattle.lexical_literal.specs.Forms.{HasFront}
+use Rattle.lexical_literal.specs.Token.{IsCandidate, IsToken, gives_back, is_shorter}
 use Rattle.std.specs.Borrow.{Bor}
 use Rattle.std.proofs.lemmas.List.{drop-take, get_or-take, get_or_append_left, length-append, take-take}
 use Rattle.std.proofs.lemmas.Option.{slice_get_within}
-use Rattle.lexical_literal.specs.Additions.Forms.{PlaysNoRole, sign_size}
-use Rattle.lexical_literal.specs.Additions.Longest.{IsMeasured, IsStopped}
-use Rattle.lexical_literal.specs.Additions.Read.{AreSums, HasSums, before_exponent, cut}
 use Rattle.lexical_literal.specs.Additions.Sizes.{goes}
-use Rattle.lexical_literal.specs.Additions.Summary.{Cuts, HasLengths}
-use Rattle.lexical_literal.specs.Additions.Token.{FrontsWithin, IsLeading, IsNear, IsPicked, IsWithin, has_float, has_prefix}
 use Rattle.lexical_literal.specs.Cause.{is_in}
-use Rattle.lexical_literal.specs.FormList.{FormList}
-use Rattle.lexical_literal.specs.Forms.{HasFront, ReadsForm}
-use Rattle.lexical_literal.specs.Front.{IsFront, IsValidUpTo, NoLiteral}
 use Rattle.lexical_literal.specs.Suffix.{any_word_size, begins, byte_before, is_stopped, is_word_byte, kind_with, longest_word, suffix_size, word_size}
-use Rattle.lexical_literal.specs.Token.{IsAhead, IsCandidate, IsToken, gives_back, is_shorter}
-use Rattle.lexical_literal.specs.declared.list.Form.{Form}
 use Rattle.lexical_literal.specs.declared.list.Tokens.{Tokens}
-use Rattle.lexical_literal.specs.declared.plain.At.{At}
 use Rattle.lexical_literal.specs.declared.plain.Sums.{Sums}
 use Rattle.lexical_literal.specs.declared.steps.Piece.TheVariants as pieces
 use Rattle.lexical_literal.specs.declared.suffix.Suffixes.{Suffixes}
 use Rattle.lexical_literal.specs.declared.syntax.Condition.TheVariants as conditions
-use Rattle.lexical_literal.specs.declared.token.Candidate.{Candidate}
 use Rattle.lexical_literal.specs.declared.token.Token.{Token}
 use Rattle.lexical_literal.proofs.ExcludeLemmas.{BeginsPrefixed, no_role_excludes, prefix_begins}
 use Rattle.lexical_literal.proofs.TokenLemmas.{float_is, some_is, token_is}

@@ -1,20 +1,16 @@
 -- What is read of a text part after part.
 use Rattle.lexical_literal.proofs.Common.{ℕ, ◌≡◌, ◌<◌, ◌≤◌, ◌+◌, ◌-◌, ◌&&◌, ◌||◌, Bool, true, false, not, List, Some, get_or, refl, sym, ap, subst, ◌∙◌, arith}
 use Rattle.lexical_literal.proofs.Common.{false≢true, and_from, and_parts, or_left, take_more, separators_in, Role, Part, Notation, common_steps, ◌==◌, IsTrue}
-use Rattle.lexical_literal.proofs.Common.{if◌then◌else◌, length}
+use Rattle.lexical_literal.proofs.Common.{if◌then◌else◌, length, HasRoles, IsAt, IsReadOn, at_stage, Cuts, add, admits, after, after_digit, after_mark}
+use Rattle.lexical_literal.proofs.Common.{digits_piece, forbids_plus, has_digit, awaits_integer, is_signed, lacks_prefix, may_follow, takes, role_at, part_of}
+use Rattle.lexical_literal.proofs.Common.{takes_in, count, with_prefix, At, Piece, Stage, Summary}
+use Rattle.lexical_literal.specs.Additions.Plain.{fresh, is_free, may_read}
+use Rattle.lexical_literal.specs.Additions.Summary.{add_more, is_negative, is_run, piece_of, digits_of}
 use Rattle.lexical_literal.proofs.StepLemmas.{awaited_part}
 use Rattle.lexical_util.specs.declared.feature_format.roles.Role.TheVariants as roles
 use Rattle.lexical_util.specs.declared.format_flags.Part.TheVariants as parts
-use Rattle.lexical_literal.specs.Additions.Plain.{HasRoles, IsAt, IsReadOn, fresh, is_free, at_stage, may_read}
-use Rattle.lexical_literal.specs.Additions.Summary.{Cuts, add, add_more, admits, after, after_digit, after_mark, digits_piece, forbids_plus}
-use Rattle.lexical_literal.specs.Additions.Summary.{has_digit, awaits_integer, is_negative, is_run, is_signed, lacks_prefix, may_follow, piece_of}
-use Rattle.lexical_literal.specs.Additions.Summary.{takes, role_at, part_of, takes_in, digits_of, count, with_prefix}
-use Rattle.lexical_literal.specs.declared.plain.At.{At}
-use Rattle.lexical_literal.specs.declared.steps.Piece.{Piece}
 use Rattle.lexical_literal.specs.declared.steps.Piece.TheVariants as pieces
-use Rattle.lexical_literal.specs.declared.steps.Stage.{Stage}
 use Rattle.lexical_literal.specs.declared.steps.Stage.TheVariants as stages
-use Rattle.lexical_literal.specs.declared.steps.Summary.{Summary}
 use Rattle.lexical_literal.specs.declared.syntax.Condition.TheVariants as conditions
 use Rattle.lexical_literal.proofs.ScanLemmas.{digit_role, is_role, moved, scan_append, tally_append}
 

@@ -2,21 +2,15 @@
 use Rattle.lexical_literal.proofs.Common.{ℕ, ◌≡◌, ◌&&◌, ◌||◌, Bool, true, false, ◌<◌, ◌≤◌, ◌+◌, ◌-◌, ◌⊎◌, inl, inr, List, Option, Some, None, All, IsNone}
 use Rattle.lexical_literal.proofs.Common.{IsSomeAnd, take, drop, get_or, refl, sym, subst, ap, ◌∙◌, arith, nat_tests, length-take-le, take_all, All-more}
 use Rattle.lexical_literal.proofs.Common.{slice_get-get_or, Literal, Reads, is_float, Notation, notation_of, ◌==◌, if◌then◌else◌, IsTrue, length, slice_get}
-use Rattle.lexical_literal.specs.Additions.Longest.{IsCountedFront}
-use Rattle.lexical_literal.specs.Additions.Summary.{HasLengths, cuts_of}
+use Rattle.lexical_literal.proofs.Common.{IsCountedFront, HasLengths, cuts_of, FormList, NoForm, ReadsForm, IsValidUpTo, NoFront, Read, IsAhead, Form, Found}
+use Rattle.lexical_literal.proofs.Common.{Candidate}
+use Rattle.lexical_literal.specs.Forms.{IsFirst}
+use Rattle.lexical_literal.specs.Token.{AllShorter, IsChosen, IsFollowed, IsOver, IsRefused, IsToken, IsUnknown, IsCandidate, NoCandidate, NoLonger}
 use Rattle.lexical_literal.specs.Additions.Token.{IsBestMade, IsBestOf, IsMade, IsOwn, IsPicked, NoOwn, better, goes_on, has_float, suffixed, whole}
-use Rattle.lexical_literal.specs.FormList.{FormList}
-use Rattle.lexical_literal.specs.Forms.{IsFirst, NoForm, ReadsForm}
-use Rattle.lexical_literal.specs.Front.{IsValidUpTo, NoFront}
-use Rattle.lexical_literal.specs.Read.{Read}
 use Rattle.lexical_literal.specs.Cause.{is_in}
 use Rattle.lexical_literal.specs.Suffix.{is_digit, is_stopped, kind_with, stop_end, suffix_size}
-use Rattle.lexical_literal.specs.Token.{AllShorter, IsAhead, IsChosen, IsFollowed, IsOver, IsRefused, IsToken, IsUnknown, IsCandidate, NoCandidate, NoLonger}
 use Rattle.lexical_literal.specs.Token.{gives_back, is_shorter}
-use Rattle.lexical_literal.specs.declared.list.Form.{Form}
 use Rattle.lexical_literal.specs.declared.list.Tokens.{Tokens}
-use Rattle.lexical_literal.specs.declared.read.Found.{Found}
-use Rattle.lexical_literal.specs.declared.token.Candidate.{Candidate}
 use Rattle.lexical_literal.specs.declared.token.Token.{Token}
 use Rattle.lexical_literal.proofs.FormLemmas.{all_at, one_front, one_size}
 use Rattle.lexical_literal.proofs.MadeLemmas.{present}

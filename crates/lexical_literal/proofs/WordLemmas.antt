@@ -1,16 +1,15 @@
 -- Numbers of 64 bits, by the number of their digits behind leading zeros.
 use Rattle.lexical_literal.proofs.Common.{◌≡◌, ℕ, zero, suc, ◌+◌, ◌-◌, ◌*◌, ◌%◌, ◌^◌, ◌<◌, ◌≤◌, ◌↔◌, ◌&&◌, ◌||◌, inl, inr, List, [], ◌∷◌, ◌++◌, nat_lt, Bool}
 use Rattle.lexical_literal.proofs.Common.{true, false, cond, Some, None, refl, sym, ap, subst, ◌∙◌, arith, slice_index_or, cases_lt, nat_tests, ◌==◌, length}
-use Rattle.lexical_literal.proofs.Common.{nat_le, if◌then◌else◌, IsTrue}
+use Rattle.lexical_literal.proofs.Common.{nat_le, if◌then◌else◌, IsTrue, number_from_digits_after, digits_in, number, places, leading_zeros}
+use Rattle.std.specs.Int.Digits.{AllBelowBase, number_from_digits}
+use Rattle.lexical_literal.specs.Word.{IsWord}
 use Rattle.std.proofs.lemmas.Bool.{agree_below_at}
 use Rattle.std.proofs.lemmas.Int.Digits.{number_lt}
 use Rattle.std.proofs.lemmas.Nat.{mul-mod_first}
 use Rattle.std.proofs.Math.Nat.{mod-add-mod, mul-le-mul_right, pow-le-pow_right, pow-suc, pow-zero}
-use Rattle.std.specs.Int.Digits.{AllBelowBase, number_from_digits, number_from_digits_after}
 use Rattle.std.specs.List.{cons_option}
 use Rattle.lexical_base.specs.Digits.{byte_value}
-use Rattle.lexical_literal.specs.Number.{digits_in, number, places}
-use Rattle.lexical_literal.specs.Word.{IsWord, leading_zeros}
 use Rattle.lexical_literal.specs.declared.word.TheConstants.{MOST}
 
 -- Digits behind a number are those behind each number that is the same modulo `2 ^ 64`.

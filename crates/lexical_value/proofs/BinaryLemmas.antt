@@ -1,18 +1,17 @@
 -- From a number by its leading bits to units of least floats, and to the nearest float.
 use Rattle.lexical_value.proofs.Common.{pow_pos, pow_mono, pow-add, IsNearestBits, nat_tests, ◌≡◌, ℕ, suc, ◌+◌, ◌-◌, ◌*◌, ◌/◌, ◌%◌, ◌^◌, ◌<◌, ◌≤◌, ◌==◌, ◌||◌}
 use Rattle.lexical_value.proofs.Common.{◌&&◌, nat_lt, Bool, true, false, refl, sym, ap, ◌∙◌, subst, inl, inr, arith, eq-zero-or-pos, mul-pos, mod-eq_of_lt}
-use Rattle.lexical_value.proofs.Common.{lt_of_mul-lt-mul_right, mul-le-mul_right, le_of_eq, le_trans, mul-le-mul_left}
+use Rattle.lexical_value.proofs.Common.{lt_of_mul-lt-mul_right, mul-le-mul_right, le_of_eq, le_trans, mul-le-mul_left, nearest_of_huge, nearest_of_tiny}
+use Rattle.lexical_value.proofs.Common.{IsCutTo}
 use native.Mathlib.Nat.{mod-lt, eq_of_mul-eq-mul_right, div-add-mod', div-eq_of_lt, le_of_mul-le-mul_right}
 use mir.Val.{bool_byte}
 use lib.Dec.{lit≤}
 use lib.Pow.{shl_lt}
 use lib.Ieee.{Format, hid, ones, prec, low}
 use Rattle.core.specs.Dec2flt.Rounding.{scaled_bits, IsCut, IsJustAbove, IsSignificand, IsWithin}
-use Rattle.core.proofs.dec2flt.Extremes.{nearest_of_huge, nearest_of_tiny}
 use Rattle.core.proofs.dec2flt.Patterns.{shape}
 use Rattle.core.proofs.dec2flt.RoundingLemmas.{nearest_tie, nearest_above}
 use Rattle.core.proofs.dec2flt.Settle.{lies_above, rounds_down, rounds_up, significand_of}
-use Rattle.lexical_value.specs.Leading.{IsCutTo}
 use Rattle.lexical_value.proofs.LeadingLemmas.{beyond, exact, scaled, unscaled}
 
 powers : (den up l d down e : ℕ) → up + l + d ≡ down + e → den * 2 ^ up * (2 ^ l * 2 ^ d) ≡ den * 2 ^ e * 2 ^ down

@@ -2,13 +2,11 @@
 use Rattle.lexical_writer.proofs.Common.{ℕ, zero, suc, ◌≡◌, ◌<◌, ◌≤◌, ◌+◌, ◌*◌, ◌/◌, ◌%◌, ◌^◌, ◌==◌, ◌&&◌, ◌⊎◌, inl, inr, if◌then◌else◌, Bool, true, false}
 use Rattle.lexical_writer.proofs.Common.{List, [], ◌∷◌, ◌++◌, length, refl, sym, ap, ◌∙◌, subst, arith, append-nil, pow-suc, pow-zero, nat_tests}
 use Rattle.lexical_writer.proofs.Common.{number_after_append, append_assoc, length-append, AllBelowBase, number_from_digits, is_absent, Parts, digits_in}
-use Rattle.lexical_writer.proofs.Common.{size_of, values_of, Amount}
+use Rattle.lexical_writer.proofs.Common.{size_of, values_of, Amount, mod-mul-add, given_fraction, IsFactor, IsMoved, trimmed}
+use Rattle.lexical_writer.specs.Moved.{IsWhole, moved_fraction}
 use Rattle.std.proofs.Math.Nat.{div-add-mod, mul-add-mod_self_left, mod-eq_of_lt, mul-div_cancel}
-use Rattle.std.proofs.lemmas.Nat.{mod-mul-add}
 use Rattle.lexical_writer.proofs.DigitLemmas.{values_below}
 use Rattle.lexical_writer.proofs.PlainLemmas.{size_values}
-use Rattle.lexical_writer.specs.Layout.{given_fraction}
-use Rattle.lexical_writer.specs.Moved.{IsFactor, IsMoved, IsWhole, moved_fraction, trimmed}
 
 -- What is left without the zeros at the end does not end with a zero.
 trimmed_twice : (digits : List ℕ) → trimmed (trimmed digits) ≡ trimmed digits

@@ -1,11 +1,9 @@
 -- The first digit, and those behind it.
 use Rattle.lexical_literal.proofs.Common.{ℕ, ◌≡◌, ◌+◌, ◌&&◌, Bool, List, true, false, get_or, refl, sym, ap, subst, ◌∙◌, arith, raw, Part, radix_of, Grammar}
-use Rattle.lexical_literal.proofs.Common.{◌==◌, if◌then◌else◌}
-use Rattle.lexical_literal.specs.Additions.Sizes.{steps_of}
-use Rattle.lexical_literal.specs.Additions.Plain.{HasRoles, IsDigitAt, IsReadOn, IsRunOn, at_stage, may_read}
-use Rattle.lexical_literal.specs.Additions.Summary.{awaits_integer, digits_of, digits_piece, has_digit, is_signed, part_of}
-use Rattle.lexical_literal.specs.declared.plain.Run.{Run}
-use Rattle.lexical_literal.specs.declared.steps.Stage.{Stage}
+use Rattle.lexical_literal.proofs.Common.{◌==◌, if◌then◌else◌, steps_of, HasRoles, IsReadOn, IsRunOn, at_stage, awaits_integer, digits_piece, has_digit}
+use Rattle.lexical_literal.proofs.Common.{is_signed, part_of, Run, Stage}
+use Rattle.lexical_literal.specs.Additions.Plain.{IsDigitAt, may_read}
+use Rattle.lexical_literal.specs.Additions.Summary.{digits_of}
 use Rattle.lexical_literal.specs.declared.steps.Stage.TheVariants as stages
 use Rattle.lexical_literal.proofs.PlainLemmas.{read_first}
 use Rattle.lexical_literal.proofs.StepLemmas.{awaited_part}

@@ -1,8 +1,5 @@
 -- The fraction, and what follows it.
-use Rattle.lexical_literal.proofs.Common.{◌+◌, ◌-◌, subst, sym, raw}
-use Rattle.lexical_literal.specs.Additions.Sizes.{steps_of}
-use Rattle.lexical_literal.specs.Additions.Plain.{IsBegun, IsReadOn, at_stage}
-use Rattle.lexical_literal.specs.Additions.Summary.{after_point, has_digit}
+use Rattle.lexical_literal.proofs.Common.{◌+◌, ◌-◌, subst, sym, raw, steps_of, IsBegun, IsReadOn, at_stage, after_point, has_digit}
 use Rattle.lexical_literal.specs.declared.steps.Piece.TheVariants as pieces
 use Rattle.lexical_literal.proofs.JoinLemmas.{fraction_at}
 use Rattle.lexical_literal.proofs.MantissaLemmas.{fraction_sum}

@@ -1,8 +1,6 @@
 -- Each digit is read behind the others.
-use Rattle.lexical_literal.proofs.Common.{ℕ, ◌≡◌, ◌-◌, ◌+◌, sym, ap, subst, arith, raw, radix_of}
-use Rattle.lexical_literal.specs.Additions.Sizes.{steps_of}
-use Rattle.lexical_literal.specs.Additions.Plain.{IsRunOn, reached}
-use Rattle.lexical_literal.specs.declared.plain.Run.{Run}
+use Rattle.lexical_literal.proofs.Common.{ℕ, ◌≡◌, ◌-◌, ◌+◌, sym, ap, subst, arith, raw, radix_of, steps_of, IsRunOn, Run}
+use Rattle.lexical_literal.specs.Additions.Plain.{reached}
 use Rattle.lexical_literal.proofs.SumLemmas.{both_runs, more_digit, pushed}
 use Rattle.lexical_literal.proofs.plain.more_digits.Goals as goal
 

@@ -1,11 +1,9 @@
 -- The list reads the text as the number.
-use Rattle.lexical_writer.proofs.Common.{ℕ, ◌≡◌, ◌<◌, ◌≤◌, ◌-◌, ◌^◌, IfOk, List, Option, Some, IsSomeAnd, inl, inr, length, min, refl, rules, slice_get}
-use Rattle.lexical_writer.proofs.Common.{take, ap, sym, ◌∙◌, subst, arith, cases_lt, false≢true, nat_tests, Literal, text_of, IsSyntax, Grammar}
+use Rattle.lexical_writer.proofs.Common.{ℕ, ◌≡◌, ◌<◌, ◌≤◌, ◌-◌, ◌^◌, IfOk, List, Option, Some, IsSomeAnd, inl, inr, length, min, refl, rules, slice_get, take}
+use Rattle.lexical_writer.proofs.Common.{ap, sym, ◌∙◌, subst, arith, cases_lt, false≢true, nat_tests, Literal, text_of, IsSyntax, Grammar, Reads, notation_of}
 use Rattle.std.proofs.lemmas.Option.{slice_get_read}
 use Rattle.lexical_literal.specs.Forms.{IsNumber, ReadsForm}
 use Rattle.lexical_literal.specs.Kind.{exact}
-use Rattle.lexical_literal.specs.Literal.{Reads}
-use Rattle.lexical_literal.specs.Notation.{notation_of}
 use Rattle.lexical_literal.specs.Read.{Read}
 use Rattle.lexical_literal.specs.declared.list.Form.{Form}
 use Rattle.lexical_writer.specs.Buffer.{IsTaken}

@@ -1,5 +1,4 @@
-use Rattle.lexical_literal.proofs.Common.{take, ◌-◌, length}
-use Rattle.lexical_literal.specs.Forms.{NoForm}
+use Rattle.lexical_literal.proofs.Common.{take, ◌-◌, length, NoForm}
 use Rattle.lexical_literal.proofs.list.Forms.find.Given as goal
 
 abbrev pub invariant-loop-form : goal.invariant-loop-form

@@ -1,5 +1,4 @@
-use Rattle.lexical_literal.proofs.Common.{take, ◌-◌, length}
-use Rattle.lexical_literal.specs.Forms.{NoForm}
+use Rattle.lexical_literal.proofs.Common.{take, ◌-◌, length, NoForm}
 use Rattle.lexical_literal.proofs.FormLemmas.{IsBest, beyond}
 use Rattle.lexical_literal.proofs.list.Forms.read.Given as goal
 

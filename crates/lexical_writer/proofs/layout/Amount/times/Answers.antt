@@ -1,8 +1,7 @@
 -- Whether a number is whole.
-use Rattle.lexical_writer.proofs.Common.{ℕ, zero, suc, ◌≡◌, ◌<◌, ◌≤◌, ◌+◌, ◌-◌, ◌*◌, ◌/◌, ◌%◌, ◌^◌, ◌==◌, false, inl, inr, length, ap, sym, ◌∙◌, subst}
-use Rattle.lexical_writer.proofs.Common.{arith, cases_lt, nat_tests, number_from_digits, size_of, values_of}
+use Rattle.lexical_writer.proofs.Common.{ℕ, zero, suc, ◌≡◌, ◌<◌, ◌≤◌, ◌+◌, ◌-◌, ◌*◌, ◌/◌, ◌%◌, ◌^◌, ◌==◌, false, inl, inr, length, ap, sym, ◌∙◌, subst, arith}
+use Rattle.lexical_writer.proofs.Common.{cases_lt, nat_tests, number_from_digits, size_of, values_of, given_fraction}
 use Rattle.lexical_writer.proofs.WholeLemmas.{not_long, not_odd, some_factor, whole_is}
-use Rattle.lexical_writer.specs.Layout.{given_fraction}
 use Rattle.lexical_writer.specs.Moved.{IsWhole}
 use Rattle.lexical_writer.proofs.layout.Amount.times.Goals as goal
 
