@@ -1,31 +1,24 @@
 -- The flags that are found are to blame.
-use Rattle.lexical_literal.proofs.Common.{ℕ, ◌≡◌, ◌≤◌, ◌↔◌, ◌⊎◌, Bool, true, false, not, ◌&&◌, ◌||◌, inl, inr, List, take, Option, None, Some, refl, sym}
-use Rattle.lexical_literal.proofs.Common.{ap, subst, ◌∙◌, arith, false≢true, and_parts, and_from, cases_Bool, length-take-le, Flag, raw, Role, Part}
-use Rattle.lexical_literal.proofs.Common.{all_conditions, Notation, has, notation_of, Condition, Grammar}
-use Rattle.std.proofs.Common.{◌==◌, IsTrue, if◌then◌else◌, length}
+use Rattle.lexical_literal.proofs.Common.{ℕ, ◌≡◌, ◌≤◌, ◌↔◌, ◌⊎◌, Bool, true, false, not, ◌&&◌, ◌||◌, inl, inr, List, take, Option, None, Some, refl, sym, ap}
+use Rattle.lexical_literal.proofs.Common.{subst, ◌∙◌, arith, false≢true, and_parts, and_from, cases_Bool, length-take-le, Flag, raw, Role, Part, all_conditions}
+use Rattle.lexical_literal.proofs.Common.{Notation, has, notation_of, Condition, Grammar, ◌==◌, IsTrue, if◌then◌else◌, length, has_size, Allows, IsRefusal}
+use Rattle.lexical_literal.proofs.Common.{adding, bare, is_one_of, marks_of, number_separator_flags, requirement_flags, span_of, with_rules, IsValidUpTo}
+use Rattle.lexical_literal.proofs.Common.{IsWeaker, lets, place_of, blame, mask_of, unmet, fits, unsized, no_condition, role_at, part_of, Blame, ReadErrorKind}
+use Rattle.lexical_literal.proofs.Common.{Group, Summary}
+use Rattle.lexical_literal.specs.Cause.{IsCaseFlag, IsCause, IsRequirement, IsUnmet, Permits, RefusesAlone, SomeFlag, binds, case_set, error_of, first_unmet}
+use Rattle.lexical_literal.specs.Cause.{is_at, lowest, requiring, tail_of}
+use Rattle.lexical_literal.specs.Additions.Causes.{is_at_gap}
+use Rattle.lexical_literal.specs.Additions.Explained.{alone, cases, group_at, otherwise, refusal_of, requirements, separators, some_unmet, zeros}
+use Rattle.lexical_literal.specs.Additions.Sizes.{IsReadOf, goes, role_next}
 use Rattle.std.specs.Prelude.{slice_get}
 use Rattle.lexical_util.specs.Groups.{bits_of}
 use Rattle.lexical_util.specs.Layout as layout
 use Rattle.lexical_util.specs.Roles.{other_case}
 use Rattle.lexical_util.specs.declared.format_flags.Part.TheVariants as parts
-use Rattle.lexical_literal.specs.Groups.{has_size}
 use Rattle.lexical_literal.specs.Notation.{kept}
-use Rattle.lexical_literal.specs.Cause.{Allows, IsCaseFlag, IsCause, IsRefusal, IsRequirement, IsUnmet, Permits, RefusesAlone, SomeFlag, adding}
-use Rattle.lexical_literal.specs.Cause.{bare, binds, case_set, error_of, first_unmet, is_at, is_one_of, lowest, marks_of, number_separator_flags}
-use Rattle.lexical_literal.specs.Cause.{requirement_flags, requiring, span_of, tail_of, with_rules}
-use Rattle.lexical_literal.specs.Front.{IsValidUpTo}
-use Rattle.lexical_literal.specs.Additions.Causes.{IsWeaker, is_at_gap, lets, place_of}
-use Rattle.lexical_literal.specs.Additions.Explained.{alone, blame, cases, group_at, mask_of, otherwise, refusal_of, requirements, separators}
-use Rattle.lexical_literal.specs.Additions.Explained.{some_unmet, unmet, zeros}
-use Rattle.lexical_literal.specs.Additions.Sizes.{IsReadOf, fits, goes, role_next, unsized}
-use Rattle.lexical_literal.specs.Additions.Summary.{no_condition, role_at, part_of}
-use Rattle.lexical_literal.specs.declared.cause.Blame.{Blame}
 use Rattle.lexical_literal.specs.declared.cause.Marks.{Marks}
-use Rattle.lexical_literal.specs.declared.cause.ReadErrorKind.{ReadErrorKind}
 use Rattle.lexical_literal.specs.declared.cause.ReadErrorKind.TheVariants as causes
 use Rattle.lexical_literal.specs.declared.cause.Spot.{Spot}
-use Rattle.lexical_literal.specs.declared.groups.Group.{Group}
-use Rattle.lexical_literal.specs.declared.steps.Summary.{Summary}
 use Rattle.lexical_literal.specs.declared.syntax.Condition.TheVariants as conditions
 use Rattle.lexical_literal.proofs.CauseLemmas.{flag_zero, found_in, mask_flags, none_of, only_mask, only_none, some_of}
 use Rattle.lexical_literal.proofs.GroupLemmas.{same_unsized}

@@ -1,9 +1,9 @@
 -- The flags of masks, and the bytes to show.
 use Rattle.lexical_literal.proofs.Common.{ℕ, ◌≡◌, ◌<◌, ◌+◌, ◌^◌, ◌&&◌, ◌||◌, not, Bool, true, false, bit_and, bit_or, inl, inr, List, [], ◌∷◌, ◌++◌, sum_by}
 use Rattle.lexical_literal.proofs.Common.{refl, sym, ap, ◌∙◌, arith, nat_tests, false≢true, cases_Bool, eqb-true, ByteSet, Flag, bit, raw, Record, list_any}
-use Rattle.lexical_literal.proofs.Common.{Notation}
-use Rattle.std.proofs.Common.{◌==◌, if◌then◌else◌}
-use Rattle.std.proofs.Common.{length}
+use Rattle.lexical_literal.proofs.Common.{Notation, ◌==◌, if◌then◌else◌, length, mask_of, no_condition, bare, behind, is_one_of, number_separator_flags}
+use Rattle.lexical_literal.proofs.Common.{requirement_flags, with_rules}
+use Rattle.lexical_literal.specs.Cause.{flag_at, leading_zero_flags}
 use Rattle.std.proofs.lemmas.List.Folds.{list_any-append}
 use Rattle.std.proofs.lemmas.Nat.Bits.{bit_at_and, bit_at_or, bit_at_not, bit_at-zero, bit_at-pow_same, bit_at-pow_other}
 use Rattle.std.proofs.Math.Nat.{mod-lt}
@@ -16,11 +16,8 @@ use Rattle.lexical_util.specs.Layout.{part}
 use Rattle.lexical_util.specs.Record.{word_of}
 use Rattle.lexical_util.proofs.ViewLemmas.{bits_by_mask}
 use Rattle.lexical_flags.proofs.Packing.{raw-word_of}
-use Rattle.lexical_literal.specs.Additions.Explained.{mask_of}
 use Rattle.lexical_flags.specs.declared.format_flags.TheConstants.{FLAG_MASK}
 use Rattle.lexical_literal.specs.declared.cause.TheConstants.{FLOAT_REQUIREMENTS, REQUIREMENTS, SEPARATORS, ZEROS}
-use Rattle.lexical_literal.specs.Additions.Summary.{no_condition}
-use Rattle.lexical_literal.specs.Cause.{bare, behind, flag_at, is_one_of, leading_zero_flags, number_separator_flags, requirement_flags, with_rules}
 
 -- FLAGS
 

@@ -1,22 +1,18 @@
 -- The texts that are accepted with the conditions of a notation are its literals.
-use Rattle.lexical_literal.proofs.Common.{ℕ, ◌≡◌, Bool, true, false, not, ◌&&◌, ◌||◌, inl, inr, nat_lt, List, [], ◌∷◌, ◌++◌, Option, Some, None, refl, sym}
-use Rattle.lexical_literal.proofs.Common.{ap, subst, ◌∙◌, arith, false≢true, and_from, and_parts, cases_Bool, eqb-true, or_left, or_right, nat_tests}
-use Rattle.lexical_literal.proofs.Common.{ByteSet, signs, Role, Part, Notation, Literal, IsLiteral, IsSpelled, Reads, is_absent, is_none_or_one}
-use Rattle.lexical_literal.proofs.Common.{is_none_or_prefix, is_present, text_of, Condition}
-use Rattle.std.proofs.Common.{◌==◌, if◌then◌else◌, length}
+use Rattle.lexical_literal.proofs.Common.{ℕ, ◌≡◌, Bool, true, false, not, ◌&&◌, ◌||◌, inl, inr, nat_lt, List, [], ◌∷◌, ◌++◌, Option, Some, None, refl, sym, ap}
+use Rattle.lexical_literal.proofs.Common.{subst, ◌∙◌, arith, false≢true, and_from, and_parts, cases_Bool, eqb-true, or_left, or_right, nat_tests, ByteSet}
+use Rattle.lexical_literal.proofs.Common.{signs, Role, Part, Notation, Literal, IsLiteral, IsSpelled, Reads, is_absent, is_none_or_one, is_none_or_prefix}
+use Rattle.lexical_literal.proofs.Common.{is_present, text_of, Condition, ◌==◌, if◌then◌else◌, length, HasRoles, has_sizes, Cuts, HasLengths, add, admits}
+use Rattle.lexical_literal.proofs.Common.{after, count, is_fresh, role_at, part_of, digits_piece, lacks_prefix, no_condition, no_cuts, start, takes}
+use Rattle.lexical_literal.proofs.Common.{awaits_integer, Piece, Stage, Summary}
+use Rattle.lexical_literal.specs.Additions.Plain.{is_first, needs_first}
+use Rattle.lexical_literal.specs.Additions.Summary.{is_negative, piece_of, step_by, tally_by}
 use Rattle.lexical_util.specs.declared.feature_format.roles.Role.TheVariants as roles
 use Rattle.lexical_util.specs.declared.format_flags.Part.TheVariants as parts
-use Rattle.lexical_literal.specs.Additions.Plain.{HasRoles, is_first, needs_first}
-use Rattle.lexical_literal.specs.Groups.{has_sizes}
 use Rattle.lexical_literal.specs.Literal.{begins_with, condition, is_plus}
 use Rattle.lexical_literal.specs.Literal.{may_begin}
-use Rattle.lexical_literal.specs.Additions.Summary.{Cuts, HasLengths, add, admits, after, count, is_fresh, is_negative, role_at, part_of, digits_piece}
-use Rattle.lexical_literal.specs.Additions.Summary.{lacks_prefix, no_condition, no_cuts, piece_of, start, step_by, takes, tally_by, awaits_integer}
-use Rattle.lexical_literal.specs.declared.steps.Piece.{Piece}
 use Rattle.lexical_literal.specs.declared.steps.Piece.TheVariants as pieces
-use Rattle.lexical_literal.specs.declared.steps.Stage.{Stage}
 use Rattle.lexical_literal.specs.declared.steps.Stage.TheVariants as stages
-use Rattle.lexical_literal.specs.declared.steps.Summary.{Summary}
 use Rattle.lexical_literal.specs.declared.syntax.Condition.TheVariants as conditions
 use Rattle.lexical_literal.proofs.LiteralLemmas.{all_cuts, spelled_arrives, spelled_from}
 use Rattle.lexical_literal.proofs.ScanLemmas.{Accepts, Arrives, Took, added, arrives_byte, as_digit, digit_role, is_role, none_accepts, took}
@@ -95,7 +91,8 @@ module _ (m : Notation) (h : HasRoles m) where
   abbrev fits_first : ByteSet
   fits_first b = m.digit parts.Integer b && is_first m b
 
-  sign_counts : (b : ℕ) (rest : List ℕ) → role_at m parts.Integer b ≡ Some roles.Sign → nat_lt 0 (tally_by O m (Some start) no_cuts (b ∷ rest) pieces.Sign) ≡ true
+  sign_counts : (b : ℕ) (rest : List ℕ) → role_at m parts.Integer b ≡ Some roles.Sign
+      → nat_lt 0 (tally_by O m (Some start) no_cuts (b ∷ rest) pieces.Sign) ≡ true
   sign_counts b rest sign = subst (λ o. nat_lt 0 (tally_by O m (step_by O m start b) (count parts.Integer o no_cuts) rest pieces.Sign) ≡ true) (sym sign)
       (stays (step_by O m start b) (add no_cuts pieces.Sign) rest pieces.Sign (λ e. cc) refl)
 
@@ -188,7 +185,11 @@ module _ (m : Notation) (h : HasRoles m) where
   calm_admits s b x2 calm taken = grind arith
 
   calm_after : (s : Summary) (zero : Bool) (r : Role) → Calm s → Calm (after s zero r)
-  calm_after s zero r calm = record { prefix = let a = calm.prefix in grind arith; sign = let b = calm.sign in grind arith; first = let b = calm.first in grind arith }
+  calm_after s zero r calm = record {
+    prefix = let a = calm.prefix in grind arith;
+    sign = let b = calm.sign in grind arith;
+    first = let b = calm.first in grind arith;
+  }
 
   peel : (s : Summary) (b : ℕ) (c : Cuts) (text : List ℕ) (d : Cuts) → Arrives O m (Some s) c (b ∷ text) d
       → Took O m s b (λ o. Arrives O m o (count (part_of s.stage) (role_at m (part_of s.stage) b) c) text d)

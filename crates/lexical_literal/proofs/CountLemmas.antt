@@ -1,9 +1,7 @@
 -- The lengths of parts.
-use Rattle.lexical_literal.proofs.Common.{ℕ, ◌≡◌, ◌+◌, List, [], ◌∷◌, get_or, set, arith}
-use Rattle.std.proofs.Common.{length}
+use Rattle.lexical_literal.proofs.Common.{ℕ, ◌≡◌, ◌+◌, List, [], ◌∷◌, get_or, set, arith, length, cuts_of, with_prefix, Piece}
+use Rattle.lexical_literal.specs.Additions.Summary.{add_more, piece_number}
 use Rattle.lexical_literal.specs.Additions.Plain.{counts_of, integer_sizes}
-use Rattle.lexical_literal.specs.Additions.Summary.{add_more, cuts_of, piece_number, with_prefix}
-use Rattle.lexical_literal.specs.declared.steps.Piece.{Piece}
 
 -- More bytes of a piece.
 pub count_more : (counts : List ℕ) → length counts ≡ 9 → (piece : Piece) (n : ℕ)

@@ -1,17 +1,12 @@
 -- What has been read decides what a notation with sizes of groups allows, with other flags and conditions too.
 use Rattle.lexical_literal.proofs.Common.{ℕ, ◌≡◌, ◌↔◌, inl, inr, Bool, true, false, not, ◌&&◌, ◌||◌, List, [], ◌∷◌, ◌++◌, Option, Some, None, refl, sym, ap}
 use Rattle.lexical_literal.proofs.Common.{subst, ◌∙◌, arith, false≢true, and_parts, and_from, cases_Bool, or_left, Flag, Role, Part, Notation, Condition}
+use Rattle.lexical_literal.proofs.Common.{Allows, is_one_of, requirement_flags, with_rules, has_size, has_sizes, IsWeaker, lets, HasRoles, HasSizes, IsReady}
+use Rattle.lexical_literal.proofs.Common.{first_group, fits, group_after, grow, grown, unsized, is_accepted, role_at, scan, start, step, Group, Summary}
+use Rattle.lexical_literal.specs.Additions.Sizes.{goes, is_size, makes_empty, role_next}
 use Rattle.std.proofs.Common.{if◌then◌else◌}
 use Rattle.std.specs.Prelude.{is_some}
 use Rattle.lexical_util.specs.declared.format_flags.Part.TheVariants as parts
-use Rattle.lexical_literal.specs.Cause.{Allows, is_one_of, requirement_flags, with_rules}
-use Rattle.lexical_literal.specs.Groups.{has_size, has_sizes}
-use Rattle.lexical_literal.specs.Additions.Causes.{IsWeaker, lets}
-use Rattle.lexical_literal.specs.Additions.Plain.{HasRoles, HasSizes, IsReady}
-use Rattle.lexical_literal.specs.Additions.Sizes.{first_group, fits, goes, group_after, grow, grown, is_size, makes_empty, role_next, unsized}
-use Rattle.lexical_literal.specs.Additions.Summary.{is_accepted, role_at, scan, start, step}
-use Rattle.lexical_literal.specs.declared.groups.Group.{Group}
-use Rattle.lexical_literal.specs.declared.steps.Summary.{Summary}
 use Rattle.lexical_literal.specs.declared.syntax.Condition.TheVariants as conditions
 use Rattle.lexical_literal.proofs.ConditionLemmas.{literal_arrives, literal_from}
 use Rattle.lexical_literal.proofs.FitLemmas.{front_fits, front_is_read_of, front_of}

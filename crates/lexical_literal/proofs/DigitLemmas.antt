@@ -1,7 +1,6 @@
 -- The number that digits represent when they follow those of another number.
-use Rattle.lexical_literal.proofs.Common.{◌≡◌, ℕ, suc, ◌+◌, ◌*◌, ◌<◌, ◌≤◌, List, ◌∷◌, drop, get_or, nat_lt, Bool, true, false, cond, refl, Option, Some}
-use Rattle.lexical_literal.proofs.Common.{None, sym, ap, subst, ◌∙◌, arith, drop-cons, ◌++◌, nat_tests, filter_map-append}
-use Rattle.std.proofs.Common.{length}
+use Rattle.lexical_literal.proofs.Common.{◌≡◌, ℕ, suc, ◌+◌, ◌*◌, ◌<◌, ◌≤◌, List, ◌∷◌, drop, get_or, nat_lt, Bool, true, false, cond, refl, Option, Some, None}
+use Rattle.lexical_literal.proofs.Common.{sym, ap, subst, ◌∙◌, arith, drop-cons, ◌++◌, nat_tests, filter_map-append, length}
 use Rattle.std.proofs.lemmas.Int.Digits.{number_after_append, number_after_ge}
 use Rattle.std.specs.Int.Digits.{number_from_digits_after}
 use Rattle.std.specs.List.{cons_option}

@@ -1,15 +1,14 @@
 -- Each byte of a literal plays a role, and a literal with a required prefix begins with it.
-use Rattle.lexical_literal.proofs.Common.{ℕ, ◌≡◌, ◌+◌, ◌<◌, ◌≤◌, ◌⊎◌, inl, inr, true, false, None, List, [], ◌∷◌, ◌++◌, take, get_or, ap, refl, sym, subst}
-use Rattle.lexical_literal.proofs.Common.{◌∙◌, arith, AllByRecursion, cases_lt, false≢true, length-take-le, nat_tests, ByteSet, signs, Role, Part, Literal}
-use Rattle.lexical_literal.proofs.Common.{Reads, is_none_or_one, is_none_or_prefix, is_present, text_of, Notation, notation_of, set_of_role, Grammar}
+use Rattle.lexical_literal.proofs.Common.{ℕ, ◌≡◌, ◌+◌, ◌<◌, ◌≤◌, ◌⊎◌, inl, inr, true, false, None, List, [], ◌∷◌, ◌++◌, take, get_or, ap, refl, sym, subst, ◌∙◌}
+use Rattle.lexical_literal.proofs.Common.{arith, AllByRecursion, cases_lt, false≢true, length-take-le, nat_tests, ByteSet, signs, Role, Part, Literal, Reads}
+use Rattle.lexical_literal.proofs.Common.{is_none_or_one, is_none_or_prefix, is_present, text_of, Notation, notation_of, set_of_role, Grammar, sign_size}
+use Rattle.lexical_literal.proofs.Common.{IsValidUpTo, NoLiteral, role_at, AllIn, run_byte}
+use Rattle.lexical_literal.specs.Additions.Forms.{PlaysNoRole}
+use Rattle.lexical_literal.specs.Readings.{prefix_byte}
 use Rattle.std.proofs.Common.{length, length-append, IsTrue}
 use Rattle.std.proofs.lemmas.List.{get_or-take, get_or_append_left}
 use Rattle.lexical_util.specs.declared.feature_format.roles.Role.TheVariants as roles
 use Rattle.lexical_util.specs.declared.format_flags.Part.TheVariants as parts
-use Rattle.lexical_literal.specs.Additions.Forms.{PlaysNoRole, sign_size}
-use Rattle.lexical_literal.specs.Front.{IsValidUpTo, NoLiteral}
-use Rattle.lexical_literal.specs.Additions.Summary.{role_at}
-use Rattle.lexical_literal.specs.Readings.{AllIn, run_byte, prefix_byte}
 use Rattle.lexical_literal.specs.declared.syntax.Condition.TheVariants as conditions
 use Rattle.lexical_literal.proofs.PartLemmas.{parts_have_roles}
 use Rattle.lexical_literal.proofs.ScanLemmas.{no_role}

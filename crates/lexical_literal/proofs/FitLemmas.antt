@@ -1,23 +1,18 @@
 -- What some literal of a notation with sizes of groups begins with: what one without begins with, if its groups fit byte by byte.
-use Rattle.lexical_literal.proofs.Common.{ℕ, ◌≡◌, ◌≤◌, ◌+◌, ◌-◌, inl, inr, Bool, true, false, not, ◌&&◌, ◌||◌, nat_lt, List, [], ◌∷◌, ◌++◌, Option, Some}
-use Rattle.lexical_literal.proofs.Common.{None, refl, sym, ap, subst, ◌∙◌, arith, zero, suc, false≢true, and_parts, and_from, cases_Bool, or_left, or_right}
-use Rattle.lexical_literal.proofs.Common.{nat_tests, list_any, separators_in, Role, Part, Literal, Reads, Notation}
-use Rattle.std.proofs.Common.{◌==◌, if◌then◌else◌, nat_le}
-use Rattle.std.proofs.Common.{append_assoc}
+use Rattle.lexical_literal.proofs.Common.{ℕ, ◌≡◌, ◌≤◌, ◌+◌, ◌-◌, inl, inr, Bool, true, false, not, ◌&&◌, ◌||◌, nat_lt, List, [], ◌∷◌, ◌++◌, Option, Some, None}
+use Rattle.lexical_literal.proofs.Common.{refl, sym, ap, subst, ◌∙◌, arith, zero, suc, false≢true, and_parts, and_from, cases_Bool, or_left, or_right}
+use Rattle.lexical_literal.proofs.Common.{nat_tests, list_any, separators_in, Role, Part, Literal, Reads, Notation, ◌==◌, if◌then◌else◌, nat_le, append_assoc}
+use Rattle.lexical_literal.proofs.Common.{IsFront, has_size, has_sizes, HasRoles, HasSizes, IsReady, first_group, fits, group_after, grow, grown, unsized}
+use Rattle.lexical_literal.proofs.Common.{admits, after, after_mark, gap_fits, has_digit, is_open, is_signed, lacks_prefix, may_follow, part_of, role_at, scan}
+use Rattle.lexical_literal.proofs.Common.{start, takes, takes_in, Group, Stage, Summary}
+use Rattle.lexical_literal.specs.Groups.{higher, inner_fits, last_fits}
+use Rattle.lexical_literal.specs.Additions.Sizes.{follows, most}
+use Rattle.lexical_literal.specs.Additions.Summary.{is_run}
 use Rattle.std.proofs.lemmas.Bool.{or_parts}
 use Rattle.lexical_util.specs.declared.feature_format.roles.Role.TheVariants as roles
 use Rattle.lexical_util.specs.declared.format_flags.Part.TheVariants as parts
-use Rattle.lexical_literal.specs.Front.{IsFront}
-use Rattle.lexical_literal.specs.Groups.{has_size, has_sizes, higher, inner_fits, last_fits}
-use Rattle.lexical_literal.specs.Additions.Plain.{HasRoles, HasSizes, IsReady}
-use Rattle.lexical_literal.specs.Additions.Sizes.{first_group, fits, follows, group_after, grow, grown, most, unsized}
-use Rattle.lexical_literal.specs.Additions.Summary.{admits, after, after_mark, gap_fits, has_digit, is_open, is_run, is_signed, lacks_prefix}
-use Rattle.lexical_literal.specs.Additions.Summary.{may_follow, part_of, role_at, scan, start, takes, takes_in}
 use Rattle.lexical_literal.specs.Run.{is_place}
-use Rattle.lexical_literal.specs.declared.groups.Group.{Group}
 use Rattle.lexical_literal.specs.declared.syntax.Condition.TheVariants as conditions
-use Rattle.lexical_literal.specs.declared.steps.Stage.{Stage}
-use Rattle.lexical_literal.specs.declared.steps.Summary.{Summary}
 use Rattle.lexical_literal.proofs.FrontLemmas.{begins, completed_there, ended_there, front_is_read, goes_on_there, literal_there}
 use Rattle.lexical_literal.proofs.PlainLemmas.{admits_settled}
 use Rattle.lexical_literal.proofs.GroupLemmas.{not_empty}

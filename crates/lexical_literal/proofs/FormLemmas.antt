@@ -1,23 +1,14 @@
 -- Several forms: what has been found in the first of them, and what one form more adds.
 use Rattle.lexical_literal.proofs.Common.{ℕ, ◌≡◌, ◌*◌, inl, inr, nat_lt, Bool, true, false, ◌<◌, ◌≤◌, ◌+◌, List, Ok, Option, Some, None, All, IsSomeAnd, []}
-use Rattle.lexical_literal.proofs.Common.{◌∷◌, take, get_or, IfSome, IsNone, refl, sym, subst, ap, arith, nat_tests, cases_lt, false≢true, take_all}
-use Rattle.lexical_literal.proofs.Common.{All-more, slice_get-get_or, Literal, Reads, Notation, notation_of, common_steps}
-use Rattle.std.proofs.Common.{if◌then◌else◌}
-use Rattle.std.proofs.Common.{length, slice_get}
+use Rattle.lexical_literal.proofs.Common.{◌∷◌, take, get_or, IfSome, IsNone, refl, sym, subst, ap, arith, nat_tests, cases_lt, false≢true, take_all, All-more}
+use Rattle.lexical_literal.proofs.Common.{slice_get-get_or, Literal, Reads, Notation, notation_of, common_steps, if◌then◌else◌, length, slice_get}
+use Rattle.lexical_literal.proofs.Common.{IsFurthestForm, sign_size, IsCountedFront, IsStopped, IsRefusal, Refusal, FormList, NoForm, ReadsForm, is_byte, reach}
+use Rattle.lexical_literal.proofs.Common.{IsValidUpTo, NoFront, NoLiteral, ReadsFront, Read, Found, At, Form}
+use Rattle.lexical_literal.specs.Additions.Forms.{GoesTo, IsFoundForm, IsFoundFrontForm, IsNoBetter, bound, further, further_on, greater, longer}
+use Rattle.lexical_literal.specs.Forms.{HasFront, HasKind, IsErrorOfForm, IsFirst, IsFormError, IsGreatest, IsReadByForms, Reaches}
 use Rattle.std.specs.Option.{ForSome}
 use Rattle.std.proofs.Math.Nat.{le_antisymm}
 use Rattle.std.proofs.lemmas.Option.{slice_get_within}
-use Rattle.lexical_literal.specs.Additions.Forms.{GoesTo, IsFoundForm, IsFoundFrontForm, IsFurthestForm, IsNoBetter, bound, further, further_on, greater, longer, sign_size}
-use Rattle.lexical_literal.specs.Additions.Longest.{IsCountedFront, IsStopped}
-use Rattle.lexical_literal.specs.Cause.{IsRefusal}
-use Rattle.lexical_literal.specs.declared.cause.Refusal.{Refusal}
-use Rattle.lexical_literal.specs.FormList.{FormList}
-use Rattle.lexical_literal.specs.Forms.{HasFront, HasKind, IsErrorOfForm, IsFirst, IsFormError, IsGreatest, IsReadByForms, NoForm, Reaches, ReadsForm, is_byte, reach}
-use Rattle.lexical_literal.specs.Front.{IsValidUpTo, NoFront, NoLiteral, ReadsFront}
-use Rattle.lexical_literal.specs.Read.{Read}
-use Rattle.lexical_literal.specs.declared.read.Found.{Found}
-use Rattle.lexical_literal.specs.declared.plain.At.{At}
-use Rattle.lexical_literal.specs.declared.list.Form.{Form}
 use Rattle.lexical_literal.specs.declared.list.FormError.{FormError}
 use Rattle.lexical_literal.specs.declared.list.Number.TheVariants as numbers
 use Rattle.lexical_literal.proofs.OneCauseLemmas.{one_refusal}
@@ -75,7 +66,8 @@ module _ (g : Form) (text : List ℕ) where
   reach_below size up n is = omega (arith, up is.0.valid_up_to is.1.valid_up_to, reach_within is.0, is.2)
 
   -- Its reach is that of its error.
-  pub reach_of : (error : Refusal) (size : ℕ) (b : Bool) → IsRefusal (notation_of g.syntax) text error → IsValidUpTo (notation_of g.syntax) text size → is_byte error.kind ≡ b
+  pub reach_of : (error : Refusal) (size : ℕ) (b : Bool) → IsRefusal (notation_of g.syntax) text error → IsValidUpTo (notation_of g.syntax) text size
+      → is_byte error.kind ≡ b
       → (n : ℕ) → Reaches text g n → n ≡ 2 * size + (if b then 0 else 1)
   reach_of error size b is valid byte n other = grind (arith, one_refusal)
 
@@ -319,11 +311,12 @@ module _ (forms : List Form) (text : List ℕ) (first size : ℕ) (furthest : Is
 
     -- The form itself.
     pub own_reach : All (IsAtMost (reach error.error.refusal)) (take form forms) → All (IsAtMost (reach error.error.refusal)) (take (form + 1) forms)
-    own_reach = one_more (reach error.error.refusal) no_less form (go (slice_get forms form) (subst (λ k. IsSomeAnd (slice_get forms k) (IsErrorOfForm text error)) same is)) where
-      go : (o : Option Form) → IsSomeAnd o (IsErrorOfForm text error) → IsSomeAnd o (IsAtMost (reach error.error.refusal))
-      go None is = is
-      go (Some g) is = λ n reaches.
-          let one = ap reach (one_refusal (notation_of g.syntax) text reaches.0 error.error.refusal reaches.1 is.refusal) in omega (arith, one, reaches.2)
+    own_reach = one_more (reach error.error.refusal) no_less form
+        (go (slice_get forms form) (subst (λ k. IsSomeAnd (slice_get forms k) (IsErrorOfForm text error)) same is)) where
+          go : (o : Option Form) → IsSomeAnd o (IsErrorOfForm text error) → IsSomeAnd o (IsAtMost (reach error.error.refusal))
+          go None is = is
+          go (Some g) is = λ n reaches.
+              let one = ap reach (one_refusal (notation_of g.syntax) text reaches.0 error.error.refusal reaches.1 is.refusal) in omega (arith, one, reaches.2)
 
     error_from : All (λ g. (n : ℕ) → Reaches text g n → n < reach error.error.refusal) (take form forms)
         → All (λ g. (n : ℕ) → Reaches text g n → n ≤ reach error.error.refusal) forms → IsFormError forms text error
@@ -345,13 +338,15 @@ module _ (forms : List Form) (text : List ℕ) (first size : ℕ) (furthest : Is
     pub first_error : form ≡ first → All (IsAtMost (reach error.error.refusal)) forms → IsFormError forms text error
     first_error is_first others = error_from
         (subst (λ k. All (λ g. (n : ℕ) → Reaches text g n → n < reach error.error.refusal) (take k forms)) (sym is_first)
-        (λ k d below n reaches. let less = reach_below (get_or (take first forms) k d) text size (furthest.before k d below) n reaches in omega (arith, less, no_less)))
+        (λ k d below n reaches. let less = reach_below (get_or (take first forms) k d) text size (furthest.before k d below) n reaches in
+        omega (arith, less, no_less)))
         others
 
     -- Its cause is a wrong byte.
     pub wrong_byte : (most : ℕ) → 2 * size ≤ most → is_byte error.error.refusal.kind ≡ true → All (IsAtMost most) (take form forms)
         → All (IsAtMost most) (take (form + 1) forms)
-    wrong_byte most low byte = one_more most low form (go (slice_get forms form) (subst (λ k. IsSomeAnd (slice_get forms k) (IsErrorOfForm text error)) same is) valid) where
-      go : (o : Option Form) → IsSomeAnd o (IsErrorOfForm text error) → IsSomeAnd o (λ g. GoesTo text g size) → IsSomeAnd o (IsAtMost most)
-      go None is valid = is
-      go (Some g) is valid = λ n reaches. let same = reach_of g text error.error.refusal size true is.refusal valid byte n reaches in omega (arith, same, low)
+    wrong_byte most low byte = one_more most low form
+        (go (slice_get forms form) (subst (λ k. IsSomeAnd (slice_get forms k) (IsErrorOfForm text error)) same is) valid) where
+          go : (o : Option Form) → IsSomeAnd o (IsErrorOfForm text error) → IsSomeAnd o (λ g. GoesTo text g size) → IsSomeAnd o (IsAtMost most)
+          go None is valid = is
+          go (Some g) is valid = λ n reaches. let same = reach_of g text error.error.refusal size true is.refusal valid byte n reaches in omega (arith, same, low)

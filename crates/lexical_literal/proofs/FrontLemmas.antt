@@ -1,21 +1,16 @@
 -- What has been read without an error can be completed to a literal.
-use Rattle.lexical_literal.proofs.Common.{ℕ, ◌≡◌, Bool, true, false, not, ◌&&◌, ◌||◌, ◌⊎◌, inl, inr, List, [], ◌∷◌, ◌++◌, Some, None, refl, sym, ap, subst}
-use Rattle.lexical_literal.proofs.Common.{◌∙◌, arith, false≢true, and_parts, and_from, cases_Bool, false_from_ne_true, list_any, ByteSet, Role, Part}
-use Rattle.lexical_literal.proofs.Common.{Notation, set_of_role, Literal, Reads, Condition}
-use Rattle.std.proofs.Common.{◌==◌}
+use Rattle.lexical_literal.proofs.Common.{ℕ, ◌≡◌, Bool, true, false, not, ◌&&◌, ◌||◌, ◌⊎◌, inl, inr, List, [], ◌∷◌, ◌++◌, Some, None, refl, sym, ap, subst, ◌∙◌}
+use Rattle.lexical_literal.proofs.Common.{arith, false≢true, and_parts, and_from, cases_Bool, false_from_ne_true, list_any, ByteSet, Role, Part, Notation}
+use Rattle.lexical_literal.proofs.Common.{set_of_role, Literal, Reads, Condition, ◌==◌, IsReady, HasRoles, IsFront, admits, continues, implies, has_digit}
+use Rattle.lexical_literal.proofs.Common.{is_fresh, after_digit, after_mark, after_point, lacks_prefix, may_follow, gap_fits, is_open, is_signed, takes, after}
+use Rattle.lexical_literal.proofs.Common.{scan, is_accepted, start, no_cuts, role_at, part_of, awaits_integer, digits_suffice, takes_in, forbids_plus, Stage}
+use Rattle.lexical_literal.proofs.Common.{Summary}
+use Rattle.lexical_literal.specs.Additions.Summary.{is_led, may_lead, is_negative, leads_to_prefix, needs_exponent, ends, is_run}
 use Rattle.std.proofs.lemmas.Bool.{or_from}
 use Rattle.lexical_util.specs.Layout as layout
 use Rattle.lexical_util.specs.declared.feature_format.roles.Role.TheVariants as roles
 use Rattle.lexical_util.specs.declared.format_flags.Part.TheVariants as parts
-use Rattle.lexical_literal.specs.Additions.Plain.{IsReady, HasRoles}
-use Rattle.lexical_literal.specs.Front.{IsFront}
-use Rattle.lexical_literal.specs.Additions.Summary.{admits, continues, implies, has_digit, is_fresh, is_led, after_digit, after_mark, after_point, may_lead}
-use Rattle.lexical_literal.specs.Additions.Summary.{is_negative, lacks_prefix, leads_to_prefix, needs_exponent, may_follow, gap_fits, ends, is_open, is_signed, takes, after}
-use Rattle.lexical_literal.specs.Additions.Summary.{scan, is_accepted, start, no_cuts, role_at, part_of, awaits_integer, digits_suffice, takes_in}
-use Rattle.lexical_literal.specs.Additions.Summary.{forbids_plus, is_run}
-use Rattle.lexical_literal.specs.declared.steps.Stage.{Stage}
 use Rattle.lexical_literal.specs.declared.steps.Stage.TheVariants as stages
-use Rattle.lexical_literal.specs.declared.steps.Summary.{Summary}
 use Rattle.lexical_literal.specs.declared.syntax.Condition.TheVariants as conditions
 use Rattle.lexical_literal.proofs.ConditionLemmas.{literal_from, literal_arrives}
 use Rattle.lexical_literal.proofs.ScanLemmas.{Accepts, scan_none, scan_append, took, arrives_byte, as_role, digit_role, is_role}

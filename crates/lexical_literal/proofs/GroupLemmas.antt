@@ -1,15 +1,11 @@
 -- Groups, counted at once and byte by byte, and runs without empty groups.
 use Rattle.lexical_literal.proofs.Common.{ℕ, ◌≡◌, ◌≤◌, ◌+◌, inl, inr, Bool, true, false, not, ◌&&◌, ◌||◌, nat_lt, List, [], ◌∷◌, Some, None, refl, sym, ap}
 use Rattle.lexical_literal.proofs.Common.{subst, ◌∙◌, arith, false≢true, and_parts, and_from, cases_Bool, false_from_ne_true, or_left, or_right, nat_tests}
-use Rattle.lexical_literal.proofs.Common.{Flag, separators_in, Part, Notation, Condition}
-use Rattle.std.proofs.Common.{◌==◌, if◌then◌else◌}
+use Rattle.lexical_literal.proofs.Common.{Flag, separators_in, Part, Notation, Condition, ◌==◌, if◌then◌else◌, has_size, gap_fits, grown, unsized, Group}
+use Rattle.lexical_literal.proofs.Common.{HasRoles, HasSizes, with_rules}
+use Rattle.lexical_literal.specs.Groups.{all_fit, first_fits, group_sizes, inner_fits, is_grouped, last_fits, one_more, rest_fits}
+use Rattle.lexical_literal.specs.Additions.Sizes.{follows, is_size, most}
 use Rattle.lexical_util.specs.declared.feature_format.roles.Role.TheVariants as roles
-use Rattle.lexical_literal.specs.Groups.{all_fit, first_fits, group_sizes, has_size, inner_fits, is_grouped, last_fits, one_more, rest_fits}
-use Rattle.lexical_literal.specs.Additions.Summary.{gap_fits}
-use Rattle.lexical_literal.specs.Additions.Sizes.{follows, grown, is_size, most, unsized}
-use Rattle.lexical_literal.specs.declared.groups.Group.{Group}
-use Rattle.lexical_literal.specs.Additions.Plain.{HasRoles, HasSizes}
-use Rattle.lexical_literal.specs.Cause.{with_rules}
 use Rattle.lexical_literal.proofs.RunLemmas.{is_rest}
 use Rattle.lexical_literal.proofs.ScanLemmas.{as_role, digit_role}
 

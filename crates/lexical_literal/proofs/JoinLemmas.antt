@@ -1,16 +1,14 @@
 -- What has been read where one part ends and the next one begins.
-use Rattle.lexical_literal.proofs.Common.{ℕ, ◌≡◌, ◌<◌, ◌+◌, ◌-◌, true, false, List, get_or, refl, ap, subst, ◌∙◌, arith, set, Notation}
-use Rattle.std.proofs.Common.{length}
+use Rattle.lexical_literal.proofs.Common.{ℕ, ◌≡◌, ◌<◌, ◌+◌, ◌-◌, true, false, List, get_or, refl, ap, subst, ◌∙◌, arith, set, Notation, length, HasRoles, IsAt}
+use Rattle.lexical_literal.proofs.Common.{IsBegun, IsReadOn, at_stage, Cuts, after_point, cuts_of, has_digit, awaits_integer, is_signed, takes, part_of}
+use Rattle.lexical_literal.proofs.Common.{with_prefix, At, Piece, Stage}
+use Rattle.lexical_literal.specs.Additions.Plain.{IsOpened, IsSign, behind_sign, counts_of, has_first, integer_sizes, is_free}
+use Rattle.lexical_literal.specs.Additions.Summary.{piece_number}
 use Rattle.lexical_util.specs.declared.feature_format.roles.Role.TheVariants as roles
 use Rattle.lexical_util.specs.declared.format_flags.Part.TheVariants as parts
-use Rattle.lexical_literal.specs.Additions.Plain.{HasRoles, IsAt, IsBegun, IsOpened, IsReadOn, IsSign, behind_sign, counts_of, has_first, integer_sizes, is_free, at_stage}
-use Rattle.lexical_literal.specs.Additions.Summary.{Cuts, after_point, cuts_of, has_digit, awaits_integer, is_signed, takes, part_of, piece_number, with_prefix}
-use Rattle.lexical_literal.specs.declared.plain.At.{At}
 use Rattle.lexical_literal.specs.declared.plain.Opening.{Opening}
 use Rattle.lexical_literal.specs.declared.plain.Sizes.{Sizes}
-use Rattle.lexical_literal.specs.declared.steps.Piece.{Piece}
 use Rattle.lexical_literal.specs.declared.steps.Piece.TheVariants as pieces
-use Rattle.lexical_literal.specs.declared.steps.Stage.{Stage}
 use Rattle.lexical_literal.specs.declared.steps.Stage.TheVariants as stages
 use Rattle.lexical_literal.specs.declared.syntax.Condition.TheVariants as conditions
 use Rattle.lexical_literal.proofs.CountLemmas.{count_more, count_prefix}

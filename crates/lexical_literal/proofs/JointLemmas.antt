@@ -1,20 +1,16 @@
 -- Which flags refuse what is allowed without requirements: flags that refuse alone, or those on leading zeros.
 use Rattle.lexical_literal.proofs.Common.{ℕ, ◌≡◌, Bool, true, false, not, ◌&&◌, ◌||◌, Option, Some, None, refl, sym, ap, subst, ◌∙◌, arith, false≢true}
-use Rattle.lexical_literal.proofs.Common.{and_from, and_parts, Flag, Role, Part, Notation, is_same, Condition}
-use Rattle.std.proofs.Common.{◌==◌, if◌then◌else◌}
+use Rattle.lexical_literal.proofs.Common.{and_from, and_parts, Flag, Role, Part, Notation, is_same, Condition, ◌==◌, if◌then◌else◌, has_size, adding, bare}
+use Rattle.lexical_literal.proofs.Common.{is_one_of, number_separator_flags, with_rules, lets, place_of, admits, after, continues, implies, may_follow, unsized}
+use Rattle.lexical_literal.proofs.Common.{gap_fits, is_open, is_signed, no_condition, role_at, takes, part_of, takes_in, Stage, Summary}
+use Rattle.lexical_literal.specs.Cause.{binds, is_at}
+use Rattle.lexical_literal.specs.Additions.Causes.{is_separator}
+use Rattle.lexical_literal.specs.Additions.Summary.{complete_by, ends, finishes, move_by}
 use Rattle.std.specs.Prelude.{is_some}
 use Rattle.lexical_util.specs.Layout as layout
 use Rattle.lexical_util.specs.declared.feature_format.roles.Role.TheVariants as roles
 use Rattle.lexical_util.specs.declared.format_flags.Part.TheVariants as parts
-use Rattle.lexical_literal.specs.Groups.{has_size}
-use Rattle.lexical_literal.specs.Cause.{adding, bare, binds, is_at, is_one_of, number_separator_flags, with_rules}
-use Rattle.lexical_literal.specs.Additions.Causes.{is_separator, lets, place_of}
-use Rattle.lexical_literal.specs.Additions.Summary.{admits, after, complete_by, continues, ends, finishes, implies, may_follow}
-use Rattle.lexical_literal.specs.Additions.Sizes.{unsized}
-use Rattle.lexical_literal.specs.Additions.Summary.{gap_fits, is_open, is_signed, move_by, no_condition, role_at, takes, part_of, takes_in}
-use Rattle.lexical_literal.specs.declared.steps.Stage.{Stage}
 use Rattle.lexical_literal.specs.declared.steps.Stage.TheVariants as stages
-use Rattle.lexical_literal.specs.declared.steps.Summary.{Summary}
 use Rattle.lexical_literal.specs.declared.syntax.Condition.TheVariants as conditions
 use Rattle.lexical_literal.proofs.RefusalLemmas.{KeepsPlaces}
 

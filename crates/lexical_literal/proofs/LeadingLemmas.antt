@@ -1,32 +1,25 @@
 -- Tokens that are found by reading the forms of a list once.
 use Rattle.lexical_literal.proofs.Common.{ℕ, ◌≡◌, ◌&&◌, ◌||◌, Bool, true, false, ◌<◌, ◌≤◌, ◌+◌, ◌-◌, inl, inr, List, [], ◌∷◌, ◌++◌, Option, Some, None, All}
 use Rattle.lexical_literal.proofs.Common.{IsSomeAnd, take, drop, get_or, append-nil, refl, sym, subst, ap, ◌∙◌, arith, cases_lt, false≢true, nat_tests}
-use Rattle.lexical_literal.proofs.Common.{length-take-le, All-more, slice_get-get_or, Literal, Reads, is_float, text_of, Notation, notation_of, Record}
-use Rattle.std.proofs.Common.{◌==◌, if◌then◌else◌, IsTrue}
-use Rattle.std.proofs.Common.{length, slice_get}
+use Rattle.lexical_literal.proofs.Common.{length-take-le, All-more, slice_get-get_or, Literal, Reads, is_float, text_of, Notation, notation_of, Record, ◌==◌}
+use Rattle.lexical_literal.proofs.Common.{if◌then◌else◌, IsTrue, length, slice_get, sign_size, IsMeasured, IsStopped, AreSums, cut, Cuts, HasLengths, IsWithin}
+use Rattle.lexical_literal.proofs.Common.{FormList, ReadsForm, IsFront, IsValidUpTo, NoLiteral, IsAhead, Form, At, Candidate}
+use Rattle.lexical_literal.specs.Additions.Forms.{PlaysNoRole}
+use Rattle.lexical_literal.specs.Additions.Read.{HasSums, before_exponent}
+use Rattle.lexical_literal.specs.Additions.Token.{FrontsWithin, IsLeading, IsNear, IsPicked, has_float, has_prefix}
+use Rattle.lexical_literal.specs.Forms.{HasFront}
+use Rattle.lexical_literal.specs.Token.{IsCandidate, IsToken, gives_back, is_shorter}
 use Rattle.std.specs.Borrow.{Bor}
 use Rattle.std.proofs.lemmas.List.{drop-take, get_or-take, get_or_append_left, length-append, take-take}
 use Rattle.std.proofs.lemmas.Option.{slice_get_within}
-use Rattle.lexical_literal.specs.Additions.Forms.{PlaysNoRole, sign_size}
-use Rattle.lexical_literal.specs.Additions.Longest.{IsMeasured, IsStopped}
-use Rattle.lexical_literal.specs.Additions.Read.{AreSums, HasSums, before_exponent, cut}
 use Rattle.lexical_literal.specs.Additions.Sizes.{goes}
-use Rattle.lexical_literal.specs.Additions.Summary.{Cuts, HasLengths}
-use Rattle.lexical_literal.specs.Additions.Token.{FrontsWithin, IsLeading, IsNear, IsPicked, IsWithin, has_float, has_prefix}
 use Rattle.lexical_literal.specs.Cause.{is_in}
-use Rattle.lexical_literal.specs.FormList.{FormList}
-use Rattle.lexical_literal.specs.Forms.{HasFront, ReadsForm}
-use Rattle.lexical_literal.specs.Front.{IsFront, IsValidUpTo, NoLiteral}
 use Rattle.lexical_literal.specs.Suffix.{any_word_size, begins, byte_before, is_stopped, is_word_byte, kind_with, longest_word, suffix_size, word_size}
-use Rattle.lexical_literal.specs.Token.{IsAhead, IsCandidate, IsToken, gives_back, is_shorter}
-use Rattle.lexical_literal.specs.declared.list.Form.{Form}
 use Rattle.lexical_literal.specs.declared.list.Tokens.{Tokens}
-use Rattle.lexical_literal.specs.declared.plain.At.{At}
 use Rattle.lexical_literal.specs.declared.plain.Sums.{Sums}
 use Rattle.lexical_literal.specs.declared.steps.Piece.TheVariants as pieces
 use Rattle.lexical_literal.specs.declared.suffix.Suffixes.{Suffixes}
 use Rattle.lexical_literal.specs.declared.syntax.Condition.TheVariants as conditions
-use Rattle.lexical_literal.specs.declared.token.Candidate.{Candidate}
 use Rattle.lexical_literal.specs.declared.token.Token.{Token}
 use Rattle.lexical_literal.proofs.ExcludeLemmas.{BeginsPrefixed, no_role_excludes, prefix_begins}
 use Rattle.lexical_literal.proofs.TokenLemmas.{float_is, some_is, token_is}
@@ -86,7 +79,8 @@ module _ (m : Notation) (text : List ℕ) where
   -- No literal goes on behind a byte that plays no role.
   over : (size : ℕ) → size < length text → PlaysNoRole m (get_or text size 0) → IsWithin m text size
   over size inside none more below within front =
-      let long : size < length (take more text ++ front.more) = omega (arith, below, length-append (take more text) front.more, length-take-le more text within) in
+      let long : size < length (take more text ++ front.more) =
+      omega (arith, below, length-append (take more text) front.more, length-take-le more text within) in
       no_role_excludes m (take more text ++ front.more) size long
       (subst (PlaysNoRole m) (sym (front_byte text front.more more size within below)) none) front.literal front.reads
 
@@ -103,15 +97,13 @@ module _ (m : Notation) (text : List ℕ) where
         let zero : get_or text (sign_size text) 0 ≡ 48 =
         sym (front_byte text rest more (sign_size text) within (omega (arith, below))) ∙ ap (λ n. get_or (take more text ++ rest) n 0) (sym sign) ∙ is.zero in
         let prefix : m.prefix (get_or text (sign_size text + 1) 0) ≡ true =
-        ap m.prefix (sym (front_byte text rest more (sign_size text + 1) within below) ∙ ap (λ n. get_or (take more text ++ rest) (n + 1) 0) (sym sign)) ∙ is.prefix in
+        ap m.prefix (sym (front_byte text rest more (sign_size text + 1) within below) ∙ ap (λ n. get_or (take more text ++ rest) (n + 1) 0) (sym sign))
+        ∙ is.prefix in
         grind (arith, nat_tests)
 
     pub lacking_within : IsWithin m text (sign_size text + 1)
     lacking_within more below within front =
         not_begun more front.more below within (prefix_begins m front.literal (take more text ++ front.more) front.reads required)
-
-    pub lacking_more : (size : ℕ) → sign_size text < size → IsWithin m text size
-    lacking_more size sign more below = lacking_within more (omega (arith, sign, below))
 
 -- A form of which no literal goes on behind `size` bytes has no longer front.
 pub fronts_within : (text : List ℕ) (size : ℕ) (form : Form) → IsWithin (notation_of form.syntax) text size → FrontsWithin text size form
@@ -234,7 +226,8 @@ front_before back text form stop size is stop_is gives kept l reads = go (goes (
         reads = reads;
         no_longer = λ n past inside l reads. elim (cases_lt stop.size n) [
           | inl beyond ↦ is.valid.no_longer n beyond inside (as_front (notation_of form.syntax) (take n text) l reads)
-          | inr near ↦ is.incomplete off l (subst (λ n. Reads (notation_of form.syntax) l (take n text)) (let same : n ≡ stop.size = omega (arith, past, near, stop_is) in same) reads)
+          | inr near ↦ is.incomplete off l
+              (subst (λ n. Reads (notation_of form.syntax) l (take n text)) (let same : n ≡ stop.size = omega (arith, past, near, stop_is) in same) reads)
         ];
       },
     ),
@@ -347,7 +340,8 @@ module _ (list : FormList) (t : Tokens) (text : List ℕ) (index : ℕ) (form : 
         ]
 
     pub leading_token : (token : Token) → token.form ≡ index → ReadsForm (take size text) token.literal form
-        → token.literal.kind ≡ kind_with form.suffixes token.suffix.now form.kind → token.suffix.now ≡ take more (drop size text) → token.rest.now ≡ drop (size + more) text → IsToken list t text token
+        → token.literal.kind ≡ kind_with form.suffixes token.suffix.now form.kind → token.suffix.now ≡ take more (drop size text)
+        → token.rest.now ≡ drop (size + more) text → IsToken list t text token
     leading_token token same literal kind suffix rest = token_is list t text index form found picked token same literal kind
         (suffix ∙ ap (λ n. take n (drop size text)) (let sum : more ≡ size + more - size = omega arith in sum)) rest
         (inr (λ k d below. not_ahead (get_or list.forms k d) (near k d below), ended))
@@ -369,7 +363,8 @@ total l c has =
     let v = length-append l.point (l.fraction ++ (l.exponent_character ++ (l.exponent_sign ++ (l.exponent ++ l.suffix)))) in
     let u = length-append l.integer (l.point ++ (l.fraction ++ (l.exponent_character ++ (l.exponent_sign ++ (l.exponent ++ l.suffix))))) in
     let t = length-append l.prefix (l.integer ++ (l.point ++ (l.fraction ++ (l.exponent_character ++ (l.exponent_sign ++ (l.exponent ++ l.suffix)))))) in
-    let s = length-append l.sign (l.prefix ++ (l.integer ++ (l.point ++ (l.fraction ++ (l.exponent_character ++ (l.exponent_sign ++ (l.exponent ++ l.suffix))))))) in
+    let s = length-append l.sign
+    (l.prefix ++ (l.integer ++ (l.point ++ (l.fraction ++ (l.exponent_character ++ (l.exponent_sign ++ (l.exponent ++ l.suffix))))))) in
     omega (arith, a, b, d, e, f, g, h, i, s, t, u, v, w, x, y, z)
 
 pub sums_of_front : (r : Record) (text : List ℕ) (size : ℕ) (c : Cuts) (sums : Sums) → (m : Notation) (l : Literal) → size ≤ length text

@@ -1,21 +1,18 @@
 -- The texts that are accepted are spelled as literals are.
 use Rattle.lexical_literal.proofs.Common.{ℕ, ◌≡◌, Bool, true, false, not, ◌&&◌, ◌||◌, inl, inr, List, [], ◌∷◌, ◌++◌, Some, refl, sym, subst, ◌∙◌, arith}
 use Rattle.lexical_literal.proofs.Common.{false≢true, and_parts, and_from, cases_Bool, or_left, or_right, eqb-true, list_any, ByteSet, Flag, Part, Notation}
-use Rattle.lexical_literal.proofs.Common.{Literal, IsSpelled, text_of, is_present, is_absent, is_none_or_one, is_none_or_prefix, Condition}
-use Rattle.std.proofs.Common.{◌==◌, if◌then◌else◌}
+use Rattle.lexical_literal.proofs.Common.{Literal, IsSpelled, text_of, is_present, is_absent, is_none_or_one, is_none_or_prefix, Condition, ◌==◌, if◌then◌else◌}
+use Rattle.lexical_literal.proofs.Common.{HasRoles, Cuts, implies, has_digit, after_digit, after_mark, after_point, may_follow, is_signed, part_of}
+use Rattle.lexical_literal.proofs.Common.{forbids_plus, gap_fits, digits_suffice, continues, add, digits_piece, no_condition, start, no_cuts, with_prefix}
+use Rattle.lexical_literal.proofs.Common.{Piece, Stage}
+use Rattle.lexical_literal.specs.Additions.Summary.{is_lone, is_led, may_lead, ends, piece_of}
 use Rattle.std.proofs.lemmas.Bool.{and_right}
 use Rattle.lexical_util.specs.Layout as layout
 use Rattle.lexical_util.specs.declared.feature_format.roles.Role.TheVariants as roles
 use Rattle.lexical_util.specs.declared.format_flags.Part.TheVariants as parts
-use Rattle.lexical_literal.specs.Additions.Plain.{HasRoles}
 use Rattle.lexical_literal.specs.Run.{is_run}
 use Rattle.lexical_literal.specs.Literal.{is_zero_led}
-use Rattle.lexical_literal.specs.Additions.Summary.{Cuts, implies, has_digit, is_lone, is_led, after_digit, after_mark, after_point, may_follow, may_lead}
-use Rattle.lexical_literal.specs.Additions.Summary.{is_signed, part_of, forbids_plus, gap_fits, digits_suffice, ends, continues, add, digits_piece}
-use Rattle.lexical_literal.specs.Additions.Summary.{no_condition, piece_of, start, no_cuts, with_prefix}
-use Rattle.lexical_literal.specs.declared.steps.Piece.{Piece}
 use Rattle.lexical_literal.specs.declared.steps.Piece.TheVariants as pieces
-use Rattle.lexical_literal.specs.declared.steps.Stage.{Stage}
 use Rattle.lexical_literal.specs.declared.steps.Stage.TheVariants as stages
 use Rattle.lexical_literal.proofs.RunLemmas.{is_rest, rest_of_none, digits_present, opens}
 use Rattle.lexical_literal.proofs.ScanLemmas.{Accepts, Arrives, add_all, added, free_byte, digit_role, is_role}

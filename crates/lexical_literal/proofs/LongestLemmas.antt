@@ -1,26 +1,20 @@
 -- Fronts of a text, and where the loop is left.
-use Rattle.lexical_literal.proofs.Common.{ℕ, Bool, IsNone, Option, ◌≡◌, ◌<◌, ◌≤◌, ◌+◌, ◌||◌, ◌↔◌, ◌⊎◌, not, inl, inr, true, false, List, [], ◌∷◌, ◌++◌}
-use Rattle.lexical_literal.proofs.Common.{get_or, replicate, take, drop, Some, None, refl, sym, ap, subst, append-nil, take-append-drop, ◌∙◌, arith}
-use Rattle.lexical_literal.proofs.Common.{false≢true, and_parts, cases_Bool, cases_lt, false_from_ne_true, slice_get-get_or, length-take-le, take_more}
-use Rattle.lexical_literal.proofs.Common.{take_all, Notation, Literal, IsLiteral, Reads, Role, common_steps}
-use Rattle.std.proofs.Common.{if◌then◌else◌}
-use Rattle.std.proofs.Common.{length, append_assoc}
+use Rattle.lexical_literal.proofs.Common.{ℕ, Bool, IsNone, Option, ◌≡◌, ◌<◌, ◌≤◌, ◌+◌, ◌||◌, ◌↔◌, ◌⊎◌, not, inl, inr, true, false, List, [], ◌∷◌, ◌++◌, get_or}
+use Rattle.lexical_literal.proofs.Common.{replicate, take, drop, Some, None, refl, sym, ap, subst, append-nil, take-append-drop, ◌∙◌, arith, false≢true}
+use Rattle.lexical_literal.proofs.Common.{and_parts, cases_Bool, cases_lt, false_from_ne_true, slice_get-get_or, length-take-le, take_more, take_all, Notation}
+use Rattle.lexical_literal.proofs.Common.{Literal, IsLiteral, Reads, Role, common_steps, if◌then◌else◌, length, append_assoc, count, cuts_of, role_at, scan}
+use Rattle.lexical_literal.proofs.Common.{step, is_accepted, part_of, start, no_cuts, HasLengths, Allows, IsFront, IsValidUpTo, NoFront, NoLiteral, ReadsFront}
+use Rattle.lexical_literal.proofs.Common.{IsCountedFront, IsMeasured, IsStopped, first_group, fits, group_after, grow, grown, unsized, has_sizes, HasRoles}
+use Rattle.lexical_literal.proofs.Common.{HasSizes, IsReady, IsAt, Found, At, Group, Summary}
+use Rattle.lexical_literal.specs.Additions.Summary.{is_complete, tally}
+use Rattle.lexical_literal.specs.Additions.Longest.{HasBegun, HasFound, IsFronted, IsLongest, IsUnderway}
+use Rattle.lexical_literal.specs.Additions.Sizes.{goes}
+use Rattle.lexical_literal.specs.Additions.Plain.{IsRefused}
 use Rattle.std.specs.Prelude.{is_some, slice_get}
 use Rattle.std.proofs.lemmas.Bool.{or_parts}
 use Rattle.std.proofs.lemmas.Option.{slice_get_past}
 use Rattle.std.proofs.lemmas.List.{take-take}
-use Rattle.lexical_literal.specs.Additions.Summary.{count, cuts_of, role_at, scan, step, is_accepted, is_complete, part_of, tally, start, no_cuts, HasLengths}
-use Rattle.lexical_literal.specs.Cause.{Allows}
-use Rattle.lexical_literal.specs.Front.{IsFront, IsValidUpTo, NoFront, NoLiteral, ReadsFront}
-use Rattle.lexical_literal.specs.Additions.Longest.{HasBegun, HasFound, IsCountedFront, IsFronted, IsLongest, IsMeasured, IsStopped, IsUnderway}
-use Rattle.lexical_literal.specs.Additions.Sizes.{first_group, fits, goes, group_after, grow, grown, unsized}
-use Rattle.lexical_literal.specs.Groups.{has_sizes}
-use Rattle.lexical_literal.specs.Additions.Plain.{HasRoles, HasSizes, IsReady, IsAt, IsRefused}
-use Rattle.lexical_literal.specs.declared.read.Found.{Found}
-use Rattle.lexical_literal.specs.declared.plain.At.{At}
 use Rattle.lexical_literal.specs.declared.plain.Counted.{Counted}
-use Rattle.lexical_literal.specs.declared.groups.Group.{Group}
-use Rattle.lexical_literal.specs.declared.steps.Summary.{Summary}
 use Rattle.lexical_literal.specs.declared.syntax.Condition.TheVariants as conditions
 use Rattle.lexical_literal.proofs.ScanLemmas.{scan_append, tally_append}
 use Rattle.lexical_literal.proofs.ConditionLemmas.{has_lengths, literal_from, literal_arrives}

@@ -1,19 +1,15 @@
 -- The sums of the digits of the integer and the fraction.
 use Rattle.lexical_literal.proofs.Common.{ℕ, ◌≡◌, ◌+◌, ◌-◌, ◌%◌, ◌^◌, List, ◌++◌, arith, filter_map-append, Record, Literal, Notation, radix_of}
+use Rattle.lexical_literal.proofs.Common.{number_from_digits_after, IsRunOn, AreSums, Run, Stage, digits_in, number, places}
+use Rattle.lexical_literal.specs.Additions.Read.{IsMantissa, IsSum}
 use Rattle.std.proofs.lemmas.Int.Digits.{number_after_append}
-use Rattle.std.specs.Int.Digits.{number_from_digits_after}
 use lib.ListN.{length-append}
 use Rattle.lexical_util.specs.Layout as layout
 use Rattle.lexical_util.specs.Record.{effective_exponent_radix}
 use Rattle.lexical_util.specs.declared.format_flags.Part.TheVariants as parts
-use Rattle.lexical_literal.specs.Additions.Plain.{IsRunOn}
-use Rattle.lexical_literal.specs.Additions.Read.{AreSums, IsMantissa, IsSum}
-use Rattle.lexical_literal.specs.declared.plain.Run.{Run}
 use Rattle.lexical_literal.specs.declared.plain.Sizes.{Sizes}
 use Rattle.lexical_literal.specs.declared.plain.Sums.{Sums}
-use Rattle.lexical_literal.specs.declared.steps.Stage.{Stage}
 use Rattle.lexical_literal.proofs.SumLemmas.{after_same}
-use Rattle.lexical_literal.specs.Number.{digits_in, number, places}
 
 -- Digits of one run, and then of another.
 pub both_digits : (radix : ℕ) (xs ys : List ℕ) (first second : ℕ) → first ≡ places radix xs → second ≡ first + places radix ys

@@ -1,18 +1,15 @@
 -- A refusal has one cause, and a text has one refusal.
 use Rattle.lexical_literal.proofs.Common.{ℕ, ◌≡◌, ◌<◌, ◌≤◌, ◌↔◌, ◌^◌, Bool, true, List, Option, Some, None, sum_by, take, refl, sym, ap, subst, ◌∙◌, arith}
-use Rattle.lexical_literal.proofs.Common.{nat_tests, Flag, bit, raw, Part, Notation, has, Condition}
-use Rattle.std.proofs.Common.{if◌then◌else◌}
+use Rattle.lexical_literal.proofs.Common.{nat_tests, Flag, bit, raw, Part, Notation, has, Condition, if◌then◌else◌, IsRefusal, marks_of, span_of, IsValidUpTo}
+use Rattle.lexical_literal.proofs.Common.{ReadErrorKind, Refusal}
+use Rattle.lexical_literal.specs.Cause.{IsCause, IsSeparator, IsUnmet, SameBlame, error_of, first_unmet, is_at, lowest, tail_of}
 use Rattle.std.proofs.Math.Nat.{le_antisymm}
 use Rattle.std.specs.Prelude.{slice_get}
 use Rattle.lexical_util.specs.Groups.{bits_of}
 use Rattle.lexical_util.specs.Layout.{flags}
 use Rattle.lexical_literal.specs.Notation.{kept}
-use Rattle.lexical_literal.specs.Cause.{IsCause, IsRefusal, IsSeparator, IsUnmet, SameBlame, error_of, first_unmet, is_at, lowest, marks_of, span_of, tail_of}
-use Rattle.lexical_literal.specs.Front.{IsValidUpTo}
-use Rattle.lexical_literal.specs.declared.cause.ReadErrorKind.{ReadErrorKind}
 use Rattle.lexical_literal.specs.declared.cause.ReadErrorKind.TheVariants as causes
 use Rattle.lexical_literal.specs.declared.cause.Place.{Place}
-use Rattle.lexical_literal.specs.declared.cause.Refusal.{Refusal}
 
 -- A flag allows separators at one place of one part.
 same_at : (x y : Place) (p q : Part) (f : Flag) → is_at x p f ≡ true → is_at y q f ≡ true → (x ≡ y) × (p ≡ q)

@@ -1,17 +1,12 @@
 -- A literal is cut by the lengths of its parts.
 use Rattle.lexical_literal.proofs.Common.{ℕ, ◌≡◌, ◌+◌, List, [], ◌++◌, take, drop, Ok, refl, sym, ap, subst, ◌∙◌, arith, Literal, Reads, text_of, Notation}
-use Rattle.lexical_literal.proofs.Common.{notation_of, Grammar}
-use Rattle.std.proofs.Common.{length}
+use Rattle.lexical_literal.proofs.Common.{notation_of, Grammar, length, ReadsFront, Read, IsCountedFront, IsMeasured, cut, Cuts, HasLengths, cuts_of}
+use Rattle.lexical_literal.specs.Additions.Read.{IsCut}
 use Rattle.std.proofs.lemmas.List.{append_assoc}
 use Rattle.std.proofs.Math.Seq.{drop-append_seam, take-append_seam}
 use lib.ListN.{length-append}
-use Rattle.lexical_literal.specs.Front.{ReadsFront}
 use Rattle.lexical_literal.specs.Parts.{IsRead}
 use Rattle.lexical_literal.specs.Kind.{exact}
-use Rattle.lexical_literal.specs.Read.{Read}
-use Rattle.lexical_literal.specs.Additions.Longest.{IsCountedFront, IsMeasured}
-use Rattle.lexical_literal.specs.Additions.Read.{IsCut, cut}
-use Rattle.lexical_literal.specs.Additions.Summary.{Cuts, HasLengths, cuts_of}
 use Rattle.lexical_literal.specs.declared.steps.Piece.TheVariants as pieces
 
 -- One part, and where the next one begins.

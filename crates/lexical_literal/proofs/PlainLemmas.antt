@@ -1,21 +1,16 @@
 -- What is read of a text part after part.
-use Rattle.lexical_literal.proofs.Common.{ℕ, ◌≡◌, ◌<◌, ◌≤◌, ◌+◌, ◌-◌, ◌&&◌, ◌||◌, Bool, true, false, not, List, Some, get_or, refl, sym, ap, subst, ◌∙◌}
-use Rattle.lexical_literal.proofs.Common.{arith, false≢true, and_from, and_parts, or_left, nat_tests, take_more, separators_in, Role, Part, Notation}
-use Rattle.lexical_literal.proofs.Common.{common_steps}
+use Rattle.lexical_literal.proofs.Common.{ℕ, ◌≡◌, ◌<◌, ◌≤◌, ◌+◌, ◌-◌, ◌&&◌, ◌||◌, Bool, true, false, not, List, Some, get_or, refl, sym, ap, subst, ◌∙◌, arith}
+use Rattle.lexical_literal.proofs.Common.{false≢true, and_from, and_parts, or_left, take_more, separators_in, Role, Part, Notation, common_steps, ◌==◌, IsTrue}
+use Rattle.lexical_literal.proofs.Common.{if◌then◌else◌, length, HasRoles, IsAt, IsReadOn, at_stage, Cuts, add, admits, after, after_digit, after_mark}
+use Rattle.lexical_literal.proofs.Common.{digits_piece, forbids_plus, has_digit, awaits_integer, is_signed, lacks_prefix, may_follow, takes, role_at, part_of}
+use Rattle.lexical_literal.proofs.Common.{takes_in, count, with_prefix, At, Piece, Stage, Summary}
+use Rattle.lexical_literal.specs.Additions.Plain.{fresh, is_free, may_read}
+use Rattle.lexical_literal.specs.Additions.Summary.{add_more, is_negative, is_run, piece_of, digits_of}
 use Rattle.lexical_literal.proofs.StepLemmas.{awaited_part}
-use Rattle.std.proofs.Common.{◌==◌, IsTrue, if◌then◌else◌, length}
 use Rattle.lexical_util.specs.declared.feature_format.roles.Role.TheVariants as roles
 use Rattle.lexical_util.specs.declared.format_flags.Part.TheVariants as parts
-use Rattle.lexical_literal.specs.Additions.Plain.{HasRoles, IsAt, IsReadOn, fresh, is_free, at_stage, may_read}
-use Rattle.lexical_literal.specs.Additions.Summary.{Cuts, add, add_more, admits, after, after_digit, after_mark, digits_piece, forbids_plus}
-use Rattle.lexical_literal.specs.Additions.Summary.{has_digit, awaits_integer, is_negative, is_run, is_signed, lacks_prefix, may_follow, piece_of}
-use Rattle.lexical_literal.specs.Additions.Summary.{takes, role_at, part_of, takes_in, digits_of, count, with_prefix}
-use Rattle.lexical_literal.specs.declared.plain.At.{At}
-use Rattle.lexical_literal.specs.declared.steps.Piece.{Piece}
 use Rattle.lexical_literal.specs.declared.steps.Piece.TheVariants as pieces
-use Rattle.lexical_literal.specs.declared.steps.Stage.{Stage}
 use Rattle.lexical_literal.specs.declared.steps.Stage.TheVariants as stages
-use Rattle.lexical_literal.specs.declared.steps.Summary.{Summary}
 use Rattle.lexical_literal.specs.declared.syntax.Condition.TheVariants as conditions
 use Rattle.lexical_literal.proofs.ScanLemmas.{digit_role, is_role, moved, scan_append, tally_append}
 
@@ -60,14 +55,6 @@ admits_settled m s b r settled other = admits_free m s b r other (settled_free m
 pub admits_first : (m : Notation) (text : List ℕ) (size : ℕ) (stage : Stage) → may_read m text size stage ≡ true
     → admits m.condition (at_stage size stage).read (get_or text size 0) roles.Digit ≡ true
 admits_first m text size stage first = grind arith
-
-pub free_behind_zero : (m : Notation) (text : List ℕ) (size : ℕ) (stage : Stage) → may_read m text size stage ≡ true → awaits_integer stage ≡ true
-    → is_free m stages.Bare ≡ true
-free_behind_zero m text size stage first begun = grind arith
-
-pub free_without : (m : Notation) (text : List ℕ) (size : ℕ) (stage : Stage) → may_read m text size stage ≡ true
-    → (size < length text → m.digit (part_of stage) (get_or text size 0) ≡ false) → is_free m stage ≡ true
-free_without m text size stage first none = grind (arith, nat_tests)
 
 -- A stage that another digit does not change.
 module _ (m : Notation) (stage : Stage) (run : is_run stage ≡ true) where

@@ -1,14 +1,9 @@
 -- What has been read decides what a notation allows, with other flags too.
 use Rattle.lexical_literal.proofs.Common.{ℕ, ◌≡◌, Bool, true, false, ◌&&◌, ◌||◌, List, [], ◌∷◌, ◌++◌, Option, Some, None, refl, sym, ap, subst, ◌∙◌, arith}
-use Rattle.lexical_literal.proofs.Common.{and_parts, and_from, Flag, separators_in, Part, Notation, Literal, IsLiteral, IsSpelled, Condition}
-use Rattle.std.proofs.Common.{◌==◌, IsTrue}
-use Rattle.lexical_literal.specs.Additions.Plain.{IsReady, HasRoles}
+use Rattle.lexical_literal.proofs.Common.{and_parts, and_from, Flag, separators_in, Part, Notation, Literal, IsLiteral, IsSpelled, Condition, ◌==◌, IsTrue}
+use Rattle.lexical_literal.proofs.Common.{IsReady, HasRoles, IsFront, is_one_of, requirement_flags, number_separator_flags, with_rules, IsWeaker, after, scan}
+use Rattle.lexical_literal.proofs.Common.{start, Summary}
 use Rattle.lexical_literal.specs.Run.{is_place, is_fit, are_fit}
-use Rattle.lexical_literal.specs.Front.{IsFront}
-use Rattle.lexical_literal.specs.Cause.{is_one_of, requirement_flags, number_separator_flags, with_rules}
-use Rattle.lexical_literal.specs.Additions.Causes.{IsWeaker}
-use Rattle.lexical_literal.specs.Additions.Summary.{after, scan, start}
-use Rattle.lexical_literal.specs.declared.steps.Summary.{Summary}
 use Rattle.lexical_literal.proofs.ScanLemmas.{took}
 use Rattle.lexical_literal.proofs.FrontLemmas.{front_from, front_is_read}
 use Rattle.lexical_literal.proofs.PartOfLemmas.{none_after}

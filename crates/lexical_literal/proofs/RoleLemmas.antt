@@ -1,9 +1,8 @@
 -- In a syntax, no byte plays two roles.
-use Rattle.lexical_literal.proofs.Common.{ℕ, ◌≡◌, ◌<◌, ◌↔◌, Bool, true, false, not, nat_lt, List, [], ◌∷◌, ◌&&◌, ◌||◌, Option, Some, None, inl, inr, refl}
-use Rattle.lexical_literal.proofs.Common.{sym, ap, ◌∙◌, arith, false≢true, and_from, cases_Bool, nat_tests, AllByRecursion, ByteSet, Flag, separators_in}
-use Rattle.lexical_literal.proofs.Common.{Record, raw, Role, Part, Condition, all_conditions, has, notation_of, number_of, radix_of, set_of_role}
-use Rattle.lexical_literal.proofs.Common.{Conditions, Grammar}
-use Rattle.std.proofs.Common.{◌==◌, IsTrue}
+use Rattle.lexical_literal.proofs.Common.{ℕ, ◌≡◌, ◌<◌, ◌↔◌, Bool, true, false, not, nat_lt, List, [], ◌∷◌, ◌&&◌, ◌||◌, Option, Some, None, inl, inr, refl, sym}
+use Rattle.lexical_literal.proofs.Common.{ap, ◌∙◌, arith, false≢true, and_from, cases_Bool, nat_tests, AllByRecursion, ByteSet, Flag, separators_in, Record}
+use Rattle.lexical_literal.proofs.Common.{raw, Role, Part, Condition, all_conditions, has, notation_of, number_of, radix_of, set_of_role, Conditions, Grammar}
+use Rattle.lexical_literal.proofs.Common.{◌==◌, IsTrue, has_size, HasRoles, HasSizes, IsReady, steps_of}
 use Rattle.std.proofs.lemmas.Bool.{lt-ltb}
 use Rattle.lexical_flags.proofs.RuleLemmas.{Holds-from_lawful}
 use Rattle.lexical_flags.specs.Rules.{Meets, shape_of}
@@ -19,7 +18,6 @@ use Rattle.lexical_util.specs.Unfoldable.{cased, Disjoint, Lawful, Holds, byte_v
 use Rattle.lexical_util.specs.declared.feature_format.roles.Role.TheVariants as roles
 use Rattle.lexical_util.specs.declared.format_flags.Part.TheVariants as parts
 use Rattle.lexical_util.proofs.ByteRoleLemmas.{AreApart, apart_from, one_role}
-use Rattle.lexical_literal.specs.Groups.{has_size}
 use Rattle.lexical_literal.specs.declared.syntax.ConditionsError.{ConditionsError}
 use Rattle.lexical_literal.specs.declared.syntax.ConditionsErrorKind.{ConditionsErrorKind}
 use Rattle.lexical_literal.specs.declared.syntax.ConditionsErrorKind.TheVariants as faults
@@ -29,8 +27,6 @@ use Rattle.lexical_literal.specs.Notation.{point_of, exponent_character_of, lack
 use Rattle.lexical_literal.specs.Syntax.{IsSyntax, FitIfAny, contradiction, fault, first_fault, lacks_separator, limits, missing}
 use Rattle.lexical_literal.specs.declared.syntax.Condition.TheVariants as conditions
 use Rattle.lexical_literal.specs.declared.syntax.Options.{Options}
-use Rattle.lexical_literal.specs.Additions.Plain.{HasRoles, HasSizes, IsReady}
-use Rattle.lexical_literal.specs.Additions.Sizes.{steps_of}
 use Rattle.lexical_literal.proofs.RefusalLemmas.{other_roles}
 
 -- The exponent character and the decimal point, or 0 without options.

@@ -1,14 +1,9 @@
 -- How a text is read, byte by byte.
 use Rattle.lexical_literal.proofs.Common.{ℕ, ◌≡◌, Bool, true, false, not, ◌+◌, ◌&&◌, List, [], ◌∷◌, ◌++◌, Option, Some, None, refl, sym, ap, ◌∙◌, arith}
-use Rattle.lexical_literal.proofs.Common.{false≢true, false_from_ne_true, nat_tests, Role, Part, Notation, set_of_role, Condition}
-use Rattle.std.proofs.Common.{◌==◌, if◌then◌else◌, length}
+use Rattle.lexical_literal.proofs.Common.{false≢true, false_from_ne_true, nat_tests, Role, Part, Notation, set_of_role, Condition, ◌==◌, if◌then◌else◌, length}
+use Rattle.lexical_literal.proofs.Common.{HasRoles, Cuts, add, admits, role_at, takes, after, part_of, takes_in, count, no_condition, Piece, Stage, Summary}
+use Rattle.lexical_literal.specs.Additions.Summary.{move_by, piece_number, scan_by, step_by, accepted_by, tally_by}
 use Rattle.lexical_util.specs.declared.feature_format.roles.Role.TheVariants as roles
-use Rattle.lexical_literal.specs.Additions.Plain.{HasRoles}
-use Rattle.lexical_literal.specs.Additions.Summary.{Cuts, add, admits, role_at, takes, after, part_of, takes_in}
-use Rattle.lexical_literal.specs.Additions.Summary.{move_by, piece_number, scan_by, step_by, accepted_by, count, no_condition, tally_by}
-use Rattle.lexical_literal.specs.declared.steps.Piece.{Piece}
-use Rattle.lexical_literal.specs.declared.steps.Stage.{Stage}
-use Rattle.lexical_literal.specs.declared.steps.Summary.{Summary}
 
 -- `Accepts C m o text` holds if `text` is accepted with the conditions `C`.
 abbrev pub Accepts : (Condition → Bool) → Notation → Option Summary → List ℕ → Type 0

@@ -1,21 +1,15 @@
 -- The literals of a notation with sizes of groups are those without, whose groups fit, at once or byte by byte.
-use Rattle.lexical_literal.proofs.Common.{ℕ, ◌≡◌, ◌+◌, inl, inr, Bool, true, false, not, ◌&&◌, ◌||◌, List, [], ◌∷◌, ◌++◌, Option, Some, None, ◌<◌, ◌≤◌}
-use Rattle.lexical_literal.proofs.Common.{drop, get_or, take, refl, sym, ap, subst, ◌∙◌, arith, false≢true, and_parts, cases_Bool, eqb-true, or_left}
-use Rattle.lexical_literal.proofs.Common.{or_right, length-take-le, Flag, separators_in, signs, Role, Part, Literal, IsSpelled, Reads, is_absent}
-use Rattle.lexical_literal.proofs.Common.{is_none_or_one, is_none_or_prefix, text_of, Notation}
-use Rattle.std.proofs.Common.{◌==◌, if◌then◌else◌}
-use Rattle.std.proofs.Common.{IsTrue, length}
+use Rattle.lexical_literal.proofs.Common.{ℕ, ◌≡◌, ◌+◌, inl, inr, Bool, true, false, not, ◌&&◌, ◌||◌, List, [], ◌∷◌, ◌++◌, Option, Some, None, ◌<◌, ◌≤◌, drop}
+use Rattle.lexical_literal.proofs.Common.{get_or, take, refl, sym, ap, subst, ◌∙◌, arith, false≢true, and_parts, cases_Bool, eqb-true, or_left, or_right}
+use Rattle.lexical_literal.proofs.Common.{length-take-le, Flag, separators_in, signs, Role, Part, Literal, IsSpelled, Reads, is_absent, is_none_or_one}
+use Rattle.lexical_literal.proofs.Common.{is_none_or_prefix, text_of, Notation, ◌==◌, if◌then◌else◌, IsTrue, length, is_one_of, requirement_flags, has_size}
+use Rattle.lexical_literal.proofs.Common.{has_sizes, AllIn, run_byte, HasRoles, HasSizes, first_group, fits, group_after, grow, grown, unsized, role_at, Group}
+use Rattle.lexical_literal.specs.Groups.{is_grouped}
+use Rattle.lexical_literal.specs.Additions.Sizes.{follows, is_idle, next_part}
 use Rattle.std.proofs.lemmas.List.{drop_more, get_or-take}
 use Rattle.lexical_util.specs.declared.feature_format.roles.Role.TheVariants as roles
 use Rattle.lexical_util.specs.declared.format_flags.Part.TheVariants as parts
-use Rattle.lexical_literal.specs.Cause.{is_one_of, requirement_flags}
-use Rattle.lexical_literal.specs.Groups.{has_size, has_sizes, is_grouped}
-use Rattle.lexical_literal.specs.Readings.{AllIn, run_byte}
 use Rattle.lexical_literal.specs.Run.{is_run}
-use Rattle.lexical_literal.specs.Additions.Plain.{HasRoles, HasSizes}
-use Rattle.lexical_literal.specs.Additions.Sizes.{first_group, fits, follows, group_after, grow, grown, is_idle, next_part, unsized}
-use Rattle.lexical_literal.specs.Additions.Summary.{role_at}
-use Rattle.lexical_literal.specs.declared.groups.Group.{Group}
 use Rattle.lexical_literal.proofs.GroupLemmas.{group, grouped_is, one_role, run_fits, tighter}
 use Rattle.lexical_literal.proofs.PartLemmas.{parts_have_roles}
 use Rattle.lexical_literal.proofs.RefusalLemmas.{KeepsPlaces, all_fit, spelled_too}

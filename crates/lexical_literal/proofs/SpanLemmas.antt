@@ -1,14 +1,12 @@
 -- The bytes to show for a text that is refused are of the text.
 use Rattle.lexical_literal.proofs.Common.{ℕ, ◌≡◌, ◌≤◌, ◌+◌, List, [], ◌∷◌, take, Option, None, Some, get_or, sym, subst, arith, length-take-le, take_more}
-use Rattle.lexical_literal.proofs.Common.{ByteSet, Flag, Notation, notation_of, Condition, Grammar, common_steps}
-use Rattle.std.proofs.Common.{length, if◌then◌else◌}
+use Rattle.lexical_literal.proofs.Common.{ByteSet, Flag, Notation, notation_of, Condition, Grammar, common_steps, length, if◌then◌else◌, IsRefusal, behind}
+use Rattle.lexical_literal.proofs.Common.{marks_of, span_of, ReadErrorKind, Refusal}
+use Rattle.lexical_literal.specs.Cause.{first_in, wrong_end}
 use Rattle.std.proofs.Math.Seq.{take-length}
 use Rattle.std.proofs.lemmas.Option.{slice_get_within}
 use Rattle.std.specs.Prelude.{slice_get}
-use Rattle.lexical_literal.specs.Cause.{IsRefusal, behind, first_in, marks_of, span_of, wrong_end}
 use Rattle.lexical_literal.specs.declared.cause.Marks.{Marks}
-use Rattle.lexical_literal.specs.declared.cause.ReadErrorKind.{ReadErrorKind}
-use Rattle.lexical_literal.specs.declared.cause.Refusal.{Refusal}
 use Rattle.lexical_literal.proofs.CauseLemmas.{behind_more}
 
 module _ (A : ByteSet) where

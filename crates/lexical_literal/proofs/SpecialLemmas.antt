@@ -1,8 +1,7 @@
 -- How a text is compared with a spelling.
-use Rattle.lexical_literal.proofs.Common.{ℕ, ◌≡◌, ◌≤◌, ◌⊎◌, inl, inr, ◌+◌, ◌-◌, Bool, true, false, ◌&&◌, Some, None, ◌||◌, nat_lt, List, [], ◌∷◌, get_or}
-use Rattle.lexical_literal.proofs.Common.{drop, refl, arith, cases_lt, nat_tests, raw, is_absent, Notation, notation_of, Grammar}
-use Rattle.std.proofs.Common.{◌==◌}
-use Rattle.std.proofs.Common.{option_map, if◌then◌else◌, length}
+use Rattle.lexical_literal.proofs.Common.{ℕ, ◌≡◌, ◌≤◌, ◌⊎◌, inl, inr, ◌+◌, ◌-◌, Bool, true, false, ◌&&◌, Some, None, ◌||◌, nat_lt, List, [], ◌∷◌, get_or, drop}
+use Rattle.lexical_literal.proofs.Common.{refl, arith, cases_lt, nat_tests, raw, is_absent, Notation, notation_of, Grammar, ◌==◌, option_map, if◌then◌else◌}
+use Rattle.lexical_literal.proofs.Common.{length}
 use Rattle.std.proofs.lemmas.List.{drop_more, drop_all}
 use Rattle.lexical_util.specs.Layout as layout
 use Rattle.lexical_util.specs.Roles.{cased}

@@ -1,19 +1,12 @@
 -- The last group before the bytes that cannot follow, and what it allows.
-use Rattle.lexical_literal.proofs.Common.{ℕ, ◌≡◌, ◌+◌, ◌-◌, ◌↔◌, inl, inr, Bool, true, false, not, ◌&&◌, ◌||◌, List, [], ◌∷◌, ◌++◌, append-nil, Option}
-use Rattle.lexical_literal.proofs.Common.{Some, None, refl, sym, ap, subst, ◌∙◌, arith, cases_Bool, false_from_ne_true, ByteSet, Flag, Role, Part, Notation}
-use Rattle.lexical_literal.proofs.Common.{Condition}
-use Rattle.std.proofs.Common.{if◌then◌else◌, length, length-append}
-use Rattle.std.proofs.Common.{append_assoc}
+use Rattle.lexical_literal.proofs.Common.{ℕ, ◌≡◌, ◌+◌, ◌-◌, ◌↔◌, inl, inr, Bool, true, false, not, ◌&&◌, ◌||◌, List, [], ◌∷◌, ◌++◌, append-nil, Option, Some}
+use Rattle.lexical_literal.proofs.Common.{None, refl, sym, ap, subst, ◌∙◌, arith, cases_Bool, false_from_ne_true, ByteSet, Flag, Role, Part, Notation}
+use Rattle.lexical_literal.proofs.Common.{Condition, if◌then◌else◌, length, length-append, append_assoc, Allows, behind, marks_of, with_rules, has_size}
+use Rattle.lexical_literal.proofs.Common.{has_sizes, IsWeaker, lets, HasRoles, HasSizes, IsReady, first_group, fits, group_after, grown, unsized, part_of}
+use Rattle.lexical_literal.proofs.Common.{role_at, scan, start, Group, Summary}
+use Rattle.lexical_literal.specs.Additions.Sizes.{IsReadOf, goes, role_next}
 use Rattle.lexical_util.specs.declared.feature_format.roles.Role.TheVariants as roles
 use Rattle.lexical_util.specs.declared.format_flags.Part.TheVariants as parts
-use Rattle.lexical_literal.specs.Cause.{Allows, behind, marks_of, with_rules}
-use Rattle.lexical_literal.specs.Groups.{has_size, has_sizes}
-use Rattle.lexical_literal.specs.Additions.Causes.{IsWeaker, lets}
-use Rattle.lexical_literal.specs.Additions.Plain.{HasRoles, HasSizes, IsReady}
-use Rattle.lexical_literal.specs.Additions.Sizes.{IsReadOf, first_group, fits, goes, group_after, grown, role_next, unsized}
-use Rattle.lexical_literal.specs.Additions.Summary.{part_of, role_at, scan, start}
-use Rattle.lexical_literal.specs.declared.groups.Group.{Group}
-use Rattle.lexical_literal.specs.declared.steps.Summary.{Summary}
 use Rattle.lexical_literal.proofs.BlameLemmas.{own_weaker}
 use Rattle.lexical_literal.proofs.CauseLemmas.{behind_more}
 use Rattle.lexical_literal.proofs.DecideLemmas.{decided_of}

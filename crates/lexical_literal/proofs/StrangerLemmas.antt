@@ -1,8 +1,11 @@
 -- A stranger: a byte that plays no role behind the base prefix, and its other case neither.
-use Rattle.lexical_literal.proofs.Common.{ℕ, ◌≡◌, ◌+◌, ◌*◌, ◌<◌, ◌≤◌, inl, inr, true, false, Bool, None, Some, List, [], ◌∷◌, ◌++◌, take, get_or, ap, refl}
-use Rattle.lexical_literal.proofs.Common.{sym, subst, ◌∙◌, arith, AllByRecursion, cases_lt, false≢true, nat_tests, length-take-le, slice_get-get_or}
-use Rattle.lexical_literal.proofs.Common.{ByteSet, Flag, raw, signs, Role, Part, Literal, Reads, is_none_or_one, is_none_or_prefix, text_of, Notation}
-use Rattle.lexical_literal.proofs.Common.{notation_of, set_of_role, Grammar}
+use Rattle.lexical_literal.proofs.Common.{ℕ, ◌≡◌, ◌+◌, ◌*◌, ◌<◌, ◌≤◌, inl, inr, true, false, Bool, None, Some, List, [], ◌∷◌, ◌++◌, take, get_or, ap, refl, sym}
+use Rattle.lexical_literal.proofs.Common.{subst, ◌∙◌, arith, AllByRecursion, cases_lt, false≢true, nat_tests, length-take-le, slice_get-get_or, ByteSet, Flag}
+use Rattle.lexical_literal.proofs.Common.{raw, signs, Role, Part, Literal, Reads, is_none_or_one, is_none_or_prefix, text_of, Notation, notation_of}
+use Rattle.lexical_literal.proofs.Common.{set_of_role, Grammar, sign_size, bare, with_rules, is_byte, reach, IsFront, IsValidUpTo, NoLiteral, AllIn, run_byte}
+use Rattle.lexical_literal.proofs.Common.{ReadErrorKind, Refusal, role_at}
+use Rattle.lexical_literal.specs.Additions.Forms.{IsNoBetter, IsSpare, IsStranger}
+use Rattle.lexical_literal.specs.Cause.{IsCause}
 use Rattle.std.proofs.Common.{length, IsTrue, if◌then◌else◌}
 use Rattle.std.specs.Prelude.{slice_get}
 use Rattle.std.proofs.lemmas.List.{append_assoc}
@@ -11,15 +14,7 @@ use Rattle.std.proofs.Math.Seq.{get_or-append_seam}
 use Rattle.lexical_util.specs.Roles.{other_case}
 use Rattle.lexical_util.specs.declared.feature_format.roles.Role.TheVariants as roles
 use Rattle.lexical_util.specs.declared.format_flags.Part.TheVariants as parts
-use Rattle.lexical_literal.specs.Additions.Forms.{IsNoBetter, IsSpare, IsStranger, sign_size}
-use Rattle.lexical_literal.specs.Cause.{IsCause, bare, with_rules}
-use Rattle.lexical_literal.specs.Forms.{is_byte, reach}
-use Rattle.lexical_literal.specs.Front.{IsFront, IsValidUpTo, NoLiteral}
-use Rattle.lexical_literal.specs.Readings.{AllIn, run_byte}
-use Rattle.lexical_literal.specs.declared.cause.ReadErrorKind.{ReadErrorKind}
 use Rattle.lexical_literal.specs.declared.cause.ReadErrorKind.TheVariants as causes
-use Rattle.lexical_literal.specs.declared.cause.Refusal.{Refusal}
-use Rattle.lexical_literal.specs.Additions.Summary.{role_at}
 use Rattle.lexical_literal.proofs.ExcludeLemmas.{longer, same_byte, same_sign}
 use Rattle.lexical_literal.proofs.PartLemmas.{parts_have_roles}
 use Rattle.lexical_literal.proofs.ScanLemmas.{no_role}

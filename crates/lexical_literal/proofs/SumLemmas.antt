@@ -1,23 +1,18 @@
 -- The digits of a run, their number, and the number that they represent, modulo `2 ^ 64`.
-use Rattle.lexical_literal.proofs.Common.{ℕ, ◌≡◌, ◌<◌, ◌≤◌, ◌+◌, ◌-◌, ◌*◌, ◌%◌, ◌^◌, ◌∙◌, true, false, List, [], ◌∷◌, ◌++◌, Option, Some, None, nat_lt}
-use Rattle.lexical_literal.proofs.Common.{cond, get_or, take, drop, sym, ap, subst, arith, filter_map-append, take_more, raw, Part, Notation, radix_of}
-use Rattle.lexical_literal.proofs.Common.{Grammar, common_steps}
-use Rattle.std.proofs.Common.{length}
+use Rattle.lexical_literal.proofs.Common.{ℕ, ◌≡◌, ◌<◌, ◌≤◌, ◌+◌, ◌-◌, ◌*◌, ◌%◌, ◌^◌, ◌∙◌, true, false, List, [], ◌∷◌, ◌++◌, Option, Some, None, nat_lt, cond}
+use Rattle.lexical_literal.proofs.Common.{get_or, take, drop, sym, ap, subst, arith, filter_map-append, take_more, raw, Part, Notation, radix_of, Grammar}
+use Rattle.lexical_literal.proofs.Common.{common_steps, length, number_from_digits_after, steps_of, HasRoles, IsReadOn, IsRunOn, at_stage, digits_in}
+use Rattle.lexical_literal.proofs.Common.{digits_piece, part_of, Run, Stage}
+use Rattle.lexical_literal.specs.Additions.Plain.{IsDigitAt, IsSeparated, between}
+use Rattle.lexical_literal.specs.Additions.Summary.{is_run}
 use Rattle.std.proofs.lemmas.Int.Digits.{number_after_append}
 use Rattle.std.proofs.lemmas.List.{drop-drop, length-drop}
 use Rattle.std.proofs.Math.Nat.{mod-add-mod, mod-mod}
 use Rattle.std.proofs.Math.Seq.{take-add}
-use Rattle.std.specs.Int.Digits.{number_from_digits_after}
 use Rattle.std.specs.List.{cons_option}
 use lib.ListN.{length-append}
 use Rattle.lexical_util.specs.Digits.{byte_value, digit_of}
 use Rattle.lexical_literal.proofs.WordLemmas.{push_same}
-use Rattle.lexical_literal.specs.Additions.Sizes.{steps_of}
-use Rattle.lexical_literal.specs.Additions.Plain.{HasRoles, IsDigitAt, IsReadOn, IsRunOn, IsSeparated, between, at_stage}
-use Rattle.lexical_literal.specs.Number.{digits_in}
-use Rattle.lexical_literal.specs.Additions.Summary.{digits_piece, is_run, part_of}
-use Rattle.lexical_literal.specs.declared.plain.Run.{Run}
-use Rattle.lexical_literal.specs.declared.steps.Stage.{Stage}
 use Rattle.lexical_literal.proofs.PlainLemmas.{go_on, read_digit, read_separated}
 use Rattle.lexical_literal.proofs.ScanLemmas.{is_role, no_digit}
 use Rattle.lexical_util.specs.declared.feature_format.roles.Role.TheVariants as roles

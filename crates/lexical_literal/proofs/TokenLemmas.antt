@@ -1,23 +1,16 @@
 -- Tokens: the best of the candidates of several forms.
 use Rattle.lexical_literal.proofs.Common.{ℕ, ◌≡◌, ◌&&◌, ◌||◌, Bool, true, false, ◌<◌, ◌≤◌, ◌+◌, ◌-◌, ◌⊎◌, inl, inr, List, Option, Some, None, All, IsNone}
 use Rattle.lexical_literal.proofs.Common.{IsSomeAnd, take, drop, get_or, refl, sym, subst, ap, ◌∙◌, arith, nat_tests, length-take-le, take_all, All-more}
-use Rattle.lexical_literal.proofs.Common.{slice_get-get_or, Literal, Reads, is_float, Notation, notation_of}
-use Rattle.std.proofs.Common.{◌==◌, if◌then◌else◌, IsTrue}
-use Rattle.std.proofs.Common.{length, slice_get}
-use Rattle.lexical_literal.specs.Additions.Longest.{IsCountedFront}
-use Rattle.lexical_literal.specs.Additions.Summary.{HasLengths, cuts_of}
+use Rattle.lexical_literal.proofs.Common.{slice_get-get_or, Literal, Reads, is_float, Notation, notation_of, ◌==◌, if◌then◌else◌, IsTrue, length, slice_get}
+use Rattle.lexical_literal.proofs.Common.{IsCountedFront, HasLengths, cuts_of, FormList, NoForm, ReadsForm, IsValidUpTo, NoFront, Read, IsAhead, Form, Found}
+use Rattle.lexical_literal.proofs.Common.{Candidate}
+use Rattle.lexical_literal.specs.Forms.{IsFirst}
+use Rattle.lexical_literal.specs.Token.{AllShorter, IsChosen, IsFollowed, IsOver, IsRefused, IsToken, IsUnknown, IsCandidate, NoCandidate, NoLonger}
 use Rattle.lexical_literal.specs.Additions.Token.{IsBestMade, IsBestOf, IsMade, IsOwn, IsPicked, NoOwn, better, goes_on, has_float, suffixed, whole}
-use Rattle.lexical_literal.specs.FormList.{FormList}
-use Rattle.lexical_literal.specs.Forms.{IsFirst, NoForm, ReadsForm}
-use Rattle.lexical_literal.specs.Front.{IsValidUpTo, NoFront}
-use Rattle.lexical_literal.specs.Read.{Read}
 use Rattle.lexical_literal.specs.Cause.{is_in}
 use Rattle.lexical_literal.specs.Suffix.{is_digit, is_stopped, kind_with, stop_end, suffix_size}
-use Rattle.lexical_literal.specs.Token.{AllShorter, HasNone, IsAhead, IsChosen, IsFollowed, IsOver, IsRefused, IsToken, IsUnknown, IsCandidate, NoCandidate, NoLonger, gives_back, is_shorter}
-use Rattle.lexical_literal.specs.declared.list.Form.{Form}
+use Rattle.lexical_literal.specs.Token.{gives_back, is_shorter}
 use Rattle.lexical_literal.specs.declared.list.Tokens.{Tokens}
-use Rattle.lexical_literal.specs.declared.read.Found.{Found}
-use Rattle.lexical_literal.specs.declared.token.Candidate.{Candidate}
 use Rattle.lexical_literal.specs.declared.token.Token.{Token}
 use Rattle.lexical_literal.proofs.FormLemmas.{all_at, one_front, one_size}
 use Rattle.lexical_literal.proofs.MadeLemmas.{present}
@@ -197,7 +190,8 @@ module _ (back needs : Bool) (text : List ℕ) (form : Form) (found : Found) (is
     pub with_suffix : (candidate : Option Candidate) → candidate ≡ suffixed form.suffixes needs text own
         → ((c : Candidate) → candidate ≡ Some c → c.end ≤ length text) → (c : Candidate) → candidate ≡ Some c → IsMade back needs text form c
     with_suffix candidate same within c some = go (needs && (more == 0)) refl (sym same ∙ some) where
-      go : (b : Bool) → (needs && (more == 0)) ≡ b → (if b then None else Some (record { size = own.size; counts = own.counts; end = own.size + more })) ≡ Some c
+      go : (b : Bool) → (needs && (more == 0)) ≡ b
+          → (if b then None else Some (record { size = own.size; counts = own.counts; end = own.size + more })) ≡ Some c
           → IsMade back needs text form c
       go true on none = absurd (no_some c none)
       go false off is_c =
@@ -316,9 +310,6 @@ some_form forms text i read is none = go (slice_get forms i) refl is.reads where
 
 -- The best candidate of the list, and of the forms that need a suffix.
 module _ (list : FormList) (t : Tokens) (text : List ℕ) where
-  pub none_picked : IsBestOf t.gives_points_back false list.forms text None → IsBestOf t.gives_points_back true t.forms.now text None → HasNone list t text
-  none_picked plain other = record { plain = plain; suffixed = other }
-
   made_of : (needs : Bool) (forms : List Form) (i : ℕ) (form : Form) (c : Candidate) → slice_get forms i ≡ Some form
       → IsBestMade t.gives_points_back needs forms text i c → IsMade t.gives_points_back needs text form c
   made_of needs forms i form c at is = subst (λ o. IsSomeAnd o (λ form. IsMade t.gives_points_back needs text form c)) at is.made
@@ -328,7 +319,12 @@ module _ (list : FormList) (t : Tokens) (text : List ℕ) where
     plain_is others =
         let made = made_of false list.forms i form c at is in
         let end = made.candidate.end_is in
-        record { chosen = inl (record { at = at; best = is.best; others = others }); measured = made.measured; order = omega (arith, end); within = made.within }
+        record {
+          chosen = inl (record { at = at; best = is.best; others = others });
+          measured = made.measured;
+          order = omega (arith, end);
+          within = made.within;
+        }
 
     pub plain_alone : IsBestOf t.gives_points_back true t.forms.now text None → IsPicked list t text i form c
     plain_alone none = plain_is (λ k d below s e other. absurd (none k d below s e other))
@@ -338,7 +334,8 @@ module _ (list : FormList) (t : Tokens) (text : List ℕ) where
     plain_first j o other up = plain_is
         (λ k d below s e longer. above_all c.size c.end o.size o.end s e up (other.best.others k d below s e longer))
 
-  module _ (j : ℕ) (form : Form) (o : Candidate) (at : slice_get t.forms.now j ≡ Some form) (is : IsBestMade t.gives_points_back true t.forms.now text j o) where
+  module _ (j : ℕ) (form : Form) (o : Candidate) (at : slice_get t.forms.now j ≡ Some form)
+      (is : IsBestMade t.gives_points_back true t.forms.now text j o) where
     suffixed_is : All (AllShorter t.gives_points_back false text o.size o.end) list.forms → IsPicked list t text (length list.forms + j) form o
     suffixed_is others =
         let made = made_of true t.forms.now j form o at is in
@@ -361,7 +358,8 @@ module _ (list : FormList) (t : Tokens) (text : List ℕ) where
   -- The token that was picked, or why there is none.
   module _ (index : ℕ) (form : Form) (c : Candidate) (is : IsPicked list t text index form c) where
     pub token_is : (token : Token) → token.form ≡ index → ReadsForm (take c.size text) token.literal form
-        → token.literal.kind ≡ kind_with form.suffixes token.suffix.now form.kind → token.suffix.now ≡ take (c.end - c.size) (drop c.size text) → token.rest.now ≡ drop c.end text
+        → token.literal.kind ≡ kind_with form.suffixes token.suffix.now form.kind → token.suffix.now ≡ take (c.end - c.size) (drop c.size text)
+        → token.rest.now ≡ drop c.end text
         → IsFollowed list t text c.end ⊎ (IsOver list t text c.end × (is_stopped form.suffixes text c.end ≡ false)) → IsToken list t text token
     token_is token same literal kind suffix rest ended = record {
       form = form;

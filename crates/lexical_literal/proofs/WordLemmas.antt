@@ -1,17 +1,15 @@
 -- Numbers of 64 bits, by the number of their digits behind leading zeros.
-use Rattle.lexical_literal.proofs.Common.{◌≡◌, ℕ, zero, suc, ◌+◌, ◌-◌, ◌*◌, ◌%◌, ◌^◌, ◌<◌, ◌≤◌, ◌↔◌, ◌&&◌, ◌||◌, inl, inr, List, [], ◌∷◌, ◌++◌, nat_lt}
-use Rattle.lexical_literal.proofs.Common.{Bool, true, false, cond, Some, None, refl, sym, ap, subst, ◌∙◌, arith, slice_index_or, cases_lt, nat_tests}
-use Rattle.std.proofs.Common.{◌==◌, length}
-use Rattle.std.proofs.Common.{nat_le, if◌then◌else◌, IsTrue}
+use Rattle.lexical_literal.proofs.Common.{◌≡◌, ℕ, zero, suc, ◌+◌, ◌-◌, ◌*◌, ◌%◌, ◌^◌, ◌<◌, ◌≤◌, ◌↔◌, ◌&&◌, ◌||◌, inl, inr, List, [], ◌∷◌, ◌++◌, nat_lt, Bool}
+use Rattle.lexical_literal.proofs.Common.{true, false, cond, Some, None, refl, sym, ap, subst, ◌∙◌, arith, slice_index_or, cases_lt, nat_tests, ◌==◌, length}
+use Rattle.lexical_literal.proofs.Common.{nat_le, if◌then◌else◌, IsTrue, number_from_digits_after, digits_in, number, places, leading_zeros}
+use Rattle.std.specs.Int.Digits.{AllBelowBase, number_from_digits}
+use Rattle.lexical_literal.specs.Word.{IsWord}
 use Rattle.std.proofs.lemmas.Bool.{agree_below_at}
 use Rattle.std.proofs.lemmas.Int.Digits.{number_lt}
 use Rattle.std.proofs.lemmas.Nat.{mul-mod_first}
 use Rattle.std.proofs.Math.Nat.{mod-add-mod, mul-le-mul_right, pow-le-pow_right, pow-suc, pow-zero}
-use Rattle.std.specs.Int.Digits.{AllBelowBase, number_from_digits, number_from_digits_after}
 use Rattle.std.specs.List.{cons_option}
 use Rattle.lexical_base.specs.Digits.{byte_value}
-use Rattle.lexical_literal.specs.Number.{digits_in, number, places}
-use Rattle.lexical_literal.specs.Word.{IsWord, leading_zeros}
 use Rattle.lexical_literal.specs.declared.word.TheConstants.{MOST}
 
 -- Digits behind a number are those behind each number that is the same modulo `2 ^ 64`.
@@ -27,7 +25,8 @@ most radix = slice_index_or MOST radix 0
 
 is_most : (radix : ℕ) → 2 ≤ radix → radix ≤ 36 → (radix ^ most radix ≤ 2 ^ 64) × (2 ^ 64 < radix ^ (most radix + 1))
 is_most radix low high =
-    let all = agree_below_at (λ r. nat_lt r 2 || (nat_le (r ^ most r) (2 ^ 64) && nat_lt (2 ^ 64) (r ^ (most r + 1)))) (λ _. true) 37 radix refl (omega arith) in
+    let all = agree_below_at (λ r. nat_lt r 2 || (nat_le (r ^ most r) (2 ^ 64) && nat_lt (2 ^ 64) (r ^ (most r + 1)))) (λ _. true) 37 radix refl
+    (omega arith) in
     grind (arith, nat_tests)
 
 pub twelve_fit : (radix digits : ℕ) → 2 ≤ radix → radix ≤ 36 → digits ≤ 12 → radix ^ digits ≤ 2 ^ 64

@@ -1,15 +1,13 @@
 -- Which texts of mantissa digits are literals.
-use Rattle.lexical_literal.proofs.Common.{ℕ, ◌≡◌, ◌≢◌, ◌↔◌, Bool, true, false, not, ◌&&◌, ◌||◌, IsFalse, List, [], ◌∷◌, Some, None, refl, sym, ap, ◌∙◌}
-use Rattle.lexical_literal.proofs.Common.{arith, list_any, false_from_ne_true, Notation, Literal, Reads}
+use Rattle.lexical_literal.proofs.Common.{ℕ, ◌≡◌, ◌≢◌, ◌↔◌, Bool, true, false, not, ◌&&◌, ◌||◌, IsFalse, List, [], ◌∷◌, Some, None, refl, sym, ap, ◌∙◌, arith}
+use Rattle.lexical_literal.proofs.Common.{list_any, false_from_ne_true, Notation, Literal, Reads, HasRoles, HasSizes, IsReady, first_group, unsized, AllIn}
+use Rattle.lexical_literal.proofs.Common.{step, scan, is_accepted, start, part_of, Stage}
+use Rattle.lexical_literal.specs.Readings.{refuses_first}
+use Rattle.lexical_literal.specs.Additions.Summary.{needs_exponent, move_by}
 use Rattle.lexical_util.specs.Layout as layout
 use Rattle.lexical_util.specs.declared.feature_format.roles.Role.TheVariants as roles
 use Rattle.lexical_util.specs.declared.format_flags.Part.TheVariants as parts
 use Rattle.std.proofs.lemmas.Bool.{or_from}
-use Rattle.lexical_literal.specs.Additions.Plain.{HasRoles, HasSizes, IsReady}
-use Rattle.lexical_literal.specs.Additions.Sizes.{first_group, unsized}
-use Rattle.lexical_literal.specs.Readings.{AllIn, refuses_first}
-use Rattle.lexical_literal.specs.Additions.Summary.{needs_exponent, move_by, step, scan, is_accepted, start, part_of}
-use Rattle.lexical_literal.specs.declared.steps.Stage.{Stage}
 use Rattle.lexical_literal.specs.declared.steps.Stage.TheVariants as stages
 use Rattle.lexical_literal.proofs.ScanLemmas.{scan_none, digit_role, is_role}
 use Rattle.lexical_literal.proofs.StepLemmas.{reading}

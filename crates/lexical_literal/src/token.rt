@@ -6,13 +6,15 @@ ghost use Rattle.lexical_literal.specs.Additions.Forms.{IsFurthestForm, PlaysNoR
 ghost use Rattle.lexical_literal.specs.Additions.Longest.{HasBegun, IsCountedFront, IsMeasured, IsStopped};
 ghost use Rattle.lexical_literal.specs.Additions.Read.{AreSums, cut};
 ghost use Rattle.lexical_literal.specs.Additions.Summary.{cuts_of};
-ghost use Rattle.lexical_literal.specs.Additions.Token.{AreNear, FrontsWithin, IsBestOf, IsLeading, IsMade, IsNear, IsOwn, IsPicked, IsWithin, NoOwn, better, goes_on};
+ghost use Rattle.lexical_literal.specs.Additions.Token.{AreNear, FrontsWithin, IsBestOf, IsLeading, IsMade, IsNear, IsOwn, IsPicked, IsWithin, NoOwn, better};
+ghost use Rattle.lexical_literal.specs.Additions.Token.{goes_on};
 ghost use Rattle.lexical_literal.specs.Additions.Token.{has_float, has_prefix, suffixed, whole};
 ghost use Rattle.lexical_literal.specs.Cause.{is_in};
 ghost use Rattle.lexical_literal.specs.Forms.{ReadsForm};
 ghost use Rattle.lexical_literal.specs.Notation.{notation_of};
 ghost use Rattle.lexical_literal.specs.Suffix.{is_digit, kind_with, stop_end};
-ghost use Rattle.lexical_literal.specs.Token.{HasNone, IsAhead, IsReadByTokens, IsToken, IsTokenError, IsRefused, IsWordUpTo, NoCandidate, gives_back, is_shorter};
+ghost use Rattle.lexical_literal.specs.Token.{HasNone, IsAhead, IsReadByTokens, IsToken, IsTokenError, IsRefused, IsWordUpTo, NoCandidate, gives_back};
+ghost use Rattle.lexical_literal.specs.Token.{is_shorter};
 ghost use Rattle.lexical_util.specs.Record.{raw};
 
 use crate::exclude::sign_size;

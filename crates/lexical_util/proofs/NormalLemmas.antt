@@ -5,7 +5,7 @@ use Rattle.std.specs.List.{list_any}
 use Rattle.std.proofs.lemmas.Bool.{cond-true}
 use Rattle.std.proofs.lemmas.Bool.Decides.{nat_tests}
 use Rattle.std.proofs.lemmas.List.Elements.{All-nil}
-use Rattle.lexical_flags.specs.Layout.{Flag, Byte, bit, part, flags, bytes, digit_separator_flags, IsClean}
+use Rattle.lexical_flags.specs.Layout.{Flag, Byte, bit, flags, digit_separator_flags, IsClean}
 use Rattle.lexical_flags.specs.Layout as layout
 use Rattle.lexical_flags.specs.Record.{Record, raw, trim, fill, pack, word_of, effective}
 use Rattle.lexical_flags.specs.Record.{separator_allowed, SeparatorAllowedOrAbsent}

@@ -1,21 +1,17 @@
 -- From a number by its leading bits to units of least floats, and to the nearest float.
-use Rattle.lexical_value.proofs.Common.{pow_pos, pow_mono, pow-add, IsNearestBits, nat_tests}
-use Rattle.core.specs.Prelude.{◌≡◌, ℕ, suc, ◌+◌, ◌-◌, ◌*◌, ◌/◌, ◌%◌, ◌^◌, ◌<◌, ◌≤◌, ◌==◌, ◌||◌, ◌&&◌, nat_lt, Bool, true, false}
-use mathlib.Core.Path.{refl, sym, ap, ◌∙◌, subst}
-use mathlib.Core.Logic.{inl, inr}
+use Rattle.lexical_value.proofs.Common.{pow_pos, pow_mono, pow-add, IsNearestBits, nat_tests, ◌≡◌, ℕ, suc, ◌+◌, ◌-◌, ◌*◌, ◌/◌, ◌%◌, ◌^◌, ◌<◌, ◌≤◌, ◌==◌, ◌||◌}
+use Rattle.lexical_value.proofs.Common.{◌&&◌, nat_lt, Bool, true, false, refl, sym, ap, ◌∙◌, subst, inl, inr, arith, eq-zero-or-pos, mul-pos, mod-eq_of_lt}
+use Rattle.lexical_value.proofs.Common.{lt_of_mul-lt-mul_right, mul-le-mul_right, le_of_eq, le_trans, mul-le-mul_left, nearest_of_huge, nearest_of_tiny}
+use Rattle.lexical_value.proofs.Common.{IsCutTo}
+use native.Mathlib.Nat.{mod-lt, eq_of_mul-eq-mul_right, div-add-mod', div-eq_of_lt, le_of_mul-le-mul_right}
 use mir.Val.{bool_byte}
-use native.Mathlib.Omega.{arith}
-use native.Mathlib.Nat.{eq-zero-or-pos, mul-pos, mod-eq_of_lt, mod-lt, lt_of_mul-lt-mul_right, mul-le-mul_right, eq_of_mul-eq-mul_right}
-use native.Mathlib.Nat.{div-add-mod', div-eq_of_lt, le_of_eq, le_of_mul-le-mul_right, le_trans, mul-le-mul_left}
 use lib.Dec.{lit≤}
 use lib.Pow.{shl_lt}
 use lib.Ieee.{Format, hid, ones, prec, low}
 use Rattle.core.specs.Dec2flt.Rounding.{scaled_bits, IsCut, IsJustAbove, IsSignificand, IsWithin}
-use Rattle.core.proofs.dec2flt.Extremes.{nearest_of_huge, nearest_of_tiny}
 use Rattle.core.proofs.dec2flt.Patterns.{shape}
 use Rattle.core.proofs.dec2flt.RoundingLemmas.{nearest_tie, nearest_above}
 use Rattle.core.proofs.dec2flt.Settle.{lies_above, rounds_down, rounds_up, significand_of}
-use Rattle.lexical_value.specs.Leading.{IsCutTo}
 use Rattle.lexical_value.proofs.LeadingLemmas.{beyond, exact, scaled, unscaled}
 
 powers : (den up l d down e : ℕ) → up + l + d ≡ down + e → den * 2 ^ up * (2 ^ l * 2 ^ d) ≡ den * 2 ^ e * 2 ^ down
@@ -129,7 +125,8 @@ module _ (f : Format) (num den word up down : ℕ) {more : Bool} (D : 0 < den) (
   pub far_above : 0 < word → down + 2000 < up → IsNearestBits f num den (ones f * hid f)
   far_above W far =
       let ten : 10 ^ 309 ≤ 2 ^ 1027 = lit≤ tt in
-      let top : 10 ^ 309 * 2 ^ down ≤ 2 ^ up = le_trans (mul-le-mul_right (2 ^ down) ten) (le_trans (le_of_eq (sym (pow-add 2 1027 down))) (pow_mono (omega arith))) in
+      let top : 10 ^ 309 * 2 ^ down ≤ 2 ^ up = le_trans (mul-le-mul_right (2 ^ down) ten)
+      (le_trans (le_of_eq (sym (pow-add 2 1027 down))) (pow_mono (omega arith))) in
       let unit : den * (10 ^ 309 * 2 ^ down) ≤ den * 2 ^ up = mul-le-mul_left den top in
       let least : 1 * (den * 2 ^ up) ≤ word * (den * 2 ^ up) = mul-le-mul_right (den * 2 ^ up) W in
       nearest_of_huge f num den D (le_of_mul-le-mul_right {k = 2 ^ down} (omega (arith, unit, least, cut.from)) (pow_pos down))
@@ -137,7 +134,8 @@ module _ (f : Format) (num den word up down : ℕ) {more : Bool} (D : 0 < den) (
   pub far_below : word < 2 ^ 64 → up + 2000 < down → IsNearestBits f num den 0
   far_below W far =
       let ten : 10 ^ 343 ≤ 2 ^ 1140 = lit≤ tt in
-      let top : 10 ^ 343 * 2 ^ up ≤ 2 ^ down = le_trans (mul-le-mul_right (2 ^ up) ten) (le_trans (le_of_eq (sym (pow-add 2 1140 up))) (pow_mono (omega arith))) in
+      let top : 10 ^ 343 * 2 ^ up ≤ 2 ^ down = le_trans (mul-le-mul_right (2 ^ up) ten)
+      (le_trans (le_of_eq (sym (pow-add 2 1140 up))) (pow_mono (omega arith))) in
       let number : num * (10 ^ 343 * 2 ^ up) ≤ num * 2 ^ down = mul-le-mul_left num top in
       let most : (word + 1) * (den * 2 ^ up) ≤ 2 ^ 64 * (den * 2 ^ up) = mul-le-mul_right (den * 2 ^ up) (omega arith) in
       nearest_of_tiny f num den D (le_of_mul-le-mul_right {k = 2 ^ up} (omega (arith, number, most, cut.below)) (pow_pos up))

@@ -46,10 +46,6 @@ not_nan f s num den value is = subst T (sym (ap (λ x. not (is_nan x)) is ∙ ap
 pub by_bits : (radix bits n digits dropped : ℕ) (more : Bool) → radix ≡ 2 ^ bits → Leads radix n digits more dropped → Leads (2 ^ bits) n digits more dropped
 by_bits radix bits n digits dropped more is = subst (λ r. Leads r n digits more dropped) is
 
-pub not_true : (b : Bool) → (b ≡ true → false ≡ true) → b ≡ false
-not_true true apart = sym (apart refl)
-not_true false apart = refl
-
 -- In a decimal format, the radix and the base are 10.
 pub decimals : (r : Record) → is_decimal r.byte ≡ true → (10 ≡ r.byte layout.mantissa_radix) × (10 ≡ effective_exponent_base r)
 decimals r is = let both = and_parts (r.byte layout.mantissa_radix == 10) (effective_exponent_base r == 10) is in

@@ -1,13 +1,10 @@
 -- Leading digits and an exponent, in radixes that are powers of two, as a whole number times a power of two.
-use Rattle.lexical_value.proofs.Common.{pow_pos, pow_mono, pow-add, IsNearestBits, raised_up, raised_down}
-use Rattle.core.specs.Prelude.{◌≡◌, ℕ, zero, suc, ◌+◌, ◌*◌, ◌^◌, ◌≤◌, Bool, true, false, if◌then◌else◌}
-use mathlib.Core.Path.{sym, ap, ◌∙◌, subst}
-use native.Mathlib.Omega.{arith}
-use native.Mathlib.Nat.{mul-le-mul, mul-le-mul_right, le_trans, le_of_eq, pow-suc, pow-zero}
+use Rattle.lexical_value.proofs.Common.{pow_pos, pow_mono, pow-add, IsNearestBits, raised_up, raised_down, ◌≡◌, ℕ, zero, suc, ◌+◌, ◌*◌, ◌^◌, ◌≤◌, Bool, true}
+use Rattle.lexical_value.proofs.Common.{false, if◌then◌else◌, sym, ap, ◌∙◌, subst, arith, mul-le-mul, mul-le-mul_right, le_trans, le_of_eq, pow-suc}
+use Rattle.lexical_value.proofs.Common.{nearest_of_tiny, nearest_of_huge, Leads}
+use native.Mathlib.Nat.{pow-zero}
 use lib.Dec.{lit≤}
 use lib.Ieee.{Format, hid, ones}
-use Rattle.core.proofs.dec2flt.Extremes.{nearest_of_tiny, nearest_of_huge}
-use Rattle.lexical_value.specs.Leading.{Leads}
 
 pub pow_of : (a n : ℕ) → (2 ^ a) ^ n ≡ 2 ^ (n * a)
 pow_of a zero = pow-zero (2 ^ a) ∙ sym (ap (λ x. 2 ^ x) {x = 0 * a} {y = 0} (omega arith))

@@ -1,22 +1,20 @@
 -- Digits and their characters.
-use Rattle.lexical_writer.proofs.Common.{ℕ, ◌≡◌, ◌+◌, ◌*◌, ◌<◌, ◌≤◌, ◌||◌, Bool, true, false, cond, nat_lt, List, [], ◌∷◌, ◌++◌, length, drop, get_or}
-use Rattle.lexical_writer.proofs.Common.{Option, ◌-◌, ◌/◌, ◌%◌, map, set, slice_get, option_to_list, Some, None, refl, sym, ap, ◌∙◌, arith, suc, zero}
-use Rattle.lexical_writer.proofs.Common.{drop-cons, add-one, replicate, append-nil, subst, inl, inr, cases_lt, false≢true, number_after_append}
-use Rattle.lexical_writer.proofs.Common.{append_assoc, drop_all, length-append, nat_tests, AllBelowBase, digits_of, number_from_digits}
-use Rattle.lexical_writer.proofs.Common.{number_from_digits_after, cons_option, byte_value, digit_of, is_present, digits_in, number, at_least, character}
-use Rattle.lexical_writer.proofs.Common.{grouped, grouped_front, padded_values, values_of, Source}
+use Rattle.lexical_writer.proofs.Common.{ℕ, ◌≡◌, ◌+◌, ◌*◌, ◌<◌, ◌≤◌, ◌||◌, Bool, true, false, cond, nat_lt, List, [], ◌∷◌, ◌++◌, length, drop, get_or, Option}
+use Rattle.lexical_writer.proofs.Common.{◌-◌, ◌/◌, ◌%◌, map, set, slice_get, option_to_list, Some, None, refl, sym, ap, ◌∙◌, arith, suc, zero, drop-cons}
+use Rattle.lexical_writer.proofs.Common.{add-one, replicate, append-nil, subst, inl, inr, cases_lt, false≢true, number_after_append, append_assoc}
+use Rattle.lexical_writer.proofs.Common.{length-append, nat_tests, AllBelowBase, digits_of, number_from_digits, number_from_digits_after, cons_option}
+use Rattle.lexical_writer.proofs.Common.{byte_value, digit_of, is_present, digits_in, number, at_least, character, grouped, grouped_front, padded_values}
+use Rattle.lexical_writer.proofs.Common.{values_of, Source, all_below_base_digits_of, length-digits_of_step, mod-mul-add, get_or_from_slice_get, ByteSet}
+use Rattle.lexical_writer.proofs.Common.{begins_decimal, separated, Pattern}
+use Rattle.std.proofs.lemmas.Int.Digits.{digits_of_step}
+use Rattle.std.proofs.lemmas.Nat.{div-mul-add}
+use Rattle.lexical_writer.specs.Digits.{ends_group, no_groups, only_if}
 use Rattle.std.proofs.lemmas.Bool.{ltb-true}
-use Rattle.std.proofs.lemmas.Int.Digits.{all_below_base_digits_of, digits_of_step, length-digits_of_step}
 use Rattle.std.proofs.lemmas.List.{drop-set, length-map, length-set, map_push}
 use Rattle.std.proofs.Math.Nat.{div-div-eq-div-mul}
-use Rattle.std.proofs.lemmas.Nat.{div-mul-add, mod-mul-add}
-use Rattle.std.proofs.lemmas.Option.{get_or_from_slice_get}
-use Rattle.lexical_util.specs.Ascii.{ByteSet}
 use Rattle.lexical_util.specs.Digits.{digit_characters}
 use Rattle.lexical_base.proofs.ValueLemmas.{byte_value-digit_character, same_at}
 use Rattle.lexical_literal.specs.Literal.{begins_with}
-use Rattle.lexical_writer.specs.Digits.{begins_decimal, ends_group, no_groups, only_if, separated}
-use Rattle.lexical_writer.specs.declared.run.Pattern.{Pattern}
 use Rattle.lexical_writer.specs.declared.run.Padded.{Padded}
 use Rattle.lexical_writer.specs.declared.run.Source.TheVariants as sources
 
@@ -296,10 +294,6 @@ run_longer pattern least digits =
     omega (arith, longer, all)
 
 -- Bytes from an index on that are uppercase digits.
-pub no_characters : (radix i : ℕ) (bytes : List ℕ) → length bytes ≤ i → drop i bytes ≡ map (character false) (digits_in radix (drop i bytes))
-no_characters radix i bytes behind =
-    let none = drop_all i bytes behind in none ∙ sym (ap (λ bytes. map (character false) (digits_in radix bytes)) none)
-
 pub more_characters : (radix i d : ℕ) (bytes : List ℕ) (digit : Option ℕ) → i < length bytes → digit ≡ digit_of (get_or bytes i 0) radix
     → digit ≡ Some d → character false d ≡ get_or bytes i 0 → drop (i + 1) bytes ≡ map (character false) (digits_in radix (drop (i + 1) bytes))
     → drop i bytes ≡ map (character false) (digits_in radix (drop i bytes))

@@ -152,7 +152,8 @@ pub twos : (i j : ℕ) → i ≤ j → 2 ^ i ≤ 2 ^ j
 twos i j less = pow-le-pow_right (omega arith) less
 
 -- A number of few bits times a power of two, over another one, is a float.
-pub exact : (double : Bool) (s : Bool) (n up down : ℕ) → n < 2 ^ prec (format_of double) → prec (format_of double) + up ≤ suc (emax (format_of double)) → down ≤ low (format_of double)
+pub exact : (double : Bool) (s : Bool) (n up down : ℕ) → n < 2 ^ prec (format_of double) → prec (format_of double) + up ≤ suc (emax (format_of double))
+    → down ≤ low (format_of double)
     → HasValue (round (format_of double) s (n * 2 ^ up) (2 ^ down)) s (n * 2 ^ up) (2 ^ down)
 exact double s n up down small few fits =
     let f = format_of double in

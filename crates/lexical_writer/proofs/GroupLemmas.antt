@@ -1,20 +1,17 @@
 -- Grouped digits.
-use Rattle.lexical_writer.proofs.Common.{ℕ, ◌≡◌, ◌<◌, ◌≤◌, ◌==◌, Bool, true, false, get_or, zero, suc, List, [], ◌∷◌, length, refl, subst, sym, ap, ◌∙◌}
-use Rattle.lexical_writer.proofs.Common.{arith, ◌+◌, ◌-◌, ◌*◌, ◌/◌, ◌%◌, inl, inr, cases_lt, false≢true, nat_tests, AllBelowBase, byte_value, digits_of}
-use Rattle.lexical_writer.proofs.Common.{at_least, character, grouped}
+use Rattle.lexical_writer.proofs.Common.{ℕ, ◌≡◌, ◌<◌, ◌≤◌, ◌==◌, Bool, true, false, get_or, zero, suc, List, [], ◌∷◌, length, refl, subst, sym, ap, ◌∙◌, arith}
+use Rattle.lexical_writer.proofs.Common.{◌+◌, ◌-◌, ◌*◌, ◌/◌, ◌%◌, inl, inr, cases_lt, false≢true, nat_tests, AllBelowBase, byte_value, digits_of, at_least}
+use Rattle.lexical_writer.proofs.Common.{character, grouped, mod-mul-add, ByteSet, all_below_base_digits_of, Pattern}
+use Rattle.std.proofs.lemmas.Int.Digits.{first_digits_of}
 use Rattle.std.proofs.Math.Nat.{div-add-mod}
 use Rattle.std.proofs.lemmas.Bool.{and_from}
-use Rattle.std.proofs.lemmas.Nat.{mod-mul-add}
-use Rattle.lexical_util.specs.Ascii.{ByteSet}
 use Rattle.lexical_util.specs.Layout.{separators_in}
 use Rattle.lexical_util.specs.declared.format_flags.Part.{Part}
-use Rattle.std.proofs.lemmas.Int.Digits.{all_below_base_digits_of, first_digits_of}
 use Rattle.lexical_literal.specs.Groups.{all_fit, first_fits, group_sizes, inner_fits, is_grouped, last_fits, one_more, rest_fits}
 use Rattle.lexical_literal.specs.Literal.{has_leading_zero}
 use Rattle.lexical_literal.specs.Notation.{Notation}
 use Rattle.lexical_literal.proofs.RunLemmas.{is_rest}
 use Rattle.lexical_writer.specs.Digits.{ends_group}
-use Rattle.lexical_writer.specs.declared.run.Pattern.{Pattern}
 use Rattle.lexical_writer.proofs.DigitLemmas.{character_value, enough}
 
 -- `Between m part pattern` holds if the separator of `pattern` may be between digits of `part`, where there are groups.

@@ -1,13 +1,17 @@
 -- What is laid out is a literal with the digits of the amount.
 use Rattle.lexical_writer.proofs.Common.{ℕ, ◌≡◌, ◌<◌, ◌≤◌, ◌+◌, ◌-◌, ◌*◌, ◌%◌, ◌==◌, ◌&&◌, ◌||◌, not, max, nat_le, nat_lt, ◌⊎◌, if◌then◌else◌, Bool, true}
-use Rattle.lexical_writer.proofs.Common.{false, IsTrue, List, [], ◌∷◌, ◌++◌, drop, inl, inr, cond, length, Option, Some, None, Result, Ok, Err, IfOk}
-use Rattle.lexical_writer.proofs.Common.{is_some, option_to_list, unwrap_or, refl, sym, subst, ap, ◌∙◌, arith, mod-lt, cases_lt, false≢true, nat_tests}
-use Rattle.lexical_writer.proofs.Common.{number_digits_of, AllBelowBase, digits_of, number_from_digits, byte_value, Record, raw, effective_exponent_radix}
-use Rattle.lexical_writer.proofs.Common.{Literal, is_absent, is_minus, is_present, text_of, has, lacks_options, IsSyntax, Grammar, digits_in, number}
-use Rattle.lexical_writer.proofs.Common.{at_least, character, grouped, size_of, values_of, Amount, Layout, WriteError, Style}
+use Rattle.lexical_writer.proofs.Common.{false, IsTrue, List, [], ◌∷◌, ◌++◌, drop, inl, inr, cond, length, Option, Some, None, Result, Ok, Err, IfOk, is_some}
+use Rattle.lexical_writer.proofs.Common.{option_to_list, unwrap_or, refl, sym, subst, ap, ◌∙◌, arith, mod-lt, cases_lt, false≢true, nat_tests, number_digits_of}
+use Rattle.lexical_writer.proofs.Common.{AllBelowBase, digits_of, number_from_digits, byte_value, Record, raw, effective_exponent_radix, Literal, is_absent}
+use Rattle.lexical_writer.proofs.Common.{is_minus, is_present, text_of, has, lacks_options, IsSyntax, Grammar, digits_in, number, at_least, character, grouped}
+use Rattle.lexical_writer.proofs.Common.{size_of, values_of, Amount, Layout, WriteError, Style, all_below_base_digits_of, ByteSet, Reads, notation_of}
+use Rattle.lexical_writer.proofs.Common.{begins_decimal, HasNumber, given_fraction, IsLaidOut, Pattern}
+use Rattle.lexical_literal.specs.Literal.{IsSpelled, begins, begins_with, condition, may_begin, is_none_or_one, is_plus}
+use Rattle.lexical_literal.specs.Notation.{Notation, all_conditions, number_of, point_of, exponent_character_of, radix_of}
+use Rattle.lexical_writer.specs.Digits.{no_groups, only_if}
+use Rattle.lexical_writer.specs.Layout.{fraction_pattern, fraction_text, given_power, has_exponent, has_point, has_zero, after_zero, base_byte, integer_pattern}
+use Rattle.lexical_writer.specs.Layout.{laid_out, least_digits, led_digits, literal_of, one_if, options_of}
 use Rattle.std.proofs.lemmas.Bool.{agree_below_at, and_from, false_from_ne_true, lt-ltb, ltb-true, or_left, or_right}
-use Rattle.std.proofs.lemmas.Int.Digits.{all_below_base_digits_of}
-use Rattle.lexical_util.specs.Ascii.{ByteSet}
 use Rattle.lexical_util.specs.Layout as layout
 use Rattle.lexical_util.specs.Layout.{Flag, separators_in}
 use Rattle.lexical_util.specs.Record.{separator_allowed}
@@ -15,10 +19,8 @@ use Rattle.lexical_util.specs.Roles as sets
 use Rattle.lexical_util.specs.Unfoldable.{cased, IsPunctuation, Lawful, Holds}
 use Rattle.lexical_util.specs.declared.format_flags.Part.{Part}
 use Rattle.lexical_util.specs.declared.format_flags.Part.TheVariants as parts
-use Rattle.lexical_literal.specs.Literal.{IsSpelled, Reads, begins, begins_with, condition, may_begin, is_none_or_one, is_plus}
 use Rattle.lexical_literal.specs.Literal.{has_leading_zero, is_float, is_zero_led}
 use Rattle.lexical_literal.specs.Literal.{is_none_or_prefix, requirement}
-use Rattle.lexical_literal.specs.Notation.{Notation, all_conditions, notation_of, number_of, point_of, exponent_character_of, radix_of}
 use Rattle.lexical_literal.specs.Groups.{higher, is_grouped}
 use Rattle.lexical_literal.specs.Run.{is_run}
 use Rattle.lexical_literal.specs.Syntax.{FitIfAny, contradiction, fault, first_fault, limits}
@@ -29,13 +31,10 @@ use Rattle.lexical_literal.specs.declared.syntax.ConditionsError.{ConditionsErro
 use Rattle.std.specs.Option.{option_or}
 use Rattle.lexical_literal.specs.declared.syntax.Options.{Options}
 use Rattle.lexical_literal.proofs.RunLemmas.{rest_of_none}
-use Rattle.lexical_writer.specs.Digits.{begins_decimal, no_groups, only_if}
-use Rattle.lexical_writer.specs.Layout.{HasNumber, fraction_pattern, fraction_text, given_fraction, given_power, has_exponent, has_point, has_zero}
-use Rattle.lexical_writer.specs.Layout.{IsLaidOut, after_zero, base_byte, integer_pattern, laid_out, least_digits, led_digits, literal_of, one_if, options_of}
 use Rattle.lexical_writer.specs.Layout.{kept_digits, pattern_of, refusal, sign_of, takes_zeros}
 use Rattle.lexical_writer.specs.declared.layout.WriteError.TheVariants as errors
-use Rattle.lexical_writer.specs.declared.run.Pattern.{Pattern}
-use Rattle.lexical_writer.proofs.DigitLemmas.{character_value, decimal_first, grouped_digits, grouped_present, least_below, least_number, values_below, zero_first}
+use Rattle.lexical_writer.proofs.DigitLemmas.{character_value, decimal_first, grouped_digits, grouped_present, least_below, least_number, values_below}
+use Rattle.lexical_writer.proofs.DigitLemmas.{zero_first}
 use Rattle.lexical_writer.proofs.GroupLemmas.{Between, grouped_rest, left_first, no_leading_zero, right_groups, single_fits}
 
 -- The flags of a lawful format agree.

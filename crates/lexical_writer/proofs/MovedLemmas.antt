@@ -1,11 +1,10 @@
 -- Digits whose point has moved, and the zeros that they end with.
 use Rattle.lexical_writer.proofs.Common.{ℕ, zero, suc, ◌≡◌, ◌<◌, ◌≤◌, ◌+◌, ◌-◌, ◌==◌, ◌&&◌, Bool, true, false, List, [], ◌∷◌, ◌++◌, length, take, drop}
 use Rattle.lexical_writer.proofs.Common.{replicate, Option, Some, None, is_some, unwrap_or, get_or, append-nil, refl, sym, ap, ◌∙◌, arith, if◌then◌else◌}
-use Rattle.lexical_writer.proofs.Common.{false≢true, nat_tests, append_assoc, cons_option, digit_of, is_absent, digits_in}
+use Rattle.lexical_writer.proofs.Common.{false≢true, nat_tests, append_assoc, cons_option, digit_of, is_absent, digits_in, trimmed}
 use Rattle.std.proofs.lemmas.List.{take_more}
 use Rattle.std.proofs.lemmas.List.Elements.{filter_map-append}
 use Rattle.lexical_writer.proofs.DigitLemmas.{left_of}
-use Rattle.lexical_writer.specs.Moved.{trimmed}
 
 -- Zeros at the end are left out.
 pub trimmed_before : (xs ys : List ℕ) → trimmed ys ≡ [] → trimmed (xs ++ ys) ≡ trimmed xs

@@ -18,7 +18,8 @@ use Rattle.lexical_value.specs.Numeral.{with_sign}
 use Rattle.lexical_value.specs.Value.{denominator, numerator, power, scale}
 use Rattle.lexical_writer.specs.Conversion.{SameFraction}
 use Rattle.lexical_writer.specs.Layout.{HasNumber, HasValue, given_fraction, given_power, number_of_size}
-use Rattle.lexical_writer.specs.Moved.{IsFactor, IsMoved, IsWhole, factors, has_zeros, is_past, move_of, moved_by, moved_fraction, moved_integer, too_far, trimmed}
+use Rattle.lexical_writer.specs.Moved.{IsFactor, IsMoved, IsWhole, factors, has_zeros, is_past, move_of, moved_by, moved_fraction, moved_integer, too_far}
+use Rattle.lexical_writer.specs.Moved.{trimmed}
 use Rattle.lexical_writer.specs.declared.layout.Power.{Power}
 use Rattle.lexical_writer.specs.declared.layout.WriteError.TheVariants as errors
 use Rattle.lexical_writer.specs.declared.moved.Move.{Move}

@@ -2,13 +2,11 @@
 use Rattle.lexical_writer.proofs.Common.{ℕ, zero, suc, ◌≡◌, ◌<◌, ◌≤◌, ◌+◌, ◌*◌, ◌/◌, ◌%◌, ◌^◌, ◌==◌, ◌&&◌, ◌⊎◌, inl, inr, if◌then◌else◌, Bool, true, false}
 use Rattle.lexical_writer.proofs.Common.{List, [], ◌∷◌, ◌++◌, length, refl, sym, ap, ◌∙◌, subst, arith, append-nil, pow-suc, pow-zero, nat_tests}
 use Rattle.lexical_writer.proofs.Common.{number_after_append, append_assoc, length-append, AllBelowBase, number_from_digits, is_absent, Parts, digits_in}
-use Rattle.lexical_writer.proofs.Common.{size_of, values_of, Amount}
+use Rattle.lexical_writer.proofs.Common.{size_of, values_of, Amount, mod-mul-add, given_fraction, IsFactor, IsMoved, trimmed}
+use Rattle.lexical_writer.specs.Moved.{IsWhole, moved_fraction}
 use Rattle.std.proofs.Math.Nat.{div-add-mod, mul-add-mod_self_left, mod-eq_of_lt, mul-div_cancel}
-use Rattle.std.proofs.lemmas.Nat.{mod-mul-add}
 use Rattle.lexical_writer.proofs.DigitLemmas.{values_below}
 use Rattle.lexical_writer.proofs.PlainLemmas.{size_values}
-use Rattle.lexical_writer.specs.Layout.{given_fraction}
-use Rattle.lexical_writer.specs.Moved.{IsFactor, IsMoved, IsWhole, moved_fraction, trimmed}
 
 -- What is left without the zeros at the end does not end with a zero.
 trimmed_twice : (digits : List ℕ) → trimmed (trimmed digits) ≡ trimmed digits
@@ -110,7 +108,8 @@ module _ (radix factor : ℕ) (amount : Amount) (two : 2 ≤ radix) (factors : I
       longer : (f : List ℕ) (d : ℕ) → rest ≡ f ++ (d ∷ []) → 0 < d → ⊥
       longer [] d is some = let one = ap length is in omega (arith, long, one)
       longer (x ∷ f) d is some =
-          two_places radix factor factors.0 (number_from_digits radix (front ++ (x ∷ f))) d n (radix ^ length f) (some_factor radix factor two factors) factors.1
+          two_places radix factor factors.0 (number_from_digits radix (front ++ (x ∷ f))) d n (radix ^ length f)
+          (some_factor radix factor two factors) factors.1
           some (last_below radix (x ∷ f) d (subst (AllBelowBase radix) is (values_below radix (given_fraction amount) two)))
           (ap (λ m. m * factor) (sym (ap (λ (ds : List ℕ). number_from_digits radix (front ++ ds)) is ∙ ended radix front (x ∷ f) d)) ∙ whole
           ∙ ap (λ p. n * p) (ap (λ (ds : List ℕ). radix ^ length ds) is ∙ one_longer radix (x ∷ f) d ∙ ap (λ p. p * radix) (pow-suc radix (length f))))
@@ -136,14 +135,16 @@ module _ (radix factor : ℕ) (amount : Amount) (two : 2 ≤ radix) (factors : I
   pub whole_is : length rest ≤ 1 → (number_from_digits radix rest * factor) % radix ≡ 0
       → IsWhole radix factor amount (size_of radix amount.integer * factor + (number_from_digits radix rest * factor) / radix)
   whole_is short even =
-      subst (λ size. IsWhole radix factor amount (size * factor + (number_from_digits radix rest * factor) / radix)) (sym (size_values radix amount.integer two))
+      subst (λ size. IsWhole radix factor amount (size * factor + (number_from_digits radix rest * factor) / radix))
+      (sym (size_values radix amount.integer two))
       (go rest short even)
     where
       sums : (w r d k x : ℕ) → d * k ≡ x * r → (w * r + d) * k ≡ (w * k + x) * (1 * r)
       sums w r d k x is = omega (arith, is)
 
       go : (ds : List ℕ) → length ds ≤ 1 → (number_from_digits radix ds * factor) % radix ≡ 0
-          → number_from_digits radix (front ++ ds) * factor ≡ (number_from_digits radix front * factor + (number_from_digits radix ds * factor) / radix) * radix ^ length ds
+          → number_from_digits radix (front ++ ds) * factor ≡
+          (number_from_digits radix front * factor + (number_from_digits radix ds * factor) / radix) * radix ^ length ds
       go [] short even =
           let parts = div-add-mod (0 * factor) radix in
           let none : 0 * factor / radix ≡ 0 = zero_over radix (omega (arith, two)) in

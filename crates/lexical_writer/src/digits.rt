@@ -4,7 +4,8 @@ ghost use Rattle.std.specs.Prelude.{◌≡◌, ◌++◌, ◌∷◌, [], true, fa
 ghost use Rattle.std.specs.Int.Digits.{digits_of, number_from_digits};
 ghost use Rattle.lexical_literal.specs.Number.{digits_in, number, places};
 ghost use Rattle.lexical_util.specs.Rules.{IsRadix};
-ghost use Rattle.lexical_writer.specs.Digits.{at_least, begins_decimal, character, ends_group, grouped, grouped_front, only_if, padded_values, run_digits, run_text, separated, values_of};
+ghost use Rattle.lexical_writer.specs.Digits.{at_least, begins_decimal, character, ends_group, grouped, grouped_front, only_if, padded_values, run_digits};
+ghost use Rattle.lexical_writer.specs.Digits.{run_text, separated, values_of};
 
 use crate::run::{Padded, Pattern, Run, Source};
 use crate::sink::Sink;

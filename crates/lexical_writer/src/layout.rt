@@ -8,18 +8,19 @@ ghost use Rattle.lexical_literal.specs.Literal.{Reads, is_present, text_of};
 ghost use Rattle.lexical_literal.specs.Notation.{notation_of};
 ghost use Rattle.lexical_literal.specs.Syntax.{IsSyntax};
 ghost use Rattle.lexical_writer.specs.Digits.{no_groups, only_if, run_digits, run_text, size_of, values_of};
-ghost use Rattle.lexical_writer.specs.Layout.{HasNumber, IsLaidOut, allows_exponent, base_byte, either, exponent_text, first_error};
-ghost use Rattle.lexical_writer.specs.Layout.{fraction_pattern, fraction_text, given_fraction, given_power, group_size, has_exponent, has_point, has_zero};
+ghost use Rattle.lexical_writer.specs.Layout.{HasNumber, IsLaidOut, allows_exponent, base_byte, exponent_text, first_error};
+ghost use Rattle.lexical_writer.specs.Layout.{fraction_pattern, fraction_text, given_fraction, given_power, has_exponent, has_point, has_zero};
 ghost use Rattle.lexical_writer.specs.Layout.{integer_pattern, integer_text, kept_digits, least_digits, led_digits, literal_of, needs_exponent, number_of_size};
-ghost use Rattle.lexical_writer.specs.Layout.{one_if, pattern_of, refusal, sign_of, wants_exponent};
+ghost use Rattle.lexical_writer.specs.Layout.{one_if, refusal, sign_of, wants_exponent};
 ghost use Rattle.lexical_writer.specs.Buffer.{IsTaken};
 
 use crate::digits::{only_if, put_if_any, without_zeros};
-use crate::run::{Pattern, Run, Source};
+use crate::patterns::{fraction_pattern, integer_pattern, no_groups};
+use crate::run::{Run, Source};
 use crate::sink::{Sink, Window};
 use lexical_literal::syntax::{Condition, Conditions, Options, Syntax};
 use lexical_literal::word::count;
-use lexical_util::format::{NumberFormat, base_prefix, base_suffix, digit_separator};
+use lexical_util::format::{NumberFormat, base_prefix, base_suffix};
 use lexical_util::laws::byte_facts;
 
 /// How many digits a group has. Where the format does not allow separators between digits, there are no groups.
@@ -587,88 +588,4 @@ const fn first_error(sign: bool, fraction: bool, exponent: bool) -> Option<Write
     } else {
         None
     }
-}
-
-// Returns the pattern of an integer.
-#[inline]
-const fn integer_pattern(format: NumberFormat, conditions: Conditions, style: Style) -> Pattern
-    ensures { result ≡ integer_pattern (raw format) conditions style }
-{
-    let last = group_size(conditions.number(Condition::IntegerGroupSize), style.group);
-    let higher = either(conditions.number(Condition::HigherGroupSize), last);
-    let allowed = format.integer_internal_digit_separator();
-    pattern_of(format, allowed, last, higher, style.lowercase)
-}
-
-// Returns the pattern of a fraction with the digits of `run`. Its groups are counted from the left.
-#[inline]
-fn fraction_pattern(
-    format: NumberFormat,
-    conditions: Conditions,
-    style: Style,
-    run: &Run,
-) -> Pattern
-    ensures { result ≡ fraction_pattern (raw format) conditions style (length (run_digits run.now)) }
-{
-    let condition = conditions.number(Condition::FractionGroupSize);
-    let size = group_size(condition, style.fraction_group);
-    let last = if size == 0 {
-        0
-    } else {
-        (run.length().saturating_sub(1) % size as u128) as usize + 1
-    };
-    let allowed = format.fraction_internal_digit_separator();
-    pattern_of(format, allowed, last, size, style.lowercase)
-}
-
-// Returns the pattern of digits in groups, unless there are none, or the format does not allow them.
-const fn pattern_of(
-    format: NumberFormat,
-    allowed: bool,
-    last: usize,
-    higher: usize,
-    lowercase: bool,
-) -> Pattern
-    ensures { result ≡ pattern_of (raw format) allowed last higher lowercase }
-{
-    let separator = digit_separator(format.word());
-    if last == 0 || !allowed || separator == 0 {
-        return no_groups(lowercase);
-    }
-    Pattern {
-        last,
-        higher,
-        separator,
-        lowercase,
-    }
-}
-
-// Returns the pattern of digits without separators.
-const fn no_groups(lowercase: bool) -> Pattern
-    ensures { result ≡ no_groups lowercase }
-{
-    Pattern {
-        last: 0,
-        higher: 0,
-        separator: 0,
-        lowercase,
-    }
-}
-
-// Returns how many digits a group has, where a condition requires `size` digits, or 0 for digits without groups.
-const fn group_size(size: u8, group: Grouping) -> usize
-    ensures { result ≡ group_size size group }
-{
-    match group {
-        Grouping::AsSyntax => size as usize,
-        Grouping::None | Grouping::Of(0) => 0,
-        Grouping::Of(other) => either(size, other),
-    }
-}
-
-// Returns the size that a condition requires, or `other` if it requires none.
-const fn either(size: u8, other: usize) -> usize
-    ensures { result ≡ either size other }
-{
-    if size == 0 { other } else { size as usize }
 }

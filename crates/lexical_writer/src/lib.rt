@@ -17,6 +17,7 @@ pub mod layout;
 pub mod literal;
 pub mod moved;
 pub mod near;
+pub mod patterns;
 pub mod rounded;
 pub mod run;
 pub mod sink;

@@ -31,6 +31,7 @@ mod literal;
 mod moved;
 #[allow(clippy::needless_lifetimes, reason = "as it is proved")]
 mod near;
+mod patterns;
 #[allow(clippy::question_mark, reason = "as it is proved")]
 mod rounded;
 mod run;

@@ -5,9 +5,10 @@
 use crate::literal::syntax::{Condition, Conditions, Options, Syntax};
 use crate::literal::word::count;
 use crate::literal::writer::digits::{only_if, put_if_any, without_zeros};
-use crate::literal::writer::run::{Pattern, Run, Source};
+use crate::literal::writer::patterns::{fraction_pattern, integer_pattern, no_groups};
+use crate::literal::writer::run::{Run, Source};
 use crate::literal::writer::sink::{Sink, Window};
-use crate::word::{base_prefix, base_suffix, digit_separator, FormatView};
+use crate::word::{base_prefix, base_suffix, FormatView};
 
 /// How many digits a group has. Where the format does not allow separators between digits, there are no groups.
 #[derive(Debug, Clone, Copy, PartialEq, Eq, Hash)]
@@ -445,56 +446,5 @@ const fn first_error(sign: bool, fraction: bool, exponent: bool) -> Option<Write
         Some(WriteError::Exponent)
     } else {
         None
-    }
-}
-
-// Returns the pattern of an integer.
-#[inline]
-const fn integer_pattern(format: FormatView, conditions: Conditions, style: Style) -> Pattern {
-    let last = group_size(conditions.number(Condition::IntegerGroupSize), style.group);
-    let higher = either(conditions.number(Condition::HigherGroupSize), last);
-    let allowed = format.integer_internal_digit_separator();
-    pattern_of(format, allowed, last, higher, style.lowercase)
-}
-
-// Returns the pattern of a fraction with the digits of `run`. Its groups are counted from the left.
-#[inline]
-fn fraction_pattern(format: FormatView, conditions: Conditions, style: Style, run: &Run) -> Pattern {
-    let condition = conditions.number(Condition::FractionGroupSize);
-    let size = group_size(condition, style.fraction_group);
-    let last = if size == 0 { 0 } else { (run.length().saturating_sub(1) % size as u128) as usize + 1 };
-    let allowed = format.fraction_internal_digit_separator();
-    pattern_of(format, allowed, last, size, style.lowercase)
-}
-
-// Returns the pattern of digits in groups, unless there are none, or the format does not allow them.
-const fn pattern_of(format: FormatView, allowed: bool, last: usize, higher: usize, lowercase: bool) -> Pattern {
-    let separator = digit_separator(format.word());
-    if last == 0 || !allowed || separator == 0 {
-        return no_groups(lowercase);
-    }
-    Pattern { last, higher, separator, lowercase }
-}
-
-// Returns the pattern of digits without separators.
-const fn no_groups(lowercase: bool) -> Pattern {
-    Pattern { last: 0, higher: 0, separator: 0, lowercase }
-}
-
-// Returns how many digits a group has, where a condition requires `size` digits, or 0 for digits without groups.
-const fn group_size(size: u8, group: Grouping) -> usize {
-    match group {
-        Grouping::AsSyntax => size as usize,
-        Grouping::None | Grouping::Of(0) => 0,
-        Grouping::Of(other) => either(size, other),
-    }
-}
-
-// Returns the size that a condition requires, or `other` if it requires none.
-const fn either(size: u8, other: usize) -> usize {
-    if size == 0 {
-        other
-    } else {
-        size as usize
     }
 }

@@ -1,7 +1,6 @@
 -- A form that is left out goes no further.
-use Rattle.lexical_literal.proofs.Common.{ℕ, ◌<◌, ◌≤◌, ◌+◌, IfSome, Option, sym, subst, notation_of}
+use Rattle.lexical_literal.proofs.Common.{ℕ, ◌<◌, ◌≤◌, ◌+◌, IfSome, Option, sym, subst, notation_of, At}
 use Rattle.lexical_literal.specs.Additions.Forms.{bound}
-use Rattle.lexical_literal.specs.declared.plain.At.{At}
 use Rattle.lexical_literal.proofs.StrangerLemmas.{near_spare, spare_excludes}
 use Rattle.lexical_literal.proofs.exclude.is_behind.Goals as goal
 

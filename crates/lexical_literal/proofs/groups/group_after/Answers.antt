@@ -1,6 +1,5 @@
 -- The loop reads the text, byte by byte.
-use Rattle.lexical_literal.proofs.Common.{◌+◌, drop, take, sym, ap, ◌∙◌, arith, notation_of}
-use Rattle.lexical_literal.specs.Additions.Sizes.{group_after, grow}
+use Rattle.lexical_literal.proofs.Common.{◌+◌, drop, take, sym, ap, ◌∙◌, arith, notation_of, group_after, grow}
 use Rattle.lexical_literal.proofs.SizeLemmas.{group_step, grown_small}
 use Rattle.lexical_literal.proofs.groups.group_after.Goals as goal
 

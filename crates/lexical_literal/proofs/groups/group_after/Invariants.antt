@@ -1,5 +1,4 @@
-use Rattle.lexical_literal.proofs.Common.{◌-◌, ◌≡◌, ◌≤◌, Some, drop, take, notation_of}
-use Rattle.lexical_literal.specs.Additions.Sizes.{first_group, group_after}
+use Rattle.lexical_literal.proofs.Common.{◌-◌, ◌≡◌, ◌≤◌, Some, drop, take, notation_of, first_group, group_after}
 use Rattle.lexical_literal.proofs.groups.group_after.Given as goal
 
 abbrev pub invariant-loop-index : goal.invariant-loop-index

@@ -1,9 +1,6 @@
 -- Few digits fit, and of more those behind the zeros may.
-use Rattle.lexical_literal.proofs.Common.{◌≡◌, ◌%◌, ◌^◌, ◌++◌, [], append-nil, sym, ap, subst, ◌∙◌, arith, Literal}
-use Rattle.lexical_literal.specs.Additions.Read.{cut}
-use Rattle.lexical_literal.specs.Additions.Summary.{cuts_of}
+use Rattle.lexical_literal.proofs.Common.{◌≡◌, ◌%◌, ◌^◌, ◌++◌, [], append-nil, sym, ap, subst, ◌∙◌, arith, Literal, cut, cuts_of, number, places}
 use Rattle.lexical_literal.specs.Parts.{literal_of}
-use Rattle.lexical_literal.specs.Number.{number, places}
 use Rattle.lexical_literal.specs.Word.{IsWord}
 use Rattle.lexical_literal.proofs.WordLemmas.{fitting_word}
 use Rattle.lexical_literal.proofs.literal.exponent.Goals as goal

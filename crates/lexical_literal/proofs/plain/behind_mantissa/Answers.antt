@@ -1,8 +1,5 @@
 -- An exponent is read, where its character follows.
-use Rattle.lexical_literal.proofs.Common.{◌≡◌, true, false, sym, subst, ◌∙◌}
-use Rattle.lexical_literal.specs.Additions.Sizes.{steps_of}
-use Rattle.lexical_literal.specs.Additions.Summary.{takes}
-use Rattle.lexical_literal.specs.declared.plain.At.{At}
+use Rattle.lexical_literal.proofs.Common.{◌≡◌, true, false, sym, subst, ◌∙◌, steps_of, takes, At}
 use Rattle.lexical_util.specs.declared.feature_format.roles.Role.TheVariants as roles
 use Rattle.lexical_literal.proofs.JoinLemmas.{mark_at}
 use Rattle.lexical_literal.proofs.plain.behind_mantissa.Goals as goal

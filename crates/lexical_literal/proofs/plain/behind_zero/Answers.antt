@@ -1,8 +1,6 @@
 -- The digit behind the zero, and those behind it.
-use Rattle.lexical_literal.proofs.Common.{get_or, sym, subst, ◌+◌, ◌∙◌, raw, radix_of}
+use Rattle.lexical_literal.proofs.Common.{get_or, sym, subst, ◌+◌, ◌∙◌, raw, radix_of, steps_of, IsReadOn, at_stage}
 use Rattle.lexical_util.specs.declared.format_flags.Part.TheVariants as parts
-use Rattle.lexical_literal.specs.Additions.Sizes.{steps_of}
-use Rattle.lexical_literal.specs.Additions.Plain.{IsReadOn, at_stage}
 use Rattle.lexical_literal.specs.declared.steps.Piece.TheVariants as pieces
 use Rattle.lexical_literal.specs.declared.steps.Stage.TheVariants as stages
 use Rattle.lexical_literal.proofs.PlainLemmas.{read_led}

@@ -1,12 +1,9 @@
 -- The first digit, and those behind it.
-use Rattle.lexical_literal.proofs.Common.{ℕ, ◌≡◌, ◌+◌, ◌&&◌, Bool, List, true, false, get_or, refl, sym, ap, subst, ◌∙◌, arith, raw, Part, radix_of}
-use Rattle.lexical_literal.proofs.Common.{Grammar}
-use Rattle.std.proofs.Common.{◌==◌, if◌then◌else◌}
-use Rattle.lexical_literal.specs.Additions.Sizes.{steps_of}
-use Rattle.lexical_literal.specs.Additions.Plain.{HasRoles, IsDigitAt, IsReadOn, IsRunOn, at_stage, may_read}
-use Rattle.lexical_literal.specs.Additions.Summary.{awaits_integer, digits_of, digits_piece, has_digit, is_signed, part_of}
-use Rattle.lexical_literal.specs.declared.plain.Run.{Run}
-use Rattle.lexical_literal.specs.declared.steps.Stage.{Stage}
+use Rattle.lexical_literal.proofs.Common.{ℕ, ◌≡◌, ◌+◌, ◌&&◌, Bool, List, true, false, get_or, refl, sym, ap, subst, ◌∙◌, arith, raw, Part, radix_of, Grammar}
+use Rattle.lexical_literal.proofs.Common.{◌==◌, if◌then◌else◌, steps_of, HasRoles, IsReadOn, IsRunOn, at_stage, awaits_integer, digits_piece, has_digit}
+use Rattle.lexical_literal.proofs.Common.{is_signed, part_of, Run, Stage}
+use Rattle.lexical_literal.specs.Additions.Plain.{IsDigitAt, may_read}
+use Rattle.lexical_literal.specs.Additions.Summary.{digits_of}
 use Rattle.lexical_literal.specs.declared.steps.Stage.TheVariants as stages
 use Rattle.lexical_literal.proofs.PlainLemmas.{read_first}
 use Rattle.lexical_literal.proofs.StepLemmas.{awaited_part}
@@ -16,7 +13,8 @@ use Rattle.lexical_literal.proofs.plain.digits.Goals.{else-text-begun-eq48-via-t
 use Rattle.lexical_literal.proofs.plain.digits.Goals.{else-text-begun-eq48-via-else-text-begun-eq48}
 
 first_digit : (g : Grammar) (text : List ℕ) (part : Part) (none one last : Run) (v : ℕ) (stage : Stage) (leads : Bool) → HasRoles (steps_of g)
-    → part_of none.stage ≡ part → has_digit none.stage ≡ false → is_signed (steps_of g) part none.stage ≡ true → may_read (steps_of g) text none.size none.stage ≡ true
+    → part_of none.stage ≡ part → has_digit none.stage ≡ false → is_signed (steps_of g) part none.stage ≡ true
+    → may_read (steps_of g) text none.size none.stage ≡ true
     → IsDigitAt (radix_of (raw g.word) part) text none.size v → one ≡ pushed (radix_of (raw g.word) part) none v 1
     → ((get_or text none.size 0 == 48) && awaits_integer none.stage) ≡ leads → (if leads then stages.Bare else digits_of part) ≡ stage
     → IsRunOn (steps_of g) (radix_of (raw g.word) part) text part (record one { stage = stage }) last

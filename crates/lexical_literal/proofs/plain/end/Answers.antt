@@ -1,9 +1,7 @@
 -- The suffix is read, or the byte that follows is refused.
-use Rattle.lexical_literal.proofs.Common.{◌≡◌, true, false, get_or, sym, subst, ◌∙◌, arith, false≢true, raw}
+use Rattle.lexical_literal.proofs.Common.{◌≡◌, true, false, get_or, sym, subst, ◌∙◌, arith, false≢true, raw, steps_of, takes}
 use Rattle.lexical_util.specs.Roles.{suffix}
 use Rattle.lexical_util.specs.declared.feature_format.roles.Role.TheVariants as roles
-use Rattle.lexical_literal.specs.Additions.Sizes.{steps_of}
-use Rattle.lexical_literal.specs.Additions.Summary.{takes}
 use Rattle.lexical_literal.proofs.JoinLemmas.{suffix_at}
 use Rattle.lexical_literal.proofs.PassedLemmas.{passed}
 use Rattle.lexical_literal.proofs.plain.end.Goals as goal

@@ -1,9 +1,6 @@
 -- The exponent, and its sign.
-use Rattle.lexical_literal.proofs.Common.{◌+◌, ◌-◌, sym, subst}
-use Rattle.lexical_literal.specs.Additions.Sizes.{steps_of}
-use Rattle.lexical_literal.specs.Additions.Plain.{IsAt, IsBegun, IsReadOn, counts_of, at_stage}
-use Rattle.lexical_literal.specs.Additions.Summary.{cuts_of}
-use Rattle.lexical_literal.specs.declared.plain.At.{At}
+use Rattle.lexical_literal.proofs.Common.{◌+◌, ◌-◌, sym, subst, steps_of, IsAt, IsBegun, IsReadOn, at_stage, cuts_of, At}
+use Rattle.lexical_literal.specs.Additions.Plain.{counts_of}
 use Rattle.lexical_literal.specs.declared.steps.Piece.TheVariants as pieces
 use Rattle.lexical_literal.proofs.JoinLemmas.{exponent_at}
 use Rattle.lexical_literal.proofs.plain.exponent.Goals as goal

@@ -1,8 +1,5 @@
 -- The fraction, and what follows it.
-use Rattle.lexical_literal.proofs.Common.{◌+◌, ◌-◌, subst, sym, raw}
-use Rattle.lexical_literal.specs.Additions.Sizes.{steps_of}
-use Rattle.lexical_literal.specs.Additions.Plain.{IsBegun, IsReadOn, at_stage}
-use Rattle.lexical_literal.specs.Additions.Summary.{after_point, has_digit}
+use Rattle.lexical_literal.proofs.Common.{◌+◌, ◌-◌, subst, sym, raw, steps_of, IsBegun, IsReadOn, at_stage, after_point, has_digit}
 use Rattle.lexical_literal.specs.declared.steps.Piece.TheVariants as pieces
 use Rattle.lexical_literal.proofs.JoinLemmas.{fraction_at}
 use Rattle.lexical_literal.proofs.MantissaLemmas.{fraction_sum}
@@ -30,6 +27,7 @@ stopped-requires-clause-begun c =
     let run = c.digits-run.result in
     let from = c.args.integer.size + 1 in
     subst (IsBegun m text) (sym c.at_stage.ensures)
-    (fraction_at m text (record c.args.sizes { point = 1 }) from run.size (after_point (has_digit c.args.integer.stage)) run.stage c.requires.none.1 c.requires.at
+    (fraction_at m text (record c.args.sizes { point = 1 }) from run.size
+    (after_point (has_digit c.args.integer.stage)) run.stage c.requires.none.1 c.requires.at
     (subst (λ stage. IsReadOn m text (at_stage from stage) pieces.Fraction (at_stage run.size run.stage)) c.after_point-stage.ensures
     c.digits-run.ensures.run.on)).begun

@@ -1,10 +1,6 @@
 -- Digits, then a separator and the digit behind it.
-use Rattle.lexical_literal.proofs.Common.{◌≡◌, ◌≤◌, sym, ap, subst, ◌∙◌, arith, raw, radix_of}
-use Rattle.std.proofs.Common.{length}
-use Rattle.lexical_literal.specs.Additions.Sizes.{steps_of}
-use Rattle.lexical_literal.specs.Additions.Plain.{IsRunOn}
-use Rattle.lexical_literal.specs.Additions.Summary.{is_run, part_of}
-use Rattle.lexical_literal.specs.declared.plain.Run.{Run}
+use Rattle.lexical_literal.proofs.Common.{◌≡◌, ◌≤◌, sym, ap, subst, ◌∙◌, arith, raw, radix_of, length, steps_of, IsRunOn, part_of, Run}
+use Rattle.lexical_literal.specs.Additions.Summary.{is_run}
 use Rattle.lexical_literal.proofs.SumLemmas.{both_runs, more_separated, pushed}
 use Rattle.lexical_literal.proofs.plain.groups.Goals as goal
 

@@ -1,9 +1,6 @@
 -- The integer, and what follows it.
-use Rattle.lexical_literal.proofs.Common.{◌≡◌, ◌-◌, sym, subst, ◌∙◌, refl, true, false}
-use Rattle.lexical_literal.specs.Additions.Plain.{IsBegun, integer_sizes}
-use Rattle.lexical_literal.specs.Additions.Sizes.{steps_of}
-use Rattle.lexical_literal.specs.Additions.Summary.{takes}
-use Rattle.lexical_literal.specs.declared.plain.At.{At}
+use Rattle.lexical_literal.proofs.Common.{◌≡◌, ◌-◌, sym, subst, ◌∙◌, refl, true, false, IsBegun, steps_of, takes, At}
+use Rattle.lexical_literal.specs.Additions.Plain.{integer_sizes}
 use Rattle.lexical_util.specs.declared.feature_format.roles.Role.TheVariants as roles
 use Rattle.lexical_literal.proofs.JoinLemmas.{integer_at, point_at}
 use Rattle.lexical_literal.proofs.plain.integer.Goals as goal

@@ -1,8 +1,6 @@
 -- Each digit is read behind the others.
-use Rattle.lexical_literal.proofs.Common.{ℕ, ◌≡◌, ◌-◌, ◌+◌, sym, ap, subst, arith, raw, radix_of}
-use Rattle.lexical_literal.specs.Additions.Sizes.{steps_of}
-use Rattle.lexical_literal.specs.Additions.Plain.{IsRunOn, reached}
-use Rattle.lexical_literal.specs.declared.plain.Run.{Run}
+use Rattle.lexical_literal.proofs.Common.{ℕ, ◌≡◌, ◌-◌, ◌+◌, sym, ap, subst, arith, raw, radix_of, steps_of, IsRunOn, Run}
+use Rattle.lexical_literal.specs.Additions.Plain.{reached}
 use Rattle.lexical_literal.proofs.SumLemmas.{both_runs, more_digit, pushed}
 use Rattle.lexical_literal.proofs.plain.more_digits.Goals as goal
 
@@ -19,11 +17,13 @@ loop-value-preserved c =
     let more = now.more in
     let digits : run.digits + 1 ≡ begun.digits + (size + 1 - begun.size) = omega (arith, more) in
     let next : Run = record { size = size + 1; stage = begun.stage; digits = run.digits + 1; sum = c.add-sum.result } in
-    let same : pushed radix run v 1 ≡ next = ap (λ (s : ℕ). record { size = size + 1; stage = begun.stage; digits = run.digits + 1; sum = s }) (sym c.add-sum.ensures) in
+    let same : pushed radix run v 1 ≡ next = ap (λ (s : ℕ). record { size = size + 1; stage = begun.stage; digits = run.digits + 1; sum = s })
+    (sym c.add-sum.ensures) in
     record {
       within = omega (arith, c.in-Some.ensures.some.0);
       more = omega (arith, more);
-      on = subst (λ (n : ℕ). IsRunOn (steps_of g) radix text c.args.part begun (record { size = size + 1; stage = begun.stage; digits = n; sum = c.add-sum.result })) digits
+      on = subst (λ (n : ℕ). IsRunOn (steps_of g) radix text c.args.part begun
+          (record { size = size + 1; stage = begun.stage; digits = n; sum = c.add-sum.result })) digits
           (subst (IsRunOn (steps_of g) radix text c.args.part begun) same
           (both_runs (steps_of g) radix text c.args.part begun run (pushed radix run v 1) now.on
           (more_digit g text c.args.part run v c.requires.ready.roles c.requires.run c.requires.part c.in-Some.ensures.some)));

@@ -1,7 +1,5 @@
-use Rattle.lexical_literal.proofs.Common.{◌-◌, ◌≤◌, raw, radix_of}
-use Rattle.std.proofs.Common.{length}
-use Rattle.lexical_literal.specs.Additions.Sizes.{steps_of}
-use Rattle.lexical_literal.specs.Additions.Plain.{IsRunOn, reached}
+use Rattle.lexical_literal.proofs.Common.{◌-◌, ◌≤◌, raw, radix_of, length, steps_of, IsRunOn}
+use Rattle.lexical_literal.specs.Additions.Plain.{reached}
 use Rattle.lexical_literal.proofs.plain.more_digits.Given as goal
 
 abbrev pub invariant-loop-value : goal.invariant-loop-value

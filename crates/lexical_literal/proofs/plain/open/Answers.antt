@@ -1,8 +1,6 @@
 -- What comes before the digits.
-use Rattle.lexical_literal.proofs.Common.{sym, subst, ◌∙◌}
+use Rattle.lexical_literal.proofs.Common.{sym, subst, ◌∙◌, steps_of, Stage}
 use Rattle.lexical_literal.specs.Additions.Plain.{IsOpened}
-use Rattle.lexical_literal.specs.Additions.Sizes.{steps_of}
-use Rattle.lexical_literal.specs.declared.steps.Stage.{Stage}
 use Rattle.lexical_literal.proofs.JoinLemmas.{opened, opened_prefix}
 use Rattle.lexical_literal.proofs.plain.open.Goals as goal
 

@@ -1,6 +1,5 @@
 -- A zero, and the base prefix.
-use Rattle.lexical_literal.proofs.Common.{◌≡◌, ◌+◌, true, get_or, sym, subst, ◌∙◌, arith, raw}
-use Rattle.lexical_literal.specs.Additions.Sizes.{steps_of}
+use Rattle.lexical_literal.proofs.Common.{◌≡◌, ◌+◌, true, get_or, sym, subst, ◌∙◌, arith, raw, steps_of}
 use Rattle.lexical_util.specs.Roles.{prefix}
 use Rattle.lexical_literal.proofs.PlainLemmas.{read_prefix}
 use Rattle.lexical_literal.proofs.plain.reads_prefix.Goals as goal

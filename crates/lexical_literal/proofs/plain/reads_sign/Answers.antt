@@ -1,8 +1,5 @@
 -- The byte is a sign that is allowed.
-use Rattle.lexical_literal.proofs.Common.{◌&&◌, ◌||◌, Bool, get_or, not, subst, arith}
-use Rattle.std.proofs.Common.{◌==◌, IsTrue}
-use Rattle.lexical_literal.specs.Additions.Sizes.{steps_of}
-use Rattle.lexical_literal.specs.Additions.Summary.{forbids_plus}
+use Rattle.lexical_literal.proofs.Common.{◌&&◌, ◌||◌, Bool, get_or, not, subst, arith, ◌==◌, IsTrue, steps_of, forbids_plus}
 use Rattle.lexical_literal.proofs.PlainLemmas.{read_sign}
 use Rattle.lexical_literal.proofs.plain.reads_sign.Goals as goal
 

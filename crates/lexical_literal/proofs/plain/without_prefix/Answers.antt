@@ -1,6 +1,5 @@
 -- Nothing but the base prefix may follow its zero.
-use Rattle.lexical_literal.proofs.Common.{◌+◌, get_or, sym, subst}
-use Rattle.lexical_literal.specs.Additions.Sizes.{steps_of}
+use Rattle.lexical_literal.proofs.Common.{◌+◌, get_or, sym, subst, steps_of}
 use Rattle.lexical_literal.specs.Additions.Plain.{IsRefused}
 use Rattle.lexical_literal.proofs.PassedLemmas.{zero_passed}
 use Rattle.lexical_literal.proofs.plain.without_prefix.Goals as goal

@@ -1,7 +1,5 @@
 -- One byte less.
-use Rattle.lexical_literal.proofs.Common.{◌-◌, sym, ◌∙◌, arith, notation_of}
-use Rattle.std.proofs.Common.{length}
-use Rattle.lexical_literal.specs.Additions.Causes.{kind_set}
+use Rattle.lexical_literal.proofs.Common.{◌-◌, sym, ◌∙◌, arith, notation_of, length, kind_set}
 use Rattle.lexical_literal.proofs.SpanLemmas.{behind_last}
 use Rattle.lexical_literal.proofs.span.behind.Goals as goal
 

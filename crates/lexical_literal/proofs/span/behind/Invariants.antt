@@ -1,7 +1,4 @@
-use Rattle.lexical_literal.proofs.Common.{◌≡◌, notation_of}
-use Rattle.std.proofs.Common.{length}
-use Rattle.lexical_literal.specs.Additions.Causes.{kind_set}
-use Rattle.lexical_literal.specs.Cause.{behind}
+use Rattle.lexical_literal.proofs.Common.{◌≡◌, notation_of, length, kind_set, behind}
 use Rattle.lexical_literal.proofs.span.behind.Given as goal
 
 abbrev pub invariant-loop-front : goal.invariant-loop-front

@@ -1,6 +1,4 @@
-use Rattle.lexical_literal.proofs.Common.{◌-◌, ◌+◌, ◌≡◌, ◌≤◌, notation_of}
-use Rattle.std.proofs.Common.{length}
-use Rattle.lexical_literal.specs.Additions.Causes.{kind_set}
+use Rattle.lexical_literal.proofs.Common.{◌-◌, ◌+◌, ◌≡◌, ◌≤◌, notation_of, length, kind_set}
 use Rattle.lexical_literal.specs.Cause.{first_in}
 use Rattle.lexical_literal.proofs.span.first.Given as goal
 

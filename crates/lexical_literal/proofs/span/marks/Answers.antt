@@ -1,10 +1,8 @@
 -- Where the last byte is neither a separator nor a sign, all of the text is before the first separators at its end.
-use Rattle.lexical_literal.proofs.Common.{◌≡◌, ◌-◌, take, sym, ap, ◌∙◌, arith, notation_of}
-use Rattle.std.proofs.Common.{length}
+use Rattle.lexical_literal.proofs.Common.{◌≡◌, ◌-◌, take, sym, ap, ◌∙◌, arith, notation_of, length, kind_set, behind}
+use Rattle.lexical_literal.specs.Cause.{first_in}
 use Rattle.std.proofs.Math.Seq.{take-length}
 use Rattle.lexical_util.specs.declared.format_flags.Part.TheVariants as parts
-use Rattle.lexical_literal.specs.Additions.Causes.{kind_set}
-use Rattle.lexical_literal.specs.Cause.{behind, first_in}
 use Rattle.lexical_literal.specs.declared.span.Kind.TheVariants as kinds
 use Rattle.lexical_literal.proofs.SpanLemmas.{behind_last}
 use Rattle.lexical_literal.proofs.span.marks.Goals as goal

@@ -1,5 +1,4 @@
-use Rattle.lexical_literal.proofs.Common.{◌-◌, drop, notation_of}
-use Rattle.std.proofs.Common.{length}
+use Rattle.lexical_literal.proofs.Common.{◌-◌, drop, notation_of, length}
 use Rattle.lexical_literal.proofs.SpecialLemmas.{HasRead}
 use Rattle.lexical_literal.proofs.specials.is_spelled.Given as goal
 

@@ -1,12 +1,12 @@
-use Rattle.lexical_literal.proofs.Common.{◌≡◌, ◌≤◌, nat_lt}
-use Rattle.std.proofs.Common.{if◌then◌else◌, length}
+use Rattle.lexical_literal.proofs.Common.{◌≡◌, ◌≤◌, nat_lt, if◌then◌else◌, length}
 use Rattle.lexical_literal.specs.Suffix.{longest_word}
 use Rattle.lexical_literal.proofs.suffix.longest_word.Given as goal
 
 abbrev pub invariant-loop-rest : goal.invariant-loop-rest
 invariant-loop-rest l = record {
   within : l.longest ≤ length l.text;
-  same : longest_word l.either' l.words l.text ≡ (if nat_lt l.longest (longest_word l.either' l.rest l.text) then longest_word l.either' l.rest l.text else l.longest);
+  same : longest_word l.either' l.words l.text ≡
+      (if nat_lt l.longest (longest_word l.either' l.rest l.text) then longest_word l.either' l.rest l.text else l.longest);
 }
 
 abbrev pub decreases-loop-rest : goal.decreases-loop-rest

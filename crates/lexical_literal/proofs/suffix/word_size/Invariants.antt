@@ -1,5 +1,4 @@
-use Rattle.lexical_literal.proofs.Common.{◌-◌, ◌+◌, ◌≡◌, ◌≤◌}
-use Rattle.std.proofs.Common.{length}
+use Rattle.lexical_literal.proofs.Common.{◌-◌, ◌+◌, ◌≡◌, ◌≤◌, length}
 use Rattle.lexical_literal.specs.Suffix.{word_size}
 use Rattle.lexical_literal.proofs.suffix.word_size.Given as goal
 

@@ -1,7 +1,6 @@
 -- No literal of the forms before goes on.
-use Rattle.lexical_literal.proofs.Common.{◌≡◌, subst, arith, nat_tests, notation_of}
+use Rattle.lexical_literal.proofs.Common.{◌≡◌, subst, arith, nat_tests, notation_of, Form}
 use Rattle.lexical_literal.specs.Additions.Token.{IsNear}
-use Rattle.lexical_literal.specs.declared.list.Form.{Form}
 use Rattle.lexical_literal.proofs.LeadingLemmas.{near_more}
 use Rattle.lexical_literal.proofs.token.are_past.Goals as goal
 use Rattle.lexical_literal.proofs.token.are_past.Goals.{else-form-but-via-then-form-but+else-not-is_past, else-form-but-via-else-form-but}

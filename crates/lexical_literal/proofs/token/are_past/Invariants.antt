@@ -1,8 +1,5 @@
-use Rattle.lexical_literal.proofs.Common.{ℕ, ◌≡◌, ◌<◌, ◌-◌, get_or, notation_of}
-use Rattle.std.proofs.Common.{length}
-use Rattle.lexical_literal.specs.Additions.Forms.{sign_size}
+use Rattle.lexical_literal.proofs.Common.{ℕ, ◌≡◌, ◌<◌, ◌-◌, get_or, notation_of, length, sign_size, Form}
 use Rattle.lexical_literal.specs.Additions.Token.{IsNear}
-use Rattle.lexical_literal.specs.declared.list.Form.{Form}
 use Rattle.lexical_literal.proofs.token.are_past.Given as goal
 
 abbrev pub invariant-loop-form : goal.invariant-loop-form

@@ -1,6 +1,5 @@
 -- The forms before have no literal that goes on.
-use Rattle.lexical_literal.proofs.Common.{All, refl, sym, subst, take_all, All-more}
-use Rattle.lexical_literal.specs.Token.{IsAhead}
+use Rattle.lexical_literal.proofs.Common.{All, refl, sym, subst, take_all, All-more, IsAhead}
 use Rattle.lexical_literal.proofs.FormLemmas.{at_index}
 use Rattle.lexical_literal.proofs.TokenLemmas.{ahead, not_ahead}
 use Rattle.lexical_literal.proofs.token.is_one_ahead.Goals as goal

@@ -1,6 +1,4 @@
-use Rattle.lexical_literal.proofs.Common.{All, take, ◌-◌}
-use Rattle.std.proofs.Common.{length}
-use Rattle.lexical_literal.specs.Token.{IsAhead}
+use Rattle.lexical_literal.proofs.Common.{All, take, ◌-◌, length, IsAhead}
 use Rattle.lexical_literal.proofs.token.is_one_ahead.Given as goal
 
 abbrev pub invariant-loop-form : goal.invariant-loop-form

@@ -1,7 +1,5 @@
 -- The front has the parts that were counted.
-use Rattle.lexical_literal.proofs.Common.{◌∙◌, sym, subst, Reads, notation_of}
-use Rattle.lexical_literal.specs.Additions.Longest.{IsMeasured}
-use Rattle.lexical_literal.specs.Forms.{ReadsForm}
+use Rattle.lexical_literal.proofs.Common.{◌∙◌, sym, subst, Reads, notation_of, IsMeasured, ReadsForm}
 use Rattle.lexical_literal.proofs.PieceLemmas.{measured_cut, whole_read}
 use Rattle.lexical_literal.proofs.token.made.Goals as goal
 

@@ -1,10 +1,7 @@
 -- The best candidate, and the form that goes furthest.
-use Rattle.lexical_literal.proofs.Common.{Some, ◌≡◌, ◌+◌, sym, subst, notation_of}
-use Rattle.lexical_literal.specs.Additions.Longest.{IsStopped}
+use Rattle.lexical_literal.proofs.Common.{Some, ◌≡◌, ◌+◌, sym, subst, notation_of, IsStopped, Form, Candidate}
 use Rattle.lexical_literal.specs.Additions.Token.{IsMade}
 use Rattle.lexical_literal.specs.Token.{NoCandidate}
-use Rattle.lexical_literal.specs.declared.list.Form.{Form}
-use Rattle.lexical_literal.specs.declared.token.Candidate.{Candidate}
 use Rattle.lexical_literal.proofs.FormLemmas.{IsBest, best_more, furthest_is, goes}
 use Rattle.lexical_literal.proofs.TokenLemmas.{IsBestYet, best_of, candidate_more, is_none}
 use Rattle.lexical_literal.proofs.token.scan.Goals as goal

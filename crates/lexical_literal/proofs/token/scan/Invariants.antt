@@ -1,5 +1,4 @@
-use Rattle.lexical_literal.proofs.Common.{◌-◌}
-use Rattle.std.proofs.Common.{length}
+use Rattle.lexical_literal.proofs.Common.{◌-◌, length}
 use Rattle.lexical_literal.proofs.FormLemmas.{IsBest, goes}
 use Rattle.lexical_literal.proofs.TokenLemmas.{IsBestYet}
 use Rattle.lexical_literal.proofs.token.scan.Given as goal

@@ -1,8 +1,6 @@
 -- The zeros of the fraction count if the integer has no other digits.
-use Rattle.lexical_literal.proofs.Common.{ℕ, ◌≡◌, ◌+◌, ◌++◌, Bool, List, true, false, refl, sym, ap, ◌∙◌, filter_map-append}
-use Rattle.std.proofs.Common.{◌==◌, if◌then◌else◌}
-use Rattle.lexical_literal.specs.Number.{digits_in, places}
-use Rattle.lexical_literal.specs.Word.{leading_zeros}
+use Rattle.lexical_literal.proofs.Common.{ℕ, ◌≡◌, ◌+◌, ◌++◌, Bool, List, true, false, refl, sym, ap, ◌∙◌, filter_map-append, ◌==◌, if◌then◌else◌, digits_in}
+use Rattle.lexical_literal.proofs.Common.{places, leading_zeros}
 use Rattle.lexical_literal.proofs.WordLemmas.{zeros_append}
 use Rattle.lexical_literal.proofs.word.all_zeros.Goals as goal
 

@@ -1,6 +1,4 @@
-use Rattle.lexical_literal.proofs.Common.{drop, ◌-◌, ◌≡◌, ◌+◌, ◌≤◌}
-use Rattle.std.proofs.Common.{length}
-use Rattle.lexical_literal.specs.Number.{places}
+use Rattle.lexical_literal.proofs.Common.{drop, ◌-◌, ◌≡◌, ◌+◌, ◌≤◌, length, places}
 use Rattle.lexical_literal.proofs.word.count.Given as goal
 
 abbrev pub invariant-loop-index : goal.invariant-loop-index

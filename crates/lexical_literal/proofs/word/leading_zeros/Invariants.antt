@@ -1,7 +1,4 @@
-use Rattle.lexical_literal.proofs.Common.{drop, ◌+◌, ◌-◌, ◌≡◌, ◌≤◌}
-use Rattle.std.proofs.Common.{length}
-use Rattle.lexical_literal.specs.Number.{digits_in, places}
-use Rattle.lexical_literal.specs.Word.{leading_zeros}
+use Rattle.lexical_literal.proofs.Common.{drop, ◌+◌, ◌-◌, ◌≡◌, ◌≤◌, length, digits_in, places, leading_zeros}
 use Rattle.lexical_literal.proofs.word.leading_zeros.Given as goal
 
 -- What has been passed are zeros.

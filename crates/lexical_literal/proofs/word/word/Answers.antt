@@ -1,7 +1,5 @@
 -- The digits behind the leading zeros decide.
-use Rattle.lexical_literal.proofs.Common.{◌≡◌, ◌-◌, ◌≤◌, ◌<◌, ◌^◌, ◌++◌, sym, subst, ◌∙◌, arith, false≢true}
-use Rattle.lexical_literal.specs.Number.{digits_in, number, places}
-use Rattle.lexical_literal.specs.Word.{leading_zeros}
+use Rattle.lexical_literal.proofs.Common.{◌≡◌, ◌-◌, ◌≤◌, ◌<◌, ◌^◌, ◌++◌, sym, subst, ◌∙◌, arith, false≢true, digits_in, number, places, leading_zeros}
 use Rattle.lexical_literal.proofs.WordLemmas.{at_most, below, long_word, short_word, zeros_within}
 use Rattle.lexical_literal.proofs.word.word.Goals as goal
 

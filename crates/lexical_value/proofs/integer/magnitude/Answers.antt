@@ -1,6 +1,5 @@
 -- Without a fraction, the mantissa is the integer.
-use Rattle.lexical_value.proofs.Common.{raw, number}
-use Rattle.std.proofs.Common.{ap, ◌∙◌}
+use Rattle.lexical_value.proofs.Common.{raw, number, ap, ◌∙◌}
 use Rattle.lexical_util.specs.Layout as layout
 use Rattle.lexical_value.proofs.ValueLemmas.{integer_mantissa}
 use Rattle.lexical_value.proofs.integer.magnitude.Goals as goal

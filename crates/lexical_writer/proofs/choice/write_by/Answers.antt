@@ -1,11 +1,9 @@
 -- The list reads the text as the number.
-use Rattle.lexical_writer.proofs.Common.{ℕ, ◌≡◌, ◌<◌, ◌≤◌, ◌-◌, ◌^◌, IfOk, List, Option, Some, IsSomeAnd, inl, inr, length, min, refl, rules, slice_get}
-use Rattle.lexical_writer.proofs.Common.{take, ap, sym, ◌∙◌, subst, arith, cases_lt, false≢true, nat_tests, Literal, text_of, IsSyntax, Grammar}
+use Rattle.lexical_writer.proofs.Common.{ℕ, ◌≡◌, ◌<◌, ◌≤◌, ◌-◌, ◌^◌, IfOk, List, Option, Some, IsSomeAnd, inl, inr, length, min, refl, rules, slice_get, take}
+use Rattle.lexical_writer.proofs.Common.{ap, sym, ◌∙◌, subst, arith, cases_lt, false≢true, nat_tests, Literal, text_of, IsSyntax, Grammar, Reads, notation_of}
 use Rattle.std.proofs.lemmas.Option.{slice_get_read}
 use Rattle.lexical_literal.specs.Forms.{IsNumber, ReadsForm}
 use Rattle.lexical_literal.specs.Kind.{exact}
-use Rattle.lexical_literal.specs.Literal.{Reads}
-use Rattle.lexical_literal.specs.Notation.{notation_of}
 use Rattle.lexical_literal.specs.Read.{Read}
 use Rattle.lexical_literal.specs.declared.list.Form.{Form}
 use Rattle.lexical_writer.specs.Buffer.{IsTaken}
@@ -24,7 +22,8 @@ same_form P g form text read l found one here is reads kinds plain written holds
     let word : g.word ≡ read.format = ap (λ (g : Grammar). g.word) is ∙ sym by.0 in
     subst (λ k. P (record { format = read.format; literal = read.literal; kind = k })) (sym (kind ∙ plain))
     (subst (λ w. P (exact_read w read.literal)) word
-    (subst (λ l. P (exact_read g.word l)) (one read.literal text written (subst (λ (g : Grammar). Reads (notation_of g) read.literal text) (sym is) by.1)) holds))
+    (subst (λ l. P (exact_read g.word l))
+    (one read.literal text written (subst (λ (g : Grammar). Reads (notation_of g) read.literal text) (sym is) by.1)) holds))
 
 -- The buffer has the whole text.
 taken : (text old bytes : List ℕ) (size : ℕ) → IsTaken text old bytes size → size ≤ length bytes → size < 2 ^ 64 - 1 → text ≡ take size bytes
@@ -61,7 +60,8 @@ returns-in-Ok-Literal-clause-value g c =
                 ∙ slice_get_read c.as_slice.result.now (length c.as_slice.result.now) c.args.index c.index-as_slice-index.result refl
                 (subst (λ (forms : List Form). c.args.index < length forms) (sym c.as_slice.ensures.list) c.requires) c.index-as_slice-index.is in
                 same_form (g.N.Writable.is c.args.number.now) c.syntax.result c.index-as_slice-index.result text c.in-Ok-Literal.literal written.0
-                (slice_get c.args.forms.now.forms c.in-Ok-Literal.form) (c.literal_facts.ensures.one_reading c.syntax.result lawful written.0) here c.syntax.ensures both.0.reads
+                (slice_get c.args.forms.now.forms c.in-Ok-Literal.form)
+                (c.literal_facts.ensures.one_reading c.syntax.result lawful written.0) here c.syntax.ensures both.0.reads
                 both.1 kind (subst (Reads (notation_of c.syntax.result) written.0) whole written.1) (written.2 plain none)
             | else-is_plain q ↦ absurd (false≢true (sym q.if-is_plain.false ∙ sym q.plain-is ∙ p.if-plain.true))
           ]

@@ -1,6 +1,5 @@
 -- One more byte is a digit.
-use Rattle.lexical_writer.proofs.Common.{◌≡◌, get_or, ◌∙◌, arith}
-use Rattle.std.proofs.lemmas.Option.{get_or_from_slice_get}
+use Rattle.lexical_writer.proofs.Common.{◌≡◌, get_or, ◌∙◌, arith, get_or_from_slice_get}
 use Rattle.lexical_util.specs.Digits.{digit_characters}
 use Rattle.lexical_writer.proofs.DigitLemmas.{more_characters}
 use Rattle.lexical_writer.proofs.digits.are_characters.Goals as goal

@@ -1,6 +1,5 @@
 -- The character is that of the digit, in either case.
-use Rattle.lexical_writer.proofs.Common.{ap, sym, ◌∙◌, character}
-use Rattle.std.proofs.lemmas.Option.{get_or_from_slice_get}
+use Rattle.lexical_writer.proofs.Common.{ap, sym, ◌∙◌, character, get_or_from_slice_get}
 use Rattle.std.specs.Char.{to_ascii_lowercase}
 use Rattle.lexical_base.specs.Digits.{digit_characters}
 use Rattle.lexical_writer.proofs.digits.character.Goals as goal

@@ -1,7 +1,6 @@
 -- A digit is written with what follows it, and another byte is passed.
-use Rattle.lexical_writer.proofs.Common.{◌≡◌, ◌+◌, ◌-◌, ◌∷◌, ◌++◌, drop, length, sym, ap, subst, ◌∙◌, arith, append_assoc, cons_option, digits_in}
-use Rattle.lexical_writer.proofs.Common.{character, grouped_front}
-use Rattle.lexical_writer.specs.Digits.{separated}
+use Rattle.lexical_writer.proofs.Common.{◌≡◌, ◌+◌, ◌-◌, ◌∷◌, ◌++◌, drop, length, sym, ap, subst, ◌∙◌, arith, append_assoc, cons_option, digits_in, character}
+use Rattle.lexical_writer.proofs.Common.{grouped_front, separated}
 use Rattle.lexical_writer.proofs.DigitLemmas.{left_of}
 use Rattle.lexical_writer.proofs.digits.put_digits.Goals as goal
 use Rattle.lexical_writer.proofs.digits.put_digits.Goals.{in-Some, in_default}

@@ -1,5 +1,4 @@
-use Rattle.lexical_writer.proofs.Common.{length, drop, ◌+◌, ◌-◌, ◌++◌, ◌≡◌, ◌≤◌, List, ℕ, digits_in, grouped_front}
-use Rattle.lexical_literal.specs.Number.{places}
+use Rattle.lexical_writer.proofs.Common.{length, drop, ◌+◌, ◌-◌, ◌++◌, ◌≡◌, ◌≤◌, List, ℕ, digits_in, grouped_front, places}
 use Rattle.lexical_writer.specs.contracts.digits.put_digits.{S-type}
 use Rattle.lexical_writer.proofs.digits.put_digits.Given as goal
 

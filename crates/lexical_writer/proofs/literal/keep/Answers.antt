@@ -1,6 +1,5 @@
 -- What is written of a literal has its value.
-use Rattle.lexical_writer.proofs.Common.{◌∙◌, ap, sym, raw}
-use Rattle.std.proofs.lemmas.Bool.{eqb-true}
+use Rattle.lexical_writer.proofs.Common.{◌∙◌, ap, sym, raw, eqb-true}
 use Rattle.std.proofs.lemmas.Result.{IfOk-weaker}
 use Rattle.lexical_writer.specs.Conversion.{amount_of}
 use Rattle.lexical_writer.specs.Layout.{literal_of}

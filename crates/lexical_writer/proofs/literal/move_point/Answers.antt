@@ -22,7 +22,8 @@ same : (r : Record) (parts : Parts) (g : Grammar) (style : Style) (amount : Amou
     → IfOk result (λ layout. HasNumber g amount (written layout)) → IsSyntax g
     → IfOk result (λ layout. SameFraction r (literal_of parts) (raw g.word) (written layout))
 same r parts g style amount move by moved whole radix (Ok layout) has lawful =
-    same_moved (lacks_options g.options) r parts g amount move by moved whole (eqb-true _ _ radix) (radixes g.word lawful.lawful part.Integer).0 (written layout) has
+    same_moved (lacks_options g.options) r parts g amount move by moved whole (eqb-true _ _ radix) (radixes g.word lawful.lawful part.Integer).0
+    (written layout) has
 same r parts g style amount move by moved whole radix (Err error) has lawful = tt
 
 pub times-requires-clause-radix : goal.times-requires-clause-radix

@@ -1,6 +1,4 @@
-use Rattle.lexical_literal.proofs.Common.{ap, ◌∙◌, notation_of}
-use Rattle.lexical_literal.specs.Forms.{is_byte}
-use Rattle.lexical_literal.specs.Additions.Explained.{blame}
+use Rattle.lexical_literal.proofs.Common.{ap, ◌∙◌, notation_of, is_byte, blame}
 use Rattle.lexical_literal.specs.declared.cause.Stop.{Stop}
 use Rattle.lexical_literal.proofs.cause.Spot.is_byte.Goals as goal
 

@@ -1,9 +1,7 @@
 -- Each answer is made of the cause.
-use Rattle.lexical_literal.proofs.Common.{ap, ◌∙◌, notation_of, number_of}
-use Rattle.lexical_literal.specs.Additions.Explained.{blame, unmet}
-use Rattle.lexical_literal.specs.Cause.{error_of, first_unmet, lowest, span_of}
+use Rattle.lexical_literal.proofs.Common.{ap, ◌∙◌, notation_of, number_of, blame, unmet, span_of, Blame}
+use Rattle.lexical_literal.specs.Cause.{error_of, first_unmet, lowest}
 use Rattle.lexical_literal.specs.Notation.{kept}
-use Rattle.lexical_literal.specs.declared.cause.Blame.{Blame}
 use Rattle.lexical_literal.specs.declared.cause.Stop.{Stop}
 use Rattle.lexical_literal.proofs.cause.Spot.refusal.Goals as goal
 

@@ -1,15 +1,10 @@
 -- A separator, the case of a letter, or a byte.
-use Rattle.lexical_literal.proofs.Common.{ℕ, ◌≡◌, ◌≢◌, Bool, true, false, Option, Some, refl, sym, ap, ◌∙◌, arith, nat_tests, Notation, notation_of}
+use Rattle.lexical_literal.proofs.Common.{ℕ, ◌≡◌, ◌≢◌, Bool, true, false, Option, Some, refl, sym, ap, ◌∙◌, arith, nat_tests, Notation, notation_of, place_of}
+use Rattle.lexical_literal.proofs.Common.{blame, mask_of, role_at, part_of, bare, Blame, Group, Summary}
+use Rattle.lexical_literal.specs.Additions.Explained.{cases, otherwise, requirements, separators}
 use Rattle.std.proofs.Common.{◌==◌, if◌then◌else◌}
-use Rattle.lexical_literal.specs.Additions.Causes.{place_of}
-use Rattle.lexical_literal.specs.Additions.Explained.{blame, cases, mask_of, otherwise, requirements, separators}
 use Rattle.lexical_literal.specs.Additions.Sizes.{goes}
-use Rattle.lexical_literal.specs.Additions.Summary.{role_at, part_of}
-use Rattle.lexical_literal.specs.Cause.{bare}
-use Rattle.lexical_literal.specs.declared.cause.Blame.{Blame}
 use Rattle.lexical_literal.specs.declared.cause.ReadErrorKind.TheVariants as causes
-use Rattle.lexical_literal.specs.declared.groups.Group.{Group}
-use Rattle.lexical_literal.specs.declared.steps.Summary.{Summary}
 use Rattle.lexical_literal.proofs.cause.Stop.blame.Goals as goal
 
 nonzero : (n : ℕ) → n ≢ 0 → (n == 0) ≡ false

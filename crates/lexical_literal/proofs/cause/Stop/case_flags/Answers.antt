@@ -1,8 +1,7 @@
-use Rattle.lexical_literal.proofs.Common.{◌&&◌, sym, ap, ◌∙◌, Some, notation_of}
+use Rattle.lexical_literal.proofs.Common.{◌&&◌, sym, ap, ◌∙◌, Some, notation_of, mask_of, bare}
+use Rattle.lexical_literal.specs.Cause.{case_set}
 use Rattle.lexical_util.specs.Roles.{other_case}
 use Rattle.lexical_literal.specs.Additions.Sizes.{goes}
-use Rattle.lexical_literal.specs.Additions.Explained.{mask_of}
-use Rattle.lexical_literal.specs.Cause.{bare, case_set}
 use Rattle.lexical_literal.proofs.CauseLemmas.{no_mask}
 use Rattle.lexical_literal.proofs.cause.Stop.case_flags.Goals as goal
 

@@ -1,18 +1,10 @@
 -- The cause is a wrong byte if nothing else is the cause.
-use Rattle.lexical_literal.proofs.Common.{ℕ, ◌≡◌, ◌&&◌, Bool, true, false, not, Option, None, Some, refl, sym, subst, arith, nat_tests, Notation}
-use Rattle.lexical_literal.proofs.Common.{notation_of}
-use Rattle.std.proofs.Common.{if◌then◌else◌}
+use Rattle.lexical_literal.proofs.Common.{ℕ, ◌≡◌, ◌&&◌, Bool, true, false, not, Option, None, Some, refl, sym, subst, arith, nat_tests, Notation, notation_of}
+use Rattle.lexical_literal.proofs.Common.{if◌then◌else◌, is_byte, place_of, blame, mask_of, part_of, role_at, bare, Blame, Group, Summary}
+use Rattle.lexical_literal.specs.Additions.Explained.{cases, requirements, separators}
 use Rattle.std.specs.Prelude.{◌==◌}
-use Rattle.lexical_literal.specs.Forms.{is_byte}
-use Rattle.lexical_literal.specs.Additions.Causes.{place_of}
-use Rattle.lexical_literal.specs.Additions.Explained.{blame, cases, mask_of, requirements, separators}
 use Rattle.lexical_literal.specs.Additions.Sizes.{goes}
-use Rattle.lexical_literal.specs.Additions.Summary.{part_of, role_at}
-use Rattle.lexical_literal.specs.Cause.{bare}
-use Rattle.lexical_literal.specs.declared.cause.Blame.{Blame}
 use Rattle.lexical_literal.specs.declared.cause.ReadErrorKind.TheVariants as causes
-use Rattle.lexical_literal.specs.declared.groups.Group.{Group}
-use Rattle.lexical_literal.specs.declared.steps.Summary.{Summary}
 use Rattle.lexical_literal.proofs.cause.Stop.is_byte.Goals as goal
 use Rattle.lexical_literal.proofs.cause.Stop.is_byte.Goals.{then-not-is_free, else-not-is_free}
 

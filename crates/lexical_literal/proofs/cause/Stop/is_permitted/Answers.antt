@@ -1,10 +1,8 @@
 -- The flag is added to those that require nothing.
-use Rattle.lexical_literal.proofs.Common.{◌≡◌, ◌^◌, ◌*◌, ◌%◌, ◌||◌, bit_or, sym, ap, ◌∙◌, arith, Flag, bit, raw, notation_of}
-use Rattle.std.proofs.Common.{◌==◌}
+use Rattle.lexical_literal.proofs.Common.{◌≡◌, ◌^◌, ◌*◌, ◌%◌, ◌||◌, bit_or, sym, ap, ◌∙◌, arith, Flag, bit, raw, notation_of, ◌==◌, no_condition, bare}
+use Rattle.lexical_literal.proofs.Common.{with_rules}
 use Rattle.std.proofs.lemmas.Nat.{one_shl}
 use Rattle.lexical_literal.specs.Additions.Sizes.{goes}
-use Rattle.lexical_literal.specs.Additions.Summary.{no_condition}
-use Rattle.lexical_literal.specs.Cause.{bare, with_rules}
 use Rattle.lexical_literal.proofs.CauseLemmas.{flag_or, flag_pow}
 use Rattle.lexical_literal.proofs.cause.Stop.is_permitted.Goals as goal
 

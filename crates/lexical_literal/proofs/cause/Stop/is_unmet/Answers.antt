@@ -1,7 +1,6 @@
 use Rattle.lexical_literal.proofs.Common.{◌≡◌, Bool, true, false, not, ◌&&◌, ◌||◌, sym, ap, ◌∙◌, arith, false≢true, has, is_same, notation_of, Condition}
-use Rattle.lexical_literal.proofs.Common.{Conditions}
+use Rattle.lexical_literal.proofs.Common.{Conditions, bare, with_rules}
 use Rattle.lexical_literal.specs.Additions.Sizes.{goes}
-use Rattle.lexical_literal.specs.Cause.{bare, with_rules}
 use Rattle.lexical_literal.proofs.NumberLemmas.{has_only}
 use Rattle.lexical_literal.proofs.cause.Stop.is_unmet.Goals as goal
 use Rattle.lexical_literal.proofs.cause.Stop.is_unmet.Goals.{then-has, else-has}

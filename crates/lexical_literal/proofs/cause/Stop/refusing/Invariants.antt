@@ -1,7 +1,5 @@
-use Rattle.lexical_literal.proofs.Common.{◌≡◌, ◌-◌, ◌&&◌, nat_lt, not, true, Flag, bit, raw, notation_of}
-use Rattle.std.proofs.Common.{if◌then◌else◌}
+use Rattle.lexical_literal.proofs.Common.{◌≡◌, ◌-◌, ◌&&◌, nat_lt, not, true, Flag, bit, raw, notation_of, if◌then◌else◌, adding, bare}
 use Rattle.lexical_literal.specs.Additions.Sizes.{goes}
-use Rattle.lexical_literal.specs.Cause.{adding, bare}
 use Rattle.lexical_literal.proofs.cause.Stop.refusing.Given as goal
 
 abbrev pub invariant-loop-number : goal.invariant-loop-number

@@ -1,7 +1,6 @@
 -- Flags that refuse alone, or those on leading zeros.
 use Rattle.lexical_literal.proofs.Common.{ℕ, ◌≡◌, ◌&&◌, Bool, true, false, not, ap, ◌∙◌, arith, nat_tests, list_any, all_conditions, has, notation_of}
-use Rattle.lexical_literal.proofs.Common.{number_of, Conditions}
-use Rattle.std.proofs.Common.{◌==◌, if◌then◌else◌}
+use Rattle.lexical_literal.proofs.Common.{number_of, Conditions, ◌==◌, if◌then◌else◌}
 use Rattle.lexical_literal.specs.Notation.{kept}
 use Rattle.lexical_literal.specs.Additions.Sizes.{goes}
 use Rattle.lexical_literal.specs.Additions.Explained.{some_unmet, unmet}

@@ -1,9 +1,8 @@
-use Rattle.lexical_literal.proofs.Common.{◌≡◌, ◌&&◌, Bool, not, refl, sym, ap, ◌∙◌, arith, Flag, raw, notation_of}
+use Rattle.lexical_literal.proofs.Common.{◌≡◌, ◌&&◌, Bool, not, refl, sym, ap, ◌∙◌, arith, Flag, raw, notation_of, mask_of, adding, bare, is_one_of}
+use Rattle.lexical_literal.proofs.Common.{number_separator_flags}
 use Rattle.std.proofs.lemmas.Nat.{and_comm}
 use Rattle.std.specs.Int.{w128, bit_not}
 use Rattle.lexical_literal.specs.Additions.Sizes.{goes}
-use Rattle.lexical_literal.specs.Additions.Explained.{mask_of}
-use Rattle.lexical_literal.specs.Cause.{adding, bare, is_one_of, number_separator_flags}
 use Rattle.lexical_literal.specs.declared.cause.TheConstants.{SEPARATORS}
 use Rattle.lexical_literal.proofs.CauseLemmas.{flag_and, flag_not, mask_flags, masked_by, separators_mask}
 use Rattle.lexical_literal.proofs.cause.Stop.separators.Goals as goal

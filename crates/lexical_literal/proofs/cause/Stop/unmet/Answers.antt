@@ -1,9 +1,7 @@
 -- After a condition, and after the last.
 use Rattle.lexical_literal.proofs.Common.{ℕ, ◌≡◌, ◌≤◌, ◌&&◌, Bool, true, false, nat_lt, get_or, sym, ap, ◌∙◌, arith, nat_tests, all_conditions, is_same}
-use Rattle.lexical_literal.proofs.Common.{notation_of, number_of, Condition, Conditions}
-use Rattle.std.proofs.Common.{if◌then◌else◌, length}
+use Rattle.lexical_literal.proofs.Common.{notation_of, number_of, Condition, Conditions, if◌then◌else◌, length, unmet}
 use Rattle.lexical_literal.specs.Notation.{order}
-use Rattle.lexical_literal.specs.Additions.Explained.{unmet}
 use Rattle.lexical_literal.specs.declared.syntax.Condition.TheVariants as conditions
 use Rattle.lexical_literal.proofs.NumberLemmas.{is_kept, number_next}
 use Rattle.lexical_literal.proofs.cause.Stop.unmet.Goals as goal

@@ -1,7 +1,5 @@
-use Rattle.lexical_literal.proofs.Common.{◌≡◌, ◌&&◌, ◌-◌, nat_lt, all_conditions, notation_of, number_of, Condition}
-use Rattle.std.proofs.Common.{if◌then◌else◌, length}
+use Rattle.lexical_literal.proofs.Common.{◌≡◌, ◌&&◌, ◌-◌, nat_lt, all_conditions, notation_of, number_of, Condition, if◌then◌else◌, length, unmet}
 use Rattle.lexical_literal.specs.Notation.{order}
-use Rattle.lexical_literal.specs.Additions.Explained.{unmet}
 use Rattle.lexical_literal.proofs.cause.Stop.unmet.Given as goal
 
 abbrev pub invariant-loop-index : goal.invariant-loop-index

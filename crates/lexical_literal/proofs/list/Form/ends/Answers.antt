@@ -1,6 +1,5 @@
 -- No literal goes on where reading stops, or behind a byte that plays no role.
-use Rattle.lexical_literal.proofs.Common.{◌≡◌, subst, arith, nat_tests, notation_of, Grammar}
-use Rattle.lexical_literal.specs.Additions.Token.{IsWithin}
+use Rattle.lexical_literal.proofs.Common.{◌≡◌, subst, arith, nat_tests, notation_of, Grammar, IsWithin}
 use Rattle.lexical_literal.proofs.list.Form.ends.Goals as goal
 use Rattle.lexical_literal.proofs.list.Form.ends.Goals.{then-is_over, else-is_over}
 

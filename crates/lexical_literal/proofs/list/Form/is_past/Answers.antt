@@ -1,7 +1,5 @@
 -- No literal goes on behind a byte that plays no role, or without the prefix that is required.
-use Rattle.lexical_literal.proofs.Common.{◌+◌, ◌∙◌, inl, sym, subst, arith, notation_of, Grammar}
-use Rattle.lexical_literal.specs.Additions.Forms.{sign_size}
-use Rattle.lexical_literal.specs.Additions.Token.{IsWithin}
+use Rattle.lexical_literal.proofs.Common.{◌+◌, ◌∙◌, inl, sym, subst, arith, notation_of, Grammar, sign_size, IsWithin}
 use Rattle.lexical_literal.proofs.LeadingLemmas.{within_more}
 use Rattle.lexical_literal.proofs.list.Form.is_past.Goals as goal
 use Rattle.lexical_literal.proofs.list.Form.is_past.Goals.{then-lacks_prefix, else-lacks_prefix}

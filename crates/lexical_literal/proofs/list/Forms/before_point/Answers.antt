@@ -1,11 +1,8 @@
 -- The literal before a point that is given back.
-use Rattle.lexical_literal.proofs.Common.{◌≡◌, ◌∙◌, ◌+◌, ◌≤◌, ◌-◌, true, inr, ap, sym, subst, take, arith, nat_tests, Reads, notation_of, raw}
+use Rattle.lexical_literal.proofs.Common.{◌≡◌, ◌∙◌, ◌+◌, ◌≤◌, ◌-◌, true, inr, ap, sym, subst, take, arith, nat_tests, Reads, notation_of, raw, IsMeasured}
+use Rattle.lexical_literal.proofs.Common.{AreSums, cut, cuts_of, IsWithin, FormList}
+use Rattle.lexical_literal.specs.Additions.Token.{AreNear, IsLeading}
 use Rattle.std.proofs.lemmas.List.{take-take}
-use Rattle.lexical_literal.specs.Additions.Longest.{IsMeasured}
-use Rattle.lexical_literal.specs.Additions.Read.{AreSums, cut}
-use Rattle.lexical_literal.specs.Additions.Summary.{cuts_of}
-use Rattle.lexical_literal.specs.Additions.Token.{AreNear, IsLeading, IsWithin}
-use Rattle.lexical_literal.specs.FormList.{FormList}
 use Rattle.lexical_literal.specs.Token.{gives_back}
 use Rattle.lexical_literal.proofs.LeadingLemmas.{front_before}
 use Rattle.lexical_literal.proofs.list.Forms.before_point.Goals as goal

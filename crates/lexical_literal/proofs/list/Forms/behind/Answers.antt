@@ -1,10 +1,6 @@
 -- The front has the parts and the sums that were counted, and is the literal of the token.
-use Rattle.lexical_literal.proofs.Common.{◌∙◌, ap, drop, take, refl, sym, subst, arith, Reads, notation_of, raw}
+use Rattle.lexical_literal.proofs.Common.{◌∙◌, ap, drop, take, refl, sym, subst, arith, Reads, notation_of, raw, IsMeasured, AreSums, cut, cuts_of, ReadsForm}
 use Rattle.std.proofs.lemmas.List.{drop-drop}
-use Rattle.lexical_literal.specs.Additions.Longest.{IsMeasured}
-use Rattle.lexical_literal.specs.Additions.Read.{AreSums, cut}
-use Rattle.lexical_literal.specs.Additions.Summary.{cuts_of}
-use Rattle.lexical_literal.specs.Forms.{ReadsForm}
 use Rattle.lexical_literal.specs.Suffix.{suffix_size}
 use Rattle.lexical_literal.specs.Token.{IsToken}
 use Rattle.lexical_literal.proofs.LeadingLemmas.{leading_token}

@@ -1,11 +1,7 @@
 -- The longer of two candidates, with its form.
-use Rattle.lexical_literal.proofs.Common.{ℕ, ◌+◌, false, true, get_or, ap, refl, sym, subst}
-use Rattle.std.proofs.Common.{length}
+use Rattle.lexical_literal.proofs.Common.{ℕ, ◌+◌, false, true, get_or, ap, refl, sym, subst, length, FormList, Form, Candidate}
 use Rattle.std.specs.Borrow.{Bor}
 use Rattle.lexical_literal.specs.Additions.Token.{IsBestOf, IsMade, IsPicked}
-use Rattle.lexical_literal.specs.FormList.{FormList}
-use Rattle.lexical_literal.specs.declared.list.Form.{Form}
-use Rattle.lexical_literal.specs.declared.token.Candidate.{Candidate}
 use Rattle.lexical_literal.proofs.FormLemmas.{form_at}
 use Rattle.lexical_literal.proofs.TokenLemmas.{for_some, plain_alone, plain_first, suffixed_alone, suffixed_first}
 use Rattle.lexical_literal.proofs.list.Forms.choose.Goals as goal

@@ -1,9 +1,6 @@
 -- The error of the form at the index.
-use Rattle.lexical_literal.proofs.Common.{◌∙◌, Some, ap, refl, subst, sym, notation_of}
-use Rattle.lexical_literal.specs.Additions.Longest.{IsStopped}
+use Rattle.lexical_literal.proofs.Common.{◌∙◌, Some, ap, refl, subst, sym, notation_of, IsStopped, NoLiteral, Form}
 use Rattle.lexical_literal.specs.Forms.{IsErrorOfForm}
-use Rattle.lexical_literal.specs.Front.{NoLiteral}
-use Rattle.lexical_literal.specs.declared.list.Form.{Form}
 use Rattle.lexical_literal.proofs.FormLemmas.{all_at, at_index, form_at}
 use Rattle.lexical_literal.proofs.list.Forms.error_at.Goals as goal
 

@@ -1,7 +1,5 @@
 -- The word where the form that goes furthest stops is a literal.
-use Rattle.lexical_literal.proofs.Common.{ap, sym, subst, ◌+◌, ◌∙◌}
-use Rattle.lexical_literal.specs.Additions.Forms.{IsFurthestForm}
-use Rattle.lexical_literal.specs.Forms.{NoForm}
+use Rattle.lexical_literal.proofs.Common.{ap, sym, subst, ◌+◌, ◌∙◌, IsFurthestForm, NoForm}
 use Rattle.lexical_literal.specs.Suffix.{word_size}
 use Rattle.lexical_literal.proofs.TokenLemmas.{some_form}
 use Rattle.lexical_literal.proofs.list.Forms.fail.Goals as goal

@@ -1,6 +1,5 @@
 -- The first form that reads the text.
-use Rattle.lexical_literal.proofs.Common.{◌≡◌, IsNone, None, Option, Some, refl, subst, All-more, notation_of, Grammar}
-use Rattle.lexical_literal.specs.Front.{NoLiteral}
+use Rattle.lexical_literal.proofs.Common.{◌≡◌, IsNone, None, Option, Some, refl, subst, All-more, notation_of, Grammar, NoLiteral}
 use Rattle.lexical_literal.proofs.FormLemmas.{all_tried, found_is}
 use Rattle.lexical_literal.proofs.PieceLemmas.{measured_cut, whole_read}
 use Rattle.lexical_literal.proofs.list.Forms.find.Goals as goal

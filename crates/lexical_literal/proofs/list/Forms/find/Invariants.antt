@@ -1,6 +1,4 @@
-use Rattle.lexical_literal.proofs.Common.{take, ◌-◌}
-use Rattle.std.proofs.Common.{length}
-use Rattle.lexical_literal.specs.Forms.{NoForm}
+use Rattle.lexical_literal.proofs.Common.{take, ◌-◌, length, NoForm}
 use Rattle.lexical_literal.proofs.list.Forms.find.Given as goal
 
 abbrev pub invariant-loop-form : goal.invariant-loop-form

@@ -1,6 +1,5 @@
 -- The longest front that is a literal of a form, or the error of the form that goes furthest.
-use Rattle.lexical_literal.proofs.Common.{◌+◌, sym, subst, notation_of}
-use Rattle.lexical_literal.specs.Front.{NoFront}
+use Rattle.lexical_literal.proofs.Common.{◌+◌, sym, subst, notation_of, NoFront}
 use Rattle.lexical_literal.proofs.FormLemmas.{IsBest, all_tried, best_more, fronts, fronts_more, furthest_is, goes, longest_is, none_whole}
 use Rattle.lexical_literal.proofs.list.Forms.find_front.Goals as goal
 

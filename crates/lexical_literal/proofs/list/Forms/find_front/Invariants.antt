@@ -1,5 +1,4 @@
-use Rattle.lexical_literal.proofs.Common.{◌-◌}
-use Rattle.std.proofs.Common.{length}
+use Rattle.lexical_literal.proofs.Common.{◌-◌, length}
 use Rattle.lexical_literal.proofs.FormLemmas.{IsBest, fronts, goes}
 use Rattle.lexical_literal.proofs.list.Forms.find_front.Given as goal
 

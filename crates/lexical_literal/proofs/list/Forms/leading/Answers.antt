@@ -1,9 +1,8 @@
 -- The first form with a literal behind which no literal goes on.
 use Rattle.lexical_literal.proofs.Common.{◌≡◌, ◌+◌, All, Some, ap, get_or, inl, sym, subst, take, arith, ◌-◌, slice_get-get_or, notation_of, Grammar, raw}
+use Rattle.lexical_literal.proofs.Common.{cuts_of, IsWithin, FormList}
+use Rattle.lexical_literal.specs.Additions.Token.{FrontsWithin}
 use Rattle.std.proofs.Common.{if◌then◌else◌, slice_get}
-use Rattle.lexical_literal.specs.Additions.Summary.{cuts_of}
-use Rattle.lexical_literal.specs.Additions.Token.{FrontsWithin, IsWithin}
-use Rattle.lexical_literal.specs.FormList.{FormList}
 use Rattle.lexical_literal.proofs.LeadingLemmas.{front_of, fronts_more, fronts_within, sums_of_front}
 use Rattle.lexical_literal.proofs.list.Forms.leading.Goals as goal
 use Rattle.lexical_literal.proofs.list.Forms.leading.Goals.{then-is_excluded, else-is_excluded+else-counted+else-gives_back}

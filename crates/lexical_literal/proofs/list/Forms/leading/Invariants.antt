@@ -1,5 +1,4 @@
-use Rattle.lexical_literal.proofs.Common.{◌≤◌, ◌-◌, All, take}
-use Rattle.std.proofs.Common.{length}
+use Rattle.lexical_literal.proofs.Common.{◌≤◌, ◌-◌, All, take, length}
 use Rattle.lexical_literal.specs.Additions.Token.{FrontsWithin}
 use Rattle.lexical_literal.proofs.list.Forms.leading.Given as goal
 

@@ -1,10 +1,7 @@
 -- The first form that reads the text, or the form that goes furthest.
-use Rattle.lexical_literal.proofs.Common.{ℕ, ◌<◌, ◌≤◌, ◌+◌, ◌∙◌, IfSome, Some, ap, refl, sym, subst, All-more, notation_of, Grammar}
-use Rattle.lexical_literal.specs.Additions.Forms.{IsFurthestForm, bound, further_on}
-use Rattle.lexical_literal.specs.FormList.{FormList}
-use Rattle.lexical_literal.specs.Forms.{NoForm}
-use Rattle.lexical_literal.specs.Front.{IsValidUpTo, NoLiteral}
-use Rattle.lexical_literal.specs.declared.plain.At.{At}
+use Rattle.lexical_literal.proofs.Common.{ℕ, ◌<◌, ◌≤◌, ◌+◌, ◌∙◌, IfSome, Some, ap, refl, sym, subst, All-more, notation_of, Grammar, IsFurthestForm, FormList}
+use Rattle.lexical_literal.proofs.Common.{NoForm, IsValidUpTo, NoLiteral, At}
+use Rattle.lexical_literal.specs.Additions.Forms.{bound, further_on}
 use Rattle.lexical_literal.proofs.FormLemmas.{IsBest, all_tried, best_far, beyond, beyond_if, beyond_kept, beyond_more, found_is, number_is}
 use Rattle.lexical_literal.proofs.PieceLemmas.{measured_cut, whole_read}
 use Rattle.lexical_literal.proofs.list.Forms.read.Goals as goal

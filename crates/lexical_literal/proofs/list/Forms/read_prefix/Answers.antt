@@ -1,7 +1,5 @@
 -- The front has the parts that were counted.
-use Rattle.lexical_literal.proofs.Common.{◌≡◌, ◌∙◌, IsSomeAnd, sym, subst, get_or, false≢true, notation_of}
-use Rattle.lexical_literal.specs.Front.{ReadsFront}
-use Rattle.lexical_literal.specs.Additions.Longest.{IsCountedFront}
+use Rattle.lexical_literal.proofs.Common.{◌≡◌, ◌∙◌, IsSomeAnd, sym, subst, get_or, false≢true, notation_of, ReadsFront, IsCountedFront}
 use Rattle.lexical_literal.proofs.FormLemmas.{form_at, inside_of}
 use Rattle.lexical_literal.proofs.PieceLemmas.{front_cut, front_read}
 use Rattle.lexical_literal.proofs.list.Forms.read_prefix.Goals as goal

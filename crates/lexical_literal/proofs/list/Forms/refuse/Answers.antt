@@ -1,9 +1,7 @@
 -- The form that goes furthest has the error, or another that goes as far.
-use Rattle.lexical_literal.proofs.Common.{◌≡◌, ◌*◌, All, IsNone, IsSomeAnd, None, Option, Some, take, refl, sym, subst, arith, take_all, notation_of}
-use Rattle.lexical_literal.proofs.Common.{Grammar}
-use Rattle.std.proofs.Common.{slice_get}
-use Rattle.lexical_literal.specs.Additions.Forms.{GoesTo, IsFurthestForm, IsNoBetter}
-use Rattle.lexical_literal.specs.Forms.{reach}
+use Rattle.lexical_literal.proofs.Common.{◌≡◌, ◌*◌, All, IsNone, IsSomeAnd, None, Option, Some, take, refl, sym, subst, arith, take_all, notation_of, Grammar}
+use Rattle.lexical_literal.proofs.Common.{slice_get, IsFurthestForm, reach}
+use Rattle.lexical_literal.specs.Additions.Forms.{GoesTo, IsNoBetter}
 use Rattle.lexical_literal.proofs.FormLemmas.{IsAtMost, at_index, elsewhere, first_error, inside_at, no_less, none_before, other_error, own_reach, reach_byte, settled, wrong_byte}
 use Rattle.lexical_literal.proofs.list.Forms.refuse.Goals as goal
 use Rattle.lexical_literal.proofs.list.Forms.refuse.Goals.{then-not-is_settled+in-Some-stop_at+else-not-is_byte+else-not-is_byte-2, then-not-is_settled+in_default-stop_at, else-not-is_settled}

@@ -1,5 +1,4 @@
-use Rattle.lexical_literal.proofs.Common.{ℕ, ◌≤◌, All, take, ◌-◌}
-use Rattle.std.proofs.Common.{length}
+use Rattle.lexical_literal.proofs.Common.{ℕ, ◌≤◌, All, take, ◌-◌, length}
 use Rattle.lexical_literal.specs.Forms.{Reaches, reach}
 use Rattle.lexical_literal.proofs.list.Forms.refuse.Given as goal
 

@@ -1,6 +1,5 @@
 -- The token that reading the forms once tells.
-use Rattle.lexical_literal.proofs.Common.{Ok, ap, refl, sym, subst, ◌∙◌}
-use Rattle.lexical_literal.specs.FormList.{FormList}
+use Rattle.lexical_literal.proofs.Common.{Ok, ap, refl, sym, subst, ◌∙◌, FormList}
 use Rattle.lexical_literal.specs.Token.{IsReadByTokens}
 use Rattle.lexical_literal.proofs.list.Forms.token.Goals as goal
 

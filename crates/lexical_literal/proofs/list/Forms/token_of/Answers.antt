@@ -1,10 +1,8 @@
 -- The token that was chosen, or why there is none.
-use Rattle.lexical_literal.proofs.Common.{ℕ, ◌≡◌, All, IsSomeAnd, true, false, inl, inr, refl, sym, subst}
-use Rattle.std.proofs.Common.{slice_get}
+use Rattle.lexical_literal.proofs.Common.{ℕ, ◌≡◌, All, IsSomeAnd, true, false, inl, inr, refl, sym, subst, slice_get, FormList, IsAhead}
+use Rattle.lexical_literal.specs.Token.{IsUnknown}
 use Rattle.lexical_literal.specs.Additions.Token.{IsBestOf}
-use Rattle.lexical_literal.specs.FormList.{FormList}
 use Rattle.lexical_literal.specs.Suffix.{is_followed}
-use Rattle.lexical_literal.specs.Token.{IsAhead, IsUnknown}
 use Rattle.lexical_literal.proofs.TokenLemmas.{before_digit, gone_on, not_both, token_is, unknown}
 use Rattle.lexical_literal.proofs.list.Forms.token_of.Goals as goal
 

@@ -1,6 +1,5 @@
 -- The point and the exponent character are there if their lengths are not 0.
-use Rattle.lexical_literal.proofs.Common.{◌||◌, ap, ◌∙◌, is_float}
-use Rattle.lexical_literal.specs.Read.{Read}
+use Rattle.lexical_literal.proofs.Common.{◌||◌, ap, ◌∙◌, is_float, Read}
 use Rattle.lexical_literal.proofs.MadeLemmas.{first, present, second}
 use Rattle.lexical_literal.proofs.literal.Literal.is_float.Goals as goal
 

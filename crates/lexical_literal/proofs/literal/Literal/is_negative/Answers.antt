@@ -1,7 +1,6 @@
 -- The sign is what the text begins with, if it is there.
-use Rattle.lexical_literal.proofs.Common.{ap, ◌∙◌}
+use Rattle.lexical_literal.proofs.Common.{ap, ◌∙◌, Read}
 use Rattle.lexical_literal.specs.Literal.{is_minus}
-use Rattle.lexical_literal.specs.Read.{Read}
 use Rattle.lexical_literal.proofs.MadeLemmas.{minus}
 use Rattle.lexical_literal.proofs.literal.Literal.is_negative.Goals as goal
 

@@ -1,5 +1,4 @@
-use Rattle.lexical_literal.proofs.Common.{◌∙◌, None, sym, notation_of}
-use Rattle.std.proofs.Common.{if◌then◌else◌, option_map}
+use Rattle.lexical_literal.proofs.Common.{◌∙◌, None, sym, notation_of, if◌then◌else◌, option_map}
 use Rattle.lexical_literal.specs.Specials.{allows, spelling_of}
 use Rattle.lexical_literal.proofs.specials.Specials.read.Goals as goal
 

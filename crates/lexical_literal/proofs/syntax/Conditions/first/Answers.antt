@@ -1,6 +1,5 @@
 -- Where none of the conditions before a place is one of them, the first is that at the place, or one behind it.
-use Rattle.lexical_literal.proofs.Common.{◌≡◌, ◌+◌, ◌∷◌, Some, false, drop, drop-cons, get_or, add-one, sym, ap, ◌∙◌, arith, all_conditions, has}
-use Rattle.std.proofs.Common.{if◌then◌else◌}
+use Rattle.lexical_literal.proofs.Common.{◌≡◌, ◌+◌, ◌∷◌, Some, false, drop, drop-cons, get_or, add-one, sym, ap, ◌∙◌, arith, all_conditions, has, if◌then◌else◌}
 use Rattle.std.proofs.lemmas.List.{drop_all}
 use Rattle.std.specs.List.{find}
 use Rattle.lexical_literal.specs.declared.syntax.Condition.TheVariants as conditions

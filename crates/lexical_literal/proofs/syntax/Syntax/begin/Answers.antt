@@ -1,10 +1,8 @@
 -- A syntax has what reading needs.
-use Rattle.lexical_literal.proofs.Common.{sym, ap, subst, ◌∙◌, raw, notation_of, Grammar}
+use Rattle.lexical_literal.proofs.Common.{sym, ap, subst, ◌∙◌, raw, notation_of, Grammar, has_sizes, HasSizes, IsReady, steps_of}
+use Rattle.lexical_literal.specs.Additions.Plain.{IsDecimal}
 use Rattle.std.specs.Prelude.{IsTrue}
-use Rattle.lexical_literal.specs.Groups.{has_sizes}
 use Rattle.lexical_literal.specs.Additions.Longest.{HasBegun, HasFound}
-use Rattle.lexical_literal.specs.Additions.Plain.{HasSizes, IsDecimal, IsReady}
-use Rattle.lexical_literal.specs.Additions.Sizes.{steps_of}
 use Rattle.lexical_literal.proofs.LongestLemmas.{begun_free}
 use Rattle.lexical_literal.proofs.MadeLemmas.{usual_sizes}
 use Rattle.lexical_literal.proofs.syntax.Syntax.begin.Goals as goal

@@ -1,7 +1,5 @@
 -- A literal is its longest front.
-use Rattle.lexical_literal.proofs.Common.{◌≡◌, sym, subst, ◌∙◌}
-use Rattle.lexical_literal.specs.Additions.Summary.{HasLengths, cuts_of}
-use Rattle.lexical_literal.specs.declared.read.Found.{Found}
+use Rattle.lexical_literal.proofs.Common.{◌≡◌, sym, subst, ◌∙◌, HasLengths, cuts_of, Found}
 use Rattle.lexical_literal.proofs.LongestLemmas.{all_counted}
 use Rattle.lexical_literal.proofs.syntax.Syntax.count.Goals as goal
 

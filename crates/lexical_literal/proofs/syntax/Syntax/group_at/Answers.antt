@@ -1,6 +1,5 @@
 -- The groups of what has been read fit.
-use Rattle.lexical_literal.proofs.Common.{◌≡◌, Some, None, take, sym, ap, ◌∙◌, notation_of, Grammar}
-use Rattle.lexical_literal.specs.Additions.Sizes.{first_group, group_after}
+use Rattle.lexical_literal.proofs.Common.{◌≡◌, Some, None, take, sym, ap, ◌∙◌, notation_of, Grammar, first_group, group_after}
 use Rattle.lexical_literal.proofs.syntax.Syntax.group_at.Goals as goal
 
 pub unreachable-requires : goal.unreachable-requires

@@ -1,7 +1,6 @@
 -- What has been read is no literal if it does not end.
-use Rattle.lexical_literal.proofs.Common.{None, sym, ap, ◌∙◌, notation_of, Grammar}
+use Rattle.lexical_literal.proofs.Common.{None, sym, ap, ◌∙◌, notation_of, Grammar, Group}
 use Rattle.lexical_literal.specs.Additions.Sizes.{goes}
-use Rattle.lexical_literal.specs.declared.groups.Group.{Group}
 use Rattle.lexical_literal.proofs.LongestLemmas.{same_group}
 use Rattle.lexical_literal.proofs.syntax.Syntax.is_literal_up_to.Goals as goal
 

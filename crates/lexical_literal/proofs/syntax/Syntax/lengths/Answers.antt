@@ -1,7 +1,6 @@
 -- What has been read is a literal if it ends.
-use Rattle.lexical_literal.proofs.Common.{None, sym, ap, ◌∙◌, notation_of, Grammar}
+use Rattle.lexical_literal.proofs.Common.{None, sym, ap, ◌∙◌, notation_of, Grammar, Group}
 use Rattle.lexical_literal.specs.Additions.Sizes.{goes}
-use Rattle.lexical_literal.specs.declared.groups.Group.{Group}
 use Rattle.lexical_literal.proofs.LongestLemmas.{none_whole, same_group, whole_measured}
 use Rattle.lexical_literal.proofs.syntax.Syntax.lengths.Goals as goal
 use Rattle.lexical_literal.proofs.syntax.Syntax.lengths.Goals.{else-stop-text-via-then-stop-text+else-ends, else-stop-text-via-else-stop-text}

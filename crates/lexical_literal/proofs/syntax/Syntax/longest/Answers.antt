@@ -1,6 +1,5 @@
 -- The loop reads the text, byte by byte.
-use Rattle.lexical_literal.proofs.Common.{None, Some, true, false, arith, refl, sym, ap, ◌∙◌, notation_of, Grammar}
-use Rattle.lexical_literal.specs.Additions.Summary.{count, cuts_of}
+use Rattle.lexical_literal.proofs.Common.{None, Some, true, false, arith, refl, sym, ap, ◌∙◌, notation_of, Grammar, count, cuts_of}
 use Rattle.lexical_literal.specs.Additions.Sizes.{goes}
 use Rattle.lexical_literal.proofs.LongestLemmas.{first_counted, longest_all, more_counted}
 use Rattle.lexical_literal.proofs.syntax.Syntax.longest.Goals as goal

@@ -1,5 +1,4 @@
-use Rattle.lexical_literal.proofs.Common.{◌-◌, notation_of}
-use Rattle.std.proofs.Common.{length}
+use Rattle.lexical_literal.proofs.Common.{◌-◌, notation_of, length}
 use Rattle.lexical_literal.proofs.LongestLemmas.{HasCounted}
 use Rattle.lexical_literal.proofs.syntax.Syntax.longest.Given as goal
 

@@ -1,12 +1,10 @@
 -- What has been read decides what may follow, and so why what follows is refused.
-use Rattle.lexical_literal.proofs.Common.{◌≡◌, refl, sym, ap, subst, ◌∙◌, take, notation_of, Grammar}
+use Rattle.lexical_literal.proofs.Common.{◌≡◌, refl, sym, ap, subst, ◌∙◌, take, notation_of, Grammar, IsRefusal, marks_of, Group}
 use Rattle.std.specs.Prelude.{slice_get}
 use Rattle.lexical_literal.specs.Additions.Explained.{refusal_of}
 use Rattle.lexical_literal.specs.Additions.Sizes.{goes}
-use Rattle.lexical_literal.specs.Cause.{IsRefusal, marks_of}
 use Rattle.lexical_literal.specs.declared.cause.Marks.{Marks}
 use Rattle.lexical_literal.specs.declared.cause.Spot.{Spot}
-use Rattle.lexical_literal.specs.declared.groups.Group.{Group}
 use Rattle.lexical_literal.proofs.BlameLemmas.{refusal_at}
 use Rattle.lexical_literal.proofs.LongestLemmas.{refused_there}
 use Rattle.lexical_literal.proofs.StopLemmas.{goes_too, is_read_of}

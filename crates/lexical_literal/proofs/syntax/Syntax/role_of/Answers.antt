@@ -1,12 +1,9 @@
 -- A byte plays the role that it has in the integer, or else that in the exponent, and no other.
 use Rattle.lexical_literal.proofs.Common.{ℕ, ◌≡◌, Option, Some, None, true, false, refl, sym, ap, ◌∙◌, arith, false≢true, Role, notation_of, set_of_role}
-use Rattle.lexical_literal.proofs.Common.{Grammar}
+use Rattle.lexical_literal.proofs.Common.{Grammar, role_at, HasRoles, steps_of}
 use Rattle.lexical_util.specs.declared.feature_format.roles.Role.TheVariants as roles
 use Rattle.lexical_util.specs.declared.format_flags.Part.TheVariants as parts
-use Rattle.lexical_literal.specs.Additions.Summary.{role_at}
 use Rattle.lexical_literal.specs.Notation.{IsOnlyRole}
-use Rattle.lexical_literal.specs.Additions.Plain.{HasRoles}
-use Rattle.lexical_literal.specs.Additions.Sizes.{steps_of}
 use Rattle.lexical_literal.proofs.RefusalLemmas.{other_roles}
 use Rattle.lexical_literal.proofs.ScanLemmas.{as_role, no_role}
 use Rattle.lexical_literal.proofs.syntax.Syntax.role_of.Goals as goal

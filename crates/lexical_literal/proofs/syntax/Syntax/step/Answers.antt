@@ -1,7 +1,5 @@
 -- One step decides.
-use Rattle.lexical_literal.proofs.Common.{Some, ap, get_or, inl, inr, sym, ◌∙◌, arith, refl, notation_of, Grammar}
-use Rattle.lexical_literal.specs.Additions.Sizes.{grow, steps_of}
-use Rattle.lexical_literal.specs.Additions.Summary.{part_of, role_at, step}
+use Rattle.lexical_literal.proofs.Common.{Some, ap, get_or, inl, inr, sym, ◌∙◌, arith, refl, notation_of, Grammar, grow, steps_of, part_of, role_at, step}
 use Rattle.lexical_literal.proofs.LongestLemmas.{same_grow, small_group, stops_at, underway_more}
 use Rattle.lexical_literal.proofs.syntax.Syntax.step.Goals as goal
 

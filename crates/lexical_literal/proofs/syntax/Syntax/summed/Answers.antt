@@ -1,9 +1,7 @@
 -- The parts that were cut are those of the literal.
-use Rattle.lexical_literal.proofs.Common.{ap, ◌∙◌, raw}
+use Rattle.lexical_literal.proofs.Common.{ap, ◌∙◌, raw, cut, cuts_of}
 use Rattle.lexical_util.specs.Layout as layout
 use Rattle.lexical_util.specs.Record.{effective_exponent_radix}
-use Rattle.lexical_literal.specs.Additions.Read.{cut}
-use Rattle.lexical_literal.specs.Additions.Summary.{cuts_of}
 use Rattle.lexical_literal.specs.Parts.{literal_of}
 use Rattle.lexical_literal.proofs.MantissaLemmas.{made_sums}
 use Rattle.lexical_literal.proofs.syntax.Syntax.summed.Goals as goal

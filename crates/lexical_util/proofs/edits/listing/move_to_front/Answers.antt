@@ -1,7 +1,6 @@
-use Rattle.std.proofs.Common.{◌≡◌, length, Bool, not, if◌then◌else◌, sym, ap, ◌∙◌, arith}
+use Rattle.std.proofs.Common.{◌≡◌, Bool, not, if◌then◌else◌, sym, ap, ◌∙◌, arith}
 use Rattle.std.proofs.Math.Bool.{beq}
-use Rattle.std.proofs.lemmas.List.{length-take-le}
-use Rattle.std.proofs.lemmas.List.Filters.{FiltersInPlace-all, FiltersInPlace-more_no, FiltersInPlace-more_swap}
+use Rattle.std.proofs.lemmas.List.Filters.{FiltersInPlace-more_no, FiltersInPlace-more_swap}
 use Rattle.lexical_util.proofs.edits.listing.move_to_front.Goals as goal
 
 -- If a test is equal to the wanted truth value, then this comparison is the chosen test.
@@ -19,10 +18,3 @@ loop-index-preserved c =
           (FiltersInPlace-more_no c.loop-index.invariant
           (omega arith) (test ∙ w.if-differs_from_new-changed.false) c.index-edits-index.is)
     ]
-
-pub returns-clause-count : goal.returns-clause-count
-returns-clause-count c = sym (length-take-le c.loop-index.count c.loop-index.edits (omega arith))
-    ∙ ap length (FiltersInPlace-all c.loop-index.invariant (omega arith))
-
-pub returns-clause-front : goal.returns-clause-front
-returns-clause-front c = FiltersInPlace-all c.loop-index.invariant (omega arith)

@@ -1,8 +1,6 @@
 -- The lower bits are cut off.
-use Rattle.lexical_value.proofs.Common.{pow-add, pow_pos}
-use Rattle.core.specs.Prelude.{◌≡◌, ◌+◌, ◌-◌, ◌*◌, ◌/◌, ◌^◌, bit_and}
-use mathlib.Core.Path.{ap, ◌∙◌}
-use native.Mathlib.Omega.{arith}
+use Rattle.lexical_value.proofs.Common.{pow-add, pow_pos, ◌≡◌, ◌+◌, ◌-◌, ◌*◌, ◌/◌, ◌^◌, ap, ◌∙◌, arith}
+use Rattle.core.specs.Prelude.{bit_and}
 use lib.Bits.{and_mask}
 use Rattle.core.proofs.num.Products.{one_shl}
 use lib.Pow.{shr-shr}

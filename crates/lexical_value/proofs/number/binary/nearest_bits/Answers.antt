@@ -1,10 +1,7 @@
 -- The leading word has the same nearest float.
-use Rattle.lexical_value.proofs.Common.{pow_pos, IsNearestBits, nearest_of_zero, format_of}
-use Rattle.core.specs.Prelude.{◌≡◌, ℕ, Bool, ◌+◌, ◌*◌, ◌^◌, ◌<◌, false}
-use mathlib.Core.Path.{ap, ◌∙◌, subst, sym}
-use native.Mathlib.Omega.{arith}
-use native.Mathlib.Nat.{eq_of_mul-eq-mul_right, mul-pos}
-use Rattle.lexical_value.specs.Leading.{IsCutTo}
+use Rattle.lexical_value.proofs.Common.{pow_pos, IsNearestBits, nearest_of_zero, format_of, ◌≡◌, ℕ, Bool, ◌+◌, ◌*◌, ◌^◌, ◌<◌, false, ap, ◌∙◌, subst, sym, arith}
+use Rattle.lexical_value.proofs.Common.{mul-pos, IsCutTo}
+use native.Mathlib.Nat.{eq_of_mul-eq-mul_right}
 use Rattle.lexical_value.proofs.BinaryLemmas.{far_above, far_below, without}
 use Rattle.lexical_value.proofs.LeadingLemmas.{exact, in_powers}
 use Rattle.lexical_value.proofs.number.binary.nearest_bits.Goals as goal

@@ -1,9 +1,5 @@
 -- The word has enough bits for a significand, and at least 3 more.
-use Rattle.lexical_value.proofs.Common.{count_leading_zeros, leading_top, pow_mono, format_of}
-use Rattle.core.specs.Prelude.{◌≡◌, ℕ, suc, ◌+◌, ◌^◌, ◌<◌, ◌≤◌}
-use mathlib.Core.Path.{ap}
-use native.Mathlib.Omega.{arith}
-use native.Mathlib.Nat.{lt_of_not-le}
+use Rattle.lexical_value.proofs.Common.{count_leading_zeros, leading_top, pow_mono, format_of, ◌≡◌, ℕ, suc, ◌+◌, ◌^◌, ◌<◌, ◌≤◌, ap, arith, lt_of_not-le}
 use Rattle.lexical_value.proofs.BinaryLemmas.{significand_at, cut_at}
 use Rattle.lexical_value.proofs.number.binary.nearest_to_word.Goals as goal
 

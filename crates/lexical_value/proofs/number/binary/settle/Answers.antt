@@ -1,8 +1,5 @@
 -- What is cut off decides how the kept bits are rounded, and all of it is less than half if these are more than 64.
-use Rattle.lexical_value.proofs.Common.{pow_mono, IsNearestBits}
-use Rattle.core.specs.Prelude.{◌^◌, ◌≤◌}
-use mathlib.Core.Path.{refl, sym, subst}
-use native.Mathlib.Omega.{arith}
+use Rattle.lexical_value.proofs.Common.{pow_mono, IsNearestBits, ◌^◌, ◌≤◌, refl, sym, subst, arith}
 use Rattle.lexical_value.proofs.BinaryLemmas.{rounded, vanishes}
 use Rattle.lexical_value.proofs.number.binary.settle.Goals as goal
 

@@ -1,6 +1,4 @@
-use Rattle.lexical_value.proofs.Common.{number_after}
-use Rattle.std.proofs.Common.{length, drop, ◌-◌, ◌≡◌, ◌+◌, ◌*◌, ◌^◌, ◌≤◌, ℕ}
-use Rattle.lexical_value.specs.Leading.{Leads}
+use Rattle.lexical_value.proofs.Common.{number_after, length, drop, ◌-◌, ◌≡◌, ◌+◌, ◌*◌, ◌^◌, ◌≤◌, ℕ, Leads}
 use Rattle.lexical_value.proofs.number.leading.push_all.Given as goal
 
 -- The digits so far lead a number, which the rest continues to the whole.

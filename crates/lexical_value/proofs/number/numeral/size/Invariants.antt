@@ -1,5 +1,4 @@
-use Rattle.lexical_value.proofs.Common.{number_after, number}
-use Rattle.std.proofs.Common.{length, drop, ◌-◌, ◌≡◌, ◌≤◌}
+use Rattle.lexical_value.proofs.Common.{number_after, number, length, drop, ◌-◌, ◌≡◌, ◌≤◌}
 use Rattle.lexical_value.proofs.number.numeral.size.Given as goal
 
 -- The digits of what is left, after those of the size so far, are the number.

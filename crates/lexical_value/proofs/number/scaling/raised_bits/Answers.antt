@@ -1,10 +1,6 @@
 -- A large exponent makes 0 or infinity, and another one a scale.
-use Rattle.lexical_value.proofs.Common.{pow_pos, IsNearestBits, nearest_of_zero, format_of}
-use Rattle.core.specs.Prelude.{◌≡◌, ◌+◌, ◌*◌, ◌^◌, ◌≤◌, if◌then◌else◌}
-use mathlib.Core.Path.{sym, subst, ap, ◌∙◌}
-use native.Mathlib.Omega.{arith}
-use native.Mathlib.Nat.{mul-le-mul_left}
-use Rattle.lexical_value.specs.Leading.{IsCutTo}
+use Rattle.lexical_value.proofs.Common.{pow_pos, IsNearestBits, nearest_of_zero, format_of, ◌≡◌, ◌+◌, ◌*◌, ◌^◌, ◌≤◌, if◌then◌else◌, sym, subst, ap, ◌∙◌, arith}
+use Rattle.lexical_value.proofs.Common.{mul-le-mul_left, IsCutTo}
 use Rattle.lexical_value.proofs.BinaryLemmas.{raised}
 use Rattle.lexical_value.proofs.LeadingLemmas.{digits_le, few, many}
 use Rattle.lexical_value.proofs.ScalingLemmas.{bound, explodes, in_radixes, pow_of, vanishes}

@@ -1,10 +1,6 @@
 -- The digits are all of the number, and a power of two makes a word of them.
-use Rattle.lexical_value.proofs.Common.{leading_top, count_leading_zeros, pow_pos, IsNearestBits, format_of}
-use Rattle.core.specs.Prelude.{◌≡◌, ℕ, ◌+◌, ◌*◌, ◌%◌, ◌^◌, ◌<◌, ◌≤◌, Bool, true, false, if◌then◌else◌}
-use mathlib.Core.Path.{subst, sym, ◌∙◌}
-use native.Mathlib.Nat.{mod-eq_of_lt, mul-le-mul_left}
-use native.Mathlib.Omega.{arith}
-use Rattle.lexical_value.specs.Leading.{IsCutTo}
+use Rattle.lexical_value.proofs.Common.{leading_top, count_leading_zeros, pow_pos, IsNearestBits, format_of, ◌≡◌, ℕ, ◌+◌, ◌*◌, ◌%◌, ◌^◌, ◌<◌, ◌≤◌, Bool, true}
+use Rattle.lexical_value.proofs.Common.{false, if◌then◌else◌, subst, sym, ◌∙◌, mod-eq_of_lt, mul-le-mul_left, arith, IsCutTo}
 use Rattle.lexical_value.proofs.BinaryLemmas.{lifted, to_top}
 use Rattle.lexical_value.proofs.ScalingLemmas.{in_radixes}
 use Rattle.lexical_value.proofs.number.scaling.raised_word.Goals as goal

@@ -9,6 +9,10 @@ returns g c =
     let written = c.in_ok-write_number.ensures in (
       literal_of c.in_ok-write_number.field-0,
       written.literal,
-      (λ plain none. inr (refl, has_value c.args.syntax.now _ _ _ c.sign_and_size-negative.ensures.value written.lawful (literal_of c.in_ok-write_number.field-0) written.number)),
+      (λ plain none. inr (
+        refl,
+        has_value c.args.syntax.now _ _ _ c.sign_and_size-negative.ensures.value written.lawful
+            (literal_of c.in_ok-write_number.field-0) written.number,
+      )),
       c.write.ensures,
     )

@@ -1,9 +1,7 @@
 -- What is laid out is a literal with the digits of the amount.
-use Rattle.lexical_writer.proofs.Common.{IfOk, text_of, Layout}
+use Rattle.lexical_writer.proofs.Common.{IfOk, text_of, Layout, Reads, notation_of, HasNumber}
+use Rattle.lexical_writer.specs.Layout.{literal_of}
 use Rattle.std.proofs.lemmas.Result.{IfOk-weaker}
-use Rattle.lexical_literal.specs.Literal.{Reads}
-use Rattle.lexical_literal.specs.Notation.{notation_of}
-use Rattle.lexical_writer.specs.Layout.{HasNumber, literal_of}
 use Rattle.lexical_writer.proofs.LiteralLemmas.{written}
 use Rattle.lexical_writer.proofs.layout.Amount.lay_out.Goals as goal
 

@@ -1,9 +1,8 @@
 -- What is refused is what the syntax and the amount say.
-use Rattle.lexical_writer.proofs.Common.{◌≡◌, ◌&&◌, ◌||◌, ap, ◌∙◌, arith, raw, has, lacks_options}
+use Rattle.lexical_writer.proofs.Common.{◌≡◌, ◌&&◌, ◌||◌, ap, ◌∙◌, arith, raw, has, lacks_options, first_error}
 use Rattle.lexical_util.specs.Layout as layout
 use Rattle.lexical_literal.specs.declared.syntax.Condition.TheVariants as conditions
 use Rattle.lexical_literal.specs.declared.syntax.Conditions.{Conditions}
-use Rattle.lexical_writer.specs.Layout.{first_error}
 use Rattle.lexical_writer.proofs.layout.Amount.refusal.Goals as goal
 
 pub returns : goal.returns

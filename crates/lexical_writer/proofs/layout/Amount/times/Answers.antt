@@ -1,8 +1,7 @@
 -- Whether a number is whole.
-use Rattle.lexical_writer.proofs.Common.{ℕ, zero, suc, ◌≡◌, ◌<◌, ◌≤◌, ◌+◌, ◌-◌, ◌*◌, ◌/◌, ◌%◌, ◌^◌, ◌==◌, false, inl, inr, length, ap, sym, ◌∙◌, subst}
-use Rattle.lexical_writer.proofs.Common.{arith, cases_lt, nat_tests, number_from_digits, size_of, values_of}
+use Rattle.lexical_writer.proofs.Common.{ℕ, zero, suc, ◌≡◌, ◌<◌, ◌≤◌, ◌+◌, ◌-◌, ◌*◌, ◌/◌, ◌%◌, ◌^◌, ◌==◌, false, inl, inr, length, ap, sym, ◌∙◌, subst, arith}
+use Rattle.lexical_writer.proofs.Common.{cases_lt, nat_tests, number_from_digits, size_of, values_of, given_fraction}
 use Rattle.lexical_writer.proofs.WholeLemmas.{not_long, not_odd, some_factor, whole_is}
-use Rattle.lexical_writer.specs.Layout.{given_fraction}
 use Rattle.lexical_writer.specs.Moved.{IsWhole}
 use Rattle.lexical_writer.proofs.layout.Amount.times.Goals as goal
 
@@ -37,7 +36,8 @@ returns-in_default c =
     let digit = c.last_digit.ensures.digit ∙ ap (λ s. number_from_digits c.args.radix (values_of c.args.radix s)) c.fraction-fraction.ensures in
     let size = size_of c.args.radix c.args.self.now.integer in
     let large = over size c.in_default.ensures in
-    let more = grown size c.args.factor (number_from_digits c.args.radix (values_of c.args.radix (given_fraction c.args.self.now)) * c.args.factor / c.args.radix)
+    let more = grown size c.args.factor
+    (number_from_digits c.args.radix (values_of c.args.radix (given_fraction c.args.self.now)) * c.args.factor / c.args.radix)
     (some_factor c.args.radix c.args.factor c.requires.radix.0 c.requires.factor) in (
       size_of c.args.radix c.args.self.now.integer * c.args.factor
           + number_from_digits c.args.radix (values_of c.args.radix (given_fraction c.args.self.now)) * c.args.factor / c.args.radix,

@@ -1,6 +1,5 @@
 -- The last digit that is not 0 is in the second piece, or else in the first.
-use Rattle.lexical_writer.proofs.Common.{ℕ, List, ◌≡◌, ◌++◌, [], replicate, ap, sym, ◌∙◌, arith, append-nil, is_absent, digits_in}
-use Rattle.lexical_writer.specs.Moved.{trimmed}
+use Rattle.lexical_writer.proofs.Common.{ℕ, List, ◌≡◌, ◌++◌, [], replicate, ap, sym, ◌∙◌, arith, append-nil, is_absent, digits_in, trimmed}
 use Rattle.lexical_writer.proofs.MovedLemmas.{first_left, none_from, second_left, some_from, trimmed_before, trimmed_behind, trimmed_zeros}
 use Rattle.lexical_writer.proofs.run.Padded.trimmed.Goals as goal
 use Rattle.lexical_writer.proofs.run.Padded.trimmed.Goals.{then-some, else-some}

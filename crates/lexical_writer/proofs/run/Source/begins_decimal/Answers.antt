@@ -1,6 +1,5 @@
 -- The characters of a number are its digits.
-use Rattle.lexical_writer.proofs.Common.{ap, sym, ◌∙◌, values_of, Source}
-use Rattle.lexical_writer.specs.Digits.{begins_decimal}
+use Rattle.lexical_writer.proofs.Common.{ap, sym, ◌∙◌, values_of, Source, begins_decimal}
 use Rattle.lexical_writer.proofs.DigitLemmas.{read_back}
 use Rattle.lexical_writer.proofs.run.Source.begins_decimal.Goals as goal
 
