@@ -192,6 +192,32 @@ static void test_errors(void) {
     CHECK(why.span.start == 1 && why.span.end == 2 && why.index == 1 && why.code == PELTZIVAR_INVALID_DIGIT);
 }
 
+/* The rows of docs/EXPLANATIONS.md on groups: where reading stops, the cause, the conditions and the lowest flag, and the span. */
+static void test_groups(void) {
+    static const char *const kinds[] = {"requirement", "separator", "case", "byte", "missing"};
+    char name[4096], row[512], literal[32], settings[256], cause[64];
+    int rows = 0;
+    snprintf(name, sizeof name, "%.*s/../../docs/EXPLANATIONS.md", (int)(strrchr(__FILE__, '/') - __FILE__), __FILE__);
+    FILE *const page = fopen(name, "r");
+    CHECK(page);
+    while (page && fgets(row, sizeof row, page)) {
+        peltzivar_syntax syntax;
+        peltzivar_read_error error;
+        peltzivar_explanation why;
+        size_t end, span[2];
+        if (sscanf(row, "| `%31[^`]` | `%255[^`]` | %63[^|] | %zu | %zu..%zu |", literal, settings, cause, &end, &span[0], &span[1]) != 6) continue;
+        if (!strstr(settings, "group_size")) continue;
+        for (char *it = settings; *it; it++) *it = *it == ' ' ? '\n' : *it;
+        CHECK(make_syntax(settings, &syntax) && !peltzivar_read(&syntax, literal, strlen(literal), NULL, &error));
+        CHECK(peltzivar_explain(&error, &why) && error.valid_up_to == end && why.span.start == span[0] && why.span.end == span[1]);
+        CHECK(!strncmp(cause, kinds[why.kind - 1], strlen(kinds[why.kind - 1])) && (!why.mask.low || atoi(strchr(cause, ' ')) == why.number));
+        CHECK(why.conditions == (strstr(cause, "integer_group") ? PELTZIVAR_CONDITION_INTEGER_GROUP_SIZE
+            : strstr(cause, "fraction_group") ? PELTZIVAR_CONDITION_FRACTION_GROUP_SIZE : 0));
+        rows++;
+    }
+    CHECK(rows > 9 && !fclose(page));
+}
+
 /* The values of the limits of each integer type, and beyond, in decimal and behind a prefix, and why there is none. */
 static void test_values(void) {
     static const char *const rows[][2] = {{"-170141183460469231731687303715884105729", "-0x80000000000000000000000000000001"},
@@ -664,7 +690,7 @@ static void test_misuse(void) {
 
 static void *test_all(void *unused) {
     for (int i = 0; i < 5; i++) {
-        test_constants(), test_setters(), test_words(), test_syntaxes(), test_errors(), test_values(), test_columns();
+        test_constants(), test_setters(), test_words(), test_syntaxes(), test_errors(), test_groups(), test_values(), test_columns();
         test_writing(), test_styles(), test_choice(), test_languages(), test_forms(), test_tokens(), test_null(), test_misuse();
     }
     return unused;
