@@ -1793,7 +1793,8 @@ def _texts_of(cells: Any) -> Tuple[bytes, Any, Tuple[int, ...], Callable[[int], 
         for at in missing:
             parts[at] = empty
         for at, it in enumerate(parts):
-            _typed(f"cell {at}", it, type(empty))
+            if not isinstance(it, type(empty)):
+                _typed(f"cell {at}", it, type(empty))
         joined = empty.join(parts)
     if isinstance(joined, str):
         parts = parts if joined.isascii() else [it.encode("utf-8", "surrogatepass") for it in parts]
