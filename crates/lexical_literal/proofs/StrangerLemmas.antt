@@ -164,32 +164,37 @@ module _ (m : Notation) (text : List ℕ) (size : ℕ) (far : sign_size text + 1
               least : (error : Refusal) → is_byte error.kind ≡ true → error.valid_up_to ≡ size → reach error ≤ 2 * size
               least error byte same = grind arith
 
--- A byte that has no role behind the beginning of the integer, or is the base prefix, and is no digit of an exponent.
-module _ (g : Grammar) (b : ℕ) where
-  pub spare_none : role_at (notation_of g) parts.Integer b ≡ None → (notation_of g).digit parts.Exponent b ≡ false → IsSpare (notation_of g) b
-  spare_none first digit roles.Digit other = grind arith
-  spare_none first digit r other = no_role (notation_of g) parts.Integer b r (λ same. cc) first
+-- `AreFalse` says so of six tests.
+record AreFalse (digit separator point exponent suffix sign : Bool) : Type 0 where
+  digit : digit ≡ false
+  separator : separator ≡ false
+  point : point ≡ false
+  exponent : exponent ≡ false
+  suffix : suffix ≡ false
+  sign : sign ≡ false
 
-  only_prefix : (d s p e f g x : Bool) → (if d then Some roles.Digit else (if s then Some roles.Separator else (if p then Some roles.Point
-      else (if e then Some roles.Exponent else (if f then Some roles.Suffix else (if g then Some roles.Sign else (if x then Some roles.Prefix else None)))))))
-      ≡ Some roles.Prefix → (d ≡ false) × ((s ≡ false) × ((p ≡ false) × ((e ≡ false) × ((f ≡ false) × (g ≡ false)))))
-  only_prefix true s p e f g x is = grind arith
-  only_prefix false true p e f g x is = grind arith
-  only_prefix false false true e f g x is = grind arith
-  only_prefix false false false true f g x is = grind arith
-  only_prefix false false false false true g x is = grind arith
-  only_prefix false false false false false true x is = grind arith
-  only_prefix false false false false false false x is = (refl, (refl, (refl, (refl, (refl, refl)))))
+only_prefix : (d s p e f g x : Bool) → (if d then Some roles.Digit else (if s then Some roles.Separator else (if p then Some roles.Point
+    else (if e then Some roles.Exponent else (if f then Some roles.Suffix else (if g then Some roles.Sign else (if x then Some roles.Prefix else None)))))))
+    ≡ Some roles.Prefix → AreFalse d s p e f g
+only_prefix true s p e f g x is = grind arith
+only_prefix false true p e f g x is = grind arith
+only_prefix false false true e f g x is = grind arith
+only_prefix false false false true f g x is = grind arith
+only_prefix false false false false true g x is = grind arith
+only_prefix false false false false false true x is = grind arith
+only_prefix false false false false false false x is = record { digit = refl; separator = refl; point = refl; exponent = refl; suffix = refl; sign = refl }
 
-  pub spare_prefix : role_at (notation_of g) parts.Integer b ≡ Some roles.Prefix → (notation_of g).digit parts.Exponent b ≡ false → IsSpare (notation_of g) b
-  spare_prefix first digit r other = go r other (only_prefix ((notation_of g).digit parts.Integer b) ((notation_of g).separator b) ((notation_of g).point b)
-      ((notation_of g).exponent_character b) ((notation_of g).suffix b) (signs b) ((notation_of g).prefix b) first) where
-        go : (r : Role) → (r ≡ roles.Prefix → ⊥) → ((notation_of g).digit parts.Integer b ≡ false) × (((notation_of g).separator b ≡ false) × (((notation_of g).point b ≡ false)
-            × (((notation_of g).exponent_character b ≡ false) × (((notation_of g).suffix b ≡ false) × (signs b ≡ false))))) → set_of_role (notation_of g) r b ≡ false
-        go roles.Digit other all = let none = all.0 in grind arith
-        go roles.Separator other all = all.1.0
-        go roles.Point other all = all.1.1.0
-        go roles.Exponent other all = all.1.1.1.0
-        go roles.Suffix other all = all.1.1.1.1.0
-        go roles.Sign other all = all.1.1.1.1.1
-        go roles.Prefix other all = absurd (other refl)
+-- A byte that is the base prefix behind the beginning of the integer, and not a digit of an exponent, is spare.
+module _ (m : Notation) (b : ℕ) where
+  pub spare_prefix : role_at m parts.Integer b ≡ Some roles.Prefix → m.digit parts.Exponent b ≡ false → IsSpare m b
+  spare_prefix first digit r other =
+      of r other (only_prefix (m.digit parts.Integer b) (m.separator b) (m.point b) (m.exponent_character b) (m.suffix b) (signs b) (m.prefix b) first) where
+        of : (r : Role) → (r ≡ roles.Prefix → ⊥) → AreFalse (m.digit parts.Integer b) (m.separator b) (m.point b) (m.exponent_character b) (m.suffix b) (signs b)
+            → set_of_role m r b ≡ false
+        of roles.Digit other none = let none = none.digit in grind arith
+        of roles.Separator other none = none.separator
+        of roles.Point other none = none.point
+        of roles.Exponent other none = none.exponent
+        of roles.Suffix other none = none.suffix
+        of roles.Sign other none = none.sign
+        of roles.Prefix other none = absurd (other refl)
