@@ -631,6 +631,14 @@ fn value_in_memory<T: FromLiteral>(literal: Literal<'_>) -> Result<T, ValueError
 impl Number<'_> {
     /// Returns the value in a type.
     ///
+    /// ```
+    /// use peltzivar::literal::{Language, ParseError};
+    ///
+    /// let (number, rest) = Language::RUST.read_prefix("0xFF..")?;
+    /// assert_eq!((number.value::<u8>()?, rest), (255, &b".."[..]));
+    /// # Ok::<(), ParseError>(())
+    /// ```
+    ///
     /// # Errors
     ///
     /// If the type does not have the value, returns why.
