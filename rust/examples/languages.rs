@@ -1,4 +1,4 @@
-//! Prints how each language reads a text: the form and the value, or why it is no number.
+//! Prints how each language reads a text: the form and the value, or why it is not a number.
 //!
 //!     cargo run --example languages -- 0x1F
 //!

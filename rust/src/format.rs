@@ -62,6 +62,13 @@ pub const fn format_is_valid<const FORMAT: u128>() -> bool {
 
 /// Returns the error of the first [rule][Rule] that the format word `FORMAT` breaks, or [`Error::Success`] if it breaks
 /// none.
+///
+/// ```
+/// use peltzivar::{format::format_error, Error};
+///
+/// const WORD: u128 = 0x0A0A1000_6200005F_00000000_0000000C; // `b` is a digit in radix 16
+/// assert_eq!(format_error::<WORD>(), Error::InvalidBasePrefix);
+/// ```
 #[must_use]
 pub const fn format_error<const FORMAT: u128>() -> Error {
     NumberFormat::<FORMAT>::new().error()

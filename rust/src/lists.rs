@@ -78,6 +78,14 @@ impl Format {
     }
 
     /// Returns the edits that give a new builder the fields of the format, as [`FormatView::edits`] does.
+    ///
+    /// ```
+    /// use peltzivar::literal::Language;
+    ///
+    /// // What the decimal numbers of a language differ in from a new builder.
+    /// let edits = Language::JSON.forms()[0].syntax().format().edits();
+    /// assert!(edits.map(|edit| edit.to_string()).any(|setting| setting == "no_positive_mantissa_sign=true"));
+    /// ```
     pub fn edits(&self) -> impl Iterator<Item = Edit> + Clone {
         self.view().edits()
     }
@@ -86,6 +94,14 @@ impl Format {
 impl NumberFormatBuilder {
     /// Returns notes on the fields that are set but have no effect on any number. A digit separator that no flag allows
     /// has a note, although the builder does not pack it.
+    ///
+    /// ```
+    /// use core::num::NonZeroU8;
+    ///
+    /// let builder = peltzivar::NumberFormatBuilder::new().digit_separator(NonZeroU8::new(b'_'));
+    /// let notes: Vec<_> = builder.notes().map(|note| note.to_string()).collect();
+    /// assert_eq!(notes, ["no flag allows the digit separator '_'"]);
+    /// ```
     pub fn notes(&self) -> impl Iterator<Item = Note> + Clone {
         notes_of_fields(self).into_iter().flatten()
     }

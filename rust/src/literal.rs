@@ -97,6 +97,8 @@ mod writer;
 pub use cause::{Place, ReadError, ReadErrorKind};
 pub use kind::{FloatKind, IntegerKind, Kind};
 pub use language::{Language, LanguageError};
+/// Reads and writes numbers that have one of several forms, such as `10` and `0x1F`.
+///
 /// A text is a number if it is a literal of one of the forms, or a special value. The first such form gives its parts and its
 /// value, so the order matters where forms overlap, as here in `10`:
 ///
@@ -118,6 +120,8 @@ pub use language::{Language, LanguageError};
 /// ```
 pub use list::Forms;
 pub use list::{Form, FormError, Number, Tokens};
+/// A number that was read from a text: its parts, which can be converted to a type of Rust.
+///
 /// A part that is absent has no bytes. All bytes are ASCII. Two literals are equal if they have the same format, up to
 /// its [normal form][crate::Format::normal_form], and the same parts.
 ///

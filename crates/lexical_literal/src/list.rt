@@ -111,7 +111,7 @@ impl Form {
     }
 }
 
-/// How numbers stand in the middle of a text: forms that need a suffix, which no call but [`Forms::token`] takes, words that may
+/// How numbers end in the middle of source text: forms that need a suffix, which no call but [`Forms::token`] takes, words that may
 /// follow a number directly, and whether a point at the end of a number may belong to what follows.
 #[derive(Clone, Copy)]
 pub struct Tokens {
@@ -134,7 +134,7 @@ impl Tokens {
         }
     }
 
-    /// Sets whether a point at the end of a number is none of its bytes if another point or a word follows, as in `1..2` and
+    /// Sets whether a point at the end of a number belongs to what follows if that is another point or a word, as in `1..2` and
     /// `1.max(2)`.
     #[must_use]
     pub const fn gives_points_back(self, gives: bool) -> Tokens

@@ -25,16 +25,6 @@ use lexical_util::format::NumberFormat;
 use std::marker::Model;
 
 /// A text that was read as a literal: its parts, and the numbers that its digits represent.
-///
-/// ```
-/// use peltzivar::{literal::Language, Part};
-///
-/// let literal = Language::RUST.read("0x1_F")?.literal().unwrap();
-/// assert_eq!((literal.prefix(), literal.integer()), (&b"0x"[..], &b"1_F"[..]));
-/// assert_eq!((literal.radix(Part::Integer), literal.to_u64()), (16, Ok(31)));
-/// assert!(literal.digits(Part::Integer).eq([1, 15]));
-/// # Ok::<(), peltzivar::literal::FormError>(())
-/// ```
 #[derive(Drop)]
 pub struct Literal<'a> {
     text: &'a [u8],

@@ -11,8 +11,10 @@ ghost use Rattle.lexical_literal.specs.Suffix.{meets, suffix_size, word_size};
 use crate::kind::Kind;
 use crate::read::byte_at;
 
-/// Bytes behind a number with which it is no token: one of some bytes, if the number ends in one of others, and if one of
-/// others comes second. A list that is empty asks for nothing.
+/// Bytes that may not follow a number in source text, such as the `+` behind `0xe` in C.
+///
+/// It has three lists: the last byte of the number is in the first, the next byte in the second, and the one after it in the
+/// third. A list that is empty asks for nothing.
 #[derive(Clone, Copy)]
 pub struct Stop {
     last: &'static [u8],
@@ -22,7 +24,7 @@ pub struct Stop {
 
 impl Stop {
     /// Returns a stop: a number that ends in one of the bytes `last`, and is followed by one of the bytes `next`, and then by
-    /// one of the bytes `second`, is no token.
+    /// one of the bytes `second`, is not a token.
     #[must_use]
     pub const fn new(last: &'static [u8], next: &'static [u8], second: &'static [u8]) -> Stop
         ensures last { result.last ≡ last.entry }

@@ -146,6 +146,14 @@ impl Format {
     /// of `lexical_literal` (in plain Rust, `literal::Syntax::new`) accepts more: it checks the normal form, in which a
     /// digit separator that no flag allows is absent.
     ///
+    /// ```
+    /// use peltzivar::{Error, Format};
+    ///
+    /// let format = Format::default();
+    /// assert!(format.check_options(b'e', b',').is_ok());
+    /// assert_eq!(format.check_options(b'e', b'e').unwrap_err().code(), Error::InvalidPunctuation);
+    /// ```
+    ///
     /// # Errors
     ///
     /// The [code][FormatError::code] of the error is [`Error::InvalidExponentSymbol`] if the exponent character is a

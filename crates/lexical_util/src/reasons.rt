@@ -72,7 +72,7 @@ pub enum Radixes {
     },
 }
 
-/// A byte with its value.
+/// A byte that a reason or a note names, with its value.
 #[derive(Debug, Clone, Copy, PartialEq, Eq, Hash)]
 pub struct NamedByte {
     /// Which byte this is.

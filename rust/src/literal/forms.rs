@@ -29,7 +29,8 @@ impl<'a> Forms<'a> {
         }
     }
 
-    /// Returns what [`read_bytes`][Self::read_bytes] returns, for a text or bytes.
+    /// Returns the number that `text` is: a literal of one of the forms, or a special value. [`read_bytes`][Self::read_bytes]
+    /// does so in a constant.
     ///
     /// # Errors
     ///
@@ -38,8 +39,8 @@ impl<'a> Forms<'a> {
         self.read_bytes(text.as_ref())
     }
 
-    /// Returns what [`read_prefix_bytes`][Self::read_prefix_bytes] returns, for a text or bytes. [`token`][Self::token] finds
-    /// where a number ends in source text.
+    /// Returns the longest literal of any form that `text` begins with, and the rest of `text`, which may be anything.
+    /// [`token`][Self::token] finds where a number ends in source text.
     ///
     /// # Errors
     ///
@@ -74,7 +75,7 @@ impl<'a> Forms<'a> {
 }
 
 impl Specials<'_> {
-    /// Returns what [`read_bytes`][Self::read_bytes] returns, for a text or bytes.
+    /// Returns the special value that `text` is in `syntax`, or `None`, as [`read_bytes`][Self::read_bytes] does.
     #[must_use]
     pub fn read(&self, syntax: &Syntax, text: &(impl AsRef<[u8]> + ?Sized)) -> Option<Special> {
         self.read_bytes(syntax, text.as_ref())

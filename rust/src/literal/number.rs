@@ -50,6 +50,14 @@ impl Syntax {
     }
 
     /// Returns what [`read`][Self::read] returns, also in a constant.
+    ///
+    /// ```
+    /// use peltzivar::{format::STANDARD, literal::Syntax, Format};
+    ///
+    /// const SYNTAX: Syntax = Syntax::new_or_panic(Format::of::<STANDARD>(), b'e', b'.');
+    /// const IS_FLOAT: bool = matches!(SYNTAX.read_bytes(b"1e5"), Ok(literal) if literal.is_float());
+    /// assert!(IS_FLOAT);
+    /// ```
     pub const fn read_bytes<'t>(&self, text: &'t [u8]) -> Result<Literal<'t>, ReadError> {
         if self.is_decimal() {
             let counted = self.begin(true, text, false);
@@ -253,6 +261,15 @@ macro_rules! parts {
 
             /// Returns the name and the bytes of each part that is present, in the order of the text. The name is that
             /// of the call that returns the part, such as `integer`.
+            ///
+            /// ```
+            /// use peltzivar::literal::Language;
+            ///
+            /// let literal = Language::C.read("0x1.8p-3")?.literal().unwrap();
+            /// let names = literal.parts().map(|(name, _)| name);
+            /// assert!(names.eq(["prefix", "integer", "point", "fraction", "exponent_character", "exponent_sign", "exponent"]));
+            /// # Ok::<(), peltzivar::literal::FormError>(())
+            /// ```
             pub fn parts(&self) -> impl Iterator<Item = (&'static str, &'a [u8])> + Clone {
                 let parts = self.cut();
                 let all = [$((stringify!($name), parts.$name)),*];

@@ -188,8 +188,8 @@ impl Grammar {
     }
 }
 
-/// What a literal is read by: a lawful format, with an exponent character and a decimal point that fit it, or without
-/// both, and conditions. Without both, literals are integers.
+/// Decides which texts are literals, and reads and writes these: a lawful format, with an exponent character and a decimal
+/// point that fit it, or without both, and conditions. Without both, literals are integers.
 ///
 /// Syntaxes are ordered by the words of their formats, then by the options, and then by the conditions. Integers alone
 /// come first.

@@ -47,9 +47,9 @@ pub struct Token<'a> {
 pub enum TokenError {
     /// The list has no rules for tokens.
     NoTokens,
-    /// The text, up to the end of the word where reading stops, is no literal.
+    /// The text, up to the end of the word where reading stops, is not a literal.
     Literal(FormError),
-    /// The text up to `end` is a literal, but its point belongs to what follows, and it is none without the point.
+    /// The text up to `end` is a literal, but its point belongs to what follows, and without the point it is not one.
     NotAToken {
         /// The index behind the number.
         end: usize,

@@ -5,7 +5,8 @@ use core::{fmt, ops::Range};
 use crate::literal::{Form, Forms, Kind, Stop, Suffixes, Token, TokenError, Tokens};
 
 impl Forms<'_> {
-    /// Returns what [`token_bytes`][Self::token_bytes] returns, for a text or bytes.
+    /// Returns the number that `text` begins with as a token, with its suffix, and the rest, as
+    /// [`token_bytes`][Self::token_bytes] does.
     ///
     /// # Errors
     ///

@@ -139,7 +139,7 @@ pub struct ValueError {
     bits: u8,
 }
 
-/// The name of a type of values, and its limits.
+/// What the errors of a type that is parsed name: the type, with its limits.
 #[derive(Debug, Clone, Copy, PartialEq, Eq, Hash)]
 pub struct Target {
     name: &'static str,
@@ -377,7 +377,7 @@ macro_rules! constant_calls {
     ($($name:ident $call:ident $type:ident,)*) => {
         impl Literal<'_> {
             $(
-                #[doc = concat!("Returns the value of an integer as an `", stringify!($type), "`, also in a constant.")]
+                #[doc = concat!("Returns the value of an integer in the type `", stringify!($type), "`, also in a constant.")]
                 ///
                 /// # Errors
                 ///
@@ -473,7 +473,7 @@ macro_rules! floats {
                     }
                 }
 
-                #[doc = concat!("Returns the same as [`", stringify!($to_float), "`][Self::", stringify!($to_float), "], ")]
+                #[doc = concat!("Returns the same as [`", stringify!($to_float), "`][Self::", stringify!($to_float), "],")]
                 /// where the mantissa radix and the exponent base are powers of two. A program that only calls this has no
                 /// table of powers of ten.
                 ///
@@ -630,6 +630,14 @@ fn value_in_memory<T: FromLiteral>(literal: Literal<'_>) -> Result<T, ValueError
 
 impl Number<'_> {
     /// Returns the value in a type.
+    ///
+    /// ```
+    /// use peltzivar::literal::{Language, ParseError};
+    ///
+    /// let (number, rest) = Language::RUST.read_prefix("0xFF..")?;
+    /// assert_eq!((number.value::<u8>()?, rest), (255, &b".."[..]));
+    /// # Ok::<(), ParseError>(())
+    /// ```
     ///
     /// # Errors
     ///

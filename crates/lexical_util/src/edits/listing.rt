@@ -14,6 +14,13 @@ use lexical_flags::format_flags as flags;
 /// Returns whether a builder can build `format`. This is possible if and only if all reserved bits are 0, and the digit
 /// separator is absent or allowed by a flag.
 ///
+/// ```
+/// use peltzivar::edits::is_built;
+///
+/// assert!(is_built(0x00000A00_00000000_00000000_0000000C));
+/// assert!(!is_built(0x00000A00_0000005F_00000000_0000000C)); // no flag allows the separator `_`
+/// ```
+///
 /// # Proved of the source
 ///
 /// - The result is true if and only if setter calls on a new builder can build `format`.
