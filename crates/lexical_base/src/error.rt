@@ -4,8 +4,7 @@
 
 ghost use Rattle.std.specs.Prelude.{◌≡◌, ◌↔◌, ◌<◌, ◌+◌, length, IsTrue, IsSome, IfSome, Some};
 ghost use Rattle.std.specs.Option.{option_copied};
-ghost use Rattle.lexical_base.specs.Outcomes.{rank_of, index_of, IsAt, class_of, start_of_class};
-ghost use Rattle.lexical_base.specs.Outcomes.{description_of, printed_text};
+ghost use Rattle.lexical_base.specs.Outcomes.{rank_of, index_of, IsAt, class_of, start_of_class, description_of, printed_text};
 ghost use Rattle.lexical_base.specs.declared.error.Error.TheVariants as errors;
 
 use crate::short_text::ShortText;

@@ -5,8 +5,7 @@ ghost use Rattle.lexical_base.specs.declared.error.Error.{Error};
 ghost use Rattle.lexical_base.specs.Ascii.{ByteSet};
 ghost use Rattle.lexical_flags.specs.Layout as layout;
 ghost use Rattle.lexical_flags.specs.Layout.{Flag, Byte, bit, shift, IsClean};
-ghost use Rattle.lexical_flags.specs.Record.{raw, fill, trim};
-ghost use Rattle.lexical_flags.specs.Record.{SeparatorAllowedOrAbsent};
+ghost use Rattle.lexical_flags.specs.Record.{raw, fill, trim, SeparatorAllowedOrAbsent};
 ghost use Rattle.lexical_flags.specs.Pairs.{ArePairwise};
 ghost use Rattle.lexical_flags.specs.Roles.{Disjoint, AreDisjoint, five_roles};
 ghost use Rattle.lexical_flags.specs.Rules.{Holds, Lawful, IsErrorOf};
@@ -14,8 +13,7 @@ ghost use Rattle.lexical_flags.specs.Additions.RuleFields.{mask_read};
 ghost use Rattle.lexical_flags.specs.declared.format_flags.rule.Rule.{Rule};
 ghost use Rattle.lexical_flags.specs.Options.{OptionsFit, OptionsHaveOneRole};
 ghost use Rattle.lexical_flags.specs.Constants.{flag_constant, byte_constant, byte_shift, doublings, ShareNoBit};
-ghost use Rattle.lexical_flags.specs.Additions.Masks.{interface_flags, exponent_flags};
-ghost use Rattle.lexical_flags.specs.Additions.Masks.{mask_of};
+ghost use Rattle.lexical_flags.specs.Additions.Masks.{interface_flags, exponent_flags, mask_of};
 
 use crate::format_flags::*;
 

@@ -9,8 +9,7 @@ use Rattle.lexical_literal.specs.Additions.Plain.{is_first, needs_first}
 use Rattle.lexical_literal.specs.Additions.Summary.{is_negative, piece_of, step_by, tally_by}
 use Rattle.lexical_util.specs.declared.feature_format.roles.Role.TheVariants as roles
 use Rattle.lexical_util.specs.declared.format_flags.Part.TheVariants as parts
-use Rattle.lexical_literal.specs.Literal.{begins_with, condition, is_plus}
-use Rattle.lexical_literal.specs.Literal.{may_begin}
+use Rattle.lexical_literal.specs.Literal.{begins_with, condition, is_plus, may_begin}
 use Rattle.lexical_literal.specs.declared.steps.Piece.TheVariants as pieces
 use Rattle.lexical_literal.specs.declared.steps.Stage.TheVariants as stages
 use Rattle.lexical_literal.specs.declared.syntax.Condition.TheVariants as conditions

@@ -5,8 +5,7 @@ ghost use Rattle.std.specs.Char.{eq_ignore_ascii_case};
 ghost use Rattle.std.specs.List.{list_any};
 ghost use Rattle.lexical_literal.specs.Cause.{is_in};
 ghost use Rattle.lexical_literal.specs.Suffix.{admits, any_word_size, begins, byte_before, is_followed, is_stopped, is_word_byte, kind_among, kind_with};
-ghost use Rattle.lexical_literal.specs.Suffix.{longest_word};
-ghost use Rattle.lexical_literal.specs.Suffix.{meets, suffix_size, word_size};
+ghost use Rattle.lexical_literal.specs.Suffix.{longest_word, meets, suffix_size, word_size};
 
 use crate::kind::Kind;
 use crate::read::byte_at;

@@ -1,6 +1,5 @@
 -- In a lawful format with options that fit, or without options, a byte plays at most one role.
-use Rattle.std.proofs.Common.{◌≡◌, ◌≢◌, ◌<◌, ◌⊎◌, inl, inr, ℕ, ◌↔◌, Bool, true, List, [], ◌∷◌, Some, None, IsTrue}
-use Rattle.std.proofs.Common.{refl, arith}
+use Rattle.std.proofs.Common.{◌≡◌, ◌≢◌, ◌<◌, ◌⊎◌, inl, inr, ℕ, ◌↔◌, Bool, true, List, [], ◌∷◌, Some, None, IsTrue, refl, arith}
 use Rattle.std.proofs.lemmas.Bool.{and_parts}
 use Rattle.std.proofs.lemmas.Bool.Decides.{nat_tests}
 use Rattle.std.specs.List.{find}

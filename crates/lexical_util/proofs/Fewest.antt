@@ -1,7 +1,6 @@
 -- Lemmas that a list of legal writes that builds a word has at least as many writes as the word needs.
-use Rattle.std.proofs.Common.{◌≡◌, ℕ, ◌+◌, ◌≤◌, ◌==◌, ◌||◌, Bool, true, false, not, cond, if◌then◌else◌, List, [], ◌∷◌}
-use Rattle.std.proofs.Common.{length, Option, unwrap_or, is_some, refl, sym, ap, ◌∙◌, subst}
-use Rattle.std.proofs.Common.{count_by, arith, le_refl, eq-eqb, All}
+use Rattle.std.proofs.Common.{◌≡◌, ℕ, ◌+◌, ◌≤◌, ◌==◌, ◌||◌, Bool, true, false, not, cond, if◌then◌else◌, List, [], ◌∷◌, length, Option, unwrap_or, is_some}
+use Rattle.std.proofs.Common.{refl, sym, ap, ◌∙◌, subst, count_by, arith, le_refl, eq-eqb, All}
 use Rattle.std.specs.List.{list_any}
 use Rattle.std.proofs.Math.Bool.{beq}
 use Rattle.std.proofs.lemmas.Bool.{or_parts}
@@ -10,8 +9,7 @@ use Rattle.std.proofs.lemmas.List.Sums.{sum_by-cons, length-filter}
 use Rattle.lexical_flags.specs.Layout.{Flag, Byte}
 use Rattle.lexical_flags.specs.Layout as layout
 use Rattle.lexical_flags.specs.Record.{Record, raw, trim, pack, separator_allowed}
-use Rattle.lexical_builder.specs.Writes.{Write, write_flag, write_byte, IsLegal, new_record, flag_written, byte_written}
-use Rattle.lexical_builder.specs.Writes.{after, changes}
+use Rattle.lexical_builder.specs.Writes.{Write, write_flag, write_byte, IsLegal, new_record, flag_written, byte_written, after, changes}
 use Rattle.lexical_util.proofs.Lower.{raw-pack, left_by, left_by-cons, HasBytes-after, HasBytes-new}
 use Rattle.lexical_util.specs.Listing.{field_writes, needed_writes}
 use Rattle.lexical_util.proofs.FieldWrites.{All-field_writes}

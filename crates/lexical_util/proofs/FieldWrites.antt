@@ -1,7 +1,6 @@
 -- Lemmas that the field writes of a record give this record, and that only the writes that change the start are needed.
-use Rattle.std.proofs.Common.{◌≡◌, Bool, true, false, not, if◌then◌else◌, arith}
-use Rattle.std.proofs.Common.{List, [], ◌∷◌, map, Option, Some, None, unwrap_or, filter, filter_map, refl, sym, ap}
-use Rattle.std.proofs.Common.{◌∙◌, All}
+use Rattle.std.proofs.Common.{◌≡◌, Bool, true, false, not, if◌then◌else◌, arith, List, [], ◌∷◌, map, Option, Some, None, unwrap_or, filter, filter_map, refl}
+use Rattle.std.proofs.Common.{sym, ap, ◌∙◌, All}
 use Rattle.std.specs.List.{cons_option, last_or}
 use Rattle.std.proofs.Math.Bool.{beq}
 use Rattle.std.proofs.lemmas.Bool.Decides.{nat_tests}
@@ -9,8 +8,7 @@ use Rattle.std.proofs.lemmas.List.Elements.{All-append, All-map}
 use Rattle.lexical_flags.specs.Layout.{Flag, Byte, flags, bytes}
 use Rattle.lexical_flags.specs.Layout as layout
 use Rattle.lexical_flags.specs.Record.{Record, HasBytes}
-use Rattle.lexical_builder.specs.Writes.{Write, write_flag, write_byte, IsLegal, flag_written, byte_written, after}
-use Rattle.lexical_builder.specs.Writes.{changes}
+use Rattle.lexical_builder.specs.Writes.{Write, write_flag, write_byte, IsLegal, flag_written, byte_written, after, changes}
 use Rattle.lexical_util.proofs.Lower.{record_same, left_by}
 use Rattle.lexical_util.specs.Listing.{field_writes}
 

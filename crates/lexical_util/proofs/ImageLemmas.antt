@@ -1,6 +1,5 @@
 -- Lemmas on the words that a builder can pack.
-use Rattle.std.proofs.Common.{◌≡◌, ℕ, ◌<◌, ◌^◌, ◌↔◌, ◌⊎◌, Bool, if◌then◌else◌, IsTrue}
-use Rattle.std.proofs.Common.{sym, ap, ◌∙◌, subst, arith}
+use Rattle.std.proofs.Common.{◌≡◌, ℕ, ◌<◌, ◌^◌, ◌↔◌, ◌⊎◌, Bool, if◌then◌else◌, IsTrue, sym, ap, ◌∙◌, subst, arith}
 use Rattle.lexical_flags.specs.Layout as layout
 use Rattle.lexical_flags.specs.Record.{Record, raw, pack, separator_allowed, HasBytes, IsBuilt}
 use Rattle.lexical_builder.specs.Writes.{new_record, after}

@@ -1,6 +1,5 @@
 -- Lemmas that the edits of all fields of a record give it from a new builder, and that only the needed edits suffice.
-use Rattle.std.proofs.Common.{◌≡◌, Bool, true, false, not, cond, List, [], ◌∷◌, ◌++◌, map, filter, refl, sym}
-use Rattle.std.proofs.Common.{ap, ◌∙◌, subst, All}
+use Rattle.std.proofs.Common.{◌≡◌, Bool, true, false, not, cond, List, [], ◌∷◌, ◌++◌, map, filter, refl, sym, ap, ◌∙◌, subst, All}
 use Rattle.std.specs.List.{list_any, AllZip}
 use Rattle.std.proofs.Math.Bool.{or-false}
 use Rattle.std.proofs.lemmas.List.{map-append}
@@ -11,8 +10,7 @@ use Rattle.lexical_flags.specs.Layout.{Flag}
 use Rattle.lexical_flags.specs.Record.{Record, HasBytes}
 use Rattle.lexical_builder.specs.Writes.{Write, write_flag, write_byte, IsLegal, new_record, after, changes}
 use Rattle.lexical_util.proofs.Lower.{byte_of_option_back, after-append}
-use Rattle.lexical_util.proofs.FieldWrites.{legal-field_writes, after-own}
-use Rattle.lexical_util.proofs.FieldWrites.{after-changes}
+use Rattle.lexical_util.proofs.FieldWrites.{legal-field_writes, after-own, after-changes}
 use Rattle.lexical_util.specs.Edits.{flags_of, writes_of, all_writes}
 use Rattle.lexical_util.specs.Listing.{IsEditOf, field_writes, needed_writes, other_writes}
 use Rattle.lexical_util.specs.Additions.FieldEdits.{flag_setter, edit_of_write, field_edits, needed_edits, other_edits}

@@ -1,14 +1,12 @@
 -- Lemmas on normal forms: the words that are their own normal form, what a normal form keeps, and when two are equal.
-use Rattle.std.proofs.Common.{◌≡◌, ℕ, ◌<◌, ◌^◌, Bool, cond, IsTrue}
-use Rattle.std.proofs.Common.{arith, refl, sym, ap, ◌∙◌, subst, List, [], sum_by, if◌then◌else◌}
+use Rattle.std.proofs.Common.{◌≡◌, ℕ, ◌<◌, ◌^◌, Bool, cond, IsTrue, arith, refl, sym, ap, ◌∙◌, subst, List, [], sum_by, if◌then◌else◌}
 use Rattle.std.specs.List.{list_any}
 use Rattle.std.proofs.lemmas.Bool.{cond-true}
 use Rattle.std.proofs.lemmas.Bool.Decides.{nat_tests}
 use Rattle.std.proofs.lemmas.List.Elements.{All-nil}
 use Rattle.lexical_flags.specs.Layout.{Flag, Byte, bit, flags, digit_separator_flags, IsClean}
 use Rattle.lexical_flags.specs.Layout as layout
-use Rattle.lexical_flags.specs.Record.{Record, raw, trim, fill, pack, word_of, effective}
-use Rattle.lexical_flags.specs.Record.{separator_allowed, SeparatorAllowedOrAbsent}
+use Rattle.lexical_flags.specs.Record.{Record, raw, trim, fill, pack, word_of, effective, separator_allowed, SeparatorAllowedOrAbsent}
 use Rattle.lexical_util.proofs.Lower.{kept_same, trimmed_unused}
 use Rattle.lexical_builder.specs.Writes.{Write, IsLegal, after}
 use Rattle.lexical_util.proofs.EditLemmas.{edited-fields, edited-clean, edited-only}

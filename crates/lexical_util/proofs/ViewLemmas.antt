@@ -1,7 +1,5 @@
 -- Lemmas on the bits of a word under a mask that is written as a number.
-use Rattle.std.proofs.Common.{ℕ, ◌≡◌, ◌*◌, ◌^◌, ◌<◌, ◌==◌, ◌≢◌, ◌⊎◌, nat_lt, IsTrue, true}
-use Rattle.std.proofs.Common.{not, if◌then◌else◌}
-use Rattle.std.proofs.Common.{List, sum_by, bit_and, refl, sym, ◌∙◌, arith}
+use Rattle.std.proofs.Common.{ℕ, ◌≡◌, ◌*◌, ◌^◌, ◌<◌, ◌==◌, ◌≢◌, ◌⊎◌, nat_lt, IsTrue, true, not, if◌then◌else◌, List, sum_by, bit_and, refl, sym, ◌∙◌, arith}
 use Rattle.std.proofs.Math.Nat.{mod-lt}
 use Rattle.std.proofs.lemmas.Bool.Decides.{nat_tests}
 use Rattle.std.proofs.lemmas.Nat.{pow-add, pow_pos}

@@ -1,20 +1,15 @@
 -- Lemmas on the loop of `word_text`, and on the only text with a given form and value.
-use Rattle.std.proofs.Common.{◌≡◌, ℕ, zero, suc, ◌+◌, ◌-◌, ◌*◌, ◌/◌, ◌%◌, ◌^◌, ◌<◌, ◌==◌, ◌&&◌, Bool, true, not}
-use Rattle.std.proofs.Common.{IsTrue, bytes_eq}
-use Rattle.std.proofs.Common.{List, [], ◌∷◌, ◌++◌, map, take, drop, length, codes, replicate, slice_index_or, refl}
-use Rattle.std.proofs.Common.{sym, ap}
-use Rattle.std.proofs.Common.{◌∙◌, subst, arith, cond, inl, inr, nat_lt, unwrap_or, Some, None}
+use Rattle.std.proofs.Common.{◌≡◌, ℕ, zero, suc, ◌+◌, ◌-◌, ◌*◌, ◌/◌, ◌%◌, ◌^◌, ◌<◌, ◌==◌, ◌&&◌, Bool, true, not, IsTrue, bytes_eq, List, [], ◌∷◌, ◌++◌, map}
+use Rattle.std.proofs.Common.{take, drop, length, codes, replicate, slice_index_or, refl, sym, ap, ◌∙◌, subst, arith, cond, inl, inr, nat_lt, unwrap_or, Some}
+use Rattle.std.proofs.Common.{None}
 use Rattle.std.specs.Int.Digits.{number_from_digits_after}
 use Rattle.std.specs.List.{All, position_or_len}
 use Rattle.std.proofs.Math.ListN.{set}
 use Rattle.std.proofs.Math.Nat.{pow-suc, div-div-eq-div-mul}
-use Rattle.std.proofs.lemmas.Bool.{agree_below_at, and_from, and_parts, cases_Bool}
-use Rattle.std.proofs.lemmas.Bool.{cond-false, eqb-true, ltb-true}
-use Rattle.std.proofs.lemmas.Bool.{not-true}
+use Rattle.std.proofs.lemmas.Bool.{agree_below_at, and_from, and_parts, cases_Bool, cond-false, eqb-true, ltb-true, not-true}
 use Rattle.std.proofs.lemmas.Nat.{same_from_place}
 use Rattle.std.proofs.lemmas.Slice.Eq.{bytes_eq-Decides}
-use Rattle.std.proofs.lemmas.List.{drop-set, take-set-le, length-set}
-use Rattle.std.proofs.lemmas.List.{take-append-drop}
+use Rattle.std.proofs.lemmas.List.{drop-set, take-set-le, length-set, take-append-drop}
 use Rattle.std.proofs.lemmas.List.Sums.{AllPass-from_list_all, list_all-from_AllPass, passes_at_first}
 use Rattle.std.proofs.lemmas.List.Elements.{All-cons, All-head, All-nil, All-tail, All-weaker}
 use Rattle.lexical_base.specs.Digits.{digit_characters, is_lowercase, uppercase, byte_value}

@@ -7,10 +7,9 @@ ghost use Rattle.lexical_flags.specs.Options.{OptionsFit};
 ghost use Rattle.lexical_flags.specs.Record.{raw};
 ghost use Rattle.lexical_flags.specs.Rules.{Holds, Lawful};
 ghost use Rattle.lexical_flags.specs.declared.format_flags.rule.Rule.{Rule};
-ghost use Rattle.lexical_util.specs.Additions.Reasons.{reasons_of, options_reasons_of, EachReason, NoReason, Breaks};
-ghost use Rattle.lexical_util.specs.Additions.Reasons.{case_flag, is_cased, unset_flag, if_present, out_of_range, digit_radixes, not_punctuation};
-ghost use Rattle.lexical_util.specs.Additions.Reasons.{clash, both_set, needs_position, reserved_bits};
-ghost use Rattle.lexical_util.specs.Additions.Reasons.{followers, reason_of, named};
+ghost use Rattle.lexical_util.specs.Additions.Reasons.{reasons_of, options_reasons_of, EachReason, NoReason, Breaks, case_flag, is_cased, unset_flag};
+ghost use Rattle.lexical_util.specs.Additions.Reasons.{if_present, out_of_range, digit_radixes, not_punctuation, clash, both_set, needs_position};
+ghost use Rattle.lexical_util.specs.Additions.Reasons.{reserved_bits, followers, reason_of, named};
 
 use crate::edits::FlagSetter;
 use crate::feature_format::NumberFormat;

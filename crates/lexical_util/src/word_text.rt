@@ -4,8 +4,7 @@ ghost use Rattle.std.specs.Prelude.{◌≡◌, ℕ, List, Ok, slice_get};
 ghost use Rattle.std.specs.List.{prefix_len};
 ghost use Rattle.std.specs.Option.{SomeIff};
 ghost use Rattle.std.specs.Result.{result_ok};
-ghost use Rattle.lexical_util.specs.Additions.WordText.{IsWordText, IsPrintedForm, hex, printed, first_misfit};
-ghost use Rattle.lexical_util.specs.Additions.WordText.{misfit_error, parsed_word, word_from_text};
+ghost use Rattle.lexical_util.specs.Additions.WordText.{IsWordText, IsPrintedForm, hex, printed, first_misfit, misfit_error, parsed_word, word_from_text};
 ghost use Rattle.lexical_util.specs.Additions.Numeral.{is_digit_of_radix};
 
 use crate::numeral::read_numeral;

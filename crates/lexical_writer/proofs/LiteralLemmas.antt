@@ -6,7 +6,8 @@ use Rattle.lexical_writer.proofs.Common.{AllBelowBase, digits_of, number_from_di
 use Rattle.lexical_writer.proofs.Common.{is_minus, is_present, text_of, has, lacks_options, IsSyntax, Grammar, digits_in, number, at_least, character, grouped}
 use Rattle.lexical_writer.proofs.Common.{size_of, values_of, Amount, Layout, WriteError, Style, all_below_base_digits_of, ByteSet, Reads, notation_of}
 use Rattle.lexical_writer.proofs.Common.{begins_decimal, HasNumber, given_fraction, IsLaidOut, Pattern}
-use Rattle.lexical_literal.specs.Literal.{IsSpelled, begins, begins_with, condition, may_begin, is_none_or_one, is_plus}
+use Rattle.lexical_literal.specs.Literal.{IsSpelled, begins, begins_with, condition, may_begin, is_none_or_one, is_plus, has_leading_zero, is_float}
+use Rattle.lexical_literal.specs.Literal.{is_zero_led, is_none_or_prefix, requirement}
 use Rattle.lexical_literal.specs.Notation.{Notation, all_conditions, number_of, point_of, exponent_character_of, radix_of}
 use Rattle.lexical_writer.specs.Digits.{no_groups, only_if}
 use Rattle.lexical_writer.specs.Layout.{fraction_pattern, fraction_text, given_power, has_exponent, has_point, has_zero, after_zero, base_byte, integer_pattern}
@@ -19,8 +20,6 @@ use Rattle.lexical_util.specs.Roles as sets
 use Rattle.lexical_util.specs.Unfoldable.{cased, IsPunctuation, Lawful, Holds}
 use Rattle.lexical_util.specs.declared.format_flags.Part.{Part}
 use Rattle.lexical_util.specs.declared.format_flags.Part.TheVariants as parts
-use Rattle.lexical_literal.specs.Literal.{has_leading_zero, is_float, is_zero_led}
-use Rattle.lexical_literal.specs.Literal.{is_none_or_prefix, requirement}
 use Rattle.lexical_literal.specs.Groups.{higher, is_grouped}
 use Rattle.lexical_literal.specs.Run.{is_run}
 use Rattle.lexical_literal.specs.Syntax.{FitIfAny, contradiction, fault, first_fault, limits}

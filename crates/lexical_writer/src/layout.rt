@@ -8,10 +8,9 @@ ghost use Rattle.lexical_literal.specs.Literal.{Reads, is_present, text_of};
 ghost use Rattle.lexical_literal.specs.Notation.{notation_of};
 ghost use Rattle.lexical_literal.specs.Syntax.{IsSyntax};
 ghost use Rattle.lexical_writer.specs.Digits.{no_groups, only_if, run_digits, run_text, size_of, values_of};
-ghost use Rattle.lexical_writer.specs.Layout.{HasNumber, IsLaidOut, allows_exponent, base_byte, exponent_text, first_error};
-ghost use Rattle.lexical_writer.specs.Layout.{fraction_pattern, fraction_text, given_fraction, given_power, has_exponent, has_point, has_zero};
-ghost use Rattle.lexical_writer.specs.Layout.{integer_pattern, integer_text, kept_digits, least_digits, led_digits, literal_of, needs_exponent, number_of_size};
-ghost use Rattle.lexical_writer.specs.Layout.{one_if, refusal, sign_of, wants_exponent};
+ghost use Rattle.lexical_writer.specs.Layout.{HasNumber, IsLaidOut, allows_exponent, base_byte, exponent_text, first_error, fraction_pattern, fraction_text};
+ghost use Rattle.lexical_writer.specs.Layout.{given_fraction, given_power, has_exponent, has_point, has_zero, integer_pattern, integer_text, kept_digits};
+ghost use Rattle.lexical_writer.specs.Layout.{least_digits, led_digits, literal_of, needs_exponent, number_of_size, one_if, refusal, sign_of, wants_exponent};
 ghost use Rattle.lexical_writer.specs.Buffer.{IsTaken};
 
 use crate::digits::{only_if, put_if_any, without_zeros};

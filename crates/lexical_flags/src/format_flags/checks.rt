@@ -10,9 +10,8 @@ ghost use Rattle.lexical_flags.specs.Layout as layout;
 ghost use Rattle.lexical_flags.specs.Layout.{IsClean};
 ghost use Rattle.lexical_flags.specs.Record.{effective, raw, separator_allowed};
 ghost use Rattle.lexical_flags.specs.Roles.{Disjoint, cased, other_case, digits};
-ghost use Rattle.lexical_flags.specs.Rules.{IsRadix, IsAbsentOrPunctuation, IsPunctuation, Holds, IsFirstError};
-ghost use Rattle.lexical_flags.specs.Rules.{IsErrorOf, Lawful};
-ghost use Rattle.lexical_flags.specs.Rules.{radix_rules, punctuation_rules, flag_rules};
+ghost use Rattle.lexical_flags.specs.Rules.{IsRadix, IsAbsentOrPunctuation, IsPunctuation, Holds, IsFirstError, IsErrorOf, Lawful, radix_rules};
+ghost use Rattle.lexical_flags.specs.Rules.{punctuation_rules, flag_rules};
 ghost use Rattle.lexical_flags.specs.declared.format_flags.rule.Rule.TheVariants as rules;
 
 use crate::format_flags::*;

@@ -2,9 +2,8 @@
 
 ghost use Rattle.std.specs.Prelude.{◌≡◌, ◌≢◌, ◌≤◌, ◌<◌, length, Option, MatchOption};
 ghost use Rattle.std.specs.List.{position_or_len, before_first, after_first};
-ghost use Rattle.lexical_util.specs.Additions.Settings.{name_of, byte_of_digits, byte_of_number, byte_of_character, byte_of_value};
-ghost use Rattle.lexical_util.specs.Additions.Settings.{no_equals, unknown_name, bad_value};
-ghost use Rattle.lexical_util.specs.Additions.Settings.{is_equals, trimmed, IsParsed, IsSetting};
+ghost use Rattle.lexical_util.specs.Additions.Settings.{name_of, byte_of_digits, byte_of_number, byte_of_character, byte_of_value, no_equals, unknown_name};
+ghost use Rattle.lexical_util.specs.Additions.Settings.{bad_value, is_equals, trimmed, IsParsed, IsSetting};
 
 use crate::edits::{ALL_SETTERS, ArgumentKind, Edit, Setter};
 use crate::numeral::read_numeral;

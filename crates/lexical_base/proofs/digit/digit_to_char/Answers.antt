@@ -1,5 +1,4 @@
-use Rattle.lexical_base.proofs.ValueLemmas.{byte_value-digit_character, digit_character-get, digit_of-digit_character}
-use Rattle.lexical_base.proofs.ValueLemmas.{digit_character-uppercase}
+use Rattle.lexical_base.proofs.ValueLemmas.{byte_value-digit_character, digit_character-get, digit_of-digit_character, digit_character-uppercase}
 use Rattle.lexical_base.proofs.digit.digit_to_char.Goals as goal
 
 pub returns : goal.returns

@@ -2,9 +2,8 @@
 use Rattle.std.proofs.Common.{◌∙◌, refl, sym, ap, arith}
 use Rattle.lexical_flags.specs.Record.{pack}
 use Rattle.lexical_util.specs.NormalForm.{normal_form_of}
-use Rattle.lexical_util.proofs.NormalLemmas.{normal_form-is, raw_normal, clean_normal, normal_only, normal_again}
-use Rattle.lexical_util.proofs.NormalLemmas.{normal_from_fixed, fixed_from_normal, normal_keeps, groups_normal}
-use Rattle.lexical_util.proofs.NormalLemmas.{flags_normal, edited-normal}
+use Rattle.lexical_util.proofs.NormalLemmas.{normal_form-is, raw_normal, clean_normal, normal_only, normal_again, normal_from_fixed, fixed_from_normal}
+use Rattle.lexical_util.proofs.NormalLemmas.{normal_keeps, groups_normal, flags_normal, edited-normal}
 use Rattle.lexical_util.proofs.edits.normal_form.Goals as goal
 
 pub returns : goal.returns

@@ -3,8 +3,7 @@ use Rattle.std.proofs.Common.{◌≡◌, ◌%◌, Ok, Err, cond, ◌∙◌, sym,
 use Rattle.lexical_base.specs.Digits.{digit_characters}
 use Rattle.lexical_util.specs.Additions.WordText.{IsPrintedForm, hex, word_error}
 use Rattle.std.proofs.lemmas.Option.{get_or_from_slice_get}
-use Rattle.lexical_util.proofs.WordTextLemmas.{HasWritten-none, HasWritten-next, printed-written, IsPrintedForm-printed}
-use Rattle.lexical_util.proofs.WordTextLemmas.{hex-printed, IsPrintedForm-unique}
+use Rattle.lexical_util.proofs.WordTextLemmas.{HasWritten-none, HasWritten-next, printed-written, IsPrintedForm-printed, hex-printed, IsPrintedForm-unique}
 use Rattle.lexical_util.proofs.word_text.word_text.Goals as goal
 
 pub loop-count-init : goal.loop-count-init

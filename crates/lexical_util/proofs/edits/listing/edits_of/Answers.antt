@@ -13,8 +13,7 @@ use Rattle.lexical_util.specs.Additions.FieldEdits.{edit_of_write, needed_edits,
 use Rattle.lexical_util.specs.Listing.{IsEditOf, needed_writes, other_writes}
 use Rattle.lexical_util.specs.Private.{differs_from_new}
 use Rattle.lexical_util.proofs.Fewest.{fewest_writes}
-use Rattle.lexical_util.proofs.ListingLemmas.{needed_edits-is, other_edits-is, IsEditOf-both}
-use Rattle.lexical_util.proofs.ListingLemmas.{after-needed, after-both, legal-both}
+use Rattle.lexical_util.proofs.ListingLemmas.{needed_edits-is, other_edits-is, IsEditOf-both, after-needed, after-both, legal-both}
 use Rattle.lexical_util.proofs.edits.listing.edits_of.Goals as goal
 
 -- The number of edits that are not in the first part is the length of the second part.
