@@ -5,13 +5,13 @@ use Rattle.lexical_literal.proofs.Common.{Notation, has, notation_of, Condition,
 use Rattle.lexical_literal.proofs.Common.{adding, bare, is_one_of, marks_of, number_separator_flags, requirement_flags, span_of, with_rules, IsValidUpTo}
 use Rattle.lexical_literal.proofs.Common.{IsWeaker, lets, place_of, blame, mask_of, unmet, fits, unsized, no_condition, role_at, part_of, Blame, ReadErrorKind}
 use Rattle.lexical_literal.proofs.Common.{Group, Summary}
-use Rattle.lexical_literal.specs.Cause.{IsCaseFlag, IsCause, IsRequirement, IsUnmet, Permits, RefusesAlone, SomeFlag, binds, case_set, error_of, first_unmet}
+use Rattle.lexical_literal.specs.Cause.{IsCaseFlag, IsCause, IsRequirement, IsUnmet, Permits, RefusesAlone, binds, case_set, error_of, first_unmet}
 use Rattle.lexical_literal.specs.Cause.{is_at, lowest, requiring, tail_of}
 use Rattle.lexical_literal.specs.Additions.Causes.{is_at_gap}
 use Rattle.lexical_literal.specs.Additions.Explained.{alone, cases, group_at, otherwise, refusal_of, requirements, separators, some_unmet, zeros}
 use Rattle.lexical_literal.specs.Additions.Sizes.{IsReadOf, goes, role_next}
 use Rattle.std.specs.Prelude.{slice_get}
-use Rattle.lexical_util.specs.Groups.{bits_of}
+use Rattle.lexical_util.specs.Record.{flag_bits}
 use Rattle.lexical_util.specs.Layout as layout
 use Rattle.lexical_util.specs.Roles.{other_case}
 use Rattle.lexical_util.specs.declared.format_flags.Part.TheVariants as parts
@@ -110,9 +110,9 @@ module _ (m : Notation) (s : Summary) (g : Group) (next : Option ℕ) (allowed :
   in_part parts.Exponent at = leading no_condition parts.Exponent at refl allowed
 
   -- A flag on leading zeros is to blame.
-  some_zero : SomeFlag (zeros m)
+  some_zero : (f : Flag) × IsTrue (zeros m f)
   some_zero = go (in_part (part_of s.stage) refl) where
-    go : leads m ≡ true → SomeFlag (zeros m)
+    go : leads m ≡ true → (f : Flag) × IsTrue (zeros m f)
     go is = elim (cases_Bool (m.flag layout.no_float_leading_zeros)) [
       | inl float ↦ (layout.no_float_leading_zeros, and_from _ true (and_from _ true float refl) refl)
       | inr other ↦ (layout.no_integer_leading_zeros, grind arith)
@@ -270,13 +270,13 @@ module _ (m : Notation) (s : Summary) (g : Group) (front : List ℕ) (read : IsR
       (λ allowed. is_requirement m s g front read next allowed refused) (is_otherwise next)
 
   -- Only flags are to blame.
-  is_mask : (next : Option ℕ) → (blame m s g next).mask ≡ bits_of (blame m s g next).mask layout.flags
-  is_mask next = choose (λ (b : Blame). b.mask ≡ bits_of b.mask layout.flags) (goes (bare m) s g next) _ _
-      (λ _. choose (λ (mask : ℕ). mask ≡ bits_of mask layout.flags) (mask_of (alone m s g next) == 0 && not (some_unmet m s g next)) _ _
+  is_mask : (next : Option ℕ) → (blame m s g next).mask ≡ sum_by (flag_bits (raw (blame m s g next).mask)) layout.flags
+  is_mask next = choose (λ (b : Blame). b.mask ≡ sum_by (flag_bits (raw b.mask)) layout.flags) (goes (bare m) s g next) _ _
+      (λ _. choose (λ (mask : ℕ). mask ≡ sum_by (flag_bits (raw mask)) layout.flags) (mask_of (alone m s g next) == 0 && not (some_unmet m s g next)) _ _
       (λ _. only_mask (zeros m)) (λ _. only_mask (alone m s g next))) (λ _. go next) where
-        go : (next : Option ℕ) → (otherwise m s g next).mask ≡ bits_of (otherwise m s g next).mask layout.flags
+        go : (next : Option ℕ) → (otherwise m s g next).mask ≡ sum_by (flag_bits (raw (otherwise m s g next).mask)) layout.flags
         go None = only_none
-        go (Some byte) = choose (λ (b : Blame). b.mask ≡ bits_of b.mask layout.flags) (mask_of (separators m s g (Some byte)) == 0) _ _
+        go (Some byte) = choose (λ (b : Blame). b.mask ≡ sum_by (flag_bits (raw b.mask)) layout.flags) (mask_of (separators m s g (Some byte)) == 0) _ _
             (λ _. only_mask (cases m s g byte)) (λ _. only_mask (separators m s g (Some byte)))
 
 -- THE REFUSAL

@@ -6,7 +6,7 @@ use Rattle.std.proofs.lemmas.List.{append_assoc}
 use Rattle.std.proofs.Math.Seq.{drop-append_seam, take-append_seam}
 use lib.ListN.{length-append}
 use Rattle.lexical_literal.specs.Parts.{IsRead}
-use Rattle.lexical_literal.specs.Kind.{exact}
+use Rattle.lexical_literal.specs.Read.{exact}
 use Rattle.lexical_literal.specs.declared.steps.Piece.TheVariants as pieces
 
 -- One part, and where the next one begins.

@@ -3,7 +3,7 @@ use Rattle.lexical_writer.proofs.Common.{ℕ, ◌≡◌, ◌<◌, ◌≤◌, ◌
 use Rattle.lexical_writer.proofs.Common.{ap, sym, ◌∙◌, subst, arith, cases_lt, false≢true, nat_tests, Literal, text_of, IsSyntax, Grammar, Reads, notation_of}
 use Rattle.std.proofs.lemmas.Option.{slice_get_read}
 use Rattle.lexical_literal.specs.Forms.{IsNumber, ReadsForm}
-use Rattle.lexical_literal.specs.Kind.{exact}
+use Rattle.lexical_literal.specs.Read.{exact}
 use Rattle.lexical_literal.specs.Read.{Read}
 use Rattle.lexical_literal.specs.declared.list.Form.{Form}
 use Rattle.lexical_writer.specs.Buffer.{IsTaken}
