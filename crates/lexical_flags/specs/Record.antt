@@ -1,7 +1,7 @@
 -- A format as a record of its fields, and the words that express it.
 use Rattle.std.specs.Prelude.{ℕ, ◌+◌, ◌*◌, ◌/◌, ◌%◌, ◌^◌, ◌<◌, ◌≡◌, ◌==◌, ◌⊎◌, Bool, IsTrue, if◌then◌else◌, sum_by}
 use Rattle.std.specs.List.{list_any}
-use Rattle.lexical_flags.specs.Layout.{part, Flag, Byte, bit, shift, flags, bytes, digit_separator_flags, IsClean}
+use Rattle.lexical_flags.specs.Layout.{Flag, Byte, bit, shift, flags, bytes, digit_separator_flags, IsClean}
 use Rattle.lexical_flags.specs.Layout as layout
 
 -- `Record` has the fields of a format: a truth value for each flag, and a number for each byte, which is 0 if absent.

@@ -349,4 +349,5 @@ module _ (forms : List Form) (text : List ℕ) (first size : ℕ) (furthest : Is
         (go (slice_get forms form) (subst (λ k. IsSomeAnd (slice_get forms k) (IsErrorOfForm text error)) same is) valid) where
           go : (o : Option Form) → IsSomeAnd o (IsErrorOfForm text error) → IsSomeAnd o (λ g. GoesTo text g size) → IsSomeAnd o (IsAtMost most)
           go None is valid = is
-          go (Some g) is valid = λ n reaches. let same = reach_of g text error.error.refusal size true is.refusal valid byte n reaches in omega (arith, same, low)
+          go (Some g) is valid = λ n reaches. let same = reach_of g text error.error.refusal size true is.refusal valid byte n reaches
+              in omega (arith, same, low)

@@ -44,7 +44,8 @@ module _ (m : Notation) where
   plays_sign = plays roles.Sign (λ same. cc)
 
   plays_run : (part : Part) (b : ℕ) → IsTrue (run_byte m part b) → IsSpare m b → ⊥
-  plays_run part b has none = let digit = none roles.Digit (λ same. cc) in let separator = none roles.Separator (λ same. cc) in go part has digit separator where
+  plays_run part b has none = let digit = none roles.Digit (λ same. cc) in let separator = none roles.Separator (λ same. cc)
+      in go part has digit separator where
     go : (part : Part) → IsTrue (run_byte m part b) → set_of_role m roles.Digit b ≡ false → set_of_role m roles.Separator b ≡ false → ⊥
     go parts.Integer has digit separator = grind arith
     go parts.Fraction has digit separator = grind arith
@@ -189,7 +190,8 @@ module _ (m : Notation) (b : ℕ) where
   pub spare_prefix : role_at m parts.Integer b ≡ Some roles.Prefix → m.digit parts.Exponent b ≡ false → IsSpare m b
   spare_prefix first digit r other =
       of r other (only_prefix (m.digit parts.Integer b) (m.separator b) (m.point b) (m.exponent_character b) (m.suffix b) (signs b) (m.prefix b) first) where
-        of : (r : Role) → (r ≡ roles.Prefix → ⊥) → AreFalse (m.digit parts.Integer b) (m.separator b) (m.point b) (m.exponent_character b) (m.suffix b) (signs b)
+        of : (r : Role) → (r ≡ roles.Prefix → ⊥) → AreFalse (m.digit parts.Integer b) (m.separator b) (m.point b) (m.exponent_character b) (m.suffix b)
+            (signs b)
             → set_of_role m r b ≡ false
         of roles.Digit other none = let none = none.digit in grind arith
         of roles.Separator other none = none.separator

@@ -1,5 +1,6 @@
 -- Several forms of numbers: which form has a text, and which error a text has that is of no form.
-use Rattle.std.specs.Prelude.{ℕ, ◌≡◌, ◌+◌, ◌*◌, ◌<◌, ◌≤◌, Bool, true, false, if◌then◌else◌, IfErr, IfOk, IsErr, IsSomeAnd, List, Option, Some, None, Result, All}
+use Rattle.std.specs.Prelude.{ℕ, ◌≡◌, ◌+◌, ◌*◌, ◌<◌, ◌≤◌, Bool, true, false, if◌then◌else◌, IfErr, IfOk, IsErr, IsSomeAnd, List, Option, Some, None, Result}
+use Rattle.std.specs.Prelude.{All}
 use Rattle.std.specs.Prelude.{drop, slice_get, take}
 use Rattle.std.specs.Borrow.{Bor}
 use Rattle.lexical_literal.specs.Cause.{IsRefusal}

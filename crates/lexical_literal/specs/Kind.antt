@@ -1,5 +1,5 @@
 -- Kinds that have a possible number of bits.
-use Rattle.std.specs.Prelude.{ℕ, ◌≤◌, ⊤}
+use Rattle.std.specs.Prelude.{◌≤◌, ⊤}
 use Rattle.lexical_literal.specs.declared.kind.IntegerKind.{IntegerKind}
 use Rattle.lexical_literal.specs.declared.kind.IntegerKind.TheVariants as integers
 

@@ -1,5 +1,6 @@
 -- Words behind a number: suffixes, which belong to it, words that may follow it, and bytes that may not.
-use Rattle.std.specs.Prelude.{ℕ, ◌+◌, ◌-◌, ◌==◌, ◌&&◌, ◌||◌, Bool, true, false, if◌then◌else◌, nat_le, nat_lt, List, [], ◌∷◌, Option, Some, None, drop, length, slice_get}
+use Rattle.std.specs.Prelude.{ℕ, ◌+◌, ◌-◌, ◌==◌, ◌&&◌, ◌||◌, Bool, true, false, if◌then◌else◌, nat_le, nat_lt, List, [], ◌∷◌, Option, Some, None, drop}
+use Rattle.std.specs.Prelude.{length, slice_get}
 use Rattle.std.specs.Borrow.{Bor}
 use Rattle.std.specs.Char.{eq_ignore_ascii_case}
 use Rattle.std.specs.List.{list_any}

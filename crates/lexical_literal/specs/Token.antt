@@ -1,5 +1,6 @@
 -- Tokens: numbers that a text begins with, each with its suffix, and whatever follows.
-use Rattle.std.specs.Prelude.{ℕ, ◌≡◌, ◌+◌, ◌-◌, ◌==◌, ◌&&◌, ◌||◌, ◌<◌, ◌⊎◌, Bool, true, false, if◌then◌else◌, nat_lt, IsTrue, IsSomeAnd, List, Option, Some, None}
+use Rattle.std.specs.Prelude.{ℕ, ◌≡◌, ◌+◌, ◌-◌, ◌==◌, ◌&&◌, ◌||◌, ◌<◌, ◌⊎◌, Bool, true, false, if◌then◌else◌, nat_lt, IsTrue, IsSomeAnd, List, Option, Some}
+use Rattle.std.specs.Prelude.{None}
 use Rattle.std.specs.Prelude.{All, Result, Ok, Err, drop, length, slice_get, take}
 use Rattle.std.specs.Borrow.{Bor}
 use Rattle.lexical_literal.specs.Cause.{is_in}

@@ -1,5 +1,6 @@
 -- What one pass over several forms finds.
-use Rattle.std.specs.Prelude.{ℕ, ◌≡◌, ◌+◌, ◌*◌, ◌≤◌, [], ◌∷◌, false, if◌then◌else◌, nat_lt, IfErr, IfOk, IfSome, IsErr, IsNone, IsSomeAnd, List, Option, Some, None, Result, All, slice_get}
+use Rattle.std.specs.Prelude.{ℕ, ◌≡◌, ◌+◌, ◌*◌, ◌≤◌, [], ◌∷◌, false, if◌then◌else◌, nat_lt, IfErr, IfOk, IfSome, IsErr, IsNone, IsSomeAnd, List, Option}
+use Rattle.std.specs.Prelude.{Some, None, Result, All, slice_get}
 use Rattle.lexical_util.specs.Roles.{other_case, signs}
 use Rattle.lexical_util.specs.declared.feature_format.roles.Role.{Role}
 use Rattle.lexical_util.specs.declared.feature_format.roles.Role.TheVariants as roles

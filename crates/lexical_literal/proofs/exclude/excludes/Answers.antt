@@ -15,7 +15,8 @@ returns-after-text-sign-eq48-clause-none c = λ is l reads.
     grind (arith, nat_tests)
 
 pub returns-after-text-sign-eq48-clause-near : goal.returns-after-text-sign-eq48-clause-near
-returns-after-text-sign-eq48-clause-near c = λ is n valid. near_prefix (notation_of c.args.grammar) c.args.text.now n valid (sym c.has.ensures ∙ c.if-has.true) (λ begins.
+returns-after-text-sign-eq48-clause-near c = λ is n valid. near_prefix (notation_of c.args.grammar) c.args.text.now n valid
+    (sym c.has.ensures ∙ c.if-has.true) (λ begins.
     let inside = begins.inside in
     let zero = begins.zero in
     let prefix = begins.prefix in

@@ -6,7 +6,8 @@ use Rattle.lexical_literal.proofs.list.Form.is_past.Goals.{then-lacks_prefix, el
 
 pub returns-then-is_over : goal.returns-then-is_over
 returns-then-is_over c = λ is sign. elim c.if-lacks_prefix.branch [
-  | then-lacks_prefix w ↦ inl (within_more (notation_of c.args.self.now.syntax) c.args.text.now (sign_size c.args.text.now + 1) c.args.size (omega (arith, sign))
+  | then-lacks_prefix w ↦ inl (within_more (notation_of c.args.self.now.syntax) c.args.text.now (sign_size c.args.text.now + 1) c.args.size
+      (omega (arith, sign))
       (subst (λ (g : Grammar). IsWithin (notation_of g) c.args.text.now (sign_size c.args.text.now + 1)) c.grammar-grammar.ensures.value
       (c.lacks_prefix.ensures w.if-lacks_prefix.true)))
   | else-lacks_prefix w ↦ inl (subst (λ (g : Grammar). IsWithin (notation_of g) c.args.text.now c.args.size) c.grammar-grammar.ensures.value

@@ -2,9 +2,11 @@
 use Rattle.lexical_literal.proofs.Common.{◌≡◌, ◌*◌, All, IsNone, IsSomeAnd, None, Option, Some, take, refl, sym, subst, arith, take_all, notation_of, Grammar}
 use Rattle.lexical_literal.proofs.Common.{slice_get, IsFurthestForm, reach}
 use Rattle.lexical_literal.specs.Additions.Forms.{GoesTo, IsNoBetter}
-use Rattle.lexical_literal.proofs.FormLemmas.{IsAtMost, at_index, elsewhere, first_error, inside_at, no_less, none_before, other_error, own_reach, reach_byte, settled, wrong_byte}
+use Rattle.lexical_literal.proofs.FormLemmas.{IsAtMost, at_index, elsewhere, first_error, inside_at, no_less, none_before, other_error, own_reach}
+use Rattle.lexical_literal.proofs.FormLemmas.{reach_byte, settled, wrong_byte}
 use Rattle.lexical_literal.proofs.list.Forms.refuse.Goals as goal
-use Rattle.lexical_literal.proofs.list.Forms.refuse.Goals.{then-not-is_settled+in-Some-stop_at+else-not-is_byte+else-not-is_byte-2, then-not-is_settled+in_default-stop_at, else-not-is_settled}
+use Rattle.lexical_literal.proofs.list.Forms.refuse.Goals.{then-not-is_settled+in-Some-stop_at+else-not-is_byte+else-not-is_byte-2}
+use Rattle.lexical_literal.proofs.list.Forms.refuse.Goals.{then-not-is_settled+in_default-stop_at, else-not-is_settled}
 
 pub loop-form-init : goal.loop-form-init
 loop-form-init c =

@@ -6,7 +6,8 @@ use Rattle.lexical_literal.specs.Word.{IsShort}
 use Rattle.lexical_literal.proofs.literal.Literal.mantissa.Goals as goal
 
 pub returns-clause-some : goal.returns-clause-some
-returns-clause-some c = subst (λ (read : Read). IsShort ((raw read.format).byte layout.mantissa_radix) (mantissa (raw read.format).byte read.literal) → IsSome c.self.inside.mantissa)
+returns-clause-some c = subst (λ (read : Read). IsShort ((raw read.format).byte layout.mantissa_radix) (mantissa (raw read.format).byte read.literal)
+    → IsSome c.self.inside.mantissa)
     c.self.view_is c.self.invariant.word_mantissa.some
 
 pub returns-clause-value : goal.returns-clause-value
