@@ -46,10 +46,10 @@ module _ (m : Notation) where
   plays_run : (part : Part) (b : ℕ) → IsTrue (run_byte m part b) → IsSpare m b → ⊥
   plays_run part b has none = let digit = none roles.Digit (λ same. cc) in let separator = none roles.Separator (λ same. cc)
       in go part has digit separator where
-    go : (part : Part) → IsTrue (run_byte m part b) → set_of_role m roles.Digit b ≡ false → set_of_role m roles.Separator b ≡ false → ⊥
-    go parts.Integer has digit separator = grind arith
-    go parts.Fraction has digit separator = grind arith
-    go parts.Exponent has digit separator = grind arith
+        go : (part : Part) → IsTrue (run_byte m part b) → set_of_role m roles.Digit b ≡ false → set_of_role m roles.Separator b ≡ false → ⊥
+        go parts.Integer has digit separator = grind arith
+        go parts.Fraction has digit separator = grind arith
+        go parts.Exponent has digit separator = grind arith
 
   -- `rest_of l` is what follows the sign and the prefix of `l`.
   abbrev rest_of : Literal → List ℕ

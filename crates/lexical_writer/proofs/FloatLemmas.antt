@@ -80,10 +80,10 @@ has_parts : (g : Grammar) (amount : Amount) (n places e : ℕ) (negative : Bool)
     (values_of ((raw g.word).byte layout.mantissa_radix) amount.integer ++ values_of ((raw g.word).byte layout.mantissa_radix) (given_fraction amount)) ≡ n
     → length (values_of ((raw g.word).byte layout.mantissa_radix) (given_fraction amount)) ≡ places
     → raised_up (given_power amount).negative (effective_exponent_base (raw g.word))
-        (size_of (effective_exponent_radix (raw g.word)) (given_power amount).source)
+    (size_of (effective_exponent_radix (raw g.word)) (given_power amount).source)
     ≡ raised_up negative (effective_exponent_base (raw g.word)) e
     → raised_down (given_power amount).negative (effective_exponent_base (raw g.word))
-        (size_of (effective_exponent_radix (raw g.word)) (given_power amount).source)
+    (size_of (effective_exponent_radix (raw g.word)) (given_power amount).source)
     ≡ raised_down negative (effective_exponent_base (raw g.word)) e
     → 2 ≤ (raw g.word).byte layout.mantissa_radix → (l : Literal) → HasNumber g amount l
     → HasParts (raw g.word) l n places negative e
@@ -112,10 +112,10 @@ pub same_worth : (g : Grammar) (amount : Amount) (n places e : ℕ) (negative : 
     (values_of ((raw g.word).byte layout.mantissa_radix) amount.integer ++ values_of ((raw g.word).byte layout.mantissa_radix) (given_fraction amount)) ≡ n
     → length (values_of ((raw g.word).byte layout.mantissa_radix) (given_fraction amount)) ≡ places
     → raised_up (given_power amount).negative (effective_exponent_base (raw g.word))
-        (size_of (effective_exponent_radix (raw g.word)) (given_power amount).source)
+    (size_of (effective_exponent_radix (raw g.word)) (given_power amount).source)
     ≡ raised_up negative (effective_exponent_base (raw g.word)) e
     → raised_down (given_power amount).negative (effective_exponent_base (raw g.word))
-        (size_of (effective_exponent_radix (raw g.word)) (given_power amount).source)
+    (size_of (effective_exponent_radix (raw g.word)) (given_power amount).source)
     ≡ raised_down negative (effective_exponent_base (raw g.word)) e
     → 2 ≤ (raw g.word).byte layout.mantissa_radix → (l : Literal) → HasNumber g amount l
     → (n * raised_up negative (effective_exponent_base (raw g.word)) e) * denominator (raw g.word).byte l
@@ -136,10 +136,10 @@ pub same_rounded : (g : Grammar) (amount : Amount) (n places e : ℕ) (negative 
     (values_of ((raw g.word).byte layout.mantissa_radix) amount.integer ++ values_of ((raw g.word).byte layout.mantissa_radix) (given_fraction amount)) ≡ n
     → length (values_of ((raw g.word).byte layout.mantissa_radix) (given_fraction amount)) ≡ places
     → raised_up (given_power amount).negative (effective_exponent_base (raw g.word))
-        (size_of (effective_exponent_radix (raw g.word)) (given_power amount).source)
+    (size_of (effective_exponent_radix (raw g.word)) (given_power amount).source)
     ≡ raised_up negative (effective_exponent_base (raw g.word)) e
     → raised_down (given_power amount).negative (effective_exponent_base (raw g.word))
-        (size_of (effective_exponent_radix (raw g.word)) (given_power amount).source)
+    (size_of (effective_exponent_radix (raw g.word)) (given_power amount).source)
     ≡ raised_down negative (effective_exponent_base (raw g.word)) e
     → 2 ≤ (raw g.word).byte layout.mantissa_radix → (l : Literal) → HasNumber g amount l
     → (num den : ℕ) → n ≡ rounded (num * (raw g.word).byte layout.mantissa_radix ^ places * raised_down negative (effective_exponent_base (raw g.word)) e)

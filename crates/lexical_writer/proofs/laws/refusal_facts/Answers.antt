@@ -41,7 +41,7 @@ returns-clause-fraction c g l text lacks reads =
     let fraction = spelled.after_point (ap is_absent point) in
     let exponent = spelled.after_character (ap is_absent character) in
     (λ i. r.byte layout.mantissa_radix ^ length (digits_in (r.byte layout.mantissa_radix) (fraction i)) *
-        (if is_minus (exponent.0 i) then power r.byte l else 1))
+    (if is_minus (exponent.0 i) then power r.byte l else 1))
     ∙ ap (λ p. p * 1) (pow-zero (r.byte layout.mantissa_radix)) ∙ omega arith
 
 pub returns-clause-float : goal.returns-clause-float

@@ -7,7 +7,7 @@ use Rattle.lexical_literal.proofs.list.Form.own.Goals as goal
 pub returns-then-gives_back-clause-some : goal.returns-then-gives_back-clause-some
 returns-then-gives_back-clause-some c f some = cut_short c.args.back (notation_of c.args.self.now.syntax) c.args.text.now c.args.found c.requires
     (sym c.if-gives_back.ensures) c.split_at.result.0.now c.split_at.ensures.front c.front-own.result.1 c.front-own.ensures.longest f
-        (sym c.whole.ensures ∙ some)
+    (sym c.whole.ensures ∙ some)
 
 pub returns-then-gives_back-clause-none : goal.returns-then-gives_back-clause-none
 returns-then-gives_back-clause-none c none = cut_none c.args.back (notation_of c.args.self.now.syntax) c.args.text.now c.args.found c.requires

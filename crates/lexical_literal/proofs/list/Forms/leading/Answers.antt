@@ -52,7 +52,7 @@ loop-form-preserved c =
             sign = omega (arith, low, one, is);
             fronts = fronts_more forms text i it c.loop-form.reached c.if-is_excluded.reached c.loop-form-test.true (omega (arith, one, is))
                 c.loop-form.invariant.fronts (λ n front. let own = fronts_within text (c.sign_size-sign.result + 1) (get_or forms i it) past n front
-                    in omega (arith, own, other, is));
+                in omega (arith, own, other, is));
           })
       | else-is_excluded+else-counted+else-gives_back w ↦ (
           let one = w.larger-reached-else-is_excluded.ensures.one in let other = w.larger-reached-else-is_excluded.ensures.other in let is = w.reached-is in

@@ -54,7 +54,7 @@ loop-form-preserved c =
         subst (IsBest (beyond text) forms (i + 1)) (sym w.furthest-is) (beyond_kept text forms i d inside c.loop-form.furthest c.loop-form.invariant.1
             (λ n goes. subst (λ sign. n ≤ bound sign c.loop-form.furthest) c.sign_size-sign.ensures.size
             (subst (λ (g : Grammar). (n : ℕ) → IsValidUpTo (notation_of g) text n
-                → n ≤ bound c.sign_size-sign.result c.loop-form.furthest) c.grammar.ensures.value
+            → n ≤ bound c.sign_size-sign.result c.loop-form.furthest) c.grammar.ensures.value
             (c.is_behind.ensures.near w.if-not-is_behind.false) n goes))),
       )
     ]

@@ -31,7 +31,7 @@ returns-then-is_followed c =
     let form = c.in-Some-choose.it.now in let best = c.in-Some-choose.candidate in
     let picked = c.in-Some-choose.ensures.some _ refl in
     (token_is list t text c.in-Some-choose.form form best picked c.made.result c.made.ensures.form c.made.ensures.literal c.made.ensures.kind
-        c.made.ensures.suffix
+    c.made.ensures.suffix
     c.made.ensures.rest (inl (subst (λ r. is_followed t.following.now r ≡ true) c.split_at.ensures.back (sym c.if-is_followed.ensures))))
 
 pub fail-requires-then-is_one_ahead-clause-refused : goal.fail-requires-then-is_one_ahead-clause-refused

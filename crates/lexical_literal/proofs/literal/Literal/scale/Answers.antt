@@ -15,4 +15,4 @@ returns-clause-some c = subst (λ (read : Read). IsShort (effective_exponent_rad
 pub returns-clause-value : goal.returns-clause-value
 returns-clause-value c = subst (λ (read : Read). IfSome c.given.result (λ m. m ≡ exponent (raw read.format).byte read.literal)) c.self.view_is
     (subst (λ e. IfSome e (λ m. m ≡ exponent (raw c.self.inside.view).byte (cut c.self.inside.text.now (cuts_of c.self.inside.counts))))
-        (sym c.given.ensures) c.self.invariant.word_exponent.value)
+    (sym c.given.ensures) c.self.invariant.word_exponent.value)
