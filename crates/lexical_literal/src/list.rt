@@ -1,19 +1,17 @@
 //! Numbers that have several forms, such as `10`, `0x1F` and `0b1`.
 
-ghost use Rattle.std.specs.Prelude.{◌≡◌, ◌<◌, ◌≤◌, IfErr, IfOk, IfSome, IsErr, IsNone, IsSomeAnd, None, Some, SomeIff, false, length, slice_get};
+ghost use Rattle.std.specs.Prelude.{◌≡◌, ◌<◌, ◌≤◌, IfSome, IsSomeAnd, None, Some, SomeIff, false, length, slice_get};
 ghost use Rattle.lexical_literal.specs.Additions.Forms.{IsFoundForm, IsFoundFrontForm, IsFurthestForm, further, further_on, longer, sign_size};
-ghost use Rattle.lexical_literal.specs.Additions.Longest.{HasBegun, IsMeasured, IsStopped, IsUnderway};
+ghost use Rattle.lexical_literal.specs.Additions.Longest.{IsStopped};
 ghost use Rattle.lexical_literal.specs.Forms.{HasKind, IsErrorOfForm, IsFormError, IsFrontByForms, IsReadByForms, NoForm, special_by};
-ghost use Rattle.lexical_literal.specs.Front.{IsValidUpTo, NoLiteral};
 ghost use Rattle.lexical_literal.specs.Read.{exact};
-ghost use Rattle.lexical_literal.specs.declared.groups.Group.{Group};
 ghost use Rattle.lexical_literal.specs.Notation.{notation_of};
 
 use crate::cause::ReadError;
 use crate::exclude::{excludes, is_behind, is_settled, sign_size};
 use crate::kind::Kind;
 use crate::literal::Literal;
-use crate::plain::{At, Counted};
+use crate::plain::At;
 use crate::read::Found;
 use crate::specials::{Special, Specials};
 use crate::suffix::Suffixes;
@@ -567,56 +565,5 @@ const fn further_on(
         further(furthest, form, stop)
     } else {
         furthest
-    }
-}
-
-impl Syntax {
-    // Returns the lengths of the parts of `text`, of which a front has been read, or where reading stops if it is not a literal.
-    #[inline(always)]
-    fn reached(&self, text: &[u8], counted: Counted) -> Result<[usize; 9], At>
-        requires { HasBegun (notation_of self.now) text.now counted }
-        ensures some { IfOk result (IsMeasured (notation_of self.now) text.now) }
-        ensures stop { IfErr result (IsStopped (notation_of self.now) text.now) }
-        ensures none { IsErr result → NoLiteral (notation_of self.now) text.now }
-    {
-        if counted.exact {
-            Err(counted.at)
-        } else {
-            self.go_on(text, counted.at)
-        }
-    }
-
-    // Returns the same where `at` has been read.
-    #[inline(never)]
-    fn go_on(&self, text: &[u8], at: At) -> Result<[usize; 9], At>
-        requires { (group : Group) × IsUnderway (notation_of self.now) text.now at group }
-        ensures some { IfOk result (IsMeasured (notation_of self.now) text.now) }
-        ensures stop { IfErr result (IsStopped (notation_of self.now) text.now) }
-        ensures none { IsErr result → NoLiteral (notation_of self.now) text.now }
-    {
-        let stop = self.stop(text, at);
-        match self.lengths(text, stop) {
-            Some(counts) => Ok(counts),
-            None => Err(stop),
-        }
-    }
-
-    // Returns where reading `text` stops if that is behind `size` bytes.
-    fn stop_at(&self, text: &[u8], size: usize) -> Option<At>
-        ensures some { IfSome result (IsStopped (notation_of self.now) text.now) }
-        ensures size { IfSome result (λ stop. stop.size ≡ size) }
-        ensures none { IsNone result → IsValidUpTo (notation_of self.now) text.now size → ⊥ }
-    {
-        let stop = self.stop_in(text);
-        if stop.size == size { Some(stop) } else { None }
-    }
-
-    // Returns where reading `text` stops.
-    #[cold]
-    pub(crate) fn stop_in(&self, text: &[u8]) -> At
-        ensures { IsStopped (notation_of self.now) text.now result }
-    {
-        let counted = self.begin(false, text, false);
-        self.reach(text, counted)
     }
 }

@@ -1,7 +1,7 @@
 //! How literals are found, and the lengths of their parts.
 
-ghost use Rattle.std.specs.Prelude.{◌≡◌, ◌+◌, ◌++◌, ◌∷◌, ◌<◌, ◌≤◌, ◌^◌, Bool, IfSome, Some, IsErrAnd, IsNone, IsTrue, None, ℕ, List};
-ghost use Rattle.std.specs.Prelude.{[], false, get_or, true, length, slice_get, take};
+ghost use Rattle.std.specs.Prelude.{◌≡◌, ◌+◌, ◌++◌, ◌∷◌, ◌<◌, ◌≤◌, ◌^◌, Bool, IfSome, Some, IsErrAnd, IsNone, IsTrue, None, ℕ, List, [], false, get_or, true};
+ghost use Rattle.std.specs.Prelude.{length, slice_get, take, IfErr, IfOk, IsErr};
 ghost use Rattle.lexical_literal.specs.Additions.Explained.{tail_byte};
 ghost use Rattle.lexical_literal.specs.Additions.Longest.{HasBegun, HasFound, IsFronted, IsLongest, IsMeasured, IsStopped, IsUnderway};
 ghost use Rattle.lexical_literal.specs.Additions.Plain.{HasSizes, IsDecimal, IsReady, IsUsual};
@@ -10,7 +10,7 @@ ghost use Rattle.lexical_literal.specs.Additions.Sizes.{goes, steps_of};
 ghost use Rattle.lexical_util.specs.Record.{raw};
 ghost use Rattle.lexical_literal.specs.Additions.Summary.{HasLengths, count, cuts_of, part_of, role_at};
 ghost use Rattle.lexical_literal.specs.Cause.{IsRefusal, tail_of, tail_size};
-ghost use Rattle.lexical_literal.specs.Front.{NoLiteral};
+ghost use Rattle.lexical_literal.specs.Front.{IsValidUpTo, NoLiteral};
 ghost use Rattle.lexical_literal.specs.Literal.{Literal, Reads, text_of};
 ghost use Rattle.lexical_literal.specs.Notation.{notation_of};
 ghost use Rattle.lexical_literal.specs.declared.groups.Group.{Group};
@@ -151,6 +151,55 @@ impl Syntax {
         } else {
             self.stop(text, counted.at)
         }
+    }
+
+    // Returns the lengths of the parts of `text`, of which a front has been read, or where reading stops if it is not a literal.
+    #[inline(always)]
+    pub(crate) fn reached(&self, text: &[u8], counted: Counted) -> Result<[usize; 9], At>
+        requires { HasBegun (notation_of self.now) text.now counted }
+        ensures some { IfOk result (IsMeasured (notation_of self.now) text.now) }
+        ensures stop { IfErr result (IsStopped (notation_of self.now) text.now) }
+        ensures none { IsErr result → NoLiteral (notation_of self.now) text.now }
+    {
+        if counted.exact {
+            Err(counted.at)
+        } else {
+            self.go_on(text, counted.at)
+        }
+    }
+
+    // Returns the same where `at` has been read.
+    #[inline(never)]
+    fn go_on(&self, text: &[u8], at: At) -> Result<[usize; 9], At>
+        requires { (group : Group) × IsUnderway (notation_of self.now) text.now at group }
+        ensures some { IfOk result (IsMeasured (notation_of self.now) text.now) }
+        ensures stop { IfErr result (IsStopped (notation_of self.now) text.now) }
+        ensures none { IsErr result → NoLiteral (notation_of self.now) text.now }
+    {
+        let stop = self.stop(text, at);
+        match self.lengths(text, stop) {
+            Some(counts) => Ok(counts),
+            None => Err(stop),
+        }
+    }
+
+    // Returns where reading `text` stops if that is behind `size` bytes.
+    pub(crate) fn stop_at(&self, text: &[u8], size: usize) -> Option<At>
+        ensures some { IfSome result (IsStopped (notation_of self.now) text.now) }
+        ensures size { IfSome result (λ stop. stop.size ≡ size) }
+        ensures none { IsNone result → IsValidUpTo (notation_of self.now) text.now size → ⊥ }
+    {
+        let stop = self.stop_in(text);
+        if stop.size == size { Some(stop) } else { None }
+    }
+
+    // Returns where reading `text` stops.
+    #[cold]
+    pub(crate) fn stop_in(&self, text: &[u8]) -> At
+        ensures { IsStopped (notation_of self.now) text.now result }
+    {
+        let counted = self.begin(false, text, false);
+        self.reach(text, counted)
     }
 
     // Returns where reading `text` stops, if it goes on at `at`.

@@ -6,7 +6,7 @@ use crate::literal::cause::ReadError;
 use crate::literal::exclude::{excludes, is_behind, is_settled, sign_size};
 use crate::literal::kind::Kind;
 use crate::literal::literal::Literal;
-use crate::literal::plain::{At, Counted};
+use crate::literal::plain::At;
 use crate::literal::read::Found;
 use crate::literal::specials::{Special, Specials};
 use crate::literal::suffix::Suffixes;
@@ -400,44 +400,5 @@ const fn further_on(sign: usize, furthest: Option<(usize, At)>, form: usize, sto
         further(furthest, form, stop)
     } else {
         furthest
-    }
-}
-
-impl Syntax {
-    // Returns the lengths of the parts of `text`, of which a front has been read, or where reading stops if it is not a literal.
-    #[inline(always)]
-    const fn reached(&self, text: &[u8], counted: Counted) -> Result<[usize; 9], At> {
-        if counted.exact {
-            Err(counted.at)
-        } else {
-            self.go_on(text, counted.at)
-        }
-    }
-
-    // Returns the same where `at` has been read.
-    #[inline(never)]
-    const fn go_on(&self, text: &[u8], at: At) -> Result<[usize; 9], At> {
-        let stop = self.stop(text, at);
-        match self.lengths(text, stop) {
-            Some(counts) => Ok(counts),
-            None => Err(stop),
-        }
-    }
-
-    // Returns where reading `text` stops if that is behind `size` bytes.
-    const fn stop_at(&self, text: &[u8], size: usize) -> Option<At> {
-        let stop = self.stop_in(text);
-        if stop.size == size {
-            Some(stop)
-        } else {
-            None
-        }
-    }
-
-    // Returns where reading `text` stops.
-    #[cold]
-    pub(crate) const fn stop_in(&self, text: &[u8]) -> At {
-        let counted = self.begin_any(text, false);
-        self.reach(text, counted)
     }
 }

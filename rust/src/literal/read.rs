@@ -110,6 +110,43 @@ impl Syntax {
         }
     }
 
+    // Returns the lengths of the parts of `text`, of which a front has been read, or where reading stops if it is not a literal.
+    #[inline(always)]
+    pub(crate) const fn reached(&self, text: &[u8], counted: Counted) -> Result<[usize; 9], At> {
+        if counted.exact {
+            Err(counted.at)
+        } else {
+            self.go_on(text, counted.at)
+        }
+    }
+
+    // Returns the same where `at` has been read.
+    #[inline(never)]
+    const fn go_on(&self, text: &[u8], at: At) -> Result<[usize; 9], At> {
+        let stop = self.stop(text, at);
+        match self.lengths(text, stop) {
+            Some(counts) => Ok(counts),
+            None => Err(stop),
+        }
+    }
+
+    // Returns where reading `text` stops if that is behind `size` bytes.
+    pub(crate) const fn stop_at(&self, text: &[u8], size: usize) -> Option<At> {
+        let stop = self.stop_in(text);
+        if stop.size == size {
+            Some(stop)
+        } else {
+            None
+        }
+    }
+
+    // Returns where reading `text` stops.
+    #[cold]
+    pub(crate) const fn stop_in(&self, text: &[u8]) -> At {
+        let counted = self.begin_any(text, false);
+        self.reach(text, counted)
+    }
+
     // Returns where reading `text` stops, if it goes on at `at`.
     #[inline(never)]
     pub(crate) const fn stop(&self, text: &[u8], at: At) -> At {
