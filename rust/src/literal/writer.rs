@@ -1,6 +1,6 @@
 //! Numbers that are written as literals, which is written by hand around the proved layout.
 
-use core::fmt::{self, Write};
+use core::fmt;
 use core::str;
 
 use crate::literal::value::number::float::Float;
@@ -36,6 +36,7 @@ mod patterns;
 mod rounded;
 mod run;
 mod sink;
+mod written;
 
 pub use layout::{ExponentStyle, Grouping, Style, WriteError};
 
@@ -43,10 +44,10 @@ use choice::choose;
 #[doc(hidden)]
 pub use choice::{Real, Whole, Writable};
 use float_digits::FloatDigits;
-use layout::Layout;
 use literal::write_number;
 use near::float_instead;
-use sink::{Sink, Window};
+pub use written::Written;
+use written::{lay_out, FloatText, Text};
 
 /// A type that can be [written][Syntax::format_integer]: each integer type of Rust.
 pub trait WriteInteger: Integer {}
@@ -456,213 +457,6 @@ impl<'a> Specials<'a> {
         let word = str::from_utf8(text.word).map_err(|_| WriteError::Special)?;
         let sign = text.sign.map(|sign| if sign == Sign::Minus { b'-' } else { b'+' });
         Ok(Written { text: Text::Special(sign, word) })
-    }
-}
-
-/// A number as a literal of a syntax, or NaN or infinity, which prints the text. Nothing is allocated.
-#[derive(Clone, Copy)]
-pub struct Written<'a> {
-    text: Text<'a>,
-}
-
-/// What is printed.
-#[derive(Clone, Copy)]
-#[allow(clippy::large_enum_variant, reason = "nothing is allocated")]
-enum Text<'a> {
-    Number(Layout<'a>),
-    Float(FloatText),
-    Special(Option<u8>, &'a str),
-}
-
-/// A call of [`lay_out`] for a type. A program has only those for the types that it writes.
-type LayOut = for<'b> fn(u64, &Syntax, Style, &'b mut FloatDigits) -> Option<Layout<'b>>;
-
-/// Returns the layout of the float of a type with these bits.
-fn lay_out<'b, T: Float>(bits: u64, syntax: &Syntax, style: Style, digits: &'b mut FloatDigits) -> Option<Layout<'b>> {
-    let sign = if T::DOUBLE { 1 << 63 } else { 1 << 31 };
-    let size = T::from_magnitude(bits % sign);
-    let value = if bits < sign { size } else { size.negated() };
-    float::format_float(syntax, value, style, digits).ok()
-}
-
-/// The bits of a float, which can be laid out, and the text, if it is short, with its length.
-#[derive(Clone, Copy)]
-struct FloatText {
-    bits: u64,
-    lay_out: LayOut,
-    syntax: Syntax,
-    style: Style,
-    text: [u8; 40],
-    length: usize,
-}
-
-impl Text<'_> {
-    /// Returns the layout of a number. The digits of a float are those of `digits`.
-    fn layout<'b>(&'b self, digits: &'b mut FloatDigits) -> Option<Layout<'b>> {
-        match self {
-            Text::Number(layout) => Some(*layout),
-            Text::Float(FloatText { bits, lay_out, syntax, style, .. }) => lay_out(*bits, syntax, *style, digits),
-            Text::Special(..) => None,
-        }
-    }
-
-    /// Writes the text to the beginning of a buffer, and returns its length.
-    fn write(&self, buffer: &mut [u8]) -> usize {
-        match self {
-            Text::Number(layout) => layout.write(buffer),
-            Text::Float(FloatText { text, length, .. }) if *length <= text.len().min(buffer.len()) => {
-                buffer[..*length].copy_from_slice(&text[..*length]);
-                *length
-            }
-            Text::Float(_) => self.layout(&mut FloatDigits::new()).map_or(0, |layout| layout.write(buffer)),
-            Text::Special(sign, word) => {
-                let mut window = Window { bytes: buffer, length: 0 };
-                sign.iter().for_each(|sign| window.put(*sign));
-                window.put_all(word.as_bytes());
-                window.length
-            }
-        }
-    }
-}
-
-impl Written<'_> {
-    /// Writes the text to the beginning of a buffer, and returns it.
-    ///
-    /// ```
-    /// use peltzivar::literal::{Style, Syntax, WriteError};
-    /// use peltzivar::{format::STANDARD, Format};
-    ///
-    /// let text = Syntax::integers(Format::of::<STANDARD>()).format_integer(u128::MAX, Style::PLAIN)?;
-    /// assert_eq!(text.write_into(&mut [0; 39])?, u128::MAX.to_string());
-    /// assert_eq!(text.write_into(&mut [0; 38]), Err(WriteError::Buffer(39)));
-    /// # Ok::<(), WriteError>(())
-    /// ```
-    ///
-    /// # Errors
-    ///
-    /// [`WriteError::Buffer`] with the length of the text if it does not fit. The content of the buffer is then
-    /// unspecified.
-    pub fn write_into<'b>(&self, buffer: &'b mut [u8]) -> Result<&'b str, WriteError> {
-        let length = self.text.write(buffer);
-        let text = buffer.get(..length).and_then(|text| str::from_utf8(text).ok());
-        text.ok_or(WriteError::Buffer(length))
-    }
-}
-
-/// Prints the text as std prints numbers: with the width and the fill of the formatter, to the right if it has no alignment,
-/// for `+` with a sign, and for `0` with zeros behind the sign and the prefix. With these two, it may not be a literal. A
-/// precision is ignored.
-impl fmt::Display for Written<'_> {
-    fn fmt(&self, f: &mut fmt::Formatter<'_>) -> fmt::Result {
-        let mut text = [0; 40];
-        let length = self.text.write(&mut text);
-        let text = text.get(..length).and_then(|text| str::from_utf8(text).ok());
-        match text {
-            Some(text) if f.width().is_none() && !f.sign_plus() => f.write_str(text),
-            _ => self.pad(f, length),
-        }
-    }
-}
-
-impl Written<'_> {
-    /// Prints the text to a writer that is no formatter, which takes 3 kB less of a program.
-    ///
-    /// # Errors
-    ///
-    /// If the writer returns an error, returns it.
-    #[doc(hidden)]
-    pub fn write_to(&self, to: &mut impl Write) -> fmt::Result {
-        if let Text::Special(sign, word) = self.text {
-            sign.iter().try_for_each(|sign| to.write_char(char::from(*sign)))?;
-            return to.write_str(word);
-        }
-        let mut printer = Printer { f: to, skip: 0, result: Ok(()) };
-        if let Some(layout) = self.text.layout(&mut FloatDigits::new()) {
-            layout.put(&mut printer);
-        }
-        printer.result
-    }
-
-    /// Prints the text, of which the length is known, with what the formatter adds.
-    #[cold]
-    fn pad(&self, f: &mut fmt::Formatter<'_>, length: usize) -> fmt::Result {
-        let mut digits = FloatDigits::new();
-        let layout = self.text.layout(&mut digits);
-        let (own, prefix) = match (layout, self.text) {
-            (Some(layout), _) => (layout.sign, layout.prefix),
-            (None, Text::Special(sign, _)) => (sign, None),
-            _ => (None, None),
-        };
-        let sign = own.or(if f.sign_plus() { Some(b'+') } else { None });
-        let front = usize::from(own.is_some()) + 2 * usize::from(prefix.is_some());
-        let added = usize::from(sign != own);
-        let length = match self.text {
-            Text::Special(_, word) => front + word.chars().count(),
-            _ => length,
-        };
-        let missing = f.width().unwrap_or(0).saturating_sub(length.saturating_add(added));
-        let (before, zeros) = match f.align() {
-            _ if f.sign_aware_zero_pad() && layout.is_some() => (0, missing),
-            Some(fmt::Alignment::Left) => (0, 0),
-            Some(fmt::Alignment::Center) => (missing / 2, 0),
-            _ => (missing, 0),
-        };
-        let fill = f.fill();
-        (0..before).try_for_each(|_| f.write_char(fill))?;
-        let bytes = [sign, prefix.map(|_| b'0'), prefix];
-        bytes.into_iter().flatten().try_for_each(|byte| f.write_char(byte.into()))?;
-        (0..zeros).try_for_each(|_| f.write_char('0'))?;
-        if let Text::Special(_, word) = self.text {
-            f.write_str(word)?;
-        }
-        if let Some(layout) = layout {
-            let mut printer = Printer { f, skip: front, result: Ok(()) };
-            layout.put(&mut printer);
-            printer.result?;
-        }
-        (before + zeros..missing).try_for_each(|_| f.write_char(fill))
-    }
-}
-
-/// Prints the text in quotes, with the escapes of a `str`.
-impl fmt::Debug for Written<'_> {
-    fn fmt(&self, f: &mut fmt::Formatter<'_>) -> fmt::Result {
-        f.write_char('"')?;
-        write!(Escaper(f), "{self}")?;
-        f.write_char('"')
-    }
-}
-
-/// A formatter that takes a text and escapes it as `Debug` of a `str` does.
-struct Escaper<'a, 'b>(&'a mut fmt::Formatter<'b>);
-
-impl Write for Escaper<'_, '_> {
-    fn write_str(&mut self, text: &str) -> fmt::Result {
-        text.chars().try_for_each(|it| match it {
-            '\'' => self.0.write_char(it),
-            _ => write!(self.0, "{}", it.escape_debug()),
-        })
-    }
-}
-
-/// A writer that takes a text byte by byte, without the first ones.
-struct Printer<'a, W> {
-    f: &'a mut W,
-    skip: usize,
-    result: fmt::Result,
-}
-
-impl<W: Write> Sink for Printer<'_, W> {
-    fn put(&mut self, byte: u8) {
-        if self.skip > 0 {
-            self.skip -= 1;
-        } else if self.result.is_ok() {
-            self.result = self.f.write_char(byte.into());
-        }
-    }
-
-    fn put_all(&mut self, bytes: &[u8]) {
-        bytes.iter().for_each(|byte| self.put(*byte));
     }
 }
 

@@ -1,0 +1,204 @@
+//! Why a text has no value in a type.
+
+use core::fmt;
+use core::ops::Range;
+
+use crate::literal::value::{FromLiteral, ValueErrorKind};
+use crate::literal::{FormError, IntegerKind, Kind, ReadError};
+
+/// Why a number has no value in a type.
+#[derive(Debug, Clone, Copy, PartialEq, Eq, Hash)]
+pub struct ValueError {
+    kind: ValueErrorKind,
+    target: &'static Target,
+    size: usize,
+    /// The bits of integers of its kind, from which on a number is too large, or 0.
+    bits: u8,
+}
+
+/// What the errors of a type that is parsed name: the type, with its limits.
+#[derive(Debug, Clone, Copy, PartialEq, Eq, Hash)]
+pub struct Target {
+    name: &'static str,
+    limits: Option<(i128, u128)>,
+}
+
+impl Target {
+    /// Returns the name of a type without limits that errors could name.
+    #[must_use]
+    pub const fn new(name: &'static str) -> Target {
+        Target { name, limits: None }
+    }
+
+    /// Returns the name of a type of integers, with its least and its largest value.
+    #[must_use]
+    pub const fn integer(name: &'static str, least: i128, largest: u128) -> Target {
+        Target { name, limits: Some((least, largest)) }
+    }
+
+    /// Returns whether the type may have values of more than 64 bits.
+    pub(super) const fn has_long_values(&self) -> bool {
+        match self.limits {
+            Some((_, largest)) => largest > u64::MAX as u128,
+            None => true,
+        }
+    }
+}
+
+impl ValueError {
+    /// Returns the same error of a number of `size` bytes.
+    pub(crate) const fn of_size(self, size: usize) -> ValueError {
+        ValueError { size, ..self }
+    }
+
+    /// Returns the error of a literal of `size` bytes of a kind.
+    pub(super) const fn of<T: FromLiteral>(kind: ValueErrorKind, size: usize, of: Kind) -> ValueError {
+        let bits = match of.integers() {
+            IntegerKind::AtMost(bits) | IntegerKind::Wraps(bits) => bits,
+            _ => 0,
+        };
+        ValueError { kind, target: const { &T::TARGET }, size, bits }
+    }
+
+    /// Returns whether a number that is out of range is so for its kind: the type has more values.
+    fn is_above_kind(&self) -> bool {
+        let most = (1_i128 << self.bits) - 1;
+        let has_more = |(least, largest): (i128, u128)| match self.kind {
+            ValueErrorKind::TooSmall => least < -most,
+            _ => largest > most.unsigned_abs(),
+        };
+        self.bits > 0 && self.target.limits.is_none_or(has_more)
+    }
+
+    /// Returns what is wrong.
+    #[must_use]
+    pub const fn kind(&self) -> ValueErrorKind {
+        self.kind
+    }
+
+    /// Returns the name of the type, such as `u16`.
+    #[must_use]
+    pub const fn target(&self) -> &'static str {
+        self.target.name
+    }
+
+    /// Returns the range of the bytes of the number: the whole text, or what of it is the literal. It is empty for NaN and
+    /// infinity that were not parsed in the same call, which have no text.
+    #[must_use]
+    pub const fn span(&self) -> Range<usize> {
+        0..self.size
+    }
+}
+
+/// Prints the reason with the type and its limit, such as `above 65535, the largest u16`, or with the limit of the kind.
+impl fmt::Display for ValueError {
+    fn fmt(&self, f: &mut fmt::Formatter<'_>) -> fmt::Result {
+        let target = self.target();
+        match self.kind {
+            ValueErrorKind::Float => write!(f, "a float, and {target} is an integer type"),
+            ValueErrorKind::Special => write!(f, "NaN or infinity, and {target} is an integer type"),
+            ValueErrorKind::UnsupportedRadix => {
+                write!(f, "no {target}: the mantissa radix and the exponent base are not both 10 or both powers of two")
+            }
+            ValueErrorKind::TooLarge if self.is_above_kind() => {
+                write!(f, "above {}, the largest number of its form", (1_u128 << self.bits) - 1)
+            }
+            ValueErrorKind::TooSmall if self.is_above_kind() => {
+                write!(f, "below -{}, the least number of its form", (1_u128 << self.bits) - 1)
+            }
+            ValueErrorKind::TooLarge => match self.target.limits {
+                Some((_, largest)) => write!(f, "above {largest}, the largest {target}"),
+                None => write!(f, "above the largest {target}"),
+            },
+            ValueErrorKind::TooSmall => match self.target.limits {
+                Some((least, _)) => write!(f, "below {least}, the least {target}"),
+                None => write!(f, "below the least {target}"),
+            },
+        }
+    }
+}
+
+impl core::error::Error for ValueError {}
+
+/// Why a text has no value in a type.
+///
+/// ```
+/// use peltzivar::literal::{Language, ParseError};
+///
+/// let answer = |text| match Language::JSON.parse::<u8>(text) {
+///     Ok(value) => value.to_string(),
+///     Err(ParseError::Read(error)) => format!("not a number: {error}"),
+///     Err(ParseError::Value(error)) => format!("a number, but {error}"),
+/// };
+/// assert_eq!(answer("01"), "not a number: unexpected leading zero");
+/// assert_eq!(answer("256"), "a number, but above 255, the largest u8");
+/// ```
+#[derive(Debug, Clone, Copy, PartialEq, Eq, Hash)]
+#[allow(clippy::exhaustive_enums, reason = "a text that is a number has a value or no value")]
+pub enum ParseError {
+    /// The text is not a number. For a single syntax, the form has the index 0 and no name.
+    Read(FormError),
+    /// The text is a number, and has no value in the type.
+    Value(ValueError),
+}
+
+impl ParseError {
+    /// Returns the range of the bytes to show, which may be empty: that of the [read error][ReadError::span], or the whole
+    /// [number][ValueError::span].
+    #[must_use]
+    pub const fn span(&self) -> Range<usize> {
+        match self {
+            ParseError::Read(error) => error.span(),
+            ParseError::Value(error) => error.span(),
+        }
+    }
+
+    /// Returns the index of the form of which the text is not a literal, or `None` if it is a number.
+    #[must_use]
+    pub const fn form(&self) -> Option<usize> {
+        match self {
+            ParseError::Read(error) => Some(error.form),
+            ParseError::Value(_) => None,
+        }
+    }
+
+    /// Returns the number of bytes at the beginning of the text that are right, which is all of a number.
+    #[must_use]
+    pub const fn valid_up_to(&self) -> usize {
+        match self {
+            ParseError::Read(error) => error.valid_up_to(),
+            ParseError::Value(error) => error.size,
+        }
+    }
+}
+
+impl From<FormError> for ParseError {
+    fn from(error: FormError) -> ParseError {
+        ParseError::Read(error)
+    }
+}
+
+impl From<ReadError> for ParseError {
+    fn from(error: ReadError) -> ParseError {
+        ParseError::Read(FormError { form: 0, name: "", error })
+    }
+}
+
+impl From<ValueError> for ParseError {
+    fn from(error: ValueError) -> ParseError {
+        ParseError::Value(error)
+    }
+}
+
+/// Prints the error of the text or of the value.
+impl fmt::Display for ParseError {
+    fn fmt(&self, f: &mut fmt::Formatter<'_>) -> fmt::Result {
+        match self {
+            ParseError::Read(error) => error.fmt(f),
+            ParseError::Value(error) => error.fmt(f),
+        }
+    }
+}
+
+/// It prints the error that it holds, so that error is not its source.
+impl core::error::Error for ParseError {}
