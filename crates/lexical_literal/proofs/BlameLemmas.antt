@@ -4,7 +4,7 @@ use Rattle.lexical_literal.proofs.Common.{subst, ◌∙◌, arith, false≢true,
 use Rattle.lexical_literal.proofs.Common.{Notation, has, notation_of, Condition, Grammar, ◌==◌, IsTrue, if◌then◌else◌, length, has_size, Allows, IsRefusal}
 use Rattle.lexical_literal.proofs.Common.{adding, bare, is_one_of, marks_of, number_separator_flags, requirement_flags, span_of, with_rules, IsValidUpTo}
 use Rattle.lexical_literal.proofs.Common.{IsWeaker, lets, place_of, blame, mask_of, unmet, fits, unsized, no_condition, role_at, part_of, Blame, ReadErrorKind}
-use Rattle.lexical_literal.proofs.Common.{Group, Summary}
+use Rattle.lexical_literal.proofs.Common.{Group, Summary, sum_by}
 use Rattle.lexical_literal.specs.Cause.{IsCaseFlag, IsCause, IsRequirement, IsUnmet, Permits, RefusesAlone, binds, case_set, error_of, first_unmet}
 use Rattle.lexical_literal.specs.Cause.{is_at, lowest, requiring, tail_of}
 use Rattle.lexical_literal.specs.Additions.Causes.{is_at_gap}

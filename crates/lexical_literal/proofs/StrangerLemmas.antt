@@ -165,14 +165,14 @@ module _ (m : Notation) (text : List ℕ) (size : ℕ) (far : sign_size text + 1
               least : (error : Refusal) → is_byte error.kind ≡ true → error.valid_up_to ≡ size → reach error ≤ 2 * size
               least error byte same = grind arith
 
--- `AreFalse` says so of six tests.
-record AreFalse (digit separator point exponent suffix sign : Bool) : Type 0 where
-  digit : digit ≡ false
-  separator : separator ≡ false
-  point : point ≡ false
-  exponent : exponent ≡ false
-  suffix : suffix ≡ false
-  sign : sign ≡ false
+-- `AreFalse d s p e f g` holds if the tests of all roles but the prefix are false.
+record AreFalse (d s p e f g : Bool) : Type 0 where
+  digit : d ≡ false
+  separator : s ≡ false
+  point : p ≡ false
+  exponent : e ≡ false
+  suffix : f ≡ false
+  sign : g ≡ false
 
 only_prefix : (d s p e f g x : Bool) → (if d then Some roles.Digit else (if s then Some roles.Separator else (if p then Some roles.Point
     else (if e then Some roles.Exponent else (if f then Some roles.Suffix else (if g then Some roles.Sign else (if x then Some roles.Prefix else None)))))))
@@ -186,7 +186,10 @@ only_prefix false false false false false true x is = grind arith
 only_prefix false false false false false false x is = record { digit = refl; separator = refl; point = refl; exponent = refl; suffix = refl; sign = refl }
 
 -- A byte that is the base prefix behind the beginning of the integer, and not a digit of an exponent, is spare.
-module _ (m : Notation) (b : ℕ) where
+module _ (g : Grammar) (b : ℕ) where
+  abbrev m : Notation
+  m = notation_of g
+
   pub spare_prefix : role_at m parts.Integer b ≡ Some roles.Prefix → m.digit parts.Exponent b ≡ false → IsSpare m b
   spare_prefix first digit r other =
       of r other (only_prefix (m.digit parts.Integer b) (m.separator b) (m.point b) (m.exponent_character b) (m.suffix b) (signs b) (m.prefix b) first) where

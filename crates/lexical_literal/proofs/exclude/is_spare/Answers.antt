@@ -11,5 +11,5 @@ returns-in-Some-Prefix c = λ is.
     let some = c.in-Some-Prefix.is in
     let prefix = c.in-Some-Prefix.field-0-is in
     let role : role_at (notation_of c.args.grammar) parts.Integer c.args.byte ≡ Some roles.Prefix = cc in
-    spare_prefix (notation_of c.args.grammar) c.args.byte role
+    spare_prefix c.args.grammar c.args.byte role
     (let digit = c.is_digit.ensures in let off = c.if-not-is_digit.true in grind (arith, nat_tests))
