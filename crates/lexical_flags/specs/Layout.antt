@@ -66,72 +66,53 @@ shift b = elim b [ digit_separator ↦ 64 | base_prefix ↦ 88 | base_suffix ↦
 -- `base_flags` lists the flags below bit 32.
 abbrev pub base_flags : List Flag
 base_flags =
-    required_integer_digits ∷ required_fraction_digits ∷ required_exponent_digits ∷ required_mantissa_digits ∷
-    no_positive_mantissa_sign ∷ required_mantissa_sign ∷ no_exponent_notation ∷ no_positive_exponent_sign ∷
-    required_exponent_sign ∷ no_exponent_without_fraction ∷ no_special ∷ case_sensitive_special ∷
-    no_integer_leading_zeros ∷ no_float_leading_zeros ∷ required_exponent_notation ∷ case_sensitive_exponent ∷
+    required_integer_digits ∷ required_fraction_digits ∷ required_exponent_digits ∷ required_mantissa_digits ∷ no_positive_mantissa_sign ∷
+    required_mantissa_sign ∷ no_exponent_notation ∷ no_positive_exponent_sign ∷ required_exponent_sign ∷ no_exponent_without_fraction ∷ no_special ∷
+    case_sensitive_special ∷ no_integer_leading_zeros ∷ no_float_leading_zeros ∷ required_exponent_notation ∷ case_sensitive_exponent ∷
     case_sensitive_base_prefix ∷ case_sensitive_base_suffix ∷ []
 
 -- `required_digits` lists the flags that require digits.
 abbrev pub required_digits : List Flag
-required_digits =
-    required_integer_digits ∷ required_fraction_digits ∷ required_exponent_digits ∷ required_mantissa_digits ∷ []
+required_digits = required_integer_digits ∷ required_fraction_digits ∷ required_exponent_digits ∷ required_mantissa_digits ∷ []
 
--- `internal_digit_separator` lists the flags that allow a digit separator between digits.
+-- These four list the flags that allow a digit separator between digits, before digits, after digits, and behind another separator.
 abbrev pub internal_digit_separator : List Flag
-internal_digit_separator =
-    integer_internal_digit_separator ∷ fraction_internal_digit_separator ∷ exponent_internal_digit_separator ∷ []
+internal_digit_separator = integer_internal_digit_separator ∷ fraction_internal_digit_separator ∷ exponent_internal_digit_separator ∷ []
 
--- `leading_digit_separator` lists the flags that allow a digit separator before digits.
 abbrev pub leading_digit_separator : List Flag
-leading_digit_separator =
-    integer_leading_digit_separator ∷ fraction_leading_digit_separator ∷ exponent_leading_digit_separator ∷ []
+leading_digit_separator = integer_leading_digit_separator ∷ fraction_leading_digit_separator ∷ exponent_leading_digit_separator ∷ []
 
--- `trailing_digit_separator` lists the flags that allow a digit separator after digits.
 abbrev pub trailing_digit_separator : List Flag
-trailing_digit_separator =
-    integer_trailing_digit_separator ∷ fraction_trailing_digit_separator ∷ exponent_trailing_digit_separator ∷ []
+trailing_digit_separator = integer_trailing_digit_separator ∷ fraction_trailing_digit_separator ∷ exponent_trailing_digit_separator ∷ []
 
--- `consecutive_digit_separator` lists the flags that allow consecutive digit separators.
 abbrev pub consecutive_digit_separator : List Flag
 consecutive_digit_separator =
-    integer_consecutive_digit_separator ∷ fraction_consecutive_digit_separator ∷
-    exponent_consecutive_digit_separator ∷ []
+    integer_consecutive_digit_separator ∷ fraction_consecutive_digit_separator ∷ exponent_consecutive_digit_separator ∷ []
 
 -- `digit_separator_flags` lists the flags from bit 32 up: all flags that allow a digit separator somewhere.
 abbrev pub digit_separator_flags : List Flag
 digit_separator_flags =
-    internal_digit_separator ++ leading_digit_separator ++ trailing_digit_separator ++
-    consecutive_digit_separator ++ special_digit_separator ∷ []
+    internal_digit_separator ++ leading_digit_separator ++ trailing_digit_separator ++ consecutive_digit_separator ++ special_digit_separator ∷ []
 
--- `SeparatorFlags` has the flags that allow digit separators between, before and after the digits of one part of a
--- number, and the flag that allows consecutive ones there.
+-- `SeparatorFlags` has the flags that allow digit separators between, before and after the digits of a part, and consecutive ones there.
 pub record SeparatorFlags : Type 0 where
   pub internal : Flag
   pub leading : Flag
   pub trailing : Flag
   pub consecutive : Flag
 
+-- `separators a b c d` has these flags in this order.
+abbrev separators : Flag → Flag → Flag → Flag → SeparatorFlags
+separators a b c d = record { internal = a; leading = b; trailing = c; consecutive = d }
+
 -- `separators_in part` has the digit separator flags of `part`.
 abbrev pub separators_in : Part → SeparatorFlags
-separators_in parts.Integer = record {
-  internal = integer_internal_digit_separator;
-  leading = integer_leading_digit_separator;
-  trailing = integer_trailing_digit_separator;
-  consecutive = integer_consecutive_digit_separator;
-}
-separators_in parts.Fraction = record {
-  internal = fraction_internal_digit_separator;
-  leading = fraction_leading_digit_separator;
-  trailing = fraction_trailing_digit_separator;
-  consecutive = fraction_consecutive_digit_separator;
-}
-separators_in parts.Exponent = record {
-  internal = exponent_internal_digit_separator;
-  leading = exponent_leading_digit_separator;
-  trailing = exponent_trailing_digit_separator;
-  consecutive = exponent_consecutive_digit_separator;
-}
+separators_in parts.Integer =
+    separators integer_internal_digit_separator integer_leading_digit_separator integer_trailing_digit_separator integer_consecutive_digit_separator
+separators_in parts.Fraction =
+    separators fraction_internal_digit_separator fraction_leading_digit_separator fraction_trailing_digit_separator fraction_consecutive_digit_separator
+separators_in parts.Exponent =
+    separators exponent_internal_digit_separator exponent_leading_digit_separator exponent_trailing_digit_separator exponent_consecutive_digit_separator
 
 -- `separator_flags_in part` lists the digit separator flags of `part`.
 abbrev pub separator_flags_in : Part → List Flag

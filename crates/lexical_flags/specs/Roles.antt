@@ -23,8 +23,7 @@ AreDisjoint sets = ArePairwise Disjoint sets
 abbrev pub other_case : ℕ → ℕ
 other_case byte = if between 65 90 byte then byte + 32 else if between 97 122 byte then byte - 32 else byte
 
--- `cased case_sensitive byte` is the set that contains `byte` and, if `case_sensitive` is false, its other case. It is
--- empty if `byte` is 0, which means absent.
+-- `cased case_sensitive byte` is the set of `byte` and, if `case_sensitive` is false, its other case. It is empty if `byte` is 0: absent.
 unfoldable pub cased : Bool → ℕ → ByteSet
 cased case_sensitive byte c = not (byte == 0) && ((c == byte) || (not case_sensitive && (c == other_case byte)))
 
@@ -44,11 +43,10 @@ separator r = cased true (r.byte layout.digit_separator)
 abbrev pub used_separator : Record → ByteSet
 used_separator r byte = separator_allowed r && separator r byte
 
--- `prefix r` is the role of the base prefix of `r`.
+-- `prefix r` and `suffix r` are the roles of the base prefix and of the base suffix of `r`.
 abbrev pub prefix : Record → ByteSet
 prefix r = cased (r.flag layout.case_sensitive_base_prefix) (r.byte layout.base_prefix)
 
--- `suffix r` is the role of the base suffix of `r`.
 abbrev pub suffix : Record → ByteSet
 suffix r = cased (r.flag layout.case_sensitive_base_suffix) (r.byte layout.base_suffix)
 

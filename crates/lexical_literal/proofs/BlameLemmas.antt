@@ -1,16 +1,17 @@
 -- The flags that are found are to blame.
+use Rattle.lexical_literal.proofs.Common.{sum_by}
 use Rattle.lexical_literal.proofs.Common.{ℕ, ◌≡◌, ◌≤◌, ◌↔◌, ◌⊎◌, Bool, true, false, not, ◌&&◌, ◌||◌, inl, inr, List, take, Option, None, Some, refl, sym}
 use Rattle.lexical_literal.proofs.Common.{ap, subst, ◌∙◌, arith, false≢true, and_parts, and_from, cases_Bool, length-take-le, Flag, raw, Role, Part}
 use Rattle.lexical_literal.proofs.Common.{all_conditions, Notation, has, notation_of, Condition, Grammar}
 use Rattle.std.proofs.Common.{◌==◌, IsTrue, if◌then◌else◌, length}
 use Rattle.std.specs.Prelude.{slice_get}
-use Rattle.lexical_util.specs.Groups.{bits_of}
+use Rattle.lexical_util.specs.Record.{flag_bits}
 use Rattle.lexical_util.specs.Layout as layout
 use Rattle.lexical_util.specs.Roles.{other_case}
 use Rattle.lexical_util.specs.declared.format_flags.Part.TheVariants as parts
 use Rattle.lexical_literal.specs.Groups.{has_size}
 use Rattle.lexical_literal.specs.Notation.{kept}
-use Rattle.lexical_literal.specs.Cause.{Allows, IsCaseFlag, IsCause, IsRefusal, IsRequirement, IsUnmet, Permits, RefusesAlone, SomeFlag, adding}
+use Rattle.lexical_literal.specs.Cause.{Allows, IsCaseFlag, IsCause, IsRefusal, IsRequirement, IsUnmet, Permits, RefusesAlone, adding}
 use Rattle.lexical_literal.specs.Cause.{bare, binds, case_set, error_of, first_unmet, is_at, is_one_of, lowest, marks_of, number_separator_flags}
 use Rattle.lexical_literal.specs.Cause.{requirement_flags, requiring, span_of, tail_of, with_rules}
 use Rattle.lexical_literal.specs.Front.{IsValidUpTo}
@@ -117,9 +118,9 @@ module _ (m : Notation) (s : Summary) (g : Group) (next : Option ℕ) (allowed :
   in_part parts.Exponent at = leading no_condition parts.Exponent at refl allowed
 
   -- A flag on leading zeros is to blame.
-  some_zero : SomeFlag (zeros m)
+  some_zero : (f : Flag) × IsTrue (zeros m f)
   some_zero = go (in_part (part_of s.stage) refl) where
-    go : leads m ≡ true → SomeFlag (zeros m)
+    go : leads m ≡ true → (f : Flag) × IsTrue (zeros m f)
     go is = elim (cases_Bool (m.flag layout.no_float_leading_zeros)) [
       | inl float ↦ (layout.no_float_leading_zeros, and_from _ true (and_from _ true float refl) refl)
       | inr other ↦ (layout.no_integer_leading_zeros, grind arith)
@@ -277,13 +278,13 @@ module _ (m : Notation) (s : Summary) (g : Group) (front : List ℕ) (read : IsR
       (λ allowed. is_requirement m s g front read next allowed refused) (is_otherwise next)
 
   -- Only flags are to blame.
-  is_mask : (next : Option ℕ) → (blame m s g next).mask ≡ bits_of (blame m s g next).mask layout.flags
-  is_mask next = choose (λ (b : Blame). b.mask ≡ bits_of b.mask layout.flags) (goes (bare m) s g next) _ _
-      (λ _. choose (λ (mask : ℕ). mask ≡ bits_of mask layout.flags) (mask_of (alone m s g next) == 0 && not (some_unmet m s g next)) _ _
+  is_mask : (next : Option ℕ) → (blame m s g next).mask ≡ sum_by (flag_bits (raw (blame m s g next).mask)) layout.flags
+  is_mask next = choose (λ (b : Blame). b.mask ≡ sum_by (flag_bits (raw b.mask)) layout.flags) (goes (bare m) s g next) _ _
+      (λ _. choose (λ (mask : ℕ). mask ≡ sum_by (flag_bits (raw mask)) layout.flags) (mask_of (alone m s g next) == 0 && not (some_unmet m s g next)) _ _
       (λ _. only_mask (zeros m)) (λ _. only_mask (alone m s g next))) (λ _. go next) where
-        go : (next : Option ℕ) → (otherwise m s g next).mask ≡ bits_of (otherwise m s g next).mask layout.flags
+        go : (next : Option ℕ) → (otherwise m s g next).mask ≡ sum_by (flag_bits (raw (otherwise m s g next).mask)) layout.flags
         go None = only_none
-        go (Some byte) = choose (λ (b : Blame). b.mask ≡ bits_of b.mask layout.flags) (mask_of (separators m s g (Some byte)) == 0) _ _
+        go (Some byte) = choose (λ (b : Blame). b.mask ≡ sum_by (flag_bits (raw b.mask)) layout.flags) (mask_of (separators m s g (Some byte)) == 0) _ _
             (λ _. only_mask (cases m s g byte)) (λ _. only_mask (separators m s g (Some byte)))
 
 -- THE REFUSAL

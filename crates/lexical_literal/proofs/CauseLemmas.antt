@@ -11,6 +11,7 @@ use Rattle.std.proofs.lemmas.Bool.{or_parts}
 use Rattle.std.proofs.lemmas.Nat.{and_assoc}
 use Rattle.std.specs.Int.{w128, bit_not}
 use Rattle.lexical_util.specs.Groups.{bits_of}
+use Rattle.lexical_util.specs.Record.{flag_bits}
 use Rattle.lexical_util.specs.Layout as layout
 use Rattle.lexical_util.specs.Layout.{part}
 use Rattle.lexical_util.specs.Record.{word_of}
@@ -104,12 +105,10 @@ mask_sum : (P : Flag → Bool) → sum_by (λ f. if P f then 2 ^ bit f else 0) l
 unfolding word_of
 mask_sum P = omega arith
 
-pub only_mask : (P : Flag → Bool) → mask_of P ≡ bits_of (mask_of P) layout.flags
-unfolding bits_of
+pub only_mask : (P : Flag → Bool) → mask_of P ≡ sum_by (flag_bits (raw (mask_of P))) layout.flags
 only_mask P = sym (mask_sum P) ∙ (λ j. sum_by (λ f. if sym (mask_flags P f) j then 2 ^ bit f else 0) layout.flags)
 
-pub only_none : 0 ≡ bits_of 0 layout.flags
-unfolding bits_of
+pub only_none : 0 ≡ sum_by (flag_bits (raw 0)) layout.flags
 only_none = refl
 
 -- A mask without the bits that are not those of flags.

@@ -4,7 +4,7 @@ use Rattle.lexical_literal.proofs.Common.{nat_tests, Flag, bit, raw, Part, Notat
 use Rattle.std.proofs.Common.{if◌then◌else◌}
 use Rattle.std.proofs.Math.Nat.{le_antisymm}
 use Rattle.std.specs.Prelude.{slice_get}
-use Rattle.lexical_util.specs.Groups.{bits_of}
+use Rattle.lexical_util.specs.Record.{flag_bits}
 use Rattle.lexical_util.specs.Layout.{flags}
 use Rattle.lexical_literal.specs.Notation.{kept}
 use Rattle.lexical_literal.specs.Cause.{IsCause, IsRefusal, IsSeparator, IsUnmet, SameBlame, error_of, first_unmet, is_at, lowest, marks_of, span_of, tail_of}
@@ -51,8 +51,7 @@ module _ (m : Notation) (front : List ℕ) (a b : Flag → Bool) where
   one_cause None kind other one two = absurd one
 
 -- Two masks of flags alone are the same if they have the same flags.
-one_mask : (a b : ℕ) → a ≡ bits_of a flags → b ≡ bits_of b flags → ((f : Flag) → (raw a).flag f ≡ (raw b).flag f) → a ≡ b
-unfolding bits_of
+one_mask : (a b : ℕ) → a ≡ sum_by (flag_bits (raw a)) flags → b ≡ sum_by (flag_bits (raw b)) flags → ((f : Flag) → (raw a).flag f ≡ (raw b).flag f) → a ≡ b
 one_mask a b one two same = one ∙ (λ j. sum_by (λ f. if same f j then 2 ^ bit f else 0) flags) ∙ sym two
 
 module _ (m : Notation) (text : List ℕ) where

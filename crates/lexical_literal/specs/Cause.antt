@@ -1,11 +1,10 @@
 -- Why a text is not a literal: the cause, the flags and conditions that are to blame, and the bytes to show.
-use Rattle.std.specs.Prelude.{ℕ, ◌≡◌, ◌+◌, ◌==◌, ◌&&◌, ◌↔◌, ◌⊎◌, ◌||◌, not, Bool, false, if◌then◌else◌, IsTrue, List, [], ◌∷◌, ◌++◌, drop, length, nat_lt}
-use Rattle.std.specs.Prelude.{take, slice_get, Option, Some, None}
+use Rattle.std.specs.Prelude.{ℕ, ◌≡◌, ◌+◌, ◌^◌, ◌==◌, ◌&&◌, ◌↔◌, ◌⊎◌, ◌||◌, not, Bool, false, if◌then◌else◌, IsTrue, List, [], ◌∷◌, ◌++◌, drop, length, nat_lt}
+use Rattle.std.specs.Prelude.{sum_by, take, slice_get, Option, Some, None}
 use Rattle.std.specs.Int.{w128, trailing_zeros}
 use Rattle.std.specs.List.{find, list_any}
 use Rattle.std.specs.Option.{unwrap_or}
 use Rattle.lexical_util.specs.Ascii.{ByteSet}
-use Rattle.lexical_util.specs.Groups.{bits_of}
 use Rattle.lexical_util.specs.declared.error.Error.{Error}
 use Rattle.lexical_util.specs.declared.error.Error.TheVariants as errors
 use Rattle.lexical_util.specs.Layout as layout
@@ -51,8 +50,7 @@ number_separator_flags =
 abbrev pub is_one_of : List Flag → Flag → Bool
 is_one_of fs f = list_any (λ g. bit g == bit f) fs
 
--- `with_rules m flag condition` is `m` with the flags for which `flag` is true, the conditions for which `condition` is true,
--- and no others.
+-- `with_rules m flag condition` is `m` with just the flags for which `flag` is true, and the conditions for which `condition` is true.
 abbrev pub with_rules : Notation → (Flag → Bool) → (Condition → Bool) → Notation
 with_rules m flag condition = record m { flag = flag; condition = condition }
 
@@ -69,22 +67,12 @@ requiring c m = with_rules m m.flag (λ d. is_same c d || m.condition d)
 
 -- THE CAUSE
 
--- `Allows m front next` holds if some literal begins with `front` and the byte `next`, or if `front` is a literal, where
--- `next` is `None`.
+-- `Allows m front next` holds if some literal begins with `front` and the byte `next`, or if `front` is a literal, where `next` is `None`.
 abbrev pub Allows : Notation → List ℕ → Option ℕ → Type 0
 Allows m front None = (l : Literal) × Reads m l front
 Allows m front (Some byte) = IsFront m (front ++ byte ∷ [])
 
--- `NoFlag flag` holds if `flag` is true of no flag.
-abbrev pub NoFlag : (Flag → Bool) → Type 0
-NoFlag flag = (f : Flag) → flag f ≡ false
-
--- `SomeFlag flag` holds if `flag` is true of some flag.
-abbrev pub SomeFlag : (Flag → Bool) → Type 0
-SomeFlag flag = (f : Flag) × IsTrue (flag f)
-
--- `binds m f` is true if the flag `f` is set and requires something. Where each literal has an exponent, the flag on the
--- leading zeros of integers requires nothing.
+-- `binds m f` is true if the flag `f` is set and requires something. Where each literal has an exponent, the leading zeros of integers do not matter.
 abbrev pub binds : Notation → Flag → Bool
 binds m f =
     m.flag f && (is_one_of requirement_flags f
@@ -96,26 +84,23 @@ module _ (m : Notation) (front : List ℕ) (next : Option ℕ) where
   abbrev pub RefusesAlone : Flag → Type 0
   RefusesAlone f = IsTrue (binds m f) × (Allows (adding f (bare m)) front next → ⊥)
 
-  -- `IsUnmet c` holds if `next` is allowed without requirements, and `c` is a condition that refuses it, even if it is the
-  -- only requirement.
+  -- `IsUnmet c` holds if `next` is allowed without requirements, and the condition `c` refuses it, even if it is the only requirement.
   pub record IsUnmet (c : Condition) : Type 0 where
     pub set : IsTrue (m.condition c)
     pub allowed : Allows (bare m) front next
     pub refused : Allows (requiring c (bare m)) front next → ⊥
 
-  -- `RefusesJointly f` holds if no flag and no condition refuses `next` alone, and if `f` is on leading zeros and requires
-  -- something.
+  -- `RefusesJointly f` holds if no flag and no condition refuses `next` alone, and if `f` is on leading zeros and requires something.
   pub record RefusesJointly (f : Flag) : Type 0 where
     pub none_alone : (g : Flag) → RefusesAlone g → ⊥
     pub none_unmet : (c : Condition) → IsUnmet c → ⊥
     pub zeros : IsTrue (binds m f && is_one_of leading_zero_flags f)
 
-  -- `IsRequirement blamed` holds if `next` is refused, and allowed without requirements, and if the flags that are `blamed`
-  -- are those that refuse it alone, or else those on leading zeros. If none is, a condition refuses it.
+  -- `IsRequirement blamed` holds if only requirements refuse `next`, and if the flags `blamed` are those that refuse it alone, or else jointly.
   pub record IsRequirement (blamed : Flag → Bool) : Type 0 where
     pub refused : Allows m front next → ⊥
     pub allowed : Allows (bare m) front next
-    pub some : SomeFlag blamed ⊎ ((c : Condition) × IsUnmet c)
+    pub some : ((f : Flag) × IsTrue (blamed f)) ⊎ ((c : Condition) × IsUnmet c)
     pub each : (f : Flag) → IsTrue (blamed f) ↔ (RefusesAlone f ⊎ RefusesJointly f)
 
 -- `is_at place part f` is true if the flag `f` allows a digit separator in `part` at `place`.
@@ -133,9 +118,7 @@ case_set _ m byte = false
 
 -- `last_part m front` is the part of a number that `front` ends in.
 abbrev pub last_part : Notation → List ℕ → Part
-last_part m front =
-    if list_any m.exponent_character front then parts.Exponent
-    else (if list_any m.point front then parts.Fraction else parts.Integer)
+last_part m front = if list_any m.exponent_character front then parts.Exponent else (if list_any m.point front then parts.Fraction else parts.Integer)
 
 -- The byte `byte` cannot follow the text `front`.
 module _ (m : Notation) (front : List ℕ) (byte : ℕ) where
@@ -147,20 +130,18 @@ module _ (m : Notation) (front : List ℕ) (byte : ℕ) where
   abbrev pub IsCaseFlag : Flag → Type 0
   IsCaseFlag f = IsTrue (case_set f m (other_case byte)) × Allows (bare m) front (Some (other_case byte))
 
-  -- `IsSeparator part place blamed` holds if a separator in `part` at `place` is not allowed, but is with one of the flags
-  -- that are `blamed`.
+  -- `IsSeparator part place blamed` holds if a separator in `part` at `place` is not allowed, but is with one of the flags `blamed`.
   pub record IsSeparator (part : Part) (place : Place) (blamed : Flag → Bool) : Type 0 where
     pub refused : Allows (bare m) front (Some byte) → ⊥
-    pub some : SomeFlag blamed
+    pub some : (f : Flag) × IsTrue (blamed f)
     pub each : (f : Flag) → IsTrue (blamed f) ↔ Permits f
     pub at : (f : Flag) → IsTrue (blamed f) → IsTrue (is_at place part f)
 
-  -- `IsWrongCase blamed` holds if neither a requirement nor a separator is the cause, and if the flags that are `blamed` are
-  -- those by which the case of `byte` counts, whose other case is allowed.
+  -- `IsWrongCase blamed` holds if no separator is the cause, and if by the flags `blamed` the case of `byte` counts, whose other case is allowed.
   pub record IsWrongCase (blamed : Flag → Bool) : Type 0 where
     pub refused : Allows (bare m) front (Some byte) → ⊥
     pub no_separator : (f : Flag) → Permits f → ⊥
-    pub some : SomeFlag blamed
+    pub some : (f : Flag) × IsTrue (blamed f)
     pub each : (f : Flag) → IsTrue (blamed f) ↔ IsCaseFlag f
 
   -- `IsWrongByte blamed` holds if no requirement is the cause, no separator and no case, and if no flag is `blamed`.
@@ -168,16 +149,15 @@ module _ (m : Notation) (front : List ℕ) (byte : ℕ) where
     pub refused : Allows (bare m) front (Some byte) → ⊥
     pub no_separator : (f : Flag) → Permits f → ⊥
     pub no_case : (f : Flag) → IsCaseFlag f → ⊥
-    pub none : NoFlag blamed
+    pub none : (f : Flag) → blamed f ≡ false
 
 -- `IsMissing m front part blamed` holds if digits of `part` are missing behind `front`, and no flag is to blame.
 pub record IsMissing (m : Notation) (front : List ℕ) (part : Part) (blamed : Flag → Bool) : Type 0 where
   pub refused : NoLiteral (bare m) front
   pub last : part ≡ last_part m front
-  pub none : NoFlag blamed
+  pub none : (f : Flag) → blamed f ≡ false
 
--- `IsCause m front next cause blamed` holds if `cause` is why the byte `next` cannot follow `front`, or why `front` is not a
--- literal, where `next` is `None`, and if the flags that are `blamed` are to blame.
+-- `IsCause m front next cause blamed` holds if `cause`, by the flags `blamed`, is why `next` cannot follow `front`, or `front` alone is not a literal.
 abbrev pub IsCause : Notation → List ℕ → Option ℕ → ReadErrorKind → (Flag → Bool) → Type 0
 IsCause m front next causes.Requirement blamed = IsRequirement m front next blamed
 IsCause m front (Some byte) (causes.Separator part place) blamed = IsSeparator m front byte part place blamed
@@ -198,17 +178,15 @@ abbrev pub first_in : ByteSet → List ℕ → ℕ
 first_in A [] = 0
 first_in A (byte ∷ text) = if A byte then 0 else 1 + first_in A text
 
--- `flag_at number` is the flag with the bit `number`, or `special_digit_separator` if there is none.
+-- `flag_at number` is the flag with the bit `number`, and `lowest mask` that with the lowest bit of `mask`, or `special_digit_separator` if there is none.
 abbrev pub flag_at : ℕ → Flag
 flag_at number = unwrap_or (find (λ f. bit f == number) layout.flags) layout.special_digit_separator
 
--- `lowest mask` is the lowest flag of a `mask` of flags. If `mask` is 0, it is `special_digit_separator`.
 abbrev pub lowest : ℕ → Flag
 lowest mask = flag_at (trailing_zeros w128 mask)
 
--- `marks_of m front` has what spans and errors are made of: the length of `front`, the index behind the last byte that is
--- neither a separator nor a sign, the index of the first digit, and the index behind the last byte that is no separator,
--- which is also the third if there is no digit, and where groups have sizes, the index behind the last byte that is no digit.
+-- `marks_of m front` has the length of `front`, the index behind the last byte that is neither a separator nor a sign, that of the first digit, or
+-- else `run`, and those behind the last byte that is not a separator and, where groups have sizes, not a digit. Spans and errors are made of these.
 abbrev pub marks_of : Notation → List ℕ → Marks
 marks_of m front = record {
   size = length front;
@@ -228,8 +206,7 @@ abbrev pub wrong_end : Marks → Option ℕ → ℕ
 wrong_end k None = k.size
 wrong_end k (Some byte) = k.size + 1
 
--- `requirement_span f m k next` has the first index and the end of the bytes to show for the flag `f`: what follows the
--- exponent character, the integer digits, the sign or the exponent character, or none.
+-- `requirement_span f m k next` has the first index and the end of the bytes to show for the flag `f`: an exponent, the integer, `next`, or none.
 abbrev pub requirement_span : Flag → Notation → Marks → Option ℕ → ℕ × ℕ
 requirement_span layout.required_exponent_digits m k next = (k.exponent, k.size)
 requirement_span layout.no_integer_leading_zeros m k next = (k.first, if is_in (m.digit parts.Integer) next then wrong_end k next else k.run)
@@ -240,8 +217,7 @@ requirement_span layout.no_positive_exponent_sign m k next = (k.size, wrong_end 
 requirement_span layout.no_exponent_without_fraction m k next = (k.size, wrong_end k next)
 requirement_span _ m k next = (k.size, k.size)
 
--- `condition_span c m k next` has the first index and the end of the bytes to show for the condition `c`: none, where the prefix
--- belongs or at the end, the wrong sign or first byte, or the last group of digits.
+-- `condition_span c m k next` has the first index and the end of the bytes to show for the condition `c`: none, `next`, or the last group.
 abbrev pub condition_span : Condition → Notation → Marks → Option ℕ → ℕ × ℕ
 condition_span conditions.BasePrefix m k next = (k.first, k.first)
 condition_span conditions.BaseSuffix m k next = (k.size, k.size)
@@ -254,8 +230,7 @@ condition_span _ m k next = (k.group, if is_in (m.digit parts.Integer) next then
 abbrev pub first_unmet : ℕ → Conditions → Option Condition
 first_unmet mask unmet = if mask == 0 then find (has unmet) all_conditions else None
 
--- `span_of m k next cause f c` has the first index and the end of the bytes to show for `cause` and its lowest flag `f`, or
--- its first condition `c` if no flag is to blame.
+-- `span_of m k next cause f c` has the first index and the end of the bytes to show for `cause`, and its lowest flag `f` or its first condition `c`.
 abbrev pub span_of : Notation → Marks → Option ℕ → ReadErrorKind → Flag → Option Condition → ℕ × ℕ
 span_of m k next causes.Requirement f None = requirement_span f m k next
 span_of m k next causes.Requirement f (Some c) = condition_span c m k next
@@ -280,8 +255,7 @@ requirement_error layout.no_exponent_without_fraction m start size = errors.Expo
 requirement_error layout.required_exponent_notation m start size = errors.MissingExponent start
 requirement_error _ m start size = errors.InvalidLeadingZeros start
 
--- `error_of m k cause f c start` is the error for `cause` and its lowest flag `f`, or its first condition `c` if no flag is to
--- blame, where the bytes to show begin at `start`.
+-- `error_of m k cause f c start` is the error for `cause`, and its lowest flag `f` or its first condition `c`, if the bytes to show begin at `start`.
 abbrev pub error_of : Notation → Marks → ReadErrorKind → Flag → Option Condition → ℕ → Error
 error_of m k causes.Requirement f None start = requirement_error f m start k.size
 error_of m k causes.Requirement f (Some conditions.NegativeSign) start = errors.InvalidNegativeSign start
@@ -291,12 +265,7 @@ error_of m k _ f c start = errors.InvalidDigit start
 -- `tail_size byte` is the number of bytes that follow `byte` in its character, if it begins one in UTF-8.
 abbrev pub tail_size : Option ℕ → ℕ
 tail_size None = 0
-tail_size (Some byte) =
-    if nat_lt byte 0xC2 then 0
-    else if nat_lt byte 0xE0 then 1
-    else if nat_lt byte 0xF0 then 2
-    else if nat_lt byte 0xF5 then 3
-    else 0
+tail_size (Some byte) = if nat_lt byte 0xC2 then 0 else if nat_lt byte 0xE0 then 1 else if nat_lt byte 0xF0 then 2 else if nat_lt byte 0xF5 then 3 else 0
 
 -- `tail_of text index` has three numbers: the bytes of `text` that follow the one at `index` in its character, and then zeros.
 abbrev pub tail_of : List ℕ → ℕ → List ℕ
@@ -307,8 +276,7 @@ pub record Explained : Type 0 where
   pub refusal : Refusal
   pub spot : Spot
 
--- `IsRefusal m text error` holds if `error` says how far `text` is right, which byte cannot follow, and the rest of its
--- character, why `text` is not a literal, which bytes to show, and which error `lexical-util` has for this.
+-- `IsRefusal m text error` holds if `error` says how far `text` is right, which byte cannot follow, why, which bytes to show, and which error this is.
 pub record IsRefusal (m : Notation) (text : List ℕ) (error : Refusal) : Type 0 where
   pub valid_up_to : IsValidUpTo m text error.valid_up_to
   pub byte : error.byte ≡ slice_get text error.valid_up_to
@@ -318,7 +286,7 @@ pub record IsRefusal (m : Notation) (text : List ℕ) (error : Refusal) : Type 0
   -- Conditions have the numbers of the syntax.
   pub numbers : error.conditions ≡ kept (has error.conditions) m.number
   -- No bit of the mask is set but those of flags.
-  pub mask : error.mask ≡ bits_of error.mask layout.flags
+  pub mask : error.mask ≡ sum_by (λ f. if (raw error.mask).flag f then 2 ^ bit f else 0) layout.flags
   pub span : (error.start, error.end)
       ≡ span_of m (marks_of m (take error.valid_up_to text)) error.byte error.kind (lowest error.mask) (first_unmet error.mask error.conditions)
   pub code : error.code

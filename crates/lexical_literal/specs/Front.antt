@@ -9,8 +9,7 @@ pub record IsFront (m : Notation) (text : List ℕ) : Type 0 where
   pub literal : Literal
   pub reads : Reads m literal (text ++ more)
 
--- `IsValidUpTo m text index` holds if some literal begins with the first `index` bytes of `text`, and none with more
--- bytes of it.
+-- `IsValidUpTo m text index` holds if some literal begins with the first `index` bytes of `text`, and none with more bytes of it.
 pub record IsValidUpTo (m : Notation) (text : List ℕ) (index : ℕ) : Type 0 where
   pub within : index ≤ length text
   pub front : IsFront m (take index text)

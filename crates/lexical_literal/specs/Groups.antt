@@ -29,8 +29,7 @@ group_sizes S (byte ∷ bytes) = if S byte then 0 ∷ group_sizes S bytes else o
 abbrev pub higher : Notation → ℕ
 higher m = if m.number conditions.HigherGroupSize == 0 then m.number conditions.IntegerGroupSize else m.number conditions.HigherGroupSize
 
--- Of several groups of `part`, `first_fits m part count` is true if the first may have `count` digits, `last_fits m part count` if
--- the last may, and `inner_fits m part count` if each other group may. Integers are counted from the right, fractions from the left.
+-- Of several groups of `part`, the first, the last, or each other may have `count` digits. Integers are counted from the right, fractions from the left.
 abbrev pub first_fits : Notation → Part → ℕ → Bool
 first_fits m parts.Integer count = nat_lt 0 count && nat_le count (higher m)
 first_fits m _ count = count == m.number conditions.FractionGroupSize
@@ -43,8 +42,7 @@ abbrev pub last_fits : Notation → Part → ℕ → Bool
 last_fits m parts.Integer count = count == m.number conditions.IntegerGroupSize
 last_fits m _ count = nat_lt 0 count && nat_le count (m.number conditions.FractionGroupSize)
 
--- `rest_fits m part counts` is true if the groups of `part` behind the first may have so many digits, and `all_fit m part counts` if
--- all groups may, of which a single one may have any number.
+-- The groups of `part` behind the first, or all groups, may have so many digits. A single group may have any number.
 abbrev pub rest_fits : Notation → Part → List ℕ → Bool
 rest_fits m part [] = true
 rest_fits m part (count ∷ []) = last_fits m part count

@@ -1,13 +1,7 @@
--- Kinds.
-use Rattle.std.specs.Prelude.{ℕ, ◌≤◌, ⊤}
-use Rattle.lexical_literal.specs.declared.kind.FloatKind.TheVariants as floats
+-- Kinds that have a possible number of bits.
+use Rattle.std.specs.Prelude.{◌≤◌, ⊤}
 use Rattle.lexical_literal.specs.declared.kind.IntegerKind.{IntegerKind}
 use Rattle.lexical_literal.specs.declared.kind.IntegerKind.TheVariants as integers
-use Rattle.lexical_literal.specs.declared.kind.Kind.{Kind}
-
--- `exact` is the kind of literals that are worth the number that they represent.
-abbrev pub exact : Kind
-exact = record { integers = integers.Exact; floats = floats.Nearest }
 
 -- `HasBits kind` holds if the number of bits of `kind`, if it has one, is from 1 to 64.
 abbrev pub HasBits : IntegerKind → Type 0

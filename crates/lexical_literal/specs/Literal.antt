@@ -27,8 +27,7 @@ pub record Literal : Type 0 where
 -- `text_of l` is the text with the parts of `l`.
 abbrev pub text_of : Literal → List ℕ
 text_of l =
-    l.sign ++ (l.prefix ++ (l.integer ++ (l.point ++ (l.fraction ++
-    (l.exponent_character ++ (l.exponent_sign ++ (l.exponent ++ l.suffix)))))))
+    l.sign ++ (l.prefix ++ (l.integer ++ (l.point ++ (l.fraction ++ (l.exponent_character ++ (l.exponent_sign ++ (l.exponent ++ l.suffix)))))))
 
 -- `is_absent bytes` is true if a part with these bytes is absent.
 abbrev pub is_absent : List ℕ → Bool
@@ -58,9 +57,8 @@ is_none_or_one A (byte ∷ next ∷ bytes) = false
 -- `is_none_or_prefix A bytes` is true if `bytes` is empty, or a zero and one byte of `A`.
 abbrev pub is_none_or_prefix : ByteSet → List ℕ → Bool
 is_none_or_prefix A [] = true
-is_none_or_prefix A (first ∷ []) = false
 is_none_or_prefix A (first ∷ byte ∷ []) = (first == 48) && A byte
-is_none_or_prefix A (first ∷ byte ∷ next ∷ bytes) = false
+is_none_or_prefix A _ = false
 
 -- `has_leading_zero D run` is true if the first digit of `run` is 0, and another digit follows it.
 abbrev pub has_leading_zero : ByteSet → List ℕ → Bool
@@ -75,8 +73,7 @@ is_float l = not (is_absent l.point) || not (is_absent l.exponent_character)
 abbrev pub is_zero_led : Notation → Literal → Bool
 is_zero_led m l = is_absent l.prefix && has_leading_zero (m.digit parts.Integer) l.integer
 
--- `requirement f m l` is true if the parts of `l` are as the flag `f` requires. Flags that are not listed require
--- nothing: they are about the spelling of a part, or about special values.
+-- `requirement f m l` is true if the parts of `l` are as the flag `f` requires. Flags on spelling and on special values require nothing here.
 abbrev pub requirement : Flag → Notation → Literal → Bool
 requirement layout.required_integer_digits m l = is_present l.integer
 requirement layout.required_fraction_digits m l = is_absent l.point || is_present l.fraction
@@ -108,8 +105,7 @@ may_begin _ digit = true
 abbrev pub begins : Condition → Notation → Literal → Bool
 begins c m l = begins_with (λ byte. m.digit parts.Integer byte && may_begin c byte) (text_of (record l { sign = [] }))
 
--- `condition c m l` is true if the parts of `l` are as the condition `c` requires. The size of higher groups changes what that of
--- groups of the integer requires, and requires nothing itself.
+-- `condition c m l` is true if the parts of `l` are as the condition `c` requires. That of higher groups only changes what that of groups requires.
 abbrev pub condition : Condition → Notation → Literal → Bool
 condition conditions.BasePrefix m l = is_present l.prefix
 condition conditions.BaseSuffix m l = is_present l.suffix
@@ -120,8 +116,7 @@ condition conditions.FractionGroupSize m l = is_grouped m parts.Fraction l.fract
 condition conditions.LeadingZero m l = begins conditions.LeadingZero m l
 condition conditions.DecimalFirstDigit m l = begins conditions.DecimalFirstDigit m l
 
--- `IsSpelled m l` holds if each part of `l` is spelled as the notation `m` allows, if the parts go together, and if they
--- are as each flag that is set requires.
+-- `IsSpelled m l` holds if each part of `l` is spelled as `m` allows, if the parts go together, and if they are as each flag that is set requires.
 pub record IsSpelled (m : Notation) (l : Literal) : Type 0 where
   pub sign : IsTrue (is_none_or_one signs l.sign)
   pub prefix : IsTrue (is_none_or_prefix m.prefix l.prefix)

@@ -16,8 +16,7 @@ use Rattle.lexical_literal.specs.declared.syntax.Conditions.{Conditions}
 use Rattle.lexical_literal.specs.declared.syntax.Options.{Options}
 use Rattle.lexical_literal.specs.declared.syntax.Grammar.{Grammar}
 
--- `Notation` has the flags, the conditions and their numbers, the digits of each part, and the bytes that play each other role. If
--- `integers_only` is true, every literal is an integer.
+-- `Notation` has flags, conditions and their numbers, and the bytes that play each role. If `integers_only` is true, every literal is an integer.
 pub record Notation : Type 0 where
   pub flag : Flag → Bool
   pub condition : Condition → Bool
@@ -32,16 +31,14 @@ pub record Notation : Type 0 where
 
 -- `radix_of r part` is the radix of the digits of `part` in the format `r`.
 abbrev pub radix_of : Record → Part → ℕ
-radix_of r parts.Integer = r.byte layout.mantissa_radix
-radix_of r parts.Fraction = r.byte layout.mantissa_radix
 radix_of r parts.Exponent = effective_exponent_radix r
+radix_of r _ = r.byte layout.mantissa_radix
 
--- `point_of options` is the decimal point, or the empty set without options.
+-- `point_of options` is the decimal point, and `exponent_character_of r options` the exponent character in the format `r`. Without options, both are empty.
 abbrev pub point_of : Option Options → ByteSet
 point_of None byte = false
 point_of (Some options) byte = sets.point options.point byte
 
--- `exponent_character_of r options` is the exponent character in the format `r`, or the empty set without options.
 abbrev pub exponent_character_of : Record → Option Options → ByteSet
 exponent_character_of r None byte = false
 exponent_character_of r (Some options) byte = sets.exponent r options.exponent byte
@@ -70,8 +67,7 @@ order conditions.DecimalFirstDigit = 7
 abbrev pub is_same : Condition → Condition → Bool
 is_same d e = order d == order e
 
--- `number_of c d` is the number of the condition `d` in `c`, or 0 if it is not one of the conditions `c`, and `has c d` is true if
--- it is.
+-- `number_of c d` is the number of the condition `d` in `c`, or 0 if it is not one of the conditions `c`, and `has c d` is true if it is.
 abbrev pub number_of : Conditions → Condition → ℕ
 number_of c d = get_or c.numbers (order d) 0
 

@@ -2,7 +2,7 @@
 use Rattle.std.specs.Prelude.{ℕ, ◌≡◌, IfErr, IfOk, IsErr, IsOkAnd, List, Result}
 use Rattle.lexical_literal.specs.Cause.{Explained, IsRefusal}
 use Rattle.lexical_literal.specs.Front.{NoFront, ReadsFront}
-use Rattle.lexical_literal.specs.Kind.{exact}
+use Rattle.lexical_literal.specs.Read.{exact}
 use Rattle.lexical_literal.specs.Literal.{Literal, Reads}
 use Rattle.lexical_literal.specs.Notation.{notation_of}
 use Rattle.lexical_literal.specs.Read.{Read}
@@ -24,8 +24,7 @@ literal_of parts = record {
   suffix = parts.suffix.now;
 }
 
--- `IsRead g text result` holds if `result` is the literal `text`, with the format of `g` and its only parts, or the error of a text
--- that is not a literal.
+-- `IsRead g text result` holds if `result` is the literal `text`, with the format of `g` and its only parts, or the error if it is not a literal.
 pub record IsRead (g : Grammar) (text : List ℕ) (result : Result Read Explained) : Type 0 where
   -- The text is a literal with the parts that are returned.
   pub found : IfOk result (λ read. (read.format ≡ g.word) × Reads (notation_of g) read.literal text)

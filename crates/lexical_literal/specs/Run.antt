@@ -12,16 +12,14 @@ ends_with A [] = false
 ends_with A (byte ∷ []) = A byte
 ends_with A (byte ∷ next ∷ bytes) = ends_with A (next ∷ bytes)
 
--- `is_place m part before after` is true if a separator may be at a place in `part` that has digits of this part before
--- it if `before` is true, and after it if `after` is true.
+-- `is_place m part before after` is true if a separator may be in `part` with digits before it if `before` is true, and after it if `after` is true.
 abbrev pub is_place : Notation → Part → Bool → Bool → Bool
 is_place m part true true = m.flag (separators_in part).internal
 is_place m part false true = m.flag (separators_in part).leading
 is_place m part true false = m.flag (separators_in part).trailing
 is_place m part false false = false
 
--- `is_fit m part before byte after` is true if `byte`, between `before` and `after`, is a digit of `part`, or a separator
--- at a place where one is allowed, and where several are allowed if it follows another one.
+-- `is_fit m part before byte after` is true if `byte` is a digit of `part`, or a separator where one is allowed and, behind another, several are.
 abbrev pub is_fit : Notation → Part → List ℕ → ℕ → List ℕ → Bool
 is_fit m part before byte after =
     m.digit part byte || (m.separator byte && is_place m part (list_any (m.digit part) before) (list_any (m.digit part) after)

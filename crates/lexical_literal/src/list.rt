@@ -5,7 +5,7 @@ ghost use Rattle.lexical_literal.specs.Additions.Forms.{IsFoundForm, IsFoundFron
 ghost use Rattle.lexical_literal.specs.Additions.Longest.{HasBegun, IsMeasured, IsStopped, IsUnderway};
 ghost use Rattle.lexical_literal.specs.Forms.{HasKind, IsErrorOfForm, IsFormError, IsFrontByForms, IsReadByForms, NoForm, special_by};
 ghost use Rattle.lexical_literal.specs.Front.{IsValidUpTo, NoLiteral};
-ghost use Rattle.lexical_literal.specs.Kind.{exact};
+ghost use Rattle.lexical_literal.specs.Read.{exact};
 ghost use Rattle.lexical_literal.specs.declared.groups.Group.{Group};
 ghost use Rattle.lexical_literal.specs.Notation.{notation_of};
 

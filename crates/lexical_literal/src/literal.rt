@@ -3,7 +3,7 @@
 ghost use Rattle.std.specs.Prelude.{◌≡◌, ◌++◌, ◌%◌, ◌^◌, [], ℕ, IfSome, IsFalse, IsSome, List};
 ghost use Rattle.lexical_literal.specs.Additions.Read.{AreSums, IsCut, IsSum, cut, given};
 ghost use Rattle.lexical_literal.specs.Additions.Summary.{cuts_of};
-ghost use Rattle.lexical_literal.specs.Kind.{exact};
+ghost use Rattle.lexical_literal.specs.Read.{exact};
 ghost use Rattle.lexical_literal.specs.Literal.{Reads, is_float, is_minus};
 ghost use Rattle.lexical_literal.specs.Notation.{Notation, notation_of};
 ghost use Rattle.lexical_literal.specs.Parts.{literal_of};

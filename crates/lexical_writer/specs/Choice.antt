@@ -5,7 +5,7 @@ use Rattle.lexical_util.specs.Layout as layout
 use Rattle.lexical_util.specs.Record.{bytes_of, raw}
 use Rattle.lexical_literal.specs.FormList.{FormList}
 use Rattle.lexical_literal.specs.Forms.{HasKind, IsFirst}
-use Rattle.lexical_literal.specs.Kind.{exact}
+use Rattle.lexical_literal.specs.Read.{exact}
 use Rattle.lexical_literal.specs.Literal.{Literal}
 use Rattle.lexical_literal.specs.Read.{Read}
 use Rattle.lexical_literal.specs.declared.syntax.Grammar.{Grammar}

@@ -2,7 +2,7 @@
 
 ghost use Rattle.std.specs.Prelude.{◌≡◌, ◌≤◌, ◌<◌, true, IfOk, IfSome, IsFalse, None, Ok, Some, from_bits, length, take};
 ghost use Rattle.lexical_util.specs.Record.{bytes_of};
-ghost use Rattle.lexical_literal.specs.Kind.{exact};
+ghost use Rattle.lexical_literal.specs.Read.{exact};
 ghost use Rattle.lexical_literal.specs.Literal.{Literal as Parts, Reads, is_float, text_of};
 ghost use Rattle.lexical_literal.specs.Notation.{notation_of};
 ghost use Rattle.lexical_literal.specs.Read.{Read};
@@ -147,7 +147,7 @@ fn bits_in<F: Float>(literal: &Literal) -> Option<u64>
 
 impl Writable for Literal<'_> {
     ghost use Rattle.std.specs.Prelude.{◌≡◌};
-    ghost use Rattle.lexical_literal.specs.Kind.{exact};
+    ghost use Rattle.lexical_literal.specs.Read.{exact};
     ghost use Rattle.lexical_writer.specs.Choice.{IsSameNumber};
 
     ghost is = { λ number read. IsSameNumber number read };

@@ -3,7 +3,7 @@ use Rattle.lexical_writer.proofs.Common.{ℕ, ◌≡◌, ◌<◌, ◌≤◌, ◌
 use Rattle.lexical_writer.proofs.Common.{take, ap, sym, ◌∙◌, subst, arith, cases_lt, false≢true, nat_tests, Literal, text_of, IsSyntax, Grammar}
 use Rattle.std.proofs.lemmas.Option.{slice_get_read}
 use Rattle.lexical_literal.specs.Forms.{IsNumber, ReadsForm}
-use Rattle.lexical_literal.specs.Kind.{exact}
+use Rattle.lexical_literal.specs.Read.{exact}
 use Rattle.lexical_literal.specs.Literal.{Reads}
 use Rattle.lexical_literal.specs.Notation.{notation_of}
 use Rattle.lexical_literal.specs.Read.{Read}

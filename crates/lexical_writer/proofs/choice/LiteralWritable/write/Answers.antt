@@ -1,7 +1,7 @@
 -- What is written has the value of the literal, or its nearest float, if this is of the exact kind.
 use Rattle.lexical_writer.proofs.Common.{ℕ, ◌≡◌, inl, inr, refl, raw, Literal}
 use Rattle.std.specs.Float.{binary64}
-use Rattle.lexical_literal.specs.Kind.{exact}
+use Rattle.lexical_literal.specs.Read.{exact}
 use Rattle.lexical_literal.specs.Read.{Read}
 use Rattle.lexical_value.specs.Float.{nearest}
 use Rattle.lexical_writer.specs.Choice.{IsSameNumber, exact_read}
