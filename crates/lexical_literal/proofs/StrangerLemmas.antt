@@ -17,7 +17,6 @@ use Rattle.lexical_util.specs.declared.format_flags.Part.TheVariants as parts
 use Rattle.lexical_literal.specs.declared.cause.ReadErrorKind.TheVariants as causes
 use Rattle.lexical_literal.proofs.ExcludeLemmas.{longer, same_byte, same_sign}
 use Rattle.lexical_literal.proofs.PartLemmas.{parts_have_roles}
-use Rattle.lexical_literal.proofs.ScanLemmas.{no_role}
 
 module _ (m : Notation) where
   -- `Known bytes` holds if none of `bytes` is spare.
