@@ -91,7 +91,6 @@ mod text;
 mod token;
 mod tokens;
 mod value;
-mod word;
 mod writer;
 
 pub use cause::{Place, ReadError, ReadErrorKind};

@@ -33,7 +33,9 @@ PLACES = {
     "lexical_flags": LIBRARY,
     "lexical_builder": LIBRARY,
     "lexical_util": LIBRARY,
+    "lexical_number": ("src/literal/value/number", "crate", "crate::literal::value::number", "core"),
     "lexical_literal": ("src/literal", "crate", "crate::literal", "core"),
+    "lexical_forms": ("src/literal", "crate", "crate::literal", "core"),
     "lexical_writer": ("src/literal/writer", "crate", "crate::literal::writer", "core"),
     "lexical_value": ("src/literal/value", "crate", "crate::literal::value", "core"),
     "numfmt": ("numfmt/src", "peltzivar", "crate", "std"),
@@ -48,6 +50,9 @@ BY_HAND = {
 
 # Roots and tests, which are written by hand too, laws and examples.
 LEFT_OUT = re.compile(r"(lib|main)\.rt|(laws|examples|tests)(\.rt|/.*)")
+
+# What `lexical_literal` hides is for the crates above. In plain Rust, these are one crate.
+HIDDEN = re.compile(r"#\[doc\(hidden\)\](\s+)(impl .*?^\}|pub\b)", re.S | re.M)
 
 # In plain Rust `format` and `feature_format` are written by hand and take the word as a const argument, as in
 # `lexical-util`. The modules and the view that take it as a value have other names.
@@ -68,7 +73,7 @@ TEST_FORMS = [
     (" -> Result<(), Fail>", ""),
     ("    Ok(())\n", ""),
     ("use std::test::Fail;\n", ""),
-    ("lexical_literal::specials::", "lexical_literal::"),
+    ("lexical_forms::specials::", "lexical_literal::"),
     ("lexical_literal::syntax::", "lexical_literal::"),
     ("assert!(rt;", "assert!("),
     ("#[allow(deprecated)]", "#[expect(deprecated)]"),
@@ -89,7 +94,7 @@ REPLACED = [
     ("syntax.rt", "pub const fn options(&self)", "pub(crate) const fn options(&self)"),
     ("specials.rt", "pub const fn spell(", "pub(crate) const fn spell("),
     ("cause.rt", "pub const fn span(&self)", "#[doc(hidden)] pub const fn bounds(&self)"),
-    ("syntax.rt", "pub(crate) const fn grammar(&self)", "pub(crate) const fn as_grammar(&self)"),
+    ("syntax.rt", "const fn grammar(&self)", "const fn as_grammar(&self)"),
     ("cause.rt", "const fn grammar(self)", "const fn as_grammar(self)"),
 ]
 
@@ -163,9 +168,9 @@ REPLACED += [
     ("lexical_literal/src/literal.rt", "pub const fn places(&self)", "pub(crate) const fn places(&self)"),
     ("lexical_literal/src/literal.rt", "pub const fn scale(&self)", "pub(crate) const fn scale(&self)"),
     # A syntax that is not lawful can have any radix.
-    ("lexical_literal/src/word.rt", "MOST[radix as usize] as usize", "if radix <= 36 { MOST[radix as usize] as usize } else { 0 }"),
+    ("lexical_number/src/word.rt", "MOST[radix as usize] as usize", "if radix <= 36 { MOST[radix as usize] as usize } else { 0 }"),
     # Programs have one copy of these.
-    ("lexical_literal/src/list.rt", "syntax.begin(false, text, false);\n                if syntax.is_whole(text, counted) {\n                    return Some", "syntax.begin_any(text, false);\n                if syntax.is_whole(text, counted) {\n                    return Some"),
+    ("lexical_forms/src/list.rt", "syntax.begin(false, text, false);\n                if syntax.is_whole(text, counted) {\n                    return Some", "syntax.begin_any(text, false);\n                if syntax.is_whole(text, counted) {\n                    return Some"),
     ("lexical_literal/src/read.rt", "self.begin(false, text, false)", "self.begin_any(text, false)"),
     ("lexical_literal/src/read.rt", "self.begin(false, text, true)", "self.begin_any(text, true)"),
     ("token.rt", "it.syntax.begin(false, text, true)", "it.syntax.begin_small(text, true)"),
@@ -323,6 +328,8 @@ def replaced(path):
     """Returns a source after the replacements. Each keeps the number of lines, so lines keep their numbers."""
     text = path.read_text()
     text = re.sub(r"(?<!const )\bfn (?=\w+[<(])", "const fn ", text) if any(path.match(it) for it in CONST) else text
+    if path.match("lexical_literal/src/*.rt"):
+        text = HIDDEN.sub(lambda it: re.sub(r"\bpub\b(?! ?\()", "pub(crate)", it[2]) + it[1], text)
     for file, old, new in REPLACED:
         if path.match(file):
             if text.count(old) != 1:
@@ -337,7 +344,8 @@ def renamed(text, root, own, std):
     """Returns the text with the paths and names of plain Rust."""
     text = re.sub(r"\bcrate::", f"{own}::", text)
     text = re.sub(r"\blexical_(base|flags|builder|util)\b(?=::)", root, text)
-    text = re.sub(r"\blexical_literal\b(?=::)", f"{root}::literal", text)
+    text = re.sub(r"\blexical_(literal|forms)\b(?=::)", f"{root}::literal", text)
+    text = re.sub(r"\blexical_number\b(?=::)", f"{root}::literal::value::number", text)
     text = re.sub(r"\blexical_value\b(?=::)", f"{root}::literal::value", text)
     text = re.sub(r"\bstd::", f"{std}::", text)
     text = re.sub(rf"\b{root}::({'|'.join(MODULES)})\b", lambda m: f"{root}::{MODULES[m[1]]}", text)

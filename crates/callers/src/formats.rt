@@ -14,7 +14,7 @@ ghost use Rattle.lexical_util.specs.Edits.{edited};
 ghost use Rattle.lexical_util.specs.NormalForm.{normal_form_of};
 ghost use Rattle.lexical_literal.specs.Literal.{Literal, Reads};
 ghost use Rattle.lexical_literal.specs.Notation.{no_conditions, notation_of};
-ghost use Rattle.lexical_value.specs.Numeral.{unsigned};
+ghost use Rattle.lexical_number.specs.Numeral.{unsigned};
 ghost use Rattle.lexical_value.specs.Parsed.{IsParsed};
 
 use lexical_literal::syntax::Syntax;

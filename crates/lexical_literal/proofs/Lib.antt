@@ -1,9 +1,7 @@
 -- Lemmas.
 mod Common
-pub mod WordLemmas
-pub mod DigitLemmas
 pub mod RunLemmas
-mod ScanLemmas
+pub mod ScanLemmas
 mod StepLemmas
 mod CutLemmas
 mod LiteralLemmas
@@ -12,30 +10,24 @@ mod FrontLemmas
 mod LongestLemmas
 mod RoleLemmas
 mod SameLemmas
-mod PartLemmas
+pub mod PartLemmas
 mod PassedLemmas
-mod MadeLemmas
+pub mod MadeLemmas
 mod WriterLemmas
 mod ExampleLemmas
 mod CountLemmas
 mod PlainLemmas
 mod SumLemmas
 mod MantissaLemmas
-mod PieceLemmas
+pub mod PieceLemmas
 mod JoinLemmas
-mod SpecialLemmas
 mod NumberLemmas
 mod CauseLemmas
 mod RefusalLemmas
 mod JointLemmas
 mod BlameLemmas
 mod PartOfLemmas
-mod OneCauseLemmas
-mod ExcludeLemmas
-mod StrangerLemmas
-mod FormLemmas
-mod TokenLemmas
-mod LeadingLemmas
+pub mod OneCauseLemmas
 mod GroupLemmas
 mod SizeLemmas
 mod FitLemmas

@@ -2,9 +2,10 @@
 use Rattle.lexical_literal.proofs.Common.{ℕ, ◌≡◌, ◌+◌, List, [], ◌++◌, take, drop, Ok, refl, sym, ap, subst, ◌∙◌, arith, Literal, Reads, text_of, Notation}
 use Rattle.lexical_literal.proofs.Common.{notation_of, Grammar, length, ReadsFront, Read, IsCountedFront, IsMeasured, cut, Cuts, HasLengths, cuts_of}
 use Rattle.lexical_literal.specs.Additions.Read.{IsCut}
-use Rattle.std.proofs.lemmas.List.{append_assoc}
+use Rattle.std.proofs.lemmas.List.{append_assoc, take_all}
 use Rattle.std.proofs.Math.Seq.{drop-append_seam, take-append_seam}
 use lib.ListN.{length-append}
+use Rattle.lexical_literal.specs.Front.{NoFront, NoLiteral}
 use Rattle.lexical_literal.specs.Parts.{IsRead}
 use Rattle.lexical_literal.specs.Read.{exact}
 use Rattle.lexical_literal.specs.declared.steps.Piece.TheVariants as pieces
@@ -84,3 +85,7 @@ module _ (g : Grammar) (text front : List ℕ) (size : ℕ) (counts : List ℕ) 
       let literal : read.literal ≡ is.literal = ap (λ (r : Read). r.literal) same
       ∙ cut_is front (cuts_of counts) is.literal (at ∙ is.reads.reads.whole) (is.counted is.literal is.reads.reads) in
       (ap (λ (r : Read). r.format) same, subst (λ (k : Literal). ReadsFront (notation_of g) k text size) (sym literal) is.reads)
+
+-- A text of which no front is a literal is none.
+pub none_whole : (m : Notation) (text : List ℕ) → NoFront m text → NoLiteral m text
+none_whole m text none l reads = none (length text) (omega arith) l (subst (Reads m l) (sym (take_all (length text) text (omega arith))) reads)

@@ -12,7 +12,7 @@ use Rattle.std.proofs.Math.Seq.{take-add}
 use Rattle.std.specs.List.{cons_option}
 use lib.ListN.{length-append}
 use Rattle.lexical_util.specs.Digits.{byte_value, digit_of}
-use Rattle.lexical_literal.proofs.WordLemmas.{push_same}
+use Rattle.lexical_number.proofs.WordLemmas.{push_same}
 use Rattle.lexical_literal.proofs.PlainLemmas.{go_on, read_digit, read_separated}
 use Rattle.lexical_literal.proofs.ScanLemmas.{is_role, no_digit}
 use Rattle.lexical_util.specs.declared.feature_format.roles.Role.TheVariants as roles

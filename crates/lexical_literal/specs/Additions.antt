@@ -2,8 +2,6 @@ pub mod Summary
 pub mod Plain
 pub mod Read
 pub mod Longest
-pub mod Forms
-pub mod Token
 pub mod Causes
 pub mod Sizes
 pub mod Explained

@@ -1,5 +1,5 @@
 -- Why a text is not a literal: the cause, the flags and conditions that are to blame, and the bytes to show.
-use Rattle.std.specs.Prelude.{ℕ, ◌≡◌, ◌+◌, ◌^◌, ◌==◌, ◌&&◌, ◌↔◌, ◌⊎◌, ◌||◌, not, Bool, false, if◌then◌else◌, IsTrue, List, [], ◌∷◌, ◌++◌, drop, length, nat_lt}
+use Rattle.std.specs.Prelude.{ℕ, ◌≡◌, ◌+◌, ◌^◌, ◌==◌, ◌&&◌, ◌↔◌, ◌⊎◌, ◌||◌, not, Bool, true, false, if◌then◌else◌, IsTrue, List, [], ◌∷◌, ◌++◌, drop, length, nat_lt}
 use Rattle.std.specs.Prelude.{sum_by, take, slice_get, Option, Some, None}
 use Rattle.std.specs.Int.{w128, trailing_zeros}
 use Rattle.std.specs.List.{find, list_any}
@@ -296,3 +296,8 @@ pub record IsRefusal (m : Notation) (text : List ℕ) (error : Refusal) : Type 0
 pub record SameBlame (c d : ReadErrorKind) (a b : Flag → Bool) : Type 0 where
   pub kind : c ≡ d
   pub flags : (f : Flag) → a f ≡ b f
+
+-- `is_byte kind` is true if the cause is a wrong byte.
+abbrev pub is_byte : ReadErrorKind → Bool
+is_byte causes.Byte = true
+is_byte _ = false

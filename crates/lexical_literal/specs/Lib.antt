@@ -1,6 +1,4 @@
 pub mod Notation
-pub mod Number
-pub mod Word
 pub mod Groups
 pub mod Run
 pub mod Literal
@@ -10,10 +8,5 @@ pub mod Read
 pub mod Parts
 pub mod Readings
 pub mod Syntax
-pub mod Specials
-pub mod Suffix
 pub mod Cause
-pub mod FormList
-pub mod Forms
-pub mod Token
 pub mod Additions

@@ -7,7 +7,7 @@ use Rattle.lexical_literal.specs.Literal.{Literal}
 use Rattle.lexical_literal.specs.declared.kind.FloatKind.TheVariants as floats
 use Rattle.lexical_literal.specs.declared.kind.IntegerKind.TheVariants as integers
 use Rattle.lexical_literal.specs.declared.kind.Kind.{Kind}
-use Rattle.lexical_literal.specs.Number.{number}
+use Rattle.lexical_number.specs.Number.{number}
 
 -- `Read` has the word of the format by which a literal was read, its parts, and its kind.
 pub record Read : Type 0 where

@@ -10,7 +10,7 @@ ghost use Rattle.lexical_literal.specs.Additions.Explained.{zeros};
 ghost use Rattle.lexical_literal.specs.Additions.Sizes.{fits, goes, role_next, unsized};
 ghost use Rattle.lexical_literal.specs.Additions.Summary.{part_of, role_at};
 ghost use Rattle.lexical_literal.specs.Cause.{adding, bare, binds, case_set, first_unmet, with_rules};
-ghost use Rattle.lexical_literal.specs.Forms.{is_byte};
+ghost use Rattle.lexical_literal.specs.Cause.{is_byte};
 ghost use Rattle.lexical_literal.specs.Notation.{has, kept, notation_of, number_of};
 
 use crate::groups::{Group, follows, has_size};
@@ -180,7 +180,8 @@ impl ReadError {
     }
 
     // Returns whether the cause is a wrong byte.
-    pub(crate) const fn is_byte(&self) -> bool
+    #[doc(hidden)]
+    pub const fn is_byte(&self) -> bool
         ensures { result ≡ is_byte self.now.refusal.kind }
     {
         self.spot.is_byte()
@@ -585,7 +586,8 @@ const fn case_mask(grammar: Grammar, byte: u8) -> u128
 }
 
 // Returns the other case of a letter, or the byte itself if it is not a letter.
-pub(crate) const fn other_case(byte: u8) -> u8
+#[doc(hidden)]
+pub const fn other_case(byte: u8) -> u8
     ensures { result ≡ other_case byte }
 {
     match byte {

@@ -6,19 +6,15 @@
 #![tactic(auto)]
 
 pub mod cause;
-mod exclude;
 mod groups;
 pub mod kind;
 pub mod laws;
-pub mod list;
 pub mod literal;
 pub mod number;
-mod plain;
+#[doc(hidden)]
+pub mod plain;
 pub mod read;
 mod span;
-pub mod specials;
-mod steps;
-pub mod suffix;
+#[doc(hidden)]
+pub mod steps;
 pub mod syntax;
-pub mod token;
-pub mod word;

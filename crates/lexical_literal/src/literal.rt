@@ -10,8 +10,8 @@ ghost use Rattle.lexical_literal.specs.Parts.{literal_of};
 ghost use Rattle.lexical_literal.specs.Read.{exponent, mantissa};
 ghost use Rattle.lexical_literal.specs.Syntax.{IsSyntax};
 ghost use Rattle.lexical_literal.specs.declared.syntax.Grammar.{Grammar};
-ghost use Rattle.lexical_literal.specs.Number.{number, places};
-ghost use Rattle.lexical_literal.specs.Word.{IsShort, IsWord};
+ghost use Rattle.lexical_number.specs.Number.{number, places};
+ghost use Rattle.lexical_number.specs.Word.{IsShort, IsWord};
 ghost use Rattle.lexical_util.specs.Layout as layout;
 ghost use Rattle.lexical_util.specs.Record.{bytes_of, effective, raw};
 ghost use Rattle.lexical_util.specs.Rules.{IsRadix};
@@ -20,7 +20,7 @@ use crate::kind::Kind;
 use crate::plain::{Sum, Sums};
 use crate::read::{Parts, cut};
 use crate::syntax::Syntax;
-use crate::word::{add_all, count, fits, word};
+use lexical_number::word::{add_all, count, fits, word};
 use lexical_util::format::NumberFormat;
 use std::marker::Model;
 
@@ -168,10 +168,11 @@ impl<'a> Literal<'a> {
     }
 }
 
+#[doc(hidden)]
 impl Syntax {
     // Returns the literal `text`, of which the parts have the lengths `counts`, and the digits these sums.
     #[inline(always)]
-    pub(crate) fn literal<'a>(&self, text: &'a [u8], counts: [usize; 9], sums: Sums) -> Literal<'a>
+    pub fn literal<'a>(&self, text: &'a [u8], counts: [usize; 9], sums: Sums) -> Literal<'a>
         requires cut { IsCut (notation_of self.now) text.now (cuts_of counts) }
         requires sums { AreSums (raw self.now.word) (cut text.now (cuts_of counts)) sums }
         ensures { result ≡ record { format = self.now.word; literal = cut text.now (cuts_of counts); kind = exact } }
@@ -206,7 +207,7 @@ impl Syntax {
 
     // Returns the literal `text`, of which the parts have the lengths `counts`.
     #[cold]
-    pub(crate) fn summed<'a>(&self, text: &'a [u8], counts: [usize; 9]) -> Literal<'a>
+    pub fn summed<'a>(&self, text: &'a [u8], counts: [usize; 9]) -> Literal<'a>
         requires { IsCut (notation_of self.now) text.now (cuts_of counts) }
         ensures { result ≡ record { format = self.now.word; literal = cut text.now (cuts_of counts); kind = exact } }
     {

@@ -30,14 +30,14 @@ use lexical_util::format_flags::base_prefix;
 
 // What has been read of a text: the number of bytes, and their summary.
 #[derive(Clone, Copy)]
-pub(crate) struct At {
-    pub(crate) size: usize,
+pub struct At {
+    pub size: usize,
     pub(crate) read: Summary,
 }
 
 // The number of digits, and the number that they represent, modulo `2 ^ 64`.
 #[derive(Clone, Copy)]
-pub(crate) struct Sum {
+pub struct Sum {
     pub(crate) digits: usize,
     pub(crate) value: u64,
 }
@@ -45,7 +45,7 @@ pub(crate) struct Sum {
 // The sums of the digits of a literal: of those of the integer and the fraction together, and of those of the exponent. There are
 // `places` digits of the fraction.
 #[derive(Clone, Copy)]
-pub(crate) struct Sums {
+pub struct Sums {
     pub(crate) mantissa: Sum,
     pub(crate) places: usize,
     pub(crate) exponent: Sum,
@@ -54,11 +54,11 @@ pub(crate) struct Sums {
 // What has been read of a text. If `complete` is true, it is a literal, and its parts have the lengths `counts`, and its digits the
 // sums. If `exact` is true, the byte that follows is refused.
 #[derive(Clone, Copy)]
-pub(crate) struct Counted {
-    pub(crate) at: At,
-    pub(crate) counts: [usize; 9],
-    pub(crate) sums: Sums,
-    pub(crate) complete: bool,
+pub struct Counted {
+    pub at: At,
+    pub counts: [usize; 9],
+    pub sums: Sums,
+    pub complete: bool,
     pub(crate) exact: bool,
 }
 

@@ -49,15 +49,17 @@ pub struct Parts<'a> {
 
 // A leading piece of a text that is a literal: the number of its bytes, and the lengths of its parts.
 #[derive(Clone, Copy)]
-pub(crate) struct Found {
-    pub(crate) size: usize,
-    pub(crate) counts: [usize; 9],
+#[doc(hidden)]
+pub struct Found {
+    pub size: usize,
+    pub counts: [usize; 9],
 }
 
+#[doc(hidden)]
 impl Syntax {
     // Returns where reading `text` stops, and the longest front that is a literal, if there is one.
     #[inline(always)]
-    pub(crate) fn front(&self, text: &[u8]) -> (At, Option<Found>)
+    pub fn front(&self, text: &[u8]) -> (At, Option<Found>)
         ensures { IsFronted (notation_of self.now) text.now result.0 result.1 }
     {
         let Counted {
@@ -87,7 +89,7 @@ impl Syntax {
     // Reads a front of `text` with which some literal begins. Unless `fronts` is true, a front that is a literal, but not all of
     // `text`, may not be said to be one, which takes less time.
     #[inline(always)]
-    pub(crate) const fn begin(&self, decimal: bool, text: &[u8], fronts: bool) -> Counted
+    pub const fn begin(&self, decimal: bool, text: &[u8], fronts: bool) -> Counted
         requires radix { IsTrue decimal → IsDecimal (raw self.now.word) }
         requires usual { IsTrue decimal → IsUsual self.now }
         ensures found { HasBegun (notation_of self.now) text.now result }
@@ -107,7 +109,7 @@ impl Syntax {
 
     // Returns whether all of `text` is a literal that has been read.
     #[inline(always)]
-    pub(crate) const fn is_whole(&self, text: &[u8], counted: Counted) -> bool
+    pub const fn is_whole(&self, text: &[u8], counted: Counted) -> bool
         requires { HasBegun (notation_of self.now) text.now counted }
         ensures measured { IsTrue result → IsMeasured (notation_of self.now) text.now counted.counts }
         ensures complete { IsTrue result → IsTrue counted.complete }
@@ -117,7 +119,7 @@ impl Syntax {
 
     // Returns the lengths of the parts of `text`, of which reading stops at `stop`, if it is a literal.
     #[inline(always)]
-    pub(crate) const fn lengths(&self, text: &[u8], stop: At) -> Option<[usize; 9]>
+    pub const fn lengths(&self, text: &[u8], stop: At) -> Option<[usize; 9]>
         requires { IsStopped (notation_of self.now) text.now stop }
         ensures some { IfSome result (IsMeasured (notation_of self.now) text.now) }
         ensures none { IsNone result → NoLiteral (notation_of self.now) text.now }
@@ -132,7 +134,7 @@ impl Syntax {
 
     // Returns whether the front of `text` up to `stop`, where reading stops, is a literal.
     #[inline(always)]
-    pub(crate) const fn is_literal_up_to(&self, text: &[u8], stop: At) -> bool
+    pub const fn is_literal_up_to(&self, text: &[u8], stop: At) -> bool
         requires { IsStopped (notation_of self.now) text.now stop }
         ensures { result ≡ false → NoLiteral (notation_of self.now) (take stop.size text.now) }
     {
@@ -142,7 +144,7 @@ impl Syntax {
 
     // Returns where reading `text` stops, of which a front has been read.
     #[inline(always)]
-    pub(crate) const fn reach(&self, text: &[u8], counted: Counted) -> At
+    pub const fn reach(&self, text: &[u8], counted: Counted) -> At
         requires { HasBegun (notation_of self.now) text.now counted }
         ensures { IsStopped (notation_of self.now) text.now result }
     {
@@ -155,7 +157,7 @@ impl Syntax {
 
     // Returns the lengths of the parts of `text`, of which a front has been read, or where reading stops if it is not a literal.
     #[inline(always)]
-    pub(crate) fn reached(&self, text: &[u8], counted: Counted) -> Result<[usize; 9], At>
+    pub fn reached(&self, text: &[u8], counted: Counted) -> Result<[usize; 9], At>
         requires { HasBegun (notation_of self.now) text.now counted }
         ensures some { IfOk result (IsMeasured (notation_of self.now) text.now) }
         ensures stop { IfErr result (IsStopped (notation_of self.now) text.now) }
@@ -184,7 +186,7 @@ impl Syntax {
     }
 
     // Returns where reading `text` stops if that is behind `size` bytes.
-    pub(crate) fn stop_at(&self, text: &[u8], size: usize) -> Option<At>
+    pub fn stop_at(&self, text: &[u8], size: usize) -> Option<At>
         ensures some { IfSome result (IsStopped (notation_of self.now) text.now) }
         ensures size { IfSome result (λ stop. stop.size ≡ size) }
         ensures none { IsNone result → IsValidUpTo (notation_of self.now) text.now size → ⊥ }
@@ -195,7 +197,7 @@ impl Syntax {
 
     // Returns where reading `text` stops.
     #[cold]
-    pub(crate) fn stop_in(&self, text: &[u8]) -> At
+    pub fn stop_in(&self, text: &[u8]) -> At
         ensures { IsStopped (notation_of self.now) text.now result }
     {
         let counted = self.begin(false, text, false);
@@ -308,7 +310,7 @@ impl Syntax {
     // Returns why `text`, of which reading stopped at `stop`, is not a literal, as the result of the caller, which takes less
     // time than to copy an error.
     #[cold]
-    pub(crate) fn refuse<T>(&self, text: &[u8], stop: At) -> Result<T, ReadError>
+    pub fn refuse<T>(&self, text: &[u8], stop: At) -> Result<T, ReadError>
         requires stopped { IsStopped (notation_of self.now) text.now stop }
         requires refused { NoLiteral (notation_of self.now) text.now }
         ensures { IsErrAnd result (λ error. IsRefusal (notation_of self.now) text.now error.refusal) }
@@ -384,7 +386,8 @@ const fn count_byte(counts: [usize; 9], part: Part, role: Role) -> [usize; 9]
 }
 
 // Returns the byte behind the first `size`, if there is one.
-pub(crate) const fn byte_at(text: &[u8], size: usize) -> Option<u8>
+#[doc(hidden)]
+pub const fn byte_at(text: &[u8], size: usize) -> Option<u8>
     ensures { result ≡ slice_get text.now size }
 {
     if size < text.len() {

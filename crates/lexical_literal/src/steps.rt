@@ -20,7 +20,7 @@ use lexical_util::format_flags::digit_separator;
 
 // A part of a literal.
 #[derive(Clone, Copy)]
-pub(crate) enum Piece {
+pub enum Piece {
     Sign,
     Prefix,
     Integer,
@@ -91,7 +91,7 @@ pub(crate) const fn digits_of(part: Part) -> Stage
 
 // Returns whether `byte` is a digit of `part`.
 #[inline(always)]
-pub(crate) const fn is_digit(grammar: Grammar, part: Part, byte: u8) -> bool
+pub const fn is_digit(grammar: Grammar, part: Part, byte: u8) -> bool
     ensures { result ≡ nat_lt (byte_value byte) (radix_of (raw grammar.word) part) }
 {
     matches!(digit_value(grammar, part, byte), Some(_))
@@ -150,7 +150,7 @@ pub(crate) const fn allows_minus(grammar: Grammar, part: Part) -> bool
 // Returns whether `byte` is the decimal point.
 #[tactic(auto, unfolding(lexical_util::specs::Unfoldable::cased))]
 #[inline(always)]
-pub(crate) const fn is_point(grammar: Grammar, byte: u8) -> bool
+pub const fn is_point(grammar: Grammar, byte: u8) -> bool
     ensures { result ≡ point_of grammar.options byte }
 {
     match grammar.options {
@@ -486,7 +486,7 @@ pub(crate) const fn after(read: Summary, zero: bool, role: Role) -> Summary
 
 // Returns the role of `byte` after a front that ends in `part`, where digits are those of the radix of `part`.
 #[inline(always)]
-pub(crate) const fn role_at(grammar: Grammar, part: Part, byte: u8) -> Option<Role>
+pub const fn role_at(grammar: Grammar, part: Part, byte: u8) -> Option<Role>
     ensures { result ≡ role_at (steps_of grammar) part byte }
 {
     if is_digit(grammar, part, byte) {

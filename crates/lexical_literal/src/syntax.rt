@@ -209,14 +209,15 @@ pub enum ConditionsErrorKind {
 // Any format, with any options and conditions. Without options, literals are integers alone.
 #[derive(Debug, Clone, Copy, PartialEq, Eq, Hash)]
 pub struct Grammar {
-    pub(crate) word: u128,
+    pub word: u128,
     pub(crate) options: Option<Options>,
-    pub(crate) conditions: Conditions,
+    pub conditions: Conditions,
 }
 
+#[doc(hidden)]
 impl Grammar {
     // Returns a view of the format.
-    pub(crate) const fn view(self) -> NumberFormat
+    pub const fn view(self) -> NumberFormat
         ensures { result ≡ self.word }
     {
         NumberFormat::new(self.word)
@@ -392,7 +393,8 @@ impl Syntax {
     }
 
     // Returns the format, the options and the conditions.
-    pub(crate) const fn grammar(&self) -> Grammar
+    #[doc(hidden)]
+    pub const fn grammar(&self) -> Grammar
         ensures value { result ≡ self.now }
         ensures ready { IsReady (steps_of self.now) }
         ensures sizes { HasSizes (notation_of self.now) }

@@ -1,6 +1,6 @@
 //! Special values: signs, letter case, and separators, also one that is a letter of a spelling.
 
-use lexical_literal::specials::{Sign, Special, Specials, Spelling};
+use lexical_forms::specials::{Sign, Special, Specials, Spelling};
 use lexical_literal::syntax::Syntax;
 use lexical_util::format::Format;
 

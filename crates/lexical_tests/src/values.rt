@@ -4,15 +4,15 @@
 ghost use Rattle.std.specs.Prelude.{◌-◌, ◌<◌, ◌^◌, ◌≤◌};
 
 use callers::formats::read_decimal;
-use lexical_literal::list::{Form, FormError, Forms};
-use lexical_literal::specials::{Sign, Special, Specials, Spelling};
+use lexical_forms::list::{Form, FormError, Forms};
+use lexical_forms::specials::{Sign, Special, Specials, Spelling};
 use lexical_literal::syntax::{Condition, Conditions, Syntax};
+use lexical_number::integer::Integer;
 use lexical_util::edits::{Edit, FlagSetter};
 use lexical_util::error::Error;
 use lexical_util::format::{Format, NonZeroU8, NumberFormat, STANDARD};
 use lexical_value::float::to_float;
 use lexical_value::integer::ValueErrorKind;
-use lexical_value::number::integer::Integer;
 use lexical_value::parse::{ParseError, parse_float, parse_integer};
 use lexical_writer::choice::choose;
 use lexical_writer::float::format_float;

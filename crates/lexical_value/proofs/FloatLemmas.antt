@@ -10,7 +10,7 @@ use Rattle.std.specs.Float.{NotNan}
 use Rattle.lexical_util.specs.Layout as layout
 use Rattle.lexical_util.specs.Record.{Record, effective_exponent_base, effective_exponent_radix}
 use Rattle.lexical_literal.specs.Literal.{Literal, is_minus}
-use Rattle.lexical_value.specs.Leading.{Leads}
+use Rattle.lexical_number.specs.Leading.{Leads}
 use Rattle.lexical_value.specs.Value.{denominator, numerator}
 
 -- What holds of the fraction by its parts holds of the value of the literal.

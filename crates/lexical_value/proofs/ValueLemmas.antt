@@ -12,7 +12,7 @@ use Rattle.lexical_util.specs.NormalForm.{SameFormat}
 use Rattle.lexical_util.specs.Record.{Record, effective_exponent_base, effective_exponent_radix}
 use Rattle.lexical_literal.specs.Literal.{Literal, Reads, is_float}
 use Rattle.lexical_literal.specs.Notation.{Notation}
-use Rattle.lexical_literal.specs.Number.{digits_in}
+use Rattle.lexical_number.specs.Number.{digits_in}
 use Rattle.lexical_value.specs.Integer.{integer_size}
 use Rattle.lexical_value.specs.Value.{SameDigits, SameValue, numerator, power, spelled}
 

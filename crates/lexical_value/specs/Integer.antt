@@ -3,8 +3,8 @@ use Rattle.std.specs.Prelude.{ℕ, ◌≡◌, ◌<◌, IsFalse, IsTrue, ℤ}
 use Rattle.lexical_util.specs.Layout.{Byte}
 use Rattle.lexical_util.specs.Layout as layout
 use Rattle.lexical_literal.specs.Literal.{Literal, is_float, is_minus}
-use Rattle.lexical_literal.specs.Number.{number}
-use Rattle.lexical_value.specs.Numeral.{with_sign}
+use Rattle.lexical_number.specs.Number.{number}
+use Rattle.lexical_number.specs.Numeral.{with_sign}
 use Rattle.lexical_value.specs.declared.integer.ValueErrorKind.{ValueErrorKind}
 use Rattle.lexical_value.specs.declared.integer.ValueErrorKind.TheVariants as kinds
 

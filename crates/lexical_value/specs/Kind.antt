@@ -12,9 +12,9 @@ use Rattle.lexical_literal.specs.declared.kind.FloatKind.TheVariants as floats
 use Rattle.lexical_literal.specs.declared.kind.IntegerKind.{IntegerKind}
 use Rattle.lexical_literal.specs.declared.kind.IntegerKind.TheVariants as integers
 use Rattle.lexical_literal.specs.declared.kind.Kind.{Kind}
-use Rattle.lexical_value.specs.Numeral.{with_sign}
+use Rattle.lexical_number.specs.Numeral.{with_sign}
 use Rattle.lexical_value.specs.Float.{is_binary, is_decimal, nearest}
-use Rattle.lexical_literal.specs.Number.{number}
+use Rattle.lexical_number.specs.Number.{number}
 use Rattle.lexical_value.specs.declared.integer.ValueErrorKind.{ValueErrorKind}
 use Rattle.lexical_value.specs.declared.integer.ValueErrorKind.TheVariants as kinds
 

@@ -1,6 +1,3 @@
-pub mod Numeral
-pub mod Leading
-pub mod Nearest
 pub mod Value
 pub mod Integer
 pub mod Float

@@ -6,7 +6,7 @@ use Rattle.lexical_literal.specs.Literal.{Literal, Reads}
 use Rattle.lexical_literal.specs.Notation.{notation_of}
 use Rattle.lexical_literal.specs.Cause.{IsRefusal}
 use Rattle.lexical_literal.specs.declared.syntax.Grammar.{Grammar}
-use Rattle.lexical_value.specs.Numeral.{Range}
+use Rattle.lexical_number.specs.Numeral.{Range}
 use Rattle.lexical_value.specs.Float.{is_binary, is_decimal, nearest}
 use Rattle.lexical_value.specs.Integer.{IsInteger, IsNoInteger}
 use Rattle.lexical_value.specs.declared.integer.ValueErrorKind.TheVariants as kinds

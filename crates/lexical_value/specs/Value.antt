@@ -7,7 +7,7 @@ use Rattle.lexical_util.specs.Record.{effective}
 use Rattle.lexical_literal.specs.Literal.{Literal, is_minus}
 use Rattle.lexical_literal.specs.Notation.{Notation}
 use Rattle.lexical_literal.specs.Read.{exponent, mantissa}
-use Rattle.lexical_literal.specs.Number.{digits_in}
+use Rattle.lexical_number.specs.Number.{digits_in}
 
 -- `scale b l` is the mantissa radix to the power of the number of fraction digits of `l`, where `b` has the bytes of the format.
 abbrev pub scale : (Byte → ℕ) → Literal → ℕ

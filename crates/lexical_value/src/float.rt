@@ -8,8 +8,8 @@ ghost use Rattle.lexical_util.specs.Layout as layout;
 ghost use Rattle.lexical_util.specs.Record.{bytes_of, effective_exponent_base, raw};
 ghost use Rattle.lexical_literal.specs.Literal.{is_float, is_minus};
 ghost use Rattle.lexical_literal.specs.Read.{exponent, mantissa};
-ghost use Rattle.lexical_value.specs.Float.{format_of};
-ghost use Rattle.lexical_value.specs.Leading.{Leads};
+ghost use Rattle.lexical_number.specs.Float.{format_of};
+ghost use Rattle.lexical_number.specs.Leading.{Leads};
 ghost use Rattle.lexical_value.specs.Float.{is_binary, is_decimal, nearest};
 ghost use Rattle.lexical_value.specs.Kind.{float_worth, format_by, is_exact};
 ghost use Rattle.lexical_value.specs.Value.{denominator, numerator};
@@ -17,12 +17,12 @@ ghost use Rattle.lexical_value.specs.declared.integer.ValueErrorKind.TheVariants
 
 use crate::integer::{ValueErrorKind, integer_numeral};
 use crate::kind::{Worth, fewer, is_exact};
-use crate::number::decimal::{decimal_to_float, digits_to_float};
-use crate::number::float::Float;
-use crate::number::leading::{Leading, push_all, saturating};
-use crate::number::scaling::{bits_of, raised_bits, raised_word};
 use lexical_literal::kind::FloatKind;
 use lexical_literal::literal::Literal;
+use lexical_number::decimal::{decimal_to_float, digits_to_float};
+use lexical_number::float::Float;
+use lexical_number::leading::{Leading, push_all, saturating};
+use lexical_number::scaling::{bits_of, raised_bits, raised_word};
 use lexical_util::format::NumberFormat;
 
 /// Returns the value of a literal by its kind as a value of a float type: rounded once to the nearest float, or to the even one

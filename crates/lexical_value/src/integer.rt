@@ -3,15 +3,15 @@
 ghost use Rattle.std.specs.Prelude.{◌≡◌, ◌↔◌, ℕ, if◌then◌else◌, [], IfSome, IsFalse, IsNone, IsTrue, MatchResult, Some};
 ghost use Rattle.lexical_util.specs.Record.{bytes_of};
 ghost use Rattle.lexical_literal.specs.Literal.{is_float, is_minus};
-ghost use Rattle.lexical_value.specs.Numeral.{magnitude_size, size_of};
+ghost use Rattle.lexical_number.specs.Numeral.{magnitude_size, size_of};
 ghost use Rattle.lexical_value.specs.Integer.{integer_size};
 ghost use Rattle.lexical_value.specs.Kind.{IsNotWorth, IsWorth, integer_worth};
 ghost use Rattle.lexical_value.specs.declared.integer.ValueErrorKind.TheVariants as kinds;
 
 use crate::kind::counted;
-use crate::number::integer::Integer;
-use crate::number::numeral::{Magnitude, Numeral};
 use lexical_literal::literal::Literal;
+use lexical_number::integer::Integer;
+use lexical_number::numeral::{Magnitude, Numeral};
 
 /// Why a number has no value in a type.
 #[derive(Debug, Clone, Copy, PartialEq, Eq, Hash)]

@@ -2,12 +2,12 @@
 
 ghost use Rattle.std.specs.Prelude.{◌≡◌, ◌-◌, ◌%◌, ◌^◌, ◌<◌, ◌≤◌, false, option_map};
 ghost use Rattle.lexical_value.specs.Kind.{width, worth, wrapped};
-ghost use Rattle.lexical_value.specs.Numeral.{size_of};
-ghost use Rattle.lexical_value.specs.declared.number.numeral.Numeral.{Numeral};
+ghost use Rattle.lexical_number.specs.Numeral.{size_of};
+ghost use Rattle.lexical_number.specs.declared.numeral.Numeral.{Numeral};
 ghost use Rattle.lexical_value.specs.Kind.{is_exact};
 
-use crate::number::numeral::{Magnitude, Numeral};
 use lexical_literal::kind::IntegerKind;
+use lexical_number::numeral::{Magnitude, Numeral};
 
 // An integer of up to 64 bits and its sign.
 #[derive(Clone, Copy)]

@@ -7,5 +7,4 @@ pub mod float;
 pub mod integer;
 mod kind;
 pub mod laws;
-pub mod number;
 pub mod parse;

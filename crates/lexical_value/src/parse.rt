@@ -2,15 +2,15 @@
 
 ghost use Rattle.std.specs.Prelude.{IfOk};
 ghost use Rattle.std.specs.Float.{NotNan};
-ghost use Rattle.lexical_value.specs.Float.{format_of};
+ghost use Rattle.lexical_number.specs.Float.{format_of};
 ghost use Rattle.lexical_value.specs.Parsed.{IsParsed, IsParsedFloat};
 
 use crate::float::to_float;
 use crate::integer::{ValueErrorKind, to_integer};
-use crate::number::float::Float;
-use crate::number::integer::Integer;
 use lexical_literal::cause::ReadError;
 use lexical_literal::syntax::Syntax;
+use lexical_number::float::Float;
+use lexical_number::integer::Integer;
 
 /// Why a text has no value in a type.
 #[derive(Debug, Clone, Copy, PartialEq, Eq)]

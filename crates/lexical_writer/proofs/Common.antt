@@ -1,7 +1,7 @@
 -- The names that most proofs of this crate cite, passed on from one place. Declares nothing.
 pub use Rattle.lexical_literal.specs.Literal.{Literal, Reads, is_absent, is_minus, is_present, text_of}
 pub use Rattle.lexical_literal.specs.Notation.{has, lacks_options, notation_of}
-pub use Rattle.lexical_literal.specs.Number.{digits_in, number, number_after, places}
+pub use Rattle.lexical_number.specs.Number.{digits_in, number, number_after, places}
 pub use Rattle.lexical_literal.specs.Syntax.{IsSyntax}
 pub use Rattle.lexical_literal.specs.declared.read.Parts.{Parts}
 pub use Rattle.lexical_literal.specs.declared.syntax.Grammar.{Grammar}
@@ -9,7 +9,7 @@ pub use Rattle.lexical_util.specs.Ascii.{ByteSet}
 pub use Rattle.lexical_util.specs.Digits.{digit_of}
 unfoldable pub use Rattle.lexical_util.specs.Digits.{byte_value}
 pub use Rattle.lexical_util.specs.Record.{Record, effective_exponent_base, effective_exponent_radix, raw}
-pub use Rattle.lexical_value.specs.Float.{format_of, raised_down, raised_up}
+pub use Rattle.lexical_number.specs.Float.{format_of, raised_down, raised_up}
 pub use Rattle.lexical_writer.specs.Digits.{at_least, begins_decimal, character, grouped, grouped_front, padded_values, separated, size_of, values_of}
 pub use Rattle.lexical_writer.specs.Layout.{HasNumber, IsLaidOut, first_error, given_fraction}
 pub use Rattle.lexical_writer.specs.Moved.{IsFactor, IsMoved, trimmed}

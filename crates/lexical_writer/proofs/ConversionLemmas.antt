@@ -6,7 +6,7 @@ use Rattle.lexical_writer.proofs.Common.{digits_in, number, at_least, size_of, v
 use Rattle.std.specs.Borrow.{Bor}
 use Rattle.lexical_util.specs.Layout as layout
 use Rattle.lexical_literal.specs.Parts.{literal_of}
-use Rattle.lexical_literal.proofs.DigitLemmas.{number_after-append}
+use Rattle.lexical_number.proofs.DigitLemmas.{number_after-append}
 use Rattle.lexical_literal.specs.Read.{mantissa}
 use Rattle.lexical_value.specs.Value.{power, scale}
 use Rattle.lexical_writer.specs.Conversion.{SameFraction, amount_of, fraction_of, source_of}

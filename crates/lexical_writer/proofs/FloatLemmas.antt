@@ -13,7 +13,7 @@ use lib.Pow.{pow-add, shl_lt}
 use Rattle.std.proofs.Math.Nat.{div-eq_of_lt-le, eq-zero-or-pos, mod-eq-sub-div-mul, pow-le-pow_right}
 use Rattle.lexical_util.specs.Layout as layout
 use Rattle.lexical_literal.specs.Read.{exponent, mantissa}
-use Rattle.lexical_value.specs.Leading.{IsCutTo}
+use Rattle.lexical_number.specs.Leading.{IsCutTo}
 use Rattle.lexical_value.specs.Float.{is_binary, is_decimal, nearest}
 use Rattle.lexical_value.specs.Value.{denominator, numerator, power, scale}
 use Rattle.lexical_writer.specs.Layout.{HasNumber, given_fraction, given_power}

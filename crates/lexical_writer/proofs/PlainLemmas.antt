@@ -14,7 +14,7 @@ use Rattle.lexical_util.specs.Layout as layout
 use Rattle.lexical_util.specs.declared.format_flags.Part.TheVariants as part
 use Rattle.lexical_literal.specs.Parts.{literal_of}
 use Rattle.lexical_literal.specs.Read.{mantissa}
-use Rattle.lexical_value.specs.Numeral.{with_sign}
+use Rattle.lexical_number.specs.Numeral.{with_sign}
 use Rattle.lexical_value.specs.Value.{denominator, numerator, power, scale}
 use Rattle.lexical_writer.specs.Conversion.{SameFraction}
 use Rattle.lexical_writer.specs.Layout.{HasNumber, HasValue, given_fraction, given_power, number_of_size}

@@ -3,8 +3,8 @@ use Rattle.std.specs.Prelude.{ℕ, ◌≡◌, ◌==◌, ◌⊎◌, if◌then◌e
 use Rattle.std.specs.Float.{Float, Format, binary64}
 use Rattle.lexical_util.specs.Layout as layout
 use Rattle.lexical_util.specs.Record.{bytes_of, raw}
-use Rattle.lexical_literal.specs.FormList.{FormList}
-use Rattle.lexical_literal.specs.Forms.{HasKind, IsFirst}
+use Rattle.lexical_forms.specs.FormList.{FormList}
+use Rattle.lexical_forms.specs.Forms.{HasKind, IsFirst}
 use Rattle.lexical_literal.specs.Read.{exact}
 use Rattle.lexical_literal.specs.Literal.{Literal}
 use Rattle.lexical_literal.specs.Read.{Read}

@@ -13,7 +13,7 @@ use Rattle.lexical_literal.specs.Parts.{literal_of}
 use Rattle.lexical_literal.specs.Read.{Read}
 use Rattle.lexical_literal.specs.declared.read.Parts.{Parts}
 use Rattle.lexical_literal.specs.declared.syntax.Grammar.{Grammar}
-use Rattle.lexical_literal.specs.Number.{number}
+use Rattle.lexical_number.specs.Number.{number}
 use Rattle.lexical_value.specs.Float.{nearest}
 use Rattle.lexical_value.specs.Value.{denominator, numerator}
 use Rattle.lexical_writer.specs.Layout.{IsLaidOut, allows_exponent, laid_out, literal_of as written, needs_exponent, number_of_size, plain_style}

@@ -4,7 +4,7 @@ use Rattle.std.specs.Prelude.{[], ◌∷◌, ◌++◌, length, replicate, slice_
 use Rattle.std.specs.Char.{to_ascii_lowercase}
 use Rattle.std.specs.Int.Digits.{digits_of, number_from_digits}
 use Rattle.lexical_util.specs.Digits.{digit_characters}
-use Rattle.lexical_literal.specs.Number.{digits_in, number}
+use Rattle.lexical_number.specs.Number.{digits_in, number}
 use Rattle.lexical_writer.specs.declared.run.Pattern.{Pattern}
 use Rattle.lexical_writer.specs.declared.run.Padded.{Padded}
 use Rattle.lexical_writer.specs.declared.run.Run.{Run}

@@ -11,8 +11,8 @@ use Rattle.lexical_literal.specs.declared.syntax.Condition.TheVariants as condit
 use Rattle.lexical_literal.specs.declared.syntax.Conditions.{Conditions}
 use Rattle.lexical_literal.specs.declared.syntax.Grammar.{Grammar}
 use Rattle.lexical_literal.specs.declared.syntax.Options.{Options}
-use Rattle.lexical_literal.specs.Number.{digits_in, number, places}
-use Rattle.lexical_value.specs.Numeral.{with_sign}
+use Rattle.lexical_number.specs.Number.{digits_in, number, places}
+use Rattle.lexical_number.specs.Numeral.{with_sign}
 use Rattle.lexical_value.specs.Value.{denominator, numerator}
 use Rattle.lexical_writer.specs.Digits.{at_least, begins_decimal, grouped, no_groups, only_if, run_text, size_of, values_of}
 use Rattle.lexical_writer.specs.declared.layout.Amount.{Amount}

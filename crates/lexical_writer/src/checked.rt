@@ -4,18 +4,18 @@ ghost use Rattle.std.specs.Prelude.{◌≡◌, ◌+◌, ◌*◌, ◌^◌, ◌||�
 ghost use Rattle.std.specs.Float.Ieee.{round};
 ghost use Rattle.lexical_util.specs.Layout as layout;
 ghost use Rattle.lexical_util.specs.Record.{bytes_of, effective_exponent_base, raw};
-ghost use Rattle.lexical_value.specs.Float.{format_of, raised_down, raised_up};
+ghost use Rattle.lexical_number.specs.Float.{format_of, raised_down, raised_up};
 ghost use Rattle.lexical_value.specs.Float.{is_binary, is_decimal};
 ghost use lib.Ieee.{emax, low, prec};
 ghost use lib.Ieee.Exact.{HasValue};
 
 use crate::form::Form;
+use lexical_number::decimal::digits_to_float;
+use lexical_number::float::Float;
+use lexical_number::leading::Leading;
+use lexical_number::scaling::{bits_of, raised_bits};
 use lexical_util::format::NumberFormat;
 use lexical_value::float::signed;
-use lexical_value::number::decimal::digits_to_float;
-use lexical_value::number::float::Float;
-use lexical_value::number::leading::Leading;
-use lexical_value::number::scaling::{bits_of, raised_bits};
 
 // Returns the float nearest to a number times a power of two, over another one.
 #[inline(always)]

@@ -6,8 +6,8 @@ ghost use Rattle.lexical_literal.specs.Read.{exact};
 ghost use Rattle.lexical_literal.specs.Literal.{Literal as Parts, Reads, is_float, text_of};
 ghost use Rattle.lexical_literal.specs.Notation.{notation_of};
 ghost use Rattle.lexical_literal.specs.Read.{Read};
-ghost use Rattle.lexical_value.specs.Float.{format_of};
-ghost use Rattle.lexical_value.specs.Numeral.{size_of};
+ghost use Rattle.lexical_number.specs.Float.{format_of};
+ghost use Rattle.lexical_number.specs.Numeral.{size_of};
 ghost use Rattle.lexical_value.specs.Kind.{float_worth, integer_worth};
 ghost use Rattle.lexical_writer.specs.Buffer.{IsTaken};
 ghost use Rattle.lexical_writer.specs.Choice.{IsReadBack, exact_read, turn};
@@ -17,15 +17,15 @@ use crate::float_digits::FloatDigits;
 use crate::layout::{Style, WriteError};
 use crate::literal::write_number;
 use crate::near::format_near;
+use lexical_forms::list::{Forms, Number};
 use lexical_literal::kind::{FloatKind, IntegerKind, Kind};
 use lexical_literal::laws::literal_facts;
-use lexical_literal::list::{Forms, Number};
 use lexical_literal::literal::Literal;
 use lexical_literal::syntax::{Condition, Syntax};
+use lexical_number::float::Float;
+use lexical_number::integer::Integer;
 use lexical_value::float::to_float;
 use lexical_value::integer::{own_numeral, to_integer};
-use lexical_value::number::float::Float;
-use lexical_value::number::integer::Integer;
 
 /// A number that a list of forms is asked to write.
 pub trait Writable {
@@ -105,7 +105,7 @@ pub struct Real<F> {
 
 impl<F: Float> Writable for Real<F> {
     ghost use Rattle.std.specs.Prelude.{⊤};
-    ghost use Rattle.lexical_value.specs.Float.{format_of};
+    ghost use Rattle.lexical_number.specs.Float.{format_of};
     ghost use Rattle.lexical_writer.specs.Choice.{IsReal};
 
     ghost is = { λ number read. IsReal (format_of F.DOUBLE) (F.value number.value) read };

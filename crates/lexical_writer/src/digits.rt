@@ -2,7 +2,7 @@
 
 ghost use Rattle.std.specs.Prelude.{◌≡◌, ◌++◌, ◌∷◌, [], true, false, ◌-◌, ◌<◌, ◌≤◌, ◌/◌, ◌%◌, ◌^◌, ℕ, List, length, map, option_to_list, replicate};
 ghost use Rattle.std.specs.Int.Digits.{digits_of, number_from_digits};
-ghost use Rattle.lexical_literal.specs.Number.{digits_in, number, places};
+ghost use Rattle.lexical_number.specs.Number.{digits_in, number, places};
 ghost use Rattle.lexical_util.specs.Rules.{IsRadix};
 ghost use Rattle.lexical_writer.specs.Digits.{at_least, begins_decimal, character, ends_group, grouped, grouped_front, only_if, padded_values, run_digits};
 ghost use Rattle.lexical_writer.specs.Digits.{run_text, separated, values_of};
@@ -10,7 +10,7 @@ ghost use Rattle.lexical_writer.specs.Digits.{run_text, separated, values_of};
 use crate::run::{Padded, Pattern, Run, Source};
 use crate::sink::Sink;
 use lexical_base::digit::{char_to_digit, digit_to_char, digit_to_char_const};
-use lexical_literal::word::count;
+use lexical_number::word::count;
 
 // Returns what follows the zeros that the digits among bytes begin with.
 pub(crate) fn without_zeros(bytes: &[u8], radix: u32) -> &[u8]

@@ -6,8 +6,8 @@ ghost use Rattle.std.specs.Float.Ieee.{hid, ones};
 ghost use Rattle.lexical_literal.specs.Literal.{Reads, text_of};
 ghost use Rattle.lexical_literal.specs.Notation.{notation_of};
 ghost use Rattle.lexical_literal.specs.Syntax.{IsSyntax};
-ghost use Rattle.lexical_value.specs.Float.{format_of, raised_down, raised_up};
-ghost use Rattle.lexical_literal.specs.Number.{number, places as digit_count};
+ghost use Rattle.lexical_number.specs.Float.{format_of, raised_down, raised_up};
+ghost use Rattle.lexical_number.specs.Number.{number, places as digit_count};
 ghost use Rattle.lexical_writer.specs.Digits.{size_of, values_of};
 ghost use Rattle.lexical_writer.specs.Layout.{HasNumber, given_fraction, given_power, literal_of as written, no_power};
 ghost use Rattle.lexical_writer.specs.declared.run.Source.TheVariants as sources;
@@ -18,8 +18,8 @@ use crate::layout::{
 };
 use crate::run::Source;
 use lexical_literal::syntax::Syntax;
-use lexical_value::number::scaling::bits_of;
-use lexical_value::number::shortest::{Decimal, Units, shortest};
+use lexical_number::scaling::bits_of;
+use lexical_number::shortest::{Decimal, Units, shortest};
 
 // How the digits of a number are written: with zeros behind them, with a point before the last of all these digits, and with an
 // exponent, unless it is 0.

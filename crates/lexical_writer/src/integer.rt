@@ -9,7 +9,7 @@ ghost use Rattle.lexical_writer.specs.Layout.{HasValue, IsWhole, literal_of, wan
 
 use crate::layout::{Amount, Layout, Style, WriteError, needs_exponent};
 use lexical_literal::syntax::{Condition, Syntax};
-use lexical_value::number::integer::Integer;
+use lexical_number::integer::Integer;
 
 /// Returns how the value of an integer is written as a literal of `syntax`.
 ///

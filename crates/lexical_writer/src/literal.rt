@@ -7,7 +7,7 @@ ghost use Rattle.lexical_literal.specs.Literal.{Reads, text_of, is_minus};
 ghost use Rattle.lexical_literal.specs.Notation.{has, lacks_options, notation_of};
 ghost use Rattle.lexical_literal.specs.Parts.{literal_of};
 ghost use Rattle.lexical_literal.specs.Syntax.{IsSyntax};
-ghost use Rattle.lexical_value.specs.Numeral.{size_of as numeral_size};
+ghost use Rattle.lexical_number.specs.Numeral.{size_of as numeral_size};
 ghost use Rattle.lexical_writer.specs.Conversion.{IsConverted, IsInRadix, IsKept, IsNumber, IsPlain, IsShort, IsWritten, SameFraction};
 ghost use Rattle.lexical_writer.specs.Conversion.{amount_of, fraction_of, has_power, is_kept, is_refused, is_same_radix, is_unwanted, is_wish, power_of};
 ghost use Rattle.lexical_writer.specs.Conversion.{odd_error, or_limit, source_of};
@@ -21,8 +21,8 @@ use crate::run::Source;
 use lexical_literal::literal::Literal;
 use lexical_literal::read::Parts;
 use lexical_literal::syntax::{Condition, Syntax};
+use lexical_number::numeral::{Magnitude, Numeral};
 use lexical_util::format::NumberFormat;
-use lexical_value::number::numeral::{Magnitude, Numeral};
 
 /// Returns how a literal is written as a literal of `syntax`: the number that it represents, whatever its kind is.
 ///

@@ -6,8 +6,8 @@ ghost use Rattle.std.specs.Option.{SomeIff};
 ghost use Rattle.lexical_util.specs.Record.{effective_exponent_radix, raw};
 ghost use Rattle.lexical_util.specs.Rules.{IsRadix};
 ghost use Rattle.lexical_literal.specs.Literal.{is_absent, is_minus};
-ghost use Rattle.lexical_literal.specs.Number.{number_after, digits_in, number};
-ghost use Rattle.lexical_value.specs.Numeral.{size_of as numeral_size};
+ghost use Rattle.lexical_number.specs.Number.{number_after, digits_in, number};
+ghost use Rattle.lexical_number.specs.Numeral.{size_of as numeral_size};
 ghost use Rattle.lexical_writer.specs.Digits.{padded_values, size_of, values_of};
 ghost use Rattle.lexical_writer.specs.Layout.{given_fraction};
 ghost use Rattle.lexical_writer.specs.Moved.{IsFactor, IsMoved, IsTimes, factors, moved_by, moved_fraction, moved_integer, too_far, trimmed};
@@ -17,9 +17,9 @@ use crate::literal::is_minus;
 use crate::run::{Padded, Source};
 use lexical_base::digit::char_to_digit;
 use lexical_literal::read::Parts;
-use lexical_literal::word::count;
+use lexical_number::numeral::{Magnitude, Numeral};
+use lexical_number::word::count;
 use lexical_util::format::NumberFormat;
-use lexical_value::number::numeral::{Magnitude, Numeral};
 
 // Returns bytes up to a place among their digits, and the others. Before the place are at most `places` digits.
 fn cut<'a>(bytes: &'a [u8], radix: u32, places: usize) -> (&'a [u8], &'a [u8])
@@ -52,7 +52,7 @@ fn without_last_zeros<'a>(bytes: &'a [u8], radix: u32) -> &'a [u8]
 }
 
 // Returns the number that the digits among bytes represent behind those of `front`, or `None` if it has more than 128 bits.
-#[tactic(auto, using(lexical_literal::proofs::DigitLemmas::too_large))]
+#[tactic(auto, using(lexical_number::proofs::DigitLemmas::too_large))]
 fn size_after(front: u128, bytes: &[u8], radix: u32) -> Option<u128>
     ensures { SomeIff result (number_after radix front bytes.now ≤ 2 ^ 128 - 1) (number_after radix front bytes.now) }
 {

@@ -4,7 +4,7 @@ ghost use Rattle.std.specs.Prelude.{◌≡◌, ◌⊎◌, ℕ, false, None, Some
 ghost use Rattle.lexical_util.specs.Record.{bytes_of, raw};
 ghost use Rattle.lexical_literal.specs.Literal.{Reads, text_of};
 ghost use Rattle.lexical_literal.specs.Notation.{notation_of};
-ghost use Rattle.lexical_value.specs.Float.{format_of};
+ghost use Rattle.lexical_number.specs.Float.{format_of};
 ghost use Rattle.lexical_value.specs.Float.{nearest};
 ghost use Rattle.lexical_writer.specs.Conversion.{IsNear, SameFraction};
 ghost use Rattle.lexical_writer.specs.Layout.{literal_of as written};
@@ -16,8 +16,8 @@ use crate::layout::{Layout, Style, WriteError};
 use crate::literal::format_literal;
 use lexical_literal::literal::Literal;
 use lexical_literal::syntax::Syntax;
+use lexical_number::float::Float;
 use lexical_value::float::nearest_float;
-use lexical_value::number::float::Float;
 
 /// Returns the float by which a literal is written that cannot be written exactly: the nearest, if the style allows it, the radix or
 /// the base is another one, and this float is finite.

@@ -1,4 +1,4 @@
-// Made by rust/tools/erase.py from crates/lexical_literal/src/exclude.rt: change that file.
+// Made by rust/tools/erase.py from crates/lexical_forms/src/exclude.rt: change that file.
 
 //! What excludes that a text is a literal of a form: its first bytes, or a byte that plays no role in the form.
 

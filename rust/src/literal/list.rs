@@ -1,4 +1,4 @@
-// Made by rust/tools/erase.py from crates/lexical_literal/src/list.rt: change that file.
+// Made by rust/tools/erase.py from crates/lexical_forms/src/list.rt: change that file.
 
 //! Numbers that have several forms, such as `10`, `0x1F` and `0b1`.
 

@@ -6,7 +6,7 @@ use crate::literal::kind::Kind;
 use crate::literal::plain::{Sum, Sums};
 use crate::literal::read::{cut, Parts};
 use crate::literal::syntax::Syntax;
-use crate::literal::word::{add_all, count, fits, word};
+use crate::literal::value::number::word::{add_all, count, fits, word};
 use crate::word::FormatView;
 
 /// A text that was read as a literal: its parts, and the numbers that its digits represent.

@@ -36,8 +36,8 @@ pub struct Parts<'a> {
 // A leading piece of a text that is a literal: the number of its bytes, and the lengths of its parts.
 #[derive(Clone, Copy)]
 pub(crate) struct Found {
-    pub(crate) size: usize,
-    pub(crate) counts: [usize; 9],
+    pub size: usize,
+    pub counts: [usize; 9],
 }
 
 impl Syntax {

@@ -1,4 +1,4 @@
-// Made by rust/tools/erase.py from crates/lexical_literal/src/specials.rt: change that file.
+// Made by rust/tools/erase.py from crates/lexical_forms/src/specials.rt: change that file.
 
 //! Special values: the texts that are NaN or infinity.
 

@@ -9,7 +9,7 @@ use crate::word::{Part, Role};
 
 // A part of a literal.
 #[derive(Clone, Copy)]
-pub(crate) enum Piece {
+pub enum Piece {
     Sign,
     Prefix,
     Integer,
@@ -72,7 +72,7 @@ pub(crate) const fn digits_of(part: Part) -> Stage {
 
 // Returns whether `byte` is a digit of `part`.
 #[inline(always)]
-pub(crate) const fn is_digit(grammar: Grammar, part: Part, byte: u8) -> bool {
+pub const fn is_digit(grammar: Grammar, part: Part, byte: u8) -> bool {
     matches!(digit_value(grammar, part, byte), Some(_))
 }
 
@@ -117,7 +117,7 @@ pub(crate) const fn allows_minus(grammar: Grammar, part: Part) -> bool {
 
 // Returns whether `byte` is the decimal point.
 #[inline(always)]
-pub(crate) const fn is_point(grammar: Grammar, byte: u8) -> bool {
+pub const fn is_point(grammar: Grammar, byte: u8) -> bool {
     match grammar.options {
         None => false,
         Some(options) => options.point != 0 && byte == options.point,
@@ -385,7 +385,7 @@ pub(crate) const fn after(read: Summary, zero: bool, role: Role) -> Summary {
 
 // Returns the role of `byte` after a front that ends in `part`, where digits are those of the radix of `part`.
 #[inline(always)]
-pub(crate) const fn role_at(grammar: Grammar, part: Part, byte: u8) -> Option<Role> {
+pub const fn role_at(grammar: Grammar, part: Part, byte: u8) -> Option<Role> {
     if is_digit(grammar, part, byte) {
         Some(Role::Digit)
     } else if is_separator(grammar, byte) {

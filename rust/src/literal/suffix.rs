@@ -1,4 +1,4 @@
-// Made by rust/tools/erase.py from crates/lexical_literal/src/suffix.rt: change that file.
+// Made by rust/tools/erase.py from crates/lexical_forms/src/suffix.rt: change that file.
 
 //! Words that stand directly behind a number, such as `u8`, and bytes that may not follow it.
 

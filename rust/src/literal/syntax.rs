@@ -176,9 +176,9 @@ pub enum ConditionsErrorKind {
 // Any format, with any options and conditions. Without options, literals are integers alone.
 #[derive(Debug, Clone, Copy, PartialEq, Eq, Hash)]
 pub struct Grammar {
-    pub(crate) word: u128,
+    pub word: u128,
     pub(crate) options: Option<Options>,
-    pub(crate) conditions: Conditions,
+    pub conditions: Conditions,
 }
 
 impl Grammar {

@@ -1,4 +1,4 @@
-// Made by rust/tools/erase.py from crates/lexical_literal/src/token.rt: change that file.
+// Made by rust/tools/erase.py from crates/lexical_forms/src/token.rt: change that file.
 
 //! Tokens: numbers in the middle of a text, each with its suffix.
 

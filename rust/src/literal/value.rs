@@ -25,6 +25,7 @@ pub(crate) mod number {
     pub(crate) mod powers;
     pub(crate) mod scaling;
     pub(crate) mod shortest;
+    pub(crate) mod word;
 }
 
 pub use error::{ParseError, Target, ValueError};

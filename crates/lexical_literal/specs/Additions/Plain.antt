@@ -4,7 +4,7 @@ use Rattle.std.specs.Prelude.{Some, true, false, drop, bit_and}
 use Rattle.std.specs.Prelude.{get_or, length, take}
 use Rattle.std.specs.Int.Digits.{number_from_digits_after}
 use Rattle.lexical_util.specs.Digits.{digit_of}
-use Rattle.lexical_literal.specs.Number.{digits_in}
+use Rattle.lexical_number.specs.Number.{digits_in}
 use Rattle.lexical_util.specs.Layout as layout
 use Rattle.lexical_util.specs.Layout.{separators_in}
 use Rattle.lexical_util.specs.declared.feature_format.roles.Role.{Role}

@@ -14,8 +14,8 @@ use Rattle.lexical_literal.specs.declared.plain.Sum.{Sum}
 use Rattle.lexical_literal.specs.declared.plain.Sums.{Sums}
 use Rattle.lexical_literal.specs.declared.steps.Piece.TheVariants as pieces
 use Rattle.lexical_literal.specs.declared.syntax.Grammar.{Grammar}
-use Rattle.lexical_literal.specs.Number.{number, places}
-use Rattle.lexical_literal.specs.Word.{IsWord}
+use Rattle.lexical_number.specs.Number.{number, places}
+use Rattle.lexical_number.specs.Word.{IsWord}
 use Rattle.lexical_literal.specs.Additions.Plain.{counts_of}
 
 -- `before_point c`, `before_fraction c` and `before_exponent c` are the numbers of bytes before these parts, which have the lengths `c`.

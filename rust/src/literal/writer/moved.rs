@@ -5,7 +5,7 @@
 use crate::digit::char_to_digit;
 use crate::literal::read::Parts;
 use crate::literal::value::number::numeral::{Magnitude, Numeral};
-use crate::literal::word::count;
+use crate::literal::value::number::word::count;
 use crate::literal::writer::layout::{Amount, WriteError};
 use crate::literal::writer::literal::is_minus;
 use crate::literal::writer::run::{Padded, Source};

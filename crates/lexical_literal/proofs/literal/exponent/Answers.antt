@@ -1,8 +1,8 @@
 -- Few digits fit, and of more those behind the zeros may.
 use Rattle.lexical_literal.proofs.Common.{◌≡◌, ◌%◌, ◌^◌, ◌++◌, [], append-nil, sym, ap, subst, ◌∙◌, arith, Literal, cut, cuts_of, number, places}
 use Rattle.lexical_literal.specs.Parts.{literal_of}
-use Rattle.lexical_literal.specs.Word.{IsWord}
-use Rattle.lexical_literal.proofs.WordLemmas.{fitting_word}
+use Rattle.lexical_number.specs.Word.{IsWord}
+use Rattle.lexical_number.proofs.WordLemmas.{fitting_word}
 use Rattle.lexical_literal.proofs.literal.exponent.Goals as goal
 
 pub returns-then-fits : goal.returns-then-fits

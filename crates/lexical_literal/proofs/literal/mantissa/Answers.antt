@@ -1,7 +1,7 @@
 -- Few digits fit, and of more those behind the zeros may.
 use Rattle.lexical_literal.proofs.Common.{◌≡◌, ◌%◌, ◌^◌, ◌++◌, sym, ap, subst, ◌∙◌, arith, Literal, cut, cuts_of, number, places}
-use Rattle.lexical_literal.specs.Word.{IsWord}
-use Rattle.lexical_literal.proofs.WordLemmas.{fitting_word}
+use Rattle.lexical_number.specs.Word.{IsWord}
+use Rattle.lexical_number.proofs.WordLemmas.{fitting_word}
 use Rattle.lexical_literal.proofs.literal.mantissa.Goals as goal
 
 pub returns-then-fits : goal.returns-then-fits

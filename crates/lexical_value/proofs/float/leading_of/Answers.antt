@@ -2,9 +2,9 @@
 use Rattle.lexical_value.proofs.Common.{raw, mantissa, number_after, number}
 use Rattle.std.proofs.Common.{◌≡◌, ◌++◌, sym, subst, ◌∙◌}
 use Rattle.lexical_literal.specs.Parts.{literal_of}
-use Rattle.lexical_value.specs.Leading.{Leads}
-use Rattle.lexical_value.proofs.LeadingLemmas.{starts}
-use Rattle.lexical_literal.proofs.DigitLemmas.{number_after-append}
+use Rattle.lexical_number.specs.Leading.{Leads}
+use Rattle.lexical_number.proofs.LeadingLemmas.{starts}
+use Rattle.lexical_number.proofs.DigitLemmas.{number_after-append}
 use Rattle.lexical_value.proofs.float.leading_of.Goals as goal
 
 pub returns-in-Some-clause-leads : goal.returns-in-Some-clause-leads

@@ -2,7 +2,7 @@
 use Rattle.lexical_writer.proofs.Common.{◌≡◌, ◌*◌, ◌^◌, ◌≤◌, arith, false, subst, ◌∙◌, format_of}
 use Rattle.std.specs.Prelude.{from_bits}
 use lib.Ieee.{hid, ones, round}
-use Rattle.lexical_value.proofs.LeadingLemmas.{leads_all}
+use Rattle.lexical_number.proofs.LeadingLemmas.{leads_all}
 use Rattle.lexical_writer.proofs.checked.nearest_binary.Goals as goal
 
 pub from_magnitude-requires : goal.from_magnitude-requires

@@ -2,10 +2,10 @@
 use Rattle.lexical_writer.proofs.Common.{ℕ, ◌≡◌, ◌<◌, ◌≤◌, ◌-◌, ◌^◌, IfOk, List, Option, Some, IsSomeAnd, inl, inr, length, min, refl, rules, slice_get, take}
 use Rattle.lexical_writer.proofs.Common.{ap, sym, ◌∙◌, subst, arith, cases_lt, false≢true, nat_tests, Literal, text_of, IsSyntax, Grammar, Reads, notation_of}
 use Rattle.std.proofs.lemmas.Option.{slice_get_read}
-use Rattle.lexical_literal.specs.Forms.{IsNumber, ReadsForm}
+use Rattle.lexical_forms.specs.Forms.{IsNumber, ReadsForm}
 use Rattle.lexical_literal.specs.Read.{exact}
 use Rattle.lexical_literal.specs.Read.{Read}
-use Rattle.lexical_literal.specs.declared.list.Form.{Form}
+use Rattle.lexical_forms.specs.declared.list.Form.{Form}
 use Rattle.lexical_writer.specs.Buffer.{IsTaken}
 use Rattle.lexical_writer.specs.Choice.{exact_read}
 use Rattle.lexical_writer.proofs.choice.write_by.Goals as goal

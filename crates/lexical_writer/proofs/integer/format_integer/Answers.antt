@@ -3,7 +3,7 @@ use Rattle.lexical_writer.proofs.Common.{ℕ, ℤ, ◌≡◌, ◌<◌, ◌&&◌,
 use Rattle.lexical_writer.proofs.Common.{◌∙◌, arith, raw, IsSyntax, Grammar, Layout, Style, WriteError}
 use Rattle.lexical_util.specs.Layout as layouts
 use Rattle.lexical_literal.specs.Literal.{is_float}
-use Rattle.lexical_value.specs.Numeral.{with_sign}
+use Rattle.lexical_number.specs.Numeral.{with_sign}
 use Rattle.lexical_value.specs.Integer.{IsInteger}
 use Rattle.lexical_writer.specs.Layout.{HasNumber, HasValue, IsLaidOut, IsWhole, has_exponent, has_point, literal_of, needs_exponent, number_of_size}
 use Rattle.lexical_writer.specs.Layout.{wants_exponent, whole, whole_refusal}

@@ -1,4 +1,4 @@
-// Made by rust/tools/erase.py from crates/lexical_value/src/number/binary.rt: change that file.
+// Made by rust/tools/erase.py from crates/lexical_number/src/binary.rt: change that file.
 
 //! The float nearest to a whole number times a power of two.
 

@@ -1,4 +1,4 @@
-// Made by rust/tools/erase.py from crates/lexical_value/src/number/float.rt: change that file.
+// Made by rust/tools/erase.py from crates/lexical_number/src/float.rt: change that file.
 
 //! Float types.
 

@@ -1,4 +1,4 @@
-// Made by rust/tools/erase.py from crates/lexical_value/src/number/integer.rt: change that file.
+// Made by rust/tools/erase.py from crates/lexical_number/src/integer.rt: change that file.
 
 //! Integer types, and the values of theirs that digits with a sign represent.
 

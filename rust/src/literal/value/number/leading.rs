@@ -1,4 +1,4 @@
-// Made by rust/tools/erase.py from crates/lexical_value/src/number/leading.rt: change that file.
+// Made by rust/tools/erase.py from crates/lexical_number/src/leading.rt: change that file.
 
 //! The leading digits of a number of any length.
 
@@ -38,7 +38,7 @@ const fn push(leading: Leading, radix: u32, digit: u32) -> Leading {
 
 /// Returns the leading digits after those of `bytes`. Other bytes are skipped.
 #[must_use]
-pub(crate) const fn push_all(leading: Leading, radix: u32, bytes: &[u8]) -> Leading {
+pub const fn push_all(leading: Leading, radix: u32, bytes: &[u8]) -> Leading {
     let mut leading = leading;
     let mut index = 0;
     while index < bytes.len() {
@@ -52,7 +52,7 @@ pub(crate) const fn push_all(leading: Leading, radix: u32, bytes: &[u8]) -> Lead
 
 /// Returns the number that the digits among `bytes` represent in `radix`, or `2 ^ 90` if that is less.
 #[must_use]
-pub(crate) const fn saturating(bytes: &[u8], radix: u32) -> u128 {
+pub const fn saturating(bytes: &[u8], radix: u32) -> u128 {
     let digits = push_all(Leading::ZERO, radix, bytes).digits;
     if digits < 1 << 90 {
         digits

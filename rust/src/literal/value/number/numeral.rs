@@ -1,9 +1,9 @@
-// Made by rust/tools/erase.py from crates/lexical_value/src/number/numeral.rt: change that file.
+// Made by rust/tools/erase.py from crates/lexical_number/src/numeral.rt: change that file.
 
 //! Numbers with a sign, by their value or by their digits.
 
 use crate::digit::char_to_digit;
-use crate::literal::word::add_all;
+use crate::literal::value::number::word::add_all;
 
 /// A number without a sign.
 #[derive(Debug, Clone, Copy, PartialEq, Eq, Hash)]

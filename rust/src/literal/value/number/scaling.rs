@@ -1,4 +1,4 @@
-// Made by rust/tools/erase.py from crates/lexical_value/src/number/scaling.rt: change that file.
+// Made by rust/tools/erase.py from crates/lexical_number/src/scaling.rt: change that file.
 
 //! The float nearest to digits with an exponent, if both are in radixes that are powers of two.
 

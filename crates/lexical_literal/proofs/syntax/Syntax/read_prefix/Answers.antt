@@ -1,8 +1,7 @@
 -- A text of which no front is a literal is none.
 use Rattle.lexical_literal.proofs.Common.{ap, false≢true, Read}
 use Rattle.std.proofs.Common.{is_some}
-use Rattle.lexical_literal.proofs.FormLemmas.{none_whole}
-use Rattle.lexical_literal.proofs.PieceLemmas.{front_cut, front_read}
+use Rattle.lexical_literal.proofs.PieceLemmas.{front_cut, front_read, none_whole}
 use Rattle.lexical_literal.proofs.syntax.Syntax.read_prefix.Goals as goal
 
 pub refuse-requires-clause-refused : goal.refuse-requires-clause-refused

@@ -4,7 +4,7 @@ use Rattle.std.proofs.Common.{from_bits}
 use Rattle.std.specs.Float.{binary64}
 use Rattle.lexical_literal.specs.Literal.{is_float}
 use Rattle.lexical_literal.specs.Read.{Read}
-use Rattle.lexical_value.specs.Numeral.{with_sign}
+use Rattle.lexical_number.specs.Numeral.{with_sign}
 use Rattle.lexical_value.specs.Kind.{integer_worth}
 use Rattle.lexical_writer.specs.Choice.{IsWhole}
 use Rattle.lexical_writer.proofs.choice.LiteralWritable.is_read_as.Goals as goal

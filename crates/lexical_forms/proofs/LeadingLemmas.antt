@@ -1,0 +1,380 @@
+-- Tokens that are found by reading the forms of a list once.
+use Rattle.lexical_forms.proofs.Common.{ℕ, ◌≡◌, ◌&&◌, ◌||◌, Bool, true, false, ◌<◌, ◌≤◌, ◌+◌, ◌-◌, inl, inr, List, [], ◌∷◌, ◌++◌, Option, Some, None, All}
+use Rattle.lexical_forms.proofs.Common.{IsSomeAnd, take, drop, get_or, append-nil, refl, sym, subst, ap, ◌∙◌, arith, cases_lt, false≢true, nat_tests}
+use Rattle.lexical_forms.proofs.Common.{length-take-le, All-more, slice_get-get_or, Literal, Reads, is_float, text_of, Notation, notation_of, Record, ◌==◌}
+use Rattle.lexical_forms.proofs.Common.{if◌then◌else◌, IsTrue, length, slice_get, sign_size, IsMeasured, IsStopped, AreSums, cut, Cuts, HasLengths, IsWithin}
+use Rattle.lexical_forms.proofs.Common.{FormList, ReadsForm, IsFront, IsValidUpTo, NoLiteral, IsAhead, Form, At, Candidate}
+use Rattle.lexical_forms.specs.Additions.Forms.{PlaysNoRole}
+use Rattle.lexical_literal.specs.Additions.Read.{HasSums, before_exponent}
+use Rattle.lexical_forms.specs.Additions.Token.{FrontsWithin, IsLeading, IsNear, IsPicked, has_float, has_prefix}
+use Rattle.lexical_forms.specs.Forms.{HasFront}
+use Rattle.lexical_forms.specs.Token.{IsCandidate, IsToken, gives_back, is_shorter}
+use Rattle.std.specs.Borrow.{Bor}
+use Rattle.std.proofs.lemmas.List.{drop-take, get_or-take, get_or_append_left, length-append, take-take}
+use Rattle.std.proofs.lemmas.Option.{slice_get_within}
+use Rattle.lexical_literal.specs.Additions.Sizes.{goes}
+use Rattle.lexical_literal.specs.Cause.{is_in}
+use Rattle.lexical_forms.specs.Suffix.{any_word_size, begins, byte_before, is_stopped, is_word_byte, kind_with, longest_word, suffix_size, word_size}
+use Rattle.lexical_forms.specs.declared.list.Tokens.{Tokens}
+use Rattle.lexical_literal.specs.declared.plain.Sums.{Sums}
+use Rattle.lexical_literal.specs.declared.steps.Piece.TheVariants as pieces
+use Rattle.lexical_forms.specs.declared.suffix.Suffixes.{Suffixes}
+use Rattle.lexical_literal.specs.declared.syntax.Condition.TheVariants as conditions
+use Rattle.lexical_forms.specs.declared.token.Token.{Token}
+use Rattle.lexical_forms.proofs.ExcludeLemmas.{BeginsPrefixed, no_role_excludes, prefix_begins}
+use Rattle.lexical_forms.proofs.TokenLemmas.{float_is, some_is, token_is}
+
+-- A suffix is in the word with which the text begins.
+begins_within : (either : Bool) (word text : List ℕ) → begins either word text ≡ true → length word ≤ word_size text
+begins_within either [] text is = omega arith
+begins_within either (letter ∷ word) [] is = grind arith
+begins_within either (letter ∷ word) (byte ∷ text) is = let less = begins_within either word text in grind arith
+
+longest_within : (either : Bool) (words : List (Bor (List ℕ))) (text : List ℕ) → longest_word either words text ≤ word_size text
+longest_within either [] text = omega arith
+longest_within either (word ∷ words) text =
+    let rest = longest_within either words text in let own = begins_within either word.now text in grind arith
+
+any_within : (begin text : List ℕ) → any_word_size begin text ≤ word_size text
+any_within begin [] = omega arith
+any_within begin (byte ∷ text) = grind arith
+
+pub suffix_within : (suffixes : Option (Bor Suffixes)) (float : Bool) (text : List ℕ) → suffix_size suffixes float text ≤ word_size text
+suffix_within None float text = omega arith
+suffix_within (Some it) float text =
+    let any = any_within it.now.any.now text in
+    let floats = longest_within it.now.either_case it.now.floats.now text in
+    let integers = longest_within it.now.either_case it.now.integers.now text in grind arith
+
+-- A word ends where no byte of a word follows.
+word_within : (text : List ℕ) (index end : ℕ) → index ≤ end → is_in is_word_byte (slice_get text end) ≡ false
+    → index + word_size (drop index text) ≤ end
+word_within [] ℕ.zero end order none = omega arith
+word_within [] (ℕ.suc index) end order none = omega (arith, order)
+word_within (byte ∷ text) ℕ.zero ℕ.zero order none = grind arith
+word_within (byte ∷ text) ℕ.zero (ℕ.suc end) order none = let rest = word_within text 0 end (omega arith) none in grind arith
+word_within (byte ∷ text) (ℕ.suc index) ℕ.zero order none = omega (arith, order)
+word_within (byte ∷ text) (ℕ.suc index) (ℕ.suc end) order none = let rest = word_within text index end (omega (arith, order)) none in omega (arith, rest)
+
+pub no_suffix : (suffixes : Option (Bor Suffixes)) (float : Bool) (text : List ℕ) → is_in is_word_byte (slice_get text 0) ≡ false
+    → 0 ≡ suffix_size suffixes float text
+no_suffix suffixes float text none =
+    let word = word_within text 0 0 (omega arith) none in let suffix = suffix_within suffixes float text in omega (arith, word, suffix)
+
+-- The bytes of a front are those of the text.
+front_byte : (text rest : List ℕ) (more index : ℕ) → more ≤ length text → index < more → get_or (take more text ++ rest) index 0 ≡ get_or text index 0
+front_byte text rest more index within below =
+    get_or_append_left (take more text) rest 0 index (omega (arith, below, within, length-take-le more text within))
+    ∙ get_or-take more text index 0 below
+
+front_sign : (text rest : List ℕ) (more : ℕ) → more ≤ length text → 0 < more → sign_size (take more text ++ rest) ≡ sign_size text
+front_sign [] rest more within some = omega (arith, within, some)
+front_sign (byte ∷ text) rest ℕ.zero within some = omega (arith, some)
+front_sign (byte ∷ text) rest (ℕ.suc more) within some = refl
+
+as_front : (m : Notation) (text : List ℕ) (l : Literal) → Reads m l text → IsFront m text
+as_front m text l reads = record { more = []; literal = l; reads = record { whole = append-nil text ∙ reads.whole; literal = reads.literal } }
+
+module _ (m : Notation) (text : List ℕ) where
+  -- No literal goes on behind a byte that plays no role.
+  over : (size : ℕ) → size < length text → PlaysNoRole m (get_or text size 0) → IsWithin m text size
+  over size inside none more below within front =
+      let long : size < length (take more text ++ front.more) =
+      omega (arith, below, length-append (take more text) front.more, length-take-le more text within) in
+      no_role_excludes m (take more text ++ front.more) size long
+      (subst (PlaysNoRole m) (sym (front_byte text front.more more size within below)) none) front.literal front.reads
+
+  pub over_byte : (size byte : ℕ) → slice_get text size ≡ Some byte → PlaysNoRole m byte → IsWithin m text size
+  over_byte size byte at none =
+      let inside = slice_get_within text size byte at in
+      over size inside (subst (PlaysNoRole m) (some_is _ _ (sym at ∙ slice_get-get_or text size 0 inside)) none)
+
+  -- A literal with a required prefix begins with it.
+  module _ (required : IsTrue (m.condition conditions.BasePrefix)) (lacks : has_prefix m text (sign_size text) ≡ false) where
+    not_begun : (more : ℕ) (rest : List ℕ) → sign_size text + 1 < more → more ≤ length text → BeginsPrefixed m (take more text ++ rest) → ⊥
+    not_begun more rest below within is =
+        let sign = front_sign text rest more within (omega (arith, below)) in
+        let zero : get_or text (sign_size text) 0 ≡ 48 =
+        sym (front_byte text rest more (sign_size text) within (omega (arith, below))) ∙ ap (λ n. get_or (take more text ++ rest) n 0) (sym sign) ∙ is.zero in
+        let prefix : m.prefix (get_or text (sign_size text + 1) 0) ≡ true =
+        ap m.prefix (sym (front_byte text rest more (sign_size text + 1) within below) ∙ ap (λ n. get_or (take more text ++ rest) (n + 1) 0) (sym sign))
+        ∙ is.prefix in
+        grind (arith, nat_tests)
+
+    pub lacking_within : IsWithin m text (sign_size text + 1)
+    lacking_within more below within front =
+        not_begun more front.more below within (prefix_begins m front.literal (take more text ++ front.more) front.reads required)
+
+-- A form of which no literal goes on behind `size` bytes has no longer front.
+pub fronts_within : (text : List ℕ) (size : ℕ) (form : Form) → IsWithin (notation_of form.syntax) text size → FrontsWithin text size form
+fronts_within text size form is n front =
+    let within = front.1.within in
+    let longer = λ (past : size < n). is n past within (as_front (notation_of form.syntax) (take n text) front.0 front.1.reads) in grind arith
+
+-- A literal that stops at `stop` has no longer front.
+pub stopped_within : (text : List ℕ) (form : Form) (stop : ℕ) → IsValidUpTo (notation_of form.syntax) text stop → FrontsWithin text stop form
+stopped_within text form stop is = fronts_within text stop form is.no_longer
+
+pub before_stop : (text : List ℕ) (form : Form) (stop : ℕ) → IsValidUpTo (notation_of form.syntax) text stop
+    → NoLiteral (notation_of form.syntax) (take stop text) → FrontsWithin text (stop - 1) form
+before_stop text form stop is none n front =
+    let low = stopped_within text form stop is n front in
+    let other = λ (same : n ≡ stop). none front.0 (subst (λ k. Reads (notation_of form.syntax) front.0 (take k text)) same front.1.reads) in
+    grind arith
+
+more_within : (text : List ℕ) (form : Form) (a b : ℕ) → a ≤ b → FrontsWithin text a form → FrontsWithin text b form
+more_within text form a b less is n front = let own = is n front in omega (arith, own, less)
+
+-- One form more.
+pub fronts_more : (forms : List Form) (text : List ℕ) (i : ℕ) (d : Form) (old new : ℕ) → i < length forms → old ≤ new
+    → All (FrontsWithin text old) (take i forms) → FrontsWithin text new (get_or forms i d) → All (FrontsWithin text new) (take (i + 1) forms)
+fronts_more forms text i d old new inside less before own = All-more (FrontsWithin text new) forms i d inside
+    (λ k e below. more_within text (get_or (take i forms) k e) old new less (before k e below)) own
+
+less_or_same : (b : Bool) (n : ℕ) → (if b then n - 1 else n) ≤ n
+less_or_same true n = omega arith
+less_or_same false n = omega arith
+
+shorter : (s e a b : ℕ) → s < a → e ≤ b → is_shorter s e a b ≡ true
+shorter s e a b less end = grind (arith, nat_tests)
+
+no_longer : (s e a b : ℕ) → s ≤ a → e ≤ b → is_shorter a b s e ≡ false
+no_longer s e a b less end = grind (arith, nat_tests)
+
+no_word_of : (a b : Bool) → (a || b) ≡ false → a ≡ false
+no_word_of a b none = grind arith
+
+-- No literal goes on behind more bytes.
+pub within_more : (m : Notation) (text : List ℕ) (a b : ℕ) → a ≤ b → IsWithin m text a → IsWithin m text b
+within_more m text a b less is more below = is more (omega (arith, less, below))
+
+-- The size of a candidate without the point that is given back.
+without_point : (b : Bool) (n size s : ℕ) → s ≡ (if b then n - 1 else n) → n ≤ size + 1 → (n ≡ size + 1 → b ≡ true) → s ≤ size
+without_point true n size s is low given = omega (arith, is, low)
+without_point false n size s is low given = elim (cases_lt size n) [
+  | inl below ↦ absurd (false≢true (given (omega (arith, below, low))))
+  | inr near ↦ omega (arith, is, near)
+]
+
+both : (a b c : Bool) → (a && b && c) ≡ true → (a ≡ true) × (b ≡ true)
+both true true true is = (refl, refl)
+both true true false is = absurd (false≢true is)
+both true false c is = absurd (false≢true is)
+both false b c is = absurd (false≢true is)
+
+-- The byte before the one behind is the byte.
+byte_behind : (text : List ℕ) (size : ℕ) → byte_before text (size + 1) ≡ slice_get text size
+byte_behind text size = go (size + 1 == 0) refl where
+  go : (b : Bool) → (size + 1 == 0) ≡ b → (if b then None else slice_get text (size + 1 - 1)) ≡ slice_get text size
+  go true is = grind (arith, nat_tests)
+  go false is = ap (slice_get text) (let same : size + 1 - 1 ≡ size = omega arith in same)
+
+pub given_point : (back : Bool) (m : Notation) (text : List ℕ) (size : ℕ) → gives_back back m text (size + 1) ≡ true
+    → (back ≡ true) × (is_in m.point (slice_get text size) ≡ true)
+given_point back m text size gives =
+    let parts = both back (is_in m.point (byte_before text (size + 1)))
+    (is_in (λ byte. (byte == 46) || is_word_byte byte) (slice_get text (size + 1))) gives in
+    (parts.0, ap (is_in m.point) (sym (byte_behind text size)) ∙ parts.1)
+
+-- One form more.
+pub near_more : (P : Form → Type 0) (forms : List Form) (but i : ℕ) (r : Form) → i < length forms
+    → ((k : ℕ) (d : Form) → k < i → (k ≡ but → ⊥) → P (get_or forms k d)) → ((i ≡ but → ⊥) → P (get_or forms i r))
+    → (k : ℕ) (d : Form) → k < i + 1 → (k ≡ but → ⊥) → P (get_or forms k d)
+near_more P forms but i r inside old own k d below other = elim (cases_lt k i) [
+  | inl less ↦ old k d less other
+  | inr low ↦
+      let same : i ≡ k = omega (arith, low, below) in
+      let one : get_or forms i r ≡ get_or forms k d =
+      some_is _ _ (sym (slice_get-get_or forms i r inside) ∙ ap (slice_get forms) same ∙ slice_get-get_or forms k d (omega (arith, same, inside))) in
+      subst P one (own (λ is. other (sym same ∙ is)))
+]
+
+-- A literal behind which no literal goes on is the longest front.
+pub front_of : (text : List ℕ) (form : Form) (size : ℕ) → size ≤ length text → (l : Literal) → Reads (notation_of form.syntax) l (take size text)
+    → IsWithin (notation_of form.syntax) text size → HasFront text form size
+front_of text form size within l reads is = (
+  l,
+  record {
+    within = within;
+    reads = reads;
+    no_longer = λ n past inside l reads. is n past inside (as_front (notation_of form.syntax) (take n text) l reads);
+  },
+)
+
+-- The literal before a point that is given back, where reading stops, is that of a candidate.
+abbrev HasLongest : Bool → List ℕ → Form → ℕ → Type 0
+HasLongest back text form size =
+    (longest : ℕ) × HasFront text form longest × (size ≡ (if gives_back back (notation_of form.syntax) text longest then longest - 1 else longest))
+
+pub front_before : (back : Bool) (text : List ℕ) (form : Form) (stop : At) (size : ℕ) → IsStopped (notation_of form.syntax) text stop
+    → stop.size ≡ size + 1 → gives_back back (notation_of form.syntax) text stop.size ≡ true → gives_back back (notation_of form.syntax) text size ≡ false
+    → (l : Literal) → Reads (notation_of form.syntax) l (take size text) → HasLongest back text form size
+front_before back text form stop size is stop_is gives kept l reads = go (goes (notation_of form.syntax) stop.read is.group None) refl where
+  go : (b : Bool) → goes (notation_of form.syntax) stop.read is.group None ≡ b → HasLongest back text form size
+  go true on =
+      let whole = is.complete on in (
+        stop.size,
+        front_of text form stop.size is.valid.within whole.0 whole.1 is.valid.no_longer,
+        (let one : size ≡ stop.size - 1 = omega (arith, stop_is) in one) ∙ ap (λ b. if b then stop.size - 1 else stop.size) (sym gives),
+      )
+  go false off = (
+    size,
+    (
+      l,
+      record {
+        within = let within = is.valid.within in omega (arith, within, stop_is);
+        reads = reads;
+        no_longer = λ n past inside l reads. elim (cases_lt stop.size n) [
+          | inl beyond ↦ is.valid.no_longer n beyond inside (as_front (notation_of form.syntax) (take n text) l reads)
+          | inr near ↦ is.incomplete off l
+              (subst (λ n. Reads (notation_of form.syntax) l (take n text)) (let same : n ≡ stop.size = omega (arith, past, near, stop_is) in same) reads)
+        ];
+      },
+    ),
+    ap (λ b. if b then size - 1 else size) (sym kept),
+  )
+
+-- The token of a form that is the first with a literal behind which no literal goes on, or only with a point that is given back.
+module _ (list : FormList) (t : Tokens) (text : List ℕ) (index : ℕ) (form : Form) (counts : List ℕ) (size : ℕ)
+    (is : IsLeading list t text index form size)
+    (measured : IsMeasured (notation_of form.syntax) (take size text) counts) where
+  abbrev Near : Form → Type 0
+  Near g = IsNear t.gives_points_back (notation_of g.syntax) text size
+
+  near : (k : ℕ) (d : Form) → k < length list.forms → Near (get_or list.forms k d)
+  near k d below = elim (cases_lt k index) [
+    | inl less ↦ is.plain k d below (λ same. omega (arith, less, same))
+    | inr low ↦ elim (cases_lt index k) [
+      | inl less ↦ is.plain k d below (λ same. omega (arith, less, same))
+      | inr high ↦
+          let same : index ≡ k = omega (arith, low, high) in
+          subst Near (some_is _ _ (sym is.at ∙ ap (slice_get list.forms) same ∙ slice_get-get_or list.forms k d below)) is.own
+    ]
+  ]
+
+  near_behind : (k : ℕ) (d : Form) → k < length t.forms.now → Near (get_or t.forms.now k d)
+  near_behind k d below = is.suffixed k d below (λ same. omega (arith, same, below))
+
+  -- The literal of each candidate ends at the same byte, or before.
+  size_within : (needs : Bool) (g : Form) → Near g → (s e : ℕ) → IsCandidate t.gives_points_back needs text g s e → s ≤ size
+  size_within needs g (inl within) s e other =
+      let longest = fronts_within text size g within other.longest other.front in
+      let part = less_or_same (gives_back t.gives_points_back (notation_of g.syntax) text other.longest) other.longest in
+      let size_is = other.size_is in omega (arith, longest, part, size_is)
+  size_within needs g (inr point) s e other =
+      let longest = fronts_within text (size + 1) g point.0 other.longest other.front in
+      without_point (gives_back t.gives_points_back (notation_of g.syntax) text other.longest) other.longest size s other.size_is longest
+      (λ same. ap (gives_back t.gives_points_back (notation_of g.syntax) text) same ∙ point.1)
+
+  size_before : (needs : Bool) (g : Form) (bound : ℕ) → FrontsWithin text bound g → (s e : ℕ) → IsCandidate t.gives_points_back needs text g s e → s ≤ bound
+  size_before needs g bound fronts s e other =
+      let longest = fronts other.longest other.front in
+      let part = less_or_same (gives_back t.gives_points_back (notation_of g.syntax) text other.longest) other.longest in
+      let size_is = other.size_is in omega (arith, longest, part, size_is)
+
+  module _ (more : ℕ) (more_is : more ≡ suffix_size form.suffixes (has_float counts) (drop size text)) (inside : size + more ≤ length text)
+      (ended : is_stopped form.suffixes text (size + more) ≡ false) where
+    no_word : is_in is_word_byte (slice_get text (size + more)) ≡ false
+    no_word = no_word_of _ _ ended
+
+    -- Each candidate ends at the same byte, or before.
+    end_within : (needs : Bool) (g : Form) (s e : ℕ) → s ≤ size → IsCandidate t.gives_points_back needs text g s e → e ≤ size + more
+    end_within needs g s e low other =
+        let suffix = suffix_within g.suffixes (is_float other.literal) (drop s text) in
+        let word = word_within text s (size + more) (omega (arith, low)) no_word in
+        let end = other.end_is in omega (arith, suffix, word, end)
+
+    candidate : IsCandidate t.gives_points_back false text form size (size + more)
+    candidate = record {
+      longest = is.longest;
+      front = is.front;
+      size_is = is.size_is;
+      literal = measured.literal.0;
+      reads = measured.literal.1;
+      end_is = ap (λ n. size + n) more_is ∙ ap (λ b. size + suffix_size form.suffixes b (drop size text))
+          (float_is measured.literal.0 counts (measured.counted measured.literal.0 measured.literal.1));
+      suffixed = λ needed. absurd (false≢true needed);
+    }
+
+    abbrev found : Candidate
+    found = record { size = size; counts = counts; end = size + more }
+
+    picked : IsPicked list t text index form found
+    picked = record {
+      chosen = inl (record {
+        at = is.at;
+        best = record {
+          here = subst (λ o. IsSomeAnd o (λ form. IsCandidate t.gives_points_back false text form size (size + more))) (sym is.at) candidate;
+          before = λ k d below s e other.
+              let less = is.before.1 in
+              let low = size_before false (get_or (take index list.forms) k d) is.before.0 (is.before.2 k d below) s e other in
+              shorter s e size (size + more) (omega (arith, low, less))
+              (end_within false (get_or (take index list.forms) k d) s e (omega (arith, low, less)) other);
+          others = λ k d below s e other.
+              let low = size_within false (get_or list.forms k d) (near k d below) s e other in
+              no_longer s e size (size + more) low (end_within false (get_or list.forms k d) s e low other);
+        };
+        others = λ k d below s e other.
+            let low = size_within true (get_or t.forms.now k d) (near_behind k d below) s e other in
+            no_longer s e size (size + more) low (end_within true (get_or t.forms.now k d) s e low other);
+      });
+      measured = measured;
+      order = omega arith;
+      within = inside;
+    }
+
+    -- No literal goes on, but for a point that is given back.
+    not_ahead : (g : Form) → Near g → IsAhead t.gives_points_back text (size + more) g → ⊥
+    not_ahead g (inl within) ahead = within ahead.size (let further = ahead.further in omega (arith, further)) ahead.valid.within ahead.valid.front
+    not_ahead g (inr point) ahead =
+        let further = ahead.further in
+        let given = given_point t.gives_points_back (notation_of g.syntax) text size point.1 in
+        elim (cases_lt (size + 1) ahead.size) [
+          | inl past ↦ point.0 ahead.size past ahead.valid.within ahead.valid.front
+          | inr low ↦
+              let none : more ≡ 0 = omega (arith, further, low) in
+              let one : ahead.size ≡ size + more + 1 = omega (arith, further, low) in
+              let at : is_in (notation_of g.syntax).point (slice_get text (size + more)) ≡ true =
+              ap (λ n. is_in (notation_of g.syntax).point (slice_get text n)) (let same : size + more ≡ size = omega (arith, none) in same) ∙ given.1 in
+              let alone = ahead.more in let back = given.0 in grind (arith, nat_tests)
+        ]
+
+    pub leading_token : (token : Token) → token.form ≡ index → ReadsForm (take size text) token.literal form
+        → token.literal.kind ≡ kind_with form.suffixes token.suffix.now form.kind → token.suffix.now ≡ take more (drop size text)
+        → token.rest.now ≡ drop (size + more) text → IsToken list t text token
+    leading_token token same literal kind suffix rest = token_is list t text index form found picked token same literal kind
+        (suffix ∙ ap (λ n. take n (drop size text)) (let sum : more ≡ size + more - size = omega arith in sum)) rest
+        (inr (λ k d below. not_ahead (get_or list.forms k d) (near k d below), ended))
+
+-- The sums of the digits of a front are those of its parts in the text.
+piece_same : (text : List ℕ) (size a k : ℕ) → a + k ≤ size → take k (drop a (take size text)) ≡ take k (drop a text)
+piece_same text size a k less =
+    let split : size ≡ a + (size - a) = omega (arith, less) in
+    ap (λ n. take k (drop a (take n text))) split ∙ ap (take k) (drop-take a (size - a) text) ∙ take-take k (size - a) (drop a text) (omega (arith, less))
+
+total : (l : Literal) (c : Cuts) → HasLengths l c → before_exponent c + c pieces.Exponent ≤ length (text_of l)
+total l c has =
+    let a = has.sign in let b = has.prefix in let d = has.integer in let e = has.point in let f = has.fraction in
+    let g = has.exponent_character in let h = has.exponent_sign in let i = has.exponent in
+    let z = length-append l.exponent l.suffix in
+    let y = length-append l.exponent_sign (l.exponent ++ l.suffix) in
+    let x = length-append l.exponent_character (l.exponent_sign ++ (l.exponent ++ l.suffix)) in
+    let w = length-append l.fraction (l.exponent_character ++ (l.exponent_sign ++ (l.exponent ++ l.suffix))) in
+    let v = length-append l.point (l.fraction ++ (l.exponent_character ++ (l.exponent_sign ++ (l.exponent ++ l.suffix)))) in
+    let u = length-append l.integer (l.point ++ (l.fraction ++ (l.exponent_character ++ (l.exponent_sign ++ (l.exponent ++ l.suffix))))) in
+    let t = length-append l.prefix (l.integer ++ (l.point ++ (l.fraction ++ (l.exponent_character ++ (l.exponent_sign ++ (l.exponent ++ l.suffix)))))) in
+    let s = length-append l.sign
+    (l.prefix ++ (l.integer ++ (l.point ++ (l.fraction ++ (l.exponent_character ++ (l.exponent_sign ++ (l.exponent ++ l.suffix))))))) in
+    omega (arith, a, b, d, e, f, g, h, i, s, t, u, v, w, x, y, z)
+
+pub sums_of_front : (r : Record) (text : List ℕ) (size : ℕ) (c : Cuts) (sums : Sums) → (m : Notation) (l : Literal) → size ≤ length text
+    → Reads m l (take size text) → HasLengths l c → AreSums r (cut text c) sums → AreSums r (cut (take size text) c) sums
+sums_of_front r text size c sums m l within reads has is =
+    let short : length (text_of l) ≡ size = ap length (sym reads.whole) ∙ length-take-le size text within in
+    let all = total l c has in
+    let i : (cut text c).integer ≡ (cut (take size text) c).integer = sym (piece_same text size _ _ (omega (arith, all, short))) in
+    let f : (cut text c).fraction ≡ (cut (take size text) c).fraction = sym (piece_same text size _ _ (omega (arith, all, short))) in
+    let e : (cut text c).exponent ≡ (cut (take size text) c).exponent = sym (piece_same text size _ _ (omega (arith, all, short))) in
+    subst (λ x. HasSums r (cut (take size text) c).integer (cut (take size text) c).fraction x sums) e
+    (subst (λ x. HasSums r (cut (take size text) c).integer x (cut text c).exponent sums) f
+    (subst (λ x. HasSums r x (cut text c).fraction (cut text c).exponent sums) i is))

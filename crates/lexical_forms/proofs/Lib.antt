@@ -1,0 +1,7 @@
+mod Common
+mod SpecialLemmas
+mod ExcludeLemmas
+mod StrangerLemmas
+mod FormLemmas
+mod TokenLemmas
+mod LeadingLemmas

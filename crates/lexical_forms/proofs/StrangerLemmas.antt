@@ -1,0 +1,204 @@
+-- A stranger: a byte that plays no role behind the base prefix, and its other case neither.
+use Rattle.lexical_forms.proofs.Common.{ℕ, ◌≡◌, ◌+◌, ◌*◌, ◌<◌, ◌≤◌, inl, inr, true, false, Bool, None, Some, List, [], ◌∷◌, ◌++◌, take, get_or, ap, refl, sym}
+use Rattle.lexical_forms.proofs.Common.{subst, ◌∙◌, arith, AllByRecursion, cases_lt, false≢true, nat_tests, length-take-le, slice_get-get_or, ByteSet, Flag}
+use Rattle.lexical_forms.proofs.Common.{raw, signs, Role, Part, Literal, Reads, is_none_or_one, is_none_or_prefix, text_of, Notation, notation_of}
+use Rattle.lexical_forms.proofs.Common.{set_of_role, Grammar, sign_size, bare, with_rules, is_byte, reach, IsFront, IsValidUpTo, NoLiteral, AllIn, run_byte}
+use Rattle.lexical_forms.proofs.Common.{ReadErrorKind, Refusal, role_at}
+use Rattle.lexical_forms.specs.Additions.Forms.{IsNoBetter, IsSpare, IsStranger}
+use Rattle.lexical_literal.specs.Cause.{IsCause}
+use Rattle.std.proofs.Common.{length, IsTrue, if◌then◌else◌}
+use Rattle.std.specs.Prelude.{slice_get}
+use Rattle.std.proofs.lemmas.List.{append_assoc}
+use Rattle.std.proofs.Math.Nat.{le_antisymm}
+use Rattle.std.proofs.Math.Seq.{get_or-append_seam}
+use Rattle.lexical_util.specs.Roles.{other_case}
+use Rattle.lexical_util.specs.declared.feature_format.roles.Role.TheVariants as roles
+use Rattle.lexical_util.specs.declared.format_flags.Part.TheVariants as parts
+use Rattle.lexical_literal.specs.declared.cause.ReadErrorKind.TheVariants as causes
+use Rattle.lexical_forms.proofs.ExcludeLemmas.{longer, same_byte, same_sign}
+use Rattle.lexical_literal.proofs.PartLemmas.{parts_have_roles}
+
+module _ (m : Notation) where
+  -- `Known bytes` holds if none of `bytes` is spare.
+  abbrev Known : List ℕ → Type 0
+  Known = AllByRecursion (λ byte. IsSpare m byte → ⊥)
+
+  known_all : (A : ByteSet) → ((byte : ℕ) → IsTrue (A byte) → IsSpare m byte → ⊥) → (bytes : List ℕ) → AllIn A bytes → Known bytes
+  known_all A plays [] all = tt
+  known_all A plays (b ∷ bytes) all = (plays b all.0, known_all A plays bytes all.1)
+
+  known_both : (xs ys : List ℕ) → Known xs → Known ys → Known (xs ++ ys)
+  known_both [] ys a b = b
+  known_both (x ∷ xs) ys a b = (a.0, known_both xs ys a.1 b)
+
+  known_at : (xs : List ℕ) (i : ℕ) → Known xs → i < length xs → IsSpare m (get_or xs i 0) → ⊥
+  known_at [] i all below none = omega (arith, below)
+  known_at (x ∷ xs) ℕ.zero all below none = all.0 none
+  known_at (x ∷ xs) (ℕ.suc i) all below none = known_at xs i all.1 (omega (arith, below)) none
+
+  plays : (r : Role) → (r ≡ roles.Prefix → ⊥) → (b : ℕ) → IsTrue (set_of_role m r b) → IsSpare m b → ⊥
+  plays r other b has none = false≢true (sym (none r other) ∙ has)
+
+  plays_sign : (b : ℕ) → IsTrue (signs b) → IsSpare m b → ⊥
+  plays_sign = plays roles.Sign (λ same. cc)
+
+  plays_run : (part : Part) (b : ℕ) → IsTrue (run_byte m part b) → IsSpare m b → ⊥
+  plays_run part b has none = let digit = none roles.Digit (λ same. cc) in let separator = none roles.Separator (λ same. cc)
+      in go part has digit separator where
+        go : (part : Part) → IsTrue (run_byte m part b) → set_of_role m roles.Digit b ≡ false → set_of_role m roles.Separator b ≡ false → ⊥
+        go parts.Integer has digit separator = grind arith
+        go parts.Fraction has digit separator = grind arith
+        go parts.Exponent has digit separator = grind arith
+
+  -- `rest_of l` is what follows the sign and the prefix of `l`.
+  abbrev rest_of : Literal → List ℕ
+  rest_of l = l.integer ++ (l.point ++ (l.fraction ++ (l.exponent_character ++ (l.exponent_sign ++ (l.exponent ++ l.suffix)))))
+
+  known_rest : (l : Literal) (text : List ℕ) → Reads m l text → Known (rest_of l)
+  known_rest l text reads =
+      let is = parts_have_roles m l reads.literal.spelled in
+      known_both l.integer _ (known_all (run_byte m parts.Integer) (plays_run parts.Integer) l.integer is.integer)
+      (known_both l.point _ (known_all m.point (plays roles.Point (λ same. cc)) l.point is.point)
+      (known_both l.fraction _ (known_all (run_byte m parts.Fraction) (plays_run parts.Fraction) l.fraction is.fraction)
+      (known_both l.exponent_character _ (known_all m.exponent_character (plays roles.Exponent (λ same. cc)) l.exponent_character is.exponent_character)
+      (known_both l.exponent_sign _ (known_all signs plays_sign l.exponent_sign is.exponent_sign)
+      (known_both l.exponent _ (known_all (run_byte m parts.Exponent) (plays_run parts.Exponent) l.exponent is.exponent)
+      (known_all m.suffix (plays roles.Suffix (λ same. cc)) l.suffix is.suffix))))))
+
+  behind_at : (xs ys rest : List ℕ) (i : ℕ) → length xs + length ys ≤ i → i < length (xs ++ (ys ++ rest)) → Known rest
+      → IsSpare m (get_or (xs ++ (ys ++ rest)) i 0) → ⊥
+  behind_at [] [] rest i low below all none = known_at rest i all below none
+  behind_at [] (y ∷ ys) rest ℕ.zero low below all none = omega (arith, low)
+  behind_at [] (y ∷ ys) rest (ℕ.suc i) low below all none = behind_at [] ys rest i (omega (arith, low)) (omega (arith, below)) all none
+  behind_at (x ∷ xs) ys rest ℕ.zero low below all none = omega (arith, low)
+  behind_at (x ∷ xs) ys rest (ℕ.suc i) low below all none = behind_at xs ys rest i (omega (arith, low)) (omega (arith, below)) all none
+
+  fits : (sign prefix rest : List ℕ) → IsTrue (is_none_or_one signs sign) → IsTrue (is_none_or_prefix m.prefix prefix)
+      → length sign + length prefix ≤ sign_size (sign ++ (prefix ++ rest)) + 2
+  fits [] [] rest one is = omega arith
+  fits [] (first ∷ byte ∷ []) rest one is = omega arith
+  fits (sign ∷ []) [] rest one is = grind (arith, nat_tests)
+  fits (sign ∷ []) (first ∷ byte ∷ []) rest one is = grind (arith, nat_tests)
+  fits sign prefix rest one is = grind (arith, nat_tests)
+
+  -- A text with a spare byte behind the place of the prefix is not a literal.
+  pub spare_excludes : (text : List ℕ) (i : ℕ) → sign_size text + 1 < i → i < length text → IsSpare m (get_or text i 0) → NoLiteral m text
+  spare_excludes text i far below none l reads = go text far below none (reads.whole) where
+    go : (t : List ℕ) → sign_size t + 1 < i → i < length t → IsSpare m (get_or t i 0) → t ≡ text_of l → ⊥
+    go t far below none whole =
+        let size = fits l.sign l.prefix (rest_of l) reads.literal.spelled.sign reads.literal.spelled.prefix in
+        let far = subst (λ t. sign_size t + 1 < i) whole far in
+        behind_at l.sign l.prefix (rest_of l) i (omega (arith, size, far)) (subst (λ t. i < length t) whole below) (known_rest l text reads)
+        (subst (λ t. IsSpare m (get_or t i 0)) whole none)
+
+  -- No literal goes on with it.
+  pub spare_front : (front : List ℕ) (b : ℕ) → sign_size front + 1 < length front → IsSpare m b → IsFront m (front ++ b ∷ []) → ⊥
+  spare_front front b far none is =
+      let whole = front ++ (b ∷ is.more) in
+      let reads = subst (Reads m is.literal) (append_assoc front (b ∷ []) is.more) is.reads in
+      let at : get_or whole (length front) 0 ≡ b = get_or-append_seam front b is.more 0 in
+      spare_excludes whole (length front) (sign_in front far) (below front) (subst (IsSpare m) (sym at) none) is.literal reads where
+        sign_in : (front : List ℕ) → sign_size front + 1 < length front → sign_size (front ++ (b ∷ is.more)) + 1 < length front
+        sign_in [] far = absurd (omega (arith, far))
+        sign_in (x ∷ front) far = far
+
+        below : (front : List ℕ) → length front < length (front ++ (b ∷ is.more))
+        below [] = omega arith
+        below (x ∷ front) = let rest = below front in omega (arith, rest)
+
+-- A literal ends before a spare byte behind the place of the prefix.
+pub near_spare : (m : Notation) (text : List ℕ) (n : ℕ) → IsValidUpTo m text n → (i : ℕ) → sign_size text + 1 < i → IsSpare m (get_or text i 0) → n ≤ i
+near_spare m text n is i far none = elim (cases_lt i n) [
+  | inl below ↦
+      let whole = take n text ++ is.front.more in
+      let more = longer m text n is in
+      let same : sign_size whole ≡ sign_size text = elim (same_sign m text n is text is.front.more n (omega (arith, below))) [
+        | inl same ↦ same
+        | inr empty ↦ absurd (let within = is.within in let no : length text ≡ 0 = ap length empty in omega (arith, no, within, below))
+      ] in
+      absurd (spare_excludes m whole i (omega (arith, same, far)) (omega (arith, below, more))
+      (subst (IsSpare m) (sym (same_byte m text n is i below)) none) is.front.literal is.front.reads)
+  | inr near ↦ near
+]
+
+-- The cause is the stranger.
+module _ (m : Notation) (front : List ℕ) (b : ℕ) (far : sign_size front + 1 < length front) (stranger : IsStranger m b) where
+  pub kind_is : (kind : ReadErrorKind) (flags : Flag → Bool) → IsCause m front (Some b) kind flags → is_byte kind ≡ true
+  kind_is causes.Requirement flags is = absurd (spare_front (bare m) front b far stranger.0 is.allowed)
+  kind_is (causes.Separator part place) flags is = absurd (spare_front (with_rules m _ _) front b far stranger.0 ((is.each is.some.0).0 is.some.1).1)
+  kind_is causes.Case flags is = absurd (spare_front (bare m) front (other_case b) far stranger.1 ((is.each is.some.0).0 is.some.1).1)
+  kind_is causes.Byte flags is = refl
+  kind_is (causes.Missing part) flags is = absurd is
+
+-- An error goes no further than to a stranger, and there it is a wrong byte.
+module _ (m : Notation) (text : List ℕ) (size : ℕ) (far : sign_size text + 1 < size) where
+  pub near_is : ((n : ℕ) → IsValidUpTo m text n → n ≤ sign_size text + 1) → IsNoBetter m text size
+  near_is near error is = let up = near error.valid_up_to is.valid_up_to in let most = at_most error in omega (arith, up, most, far) where
+    at_most : (error : Refusal) → reach error ≤ 2 * error.valid_up_to + 1
+    at_most error = grind arith
+
+  pub stranger_is : size < length text → IsStranger m (get_or text size 0) → IsNoBetter m text size
+  stranger_is inside stranger error is =
+      let up = near_spare m text error.valid_up_to is.valid_up_to size far stranger.0 in
+      elim (cases_lt error.valid_up_to size) [
+        | inl below ↦ (let most = at_most error in omega (arith, below, most))
+        | inr past ↦ at_size (le_antisymm past up)
+      ] where
+        at_most : (error : Refusal) → reach error ≤ 2 * error.valid_up_to + 1
+        at_most error = grind arith
+
+        sign_at : (text : List ℕ) (size : ℕ) → sign_size text + 1 < size → size < length text → sign_size (take size text) + 1 < size
+        sign_at [] size far inside = absurd (omega (arith, inside))
+        sign_at (x ∷ text) ℕ.zero far inside = absurd (omega (arith, far))
+        sign_at (x ∷ text) (ℕ.suc size) far inside = far
+
+        at_size : size ≡ error.valid_up_to → reach error ≤ 2 * size
+        at_size same =
+            let here = slice_get-get_or text size 0 inside in
+            let cause = subst (λ n. IsCause m (take n text) (slice_get text n) error.kind (raw error.mask).flag) (sym same) is.cause in
+            let whole = length-take-le size text (omega (arith, inside)) in
+            let byte = kind_is m (take size text) (get_or text size 0)
+            (subst (λ n. sign_size (take size text) + 1 < n) (sym whole) (sign_at text size far inside)) stranger error.kind (raw error.mask).flag
+            (subst (λ next. IsCause m (take size text) next error.kind (raw error.mask).flag) here cause) in
+            least error byte (sym same) where
+              least : (error : Refusal) → is_byte error.kind ≡ true → error.valid_up_to ≡ size → reach error ≤ 2 * size
+              least error byte same = grind arith
+
+-- `AreFalse d s p e f g` holds if the tests of all roles but the prefix are false.
+record AreFalse (d s p e f g : Bool) : Type 0 where
+  digit : d ≡ false
+  separator : s ≡ false
+  point : p ≡ false
+  exponent : e ≡ false
+  suffix : f ≡ false
+  sign : g ≡ false
+
+only_prefix : (d s p e f g x : Bool) → (if d then Some roles.Digit else (if s then Some roles.Separator else (if p then Some roles.Point
+    else (if e then Some roles.Exponent else (if f then Some roles.Suffix else (if g then Some roles.Sign else (if x then Some roles.Prefix else None)))))))
+    ≡ Some roles.Prefix → AreFalse d s p e f g
+only_prefix true s p e f g x is = grind arith
+only_prefix false true p e f g x is = grind arith
+only_prefix false false true e f g x is = grind arith
+only_prefix false false false true f g x is = grind arith
+only_prefix false false false false true g x is = grind arith
+only_prefix false false false false false true x is = grind arith
+only_prefix false false false false false false x is = record { digit = refl; separator = refl; point = refl; exponent = refl; suffix = refl; sign = refl }
+
+-- A byte that is the base prefix behind the beginning of the integer, and not a digit of an exponent, is spare.
+module _ (g : Grammar) (b : ℕ) where
+  abbrev m : Notation
+  m = notation_of g
+
+  pub spare_prefix : role_at m parts.Integer b ≡ Some roles.Prefix → m.digit parts.Exponent b ≡ false → IsSpare m b
+  spare_prefix first digit r other =
+      of r other (only_prefix (m.digit parts.Integer b) (m.separator b) (m.point b) (m.exponent_character b) (m.suffix b) (signs b) (m.prefix b) first) where
+        of : (r : Role) → (r ≡ roles.Prefix → ⊥) → AreFalse (m.digit parts.Integer b) (m.separator b) (m.point b) (m.exponent_character b) (m.suffix b)
+            (signs b)
+            → set_of_role m r b ≡ false
+        of roles.Digit other none = let none = none.digit in grind arith
+        of roles.Separator other none = none.separator
+        of roles.Point other none = none.point
+        of roles.Exponent other none = none.exponent
+        of roles.Suffix other none = none.suffix
+        of roles.Sign other none = none.sign
+        of roles.Prefix other none = absurd (other refl)

@@ -1,0 +1,412 @@
+-- Tokens: the best of the candidates of several forms.
+use Rattle.lexical_forms.proofs.Common.{ℕ, ◌≡◌, ◌&&◌, ◌||◌, Bool, true, false, ◌<◌, ◌≤◌, ◌+◌, ◌-◌, ◌⊎◌, inl, inr, List, Option, Some, None, All, IsNone}
+use Rattle.lexical_forms.proofs.Common.{IsSomeAnd, take, drop, get_or, refl, sym, subst, ap, ◌∙◌, arith, nat_tests, length-take-le, take_all, All-more}
+use Rattle.lexical_forms.proofs.Common.{slice_get-get_or, Literal, Reads, is_float, Notation, notation_of, ◌==◌, if◌then◌else◌, IsTrue, length, slice_get}
+use Rattle.lexical_forms.proofs.Common.{IsCountedFront, HasLengths, cuts_of, FormList, NoForm, ReadsForm, IsValidUpTo, NoFront, Read, IsAhead, Form, Found}
+use Rattle.lexical_forms.proofs.Common.{Candidate}
+use Rattle.lexical_forms.specs.Forms.{IsFirst}
+use Rattle.lexical_forms.specs.Token.{AllShorter, IsChosen, IsFollowed, IsOver, IsRefused, IsToken, IsUnknown, IsCandidate, NoCandidate, NoLonger}
+use Rattle.lexical_forms.specs.Additions.Token.{IsBestMade, IsBestOf, IsMade, IsOwn, IsPicked, NoOwn, better, goes_on, has_float, suffixed, whole}
+use Rattle.lexical_literal.specs.Cause.{is_in}
+use Rattle.lexical_forms.specs.Suffix.{is_digit, is_stopped, kind_with, stop_end, suffix_size}
+use Rattle.lexical_forms.specs.Token.{gives_back, is_shorter}
+use Rattle.lexical_forms.specs.declared.list.Tokens.{Tokens}
+use Rattle.lexical_forms.specs.declared.token.Token.{Token}
+use Rattle.lexical_forms.proofs.FormLemmas.{all_at, one_front, one_size}
+use Rattle.lexical_literal.proofs.MadeLemmas.{present}
+
+-- The order of candidates, each with the length of its literal and its end.
+none_below : (a b : ℕ) → is_shorter a b a b ≡ false
+none_below a b = grind (arith, nat_tests)
+
+below_up : (a b s e c d : ℕ) → is_shorter a b s e ≡ false → is_shorter a b c d ≡ true → is_shorter s e c d ≡ true
+below_up a b s e c d old up = grind (arith, nat_tests)
+
+above_up : (a b s e c d : ℕ) → is_shorter a b s e ≡ false → is_shorter a b c d ≡ true → is_shorter c d s e ≡ false
+above_up a b s e c d old up = grind (arith, nat_tests)
+
+above_all : (a b c d s e : ℕ) → is_shorter a b c d ≡ false → is_shorter c d s e ≡ false → is_shorter a b s e ≡ false
+above_all a b c d s e first other = grind (arith, nat_tests)
+
+-- Whether a literal is a float is told by the lengths of its parts.
+pub float_is : (l : Literal) (counts : List ℕ) → HasLengths l (cuts_of counts) → has_float counts ≡ is_float l
+float_is l counts is = λ j. present _ _ is.point j || present _ _ is.exponent_character j
+
+-- A form has one candidate.
+module _ (back needs : Bool) (text : List ℕ) (form : Form) (c : Candidate) (made : IsMade back needs text form c) (s e : ℕ)
+    (other : IsCandidate back needs text form s e) where
+  same_longest : other.longest ≡ made.candidate.longest
+  same_longest =
+      let a = made.candidate.front in let b = other.front in
+      let up = one_front (notation_of form.syntax) text a.0 b.0 made.candidate.longest other.longest a.1 b.1 in
+      let down = one_front (notation_of form.syntax) text b.0 a.0 other.longest made.candidate.longest b.1 a.1 in omega (arith, up, down)
+
+  pub same_size : s ≡ c.size
+  same_size = other.size_is
+      ∙ ap (λ n. if gives_back back (notation_of form.syntax) text n then n - 1 else n) same_longest ∙ sym made.candidate.size_is
+
+  same_float : is_float other.literal ≡ is_float made.candidate.literal
+  same_float =
+      let read = subst (λ n. Reads (notation_of form.syntax) other.literal (take n text)) same_size other.reads in
+      sym (float_is other.literal c.counts (made.measured.counted other.literal read))
+      ∙ float_is made.candidate.literal c.counts (made.measured.counted made.candidate.literal made.candidate.reads)
+
+  pub same_end : e ≡ c.end
+  same_end = other.end_is
+      ∙ ap (λ n. n + suffix_size form.suffixes (is_float other.literal) (drop n text)) same_size
+      ∙ ap (λ b. c.size + suffix_size form.suffixes b (drop c.size text)) same_float ∙ sym made.candidate.end_is
+
+-- Options, and what two tests tell together.
+abbrev from_some : {X : Type 0} → X → Option X → X
+from_some d None = d
+from_some d (Some x) = x
+
+pub some_is : {X : Type 0} (v x : X) → Some v ≡ Some x → v ≡ x
+some_is v x same = ap (from_some v) same
+
+pub for_some : {X : Type 0} (P : X → Type 0) (v : X) → P v → (x : X) → Some v ≡ Some x → P x
+for_some P v is x same = subst P (some_is v x same) is
+
+no_some : {X : Type 0} (x : X) → None ≡ Some x → ⊥
+no_some x same = grind arith
+
+pub none_is : {X : Type 0} (o : Option X) → IsNone o → o ≡ None
+none_is None none = refl
+none_is (Some x) none = grind arith
+
+pub is_none : {X : Type 0} (o : Option X) → o ≡ None → IsNone o
+is_none None none = refl
+is_none (Some x) none = absurd (no_some x (sym none))
+
+pub not_both : (b : Bool) → b ≡ false → IsTrue b → ⊥
+not_both b off on = grind arith
+
+both_hold : (b : Bool) (n : ℕ) → (b && (n == 0)) ≡ true → IsTrue b × (n ≡ 0)
+both_hold true n on = (refl, grind (arith, nat_tests))
+both_hold false n on = grind arith
+
+more_than_none : (b : Bool) (n s : ℕ) → (b && (n == 0)) ≡ false → IsTrue b → s < s + n
+more_than_none true n s off on = grind (arith, nat_tests)
+more_than_none false n s off on = grind arith
+
+-- The front of `text` that is left if its point is given back.
+module _ (back : Bool) (m : Notation) (text : List ℕ) (found : Found) (is : IsCountedFront m text found) where
+  pub kept : gives_back back m text found.size ≡ false → IsOwn back m text found.size found
+  kept off = record {
+    within = is.reads.within;
+    size = ap (λ b. if b then found.size - 1 else found.size) (sym off);
+    measured = record { literal = (is.literal, is.reads.reads); counted = is.counted };
+  }
+
+  module _ (on : gives_back back m text found.size ≡ true) (shorter : List ℕ) (at : shorter ≡ take (found.size - 1) text) where
+    size_of : length shorter ≡ found.size - 1
+    size_of = let within = is.reads.within in ap length at ∙ length-take-le (found.size - 1) text (omega (arith, within))
+
+    size_is : length shorter ≡ (if gives_back back m text found.size then found.size - 1 else found.size)
+    size_is = size_of ∙ ap (λ b. if b then found.size - 1 else found.size) (sym on)
+
+    all_of : take (length shorter) text ≡ shorter
+    all_of = ap (λ n. take n text) size_of ∙ sym at
+
+    pub cut_short : (own : Option Found) → ((found : Found) → own ≡ Some found → IsCountedFront m shorter found)
+        → (f : Found) → whole own (length shorter) ≡ Some f → IsOwn back m text found.size f
+    cut_short None some f none = grind arith
+    cut_short (Some g) some f same = go (g.size == length shorter) refl same where
+      go : (b : Bool) → (g.size == length shorter) ≡ b → (if b then Some g else None) ≡ Some f → IsOwn back m text found.size f
+      go true whole same =
+          let is_g : g ≡ f = grind arith in
+          let size : g.size ≡ length shorter = grind (arith, nat_tests) in
+          let front = some g refl in
+          let part : take g.size text ≡ take g.size shorter =
+          ap (λ n. take n text) size ∙ all_of ∙ sym (take_all g.size shorter (omega (arith, size))) in
+          subst (IsOwn back m text found.size) is_g (record {
+            within = let within = is.reads.within in omega (arith, size, size_of, within);
+            size = size ∙ size_is;
+            measured = record {
+              literal = (front.literal, subst (Reads m front.literal) (sym part) front.reads.reads);
+              counted = λ l reads. front.counted l (subst (Reads m l) part reads);
+            };
+          })
+      go false whole same = grind arith
+
+    pub cut_none : (own : Option Found) → ((found : Found) → own ≡ Some found → IsCountedFront m shorter found) → (own ≡ None → NoFront m shorter)
+        → whole own (length shorter) ≡ None → NoOwn back m text found.size
+    cut_none own some none is_none l reads = go own refl is_none where
+      read : Reads m l (take (length shorter) shorter)
+      read = subst (Reads m l) (ap (λ n. take n text) (sym size_is) ∙ all_of ∙ sym (take_all (length shorter) shorter (omega arith))) reads
+
+      go : (o : Option Found) → own ≡ o → whole o (length shorter) ≡ None → ⊥
+      go None at_none is_none = none at_none (length shorter) (omega arith) l read
+      go (Some g) at_some is_none =
+          let front = some g at_some in
+          let within = front.reads.within in
+          let apart : g.size < length shorter = grind (arith, nat_tests) in
+          front.reads.no_longer (length shorter) apart (omega arith) l read
+
+-- A form has a candidate, or none.
+module _ (back needs : Bool) (text : List ℕ) (form : Form) (found : Found) (is : IsCountedFront (notation_of form.syntax) text found) where
+  longest_is : (s e : ℕ) → (other : IsCandidate back needs text form s e) → other.longest ≡ found.size
+  longest_is s e other =
+      let up = one_front (notation_of form.syntax) text is.literal other.front.0 found.size other.longest is.reads other.front.1 in
+      let down = one_front (notation_of form.syntax) text other.front.0 is.literal other.longest found.size other.front.1 is.reads in
+      omega (arith, up, down)
+
+  pub without_own : NoOwn back (notation_of form.syntax) text found.size → NoCandidate back needs text form
+  without_own none s e other =
+      let size : s ≡ (if gives_back back (notation_of form.syntax) text found.size then found.size - 1 else found.size) =
+      other.size_is ∙ ap (λ n. if gives_back back (notation_of form.syntax) text n then n - 1 else n) (longest_is s e other) in
+      none other.literal (subst (λ n. Reads (notation_of form.syntax) other.literal (take n text)) size other.reads)
+
+  module _ (own : Found) (owned : IsOwn back (notation_of form.syntax) text found.size own) where
+    abbrev more : ℕ
+    more = suffix_size form.suffixes (has_float own.counts) (drop own.size text)
+
+    abbrev own_with : Candidate
+    own_with = record { size = own.size; counts = own.counts; end = own.size + more }
+
+    candidate_of : (IsTrue needs → own.size < own.size + more) → IsCandidate back needs text form own.size (own.size + more)
+    candidate_of enough = record {
+      longest = found.size;
+      front = (is.literal, is.reads);
+      size_is = owned.size;
+      literal = owned.measured.literal.0;
+      reads = owned.measured.literal.1;
+      end_is = ap (λ b. own.size + suffix_size form.suffixes b (drop own.size text))
+          (float_is owned.measured.literal.0 own.counts (owned.measured.counted owned.measured.literal.0 owned.measured.literal.1));
+      suffixed = enough;
+    }
+
+    end_of : (s e : ℕ) → IsCandidate back needs text form s e → (s ≡ own.size) × (e ≡ own.size + more)
+    end_of s e other =
+        let size : s ≡ own.size = other.size_is
+        ∙ ap (λ n. if gives_back back (notation_of form.syntax) text n then n - 1 else n) (longest_is s e other) ∙ sym owned.size in
+        let read = subst (λ n. Reads (notation_of form.syntax) other.literal (take n text)) size other.reads in
+        let float = sym (float_is other.literal own.counts (owned.measured.counted other.literal read)) in (
+          size,
+          other.end_is ∙ ap (λ n. n + suffix_size form.suffixes (is_float other.literal) (drop n text)) size
+              ∙ ap (λ b. own.size + suffix_size form.suffixes b (drop own.size text)) float,
+        )
+
+    pub with_suffix : (candidate : Option Candidate) → candidate ≡ suffixed form.suffixes needs text own
+        → ((c : Candidate) → candidate ≡ Some c → c.end ≤ length text) → (c : Candidate) → candidate ≡ Some c → IsMade back needs text form c
+    with_suffix candidate same within c some = go (needs && (more == 0)) refl (sym same ∙ some) where
+      go : (b : Bool) → (needs && (more == 0)) ≡ b
+          → (if b then None else Some (record { size = own.size; counts = own.counts; end = own.size + more })) ≡ Some c
+          → IsMade back needs text form c
+      go true on none = absurd (no_some c none)
+      go false off is_c =
+          let e = some_is (record { size = own.size; counts = own.counts; end = own.size + more }) c is_c in
+          subst (IsMade back needs text form) e (record {
+            candidate = candidate_of (λ needed. more_than_none needs more own.size off needed);
+            measured = owned.measured;
+            within = subst (λ (c : Candidate). c.end ≤ length text) (sym e) (within c some);
+          })
+
+    pub without_suffix : suffixed form.suffixes needs text own ≡ None → NoCandidate back needs text form
+    without_suffix none s e other = go (needs && (more == 0)) refl none where
+      go : (b : Bool) → (needs && (more == 0)) ≡ b → (if b then None else Some own_with) ≡ None → ⊥
+      go true on none =
+          let at = end_of s e other in
+          let needed = both_hold needs more on in
+          let longer = other.suffixed needed.0 in omega (arith, longer, at.0, at.1, needed.1)
+      go false off none = no_some _ (sym none)
+
+module _ (back needs : Bool) (forms : List Form) (text : List ℕ) where
+  -- `IsBestYet i best` holds if `best` is the best candidate of the first `i` forms.
+  pub record IsYet (i index : ℕ) (c : Candidate) : Type 0 where
+    pub here : IsSomeAnd (slice_get forms index) (λ form. IsMade back needs text form c)
+    pub before : All (AllShorter back needs text c.size c.end) (take index forms)
+    pub others : All (NoLonger back needs text c.size c.end) (take i forms)
+
+  abbrev pub IsBestYet : ℕ → Option (ℕ × Candidate) → Type 0
+  IsBestYet i None = All (NoCandidate back needs text) (take i forms)
+  IsBestYet i (Some best) = IsYet i best.0 best.1
+
+  -- The form at `i` has no candidate, or `c`.
+  module _ (i : ℕ) (d : Form) (inside : i < length forms) where
+    abbrev g : Form
+    g = get_or forms i d
+
+    stays : NoCandidate back needs text g → (best : Option (ℕ × Candidate)) → IsBestYet i best → IsBestYet (i + 1) best
+    stays none None old = All-more (NoCandidate back needs text) forms i d inside old none
+    stays none (Some best) old = record {
+      here = old.here;
+      before = old.before;
+      others = All-more (NoLonger back needs text best.1.size best.1.end) forms i d inside old.others (λ s e is. absurd (none s e is));
+    }
+
+    at_it : (c : Candidate) → IsMade back needs text g c → IsSomeAnd (slice_get forms i) (λ form. IsMade back needs text form c)
+    at_it c is = subst (λ o. IsSomeAnd o (λ form. IsMade back needs text form c)) (sym (slice_get-get_or forms i d inside)) is
+
+    -- Of this form, no candidate is longer than `c`, or than what is not shorter than `c`.
+    none_longer : (c : Candidate) → IsMade back needs text g c → (a b : ℕ) → is_shorter a b c.size c.end ≡ false → NoLonger back needs text a b g
+    none_longer c is a b up s e other =
+        ap (λ n. is_shorter a b n e) (same_size back needs text g c is s e other)
+        ∙ ap (is_shorter a b c.size) (same_end back needs text g c is s e other) ∙ up
+
+    gains : (c : Candidate) → IsMade back needs text g c → (best : Option (ℕ × Candidate)) → IsBestYet i best → IsBestYet (i + 1) (better best i (Some c))
+    gains c is None old = record {
+      here = at_it c is;
+      before = λ k f below s e other. absurd (old k f below s e other);
+      others = All-more (NoLonger back needs text c.size c.end) forms i d inside (λ k f below s e other. absurd (old k f below s e other))
+          (none_longer c is c.size c.end (none_below c.size c.end));
+    }
+    gains c is (Some best) old = go (is_shorter best.1.size best.1.end c.size c.end) refl where
+      go : (b : Bool) → is_shorter best.1.size best.1.end c.size c.end ≡ b → IsBestYet (i + 1) (if b then Some (i, c) else Some best)
+      go true up = record {
+        here = at_it c is;
+        before = λ k f below s e other. below_up best.1.size best.1.end s e c.size c.end (old.others k f below s e other) up;
+        others = All-more (NoLonger back needs text c.size c.end) forms i d inside
+            (λ k f below s e other. above_up best.1.size best.1.end s e c.size c.end (old.others k f below s e other) up)
+            (none_longer c is c.size c.end (none_below c.size c.end));
+      }
+      go false up = record {
+        here = old.here;
+        before = old.before;
+        others = All-more (NoLonger back needs text best.1.size best.1.end) forms i d inside old.others
+            (none_longer c is best.1.size best.1.end up);
+      }
+
+    pub candidate_more : (found : Option Candidate) → ((c : Candidate) → found ≡ Some c → IsMade back needs text g c)
+        → (found ≡ None → NoCandidate back needs text g) → (best : Option (ℕ × Candidate)) → IsBestYet i best → IsBestYet (i + 1) (better best i found)
+    candidate_more None some none None old = stays (none refl) None old
+    candidate_more None some none (Some best) old = stays (none refl) (Some best) old
+    candidate_more (Some c) some none best old = gains c (some c refl) best old
+
+  -- All forms have been tried.
+  pub best_of : (i : ℕ) → length forms ≤ i → (best : Option (ℕ × Candidate)) → IsBestYet i best → IsBestOf back needs forms text best
+  best_of i end None is = subst (All (NoCandidate back needs text)) (take_all i forms end) is
+  best_of i end (Some best) is = record {
+    best = record {
+      here = go (slice_get forms best.0) is.here;
+      before = is.before;
+      others = subst (All (NoLonger back needs text best.1.size best.1.end)) (take_all i forms end) is.others;
+    };
+    made = is.here;
+  } where
+    go : (o : Option Form) → IsSomeAnd o (λ form. IsMade back needs text form best.1)
+        → IsSomeAnd o (λ form. IsCandidate back needs text form best.1.size best.1.end)
+    go None made = made
+    go (Some form) made = made.candidate
+
+-- Whether a form goes on behind `end`.
+module _ (back : Bool) (text : List ℕ) (end : ℕ) (form : Form) (stop : ℕ) (valid : IsValidUpTo (notation_of form.syntax) text stop) where
+  pub ahead : goes_on back (notation_of form.syntax) text end stop ≡ true → IsAhead back text end form
+  ahead on = record { size = stop; valid = valid; further = grind (arith, nat_tests); more = grind (arith, nat_tests) }
+
+  pub not_ahead : goes_on back (notation_of form.syntax) text end stop ≡ false → IsAhead back text end form → ⊥
+  not_ahead off is =
+      let up = one_size (notation_of form.syntax) text stop is.size valid is.valid in
+      let down = one_size (notation_of form.syntax) text is.size stop is.valid valid in
+      let same : is.size ≡ stop = omega (arith, up, down) in
+      let further = is.further in let more = is.more in grind (arith, nat_tests)
+
+-- A text that is a literal of a form is one of a form.
+pub some_form : (forms : List Form) (text : List ℕ) (i : ℕ) (read : Read) → IsFirst forms text i read → NoForm forms text → ⊥
+some_form forms text i read is none = go (slice_get forms i) refl is.reads where
+  go : (o : Option Form) → slice_get forms i ≡ o → IsSomeAnd o (ReadsForm text read) → ⊥
+  go None at reads = reads
+  go (Some form) at reads = all_at (λ form. (l : Literal) → Reads (notation_of form.syntax) l text → ⊥) forms i form at none read.literal reads.1
+
+-- The best candidate of the list, and of the forms that need a suffix.
+module _ (list : FormList) (t : Tokens) (text : List ℕ) where
+  made_of : (needs : Bool) (forms : List Form) (i : ℕ) (form : Form) (c : Candidate) → slice_get forms i ≡ Some form
+      → IsBestMade t.gives_points_back needs forms text i c → IsMade t.gives_points_back needs text form c
+  made_of needs forms i form c at is = subst (λ o. IsSomeAnd o (λ form. IsMade t.gives_points_back needs text form c)) at is.made
+
+  module _ (i : ℕ) (form : Form) (c : Candidate) (at : slice_get list.forms i ≡ Some form) (is : IsBestMade t.gives_points_back false list.forms text i c) where
+    plain_is : All (NoLonger t.gives_points_back true text c.size c.end) t.forms.now → IsPicked list t text i form c
+    plain_is others =
+        let made = made_of false list.forms i form c at is in
+        let end = made.candidate.end_is in
+        record {
+          chosen = inl (record { at = at; best = is.best; others = others });
+          measured = made.measured;
+          order = omega (arith, end);
+          within = made.within;
+        }
+
+    pub plain_alone : IsBestOf t.gives_points_back true t.forms.now text None → IsPicked list t text i form c
+    plain_alone none = plain_is (λ k d below s e other. absurd (none k d below s e other))
+
+    pub plain_first : (j : ℕ) (o : Candidate) → IsBestMade t.gives_points_back true t.forms.now text j o → is_shorter c.size c.end o.size o.end ≡ false
+        → IsPicked list t text i form c
+    plain_first j o other up = plain_is
+        (λ k d below s e longer. above_all c.size c.end o.size o.end s e up (other.best.others k d below s e longer))
+
+  module _ (j : ℕ) (form : Form) (o : Candidate) (at : slice_get t.forms.now j ≡ Some form)
+      (is : IsBestMade t.gives_points_back true t.forms.now text j o) where
+    suffixed_is : All (AllShorter t.gives_points_back false text o.size o.end) list.forms → IsPicked list t text (length list.forms + j) form o
+    suffixed_is others =
+        let made = made_of true t.forms.now j form o at is in
+        let end = made.candidate.end_is in
+        record {
+          chosen = inr (record { behind = j; index_is = refl; at = at; best = is.best; others = others });
+          measured = made.measured;
+          order = omega (arith, end);
+          within = made.within;
+        }
+
+    pub suffixed_alone : IsBestOf t.gives_points_back false list.forms text None → IsPicked list t text (length list.forms + j) form o
+    suffixed_alone none = suffixed_is (λ k d below s e other. absurd (none k d below s e other))
+
+    pub suffixed_first : (i : ℕ) (c : Candidate) → IsBestMade t.gives_points_back false list.forms text i c
+        → is_shorter c.size c.end o.size o.end ≡ true → IsPicked list t text (length list.forms + j) form o
+    suffixed_first i c other up = suffixed_is
+        (λ k d below s e shorter. below_up c.size c.end s e o.size o.end (other.best.others k d below s e shorter) up)
+
+  -- The token that was picked, or why there is none.
+  module _ (index : ℕ) (form : Form) (c : Candidate) (is : IsPicked list t text index form c) where
+    pub token_is : (token : Token) → token.form ≡ index → ReadsForm (take c.size text) token.literal form
+        → token.literal.kind ≡ kind_with form.suffixes token.suffix.now form.kind → token.suffix.now ≡ take (c.end - c.size) (drop c.size text)
+        → token.rest.now ≡ drop c.end text
+        → IsFollowed list t text c.end ⊎ (IsOver list t text c.end × (is_stopped form.suffixes text c.end ≡ false)) → IsToken list t text token
+    token_is token same literal kind suffix rest ended = record {
+      form = form;
+      size = c.size;
+      end = c.end;
+      chosen = subst (λ n. IsChosen list t text n form c.size c.end) (sym same) is.chosen;
+      literal = literal;
+      kind = kind;
+      suffix = suffix;
+      rest = rest;
+      ended = ended;
+    }
+
+    module _ (apart : IsFollowed list t text c.end → ⊥) where
+      pub gone_on : (i : ℕ) × IsSomeAnd (slice_get list.forms i) (IsAhead t.gives_points_back text c.end) → IsRefused list t text
+      gone_on ahead = inr (inl (record {
+        index = index;
+        form = form;
+        size = c.size;
+        end = c.end;
+        chosen = is.chosen;
+        not_followed = apart;
+        ahead = ahead;
+      }))
+
+      module _ (over : IsOver list t text c.end) (stopped : is_stopped form.suffixes text c.end ≡ true) where
+        pub before_digit : is_in is_digit (slice_get text c.size) ≡ true → IsRefused list t text
+        before_digit digit = inr (inr (record {
+          index = index;
+          form = form;
+          size = c.size;
+          end = c.end;
+          chosen = is.chosen;
+          not_followed = apart;
+          over = over;
+          stopped = stopped;
+          digit = digit;
+        }))
+
+        pub unknown : is_in is_digit (slice_get text c.size) ≡ false → IsUnknown list t text index c.size (stop_end text c.end)
+        unknown other = record {
+          form = form;
+          behind = c.end;
+          chosen = is.chosen;
+          not_followed = apart;
+          over = over;
+          stopped = stopped;
+          no_digit = other;
+          end_is = refl;
+        }

@@ -1,0 +1,64 @@
+-- The first form with a literal behind which no literal goes on.
+use Rattle.lexical_forms.proofs.Common.{◌≡◌, ◌+◌, All, Some, ap, get_or, inl, sym, subst, take, arith, ◌-◌, slice_get-get_or, notation_of, Grammar, raw}
+use Rattle.lexical_forms.proofs.Common.{cuts_of, IsWithin, FormList}
+use Rattle.lexical_forms.specs.Additions.Token.{FrontsWithin}
+use Rattle.std.proofs.Common.{if◌then◌else◌, slice_get}
+use Rattle.lexical_forms.proofs.LeadingLemmas.{front_of, fronts_more, fronts_within, sums_of_front}
+use Rattle.lexical_forms.proofs.list.Forms.leading.Goals as goal
+use Rattle.lexical_forms.proofs.list.Forms.leading.Goals.{then-is_excluded, else-is_excluded+else-counted+else-gives_back}
+
+pub behind-requires-clause-sums : goal.behind-requires-clause-sums
+behind-requires-clause-sums c =
+    let it = get_or c.self.inside.forms.now c.loop-form.form c.index-self-form.result in let counted = c.begin-counted.result in
+    let found = c.begin-counted.ensures.found in let complete = c.if-counted.true in let is = found.literal complete in
+    sums_of_front (raw it.syntax.word) c.args.text.now counted.at.size (cuts_of counted.counts) counted.sums (notation_of it.syntax) is.0
+    found.begun.begun.within is.1 (found.lengths complete is.0 is.1) (c.begin-counted.ensures.summed complete)
+
+pub behind-requires-clause-leading : goal.behind-requires-clause-leading
+behind-requires-clause-leading c =
+    let it = get_or c.self.inside.forms.now c.loop-form.form c.index-self-form.result in let size = c.begin-counted.result.at.size in
+    let found = c.begin-counted.ensures.found in let is = found.literal c.if-counted.true in
+    let sign = c.sign_size-sign.ensures.size in let low = c.loop-form.invariant.sign in let reached = c.if-reached-size.true in
+    rw (← c.self.view_is) (record {
+      at = slice_get-get_or c.self.inside.forms.now c.loop-form.form c.index-self-form.result c.loop-form-test.true;
+      longest = size;
+      front = front_of c.args.text.now it size found.begun.begun.within is.0 is.1 (c.ends.ensures.within c.if-ends.true);
+      size_is = ap (λ b. if b then size - 1 else size) (sym (c.ends.ensures.kept c.if-ends.true));
+      own = inl (c.ends.ensures.within c.if-ends.true);
+      plain = c.are_past.ensures c.if-are_past.true (omega (arith, sign, low, reached));
+      suffixed = c.are_past-then-are_past.ensures c.if-are_past-2.true (omega (arith, sign, low, reached));
+      before = (c.loop-form.reached, reached, c.loop-form.invariant.fronts);
+    })
+
+pub before_point-requires-clause-at : goal.before_point-requires-clause-at
+before_point-requires-clause-at c = let it = get_or c.self.inside.forms.now c.loop-form.form c.index-self-form.result in
+    subst (λ (l : FormList). slice_get l.forms c.loop-form.form ≡ Some it) c.self.view_is
+    (slice_get-get_or c.self.inside.forms.now c.loop-form.form c.index-self-form.result c.loop-form-test.true)
+
+pub before_point-requires-clause-before : goal.before_point-requires-clause-before
+before_point-requires-clause-before c = subst (λ (l : FormList). All (FrontsWithin c.args.text.now c.loop-form.reached) (take c.loop-form.form l.forms))
+    c.self.view_is c.loop-form.invariant.fronts
+
+pub loop-form-preserved : goal.loop-form-preserved
+loop-form-preserved c =
+    let forms = c.self.inside.forms.now in let text = c.args.text.now in let i = c.loop-form.form in let it = c.index-self-form.result in
+    let sign = c.sign_size-sign.ensures.size in let low = c.loop-form.invariant.sign in
+    elim c.if-is_excluded.branch [
+      | then-is_excluded w ↦ (
+          let one = w.larger-reached.ensures.one in let other = w.larger-reached.ensures.other in let is = w.reached-is in
+          let past = subst (λ (g : Grammar). IsWithin (notation_of g) text (c.sign_size-sign.result + 1)) c.grammar.ensures.value
+          (c.is_excluded.ensures w.if-is_excluded.true) in
+          record {
+            sign = omega (arith, low, one, is);
+            fronts = fronts_more forms text i it c.loop-form.reached c.if-is_excluded.reached c.loop-form-test.true (omega (arith, one, is))
+                c.loop-form.invariant.fronts (λ n front. let own = fronts_within text (c.sign_size-sign.result + 1) (get_or forms i it) past n front
+                in omega (arith, own, other, is));
+          })
+      | else-is_excluded+else-counted+else-gives_back w ↦ (
+          let one = w.larger-reached-else-is_excluded.ensures.one in let other = w.larger-reached-else-is_excluded.ensures.other in let is = w.reached-is in
+          record {
+            sign = omega (arith, low, one, is);
+            fronts = fronts_more forms text i it c.loop-form.reached c.if-is_excluded.reached c.loop-form-test.true (omega (arith, one, is))
+                c.loop-form.invariant.fronts (λ n front. let own = w.bound.ensures n front in omega (arith, own, other, is));
+          })
+    ]

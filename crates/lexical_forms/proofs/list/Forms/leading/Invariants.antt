@@ -1,0 +1,12 @@
+use Rattle.lexical_forms.proofs.Common.{◌≤◌, ◌-◌, All, take, length}
+use Rattle.lexical_forms.specs.Additions.Token.{FrontsWithin}
+use Rattle.lexical_forms.proofs.list.Forms.leading.Given as goal
+
+abbrev pub invariant-loop-form : goal.invariant-loop-form
+invariant-loop-form l = record {
+  sign : l.sign ≤ l.reached;
+  fronts : All (FrontsWithin l.text l.reached) (take l.form l.self-inside.forms.now);
+}
+
+abbrev pub decreases-loop-form : goal.decreases-loop-form
+decreases-loop-form l = length l.self-inside.forms.now - l.form

@@ -1,0 +1,20 @@
+-- Each byte is the next letter, or takes the place of a separator, or is left out.
+use Rattle.lexical_forms.proofs.Common.{sym, ◌∙◌, get_or, ap, subst, arith, nat_tests, notation_of}
+use Rattle.std.proofs.lemmas.List.{drop_more, drop_all}
+use Rattle.lexical_forms.specs.Specials.{letter_of}
+use Rattle.lexical_forms.proofs.SpecialLemmas.{HasRead, one_separator, read_more, at_end}
+use Rattle.lexical_forms.proofs.specials.is_spelled.Goals as goal
+
+pub loop-index-preserved : goal.loop-index-preserved
+loop-index-preserved c =
+    let text = c.args.text.now in
+    let index = c.loop-index.index in
+    let only = one_separator c.args.grammar (get_or text index 0) in
+    let now = subst (HasRead _ _ c.args.word.now text _ _) (drop_more text index 0 c.loop-index-test.true) c.loop-index.invariant in
+    read_more _ _ c.args.word.now text _ _ _ _ now (λ is. ap (letter_of (notation_of c.args.grammar))
+    (only is ∙ sym c.digit_separator-separator.ensures)) _ _
+    (let branch = c.if-letters-word.branch in grind (arith, nat_tests))
+
+pub returns : goal.returns
+returns c = at_end _ _ c.args.word.now c.args.text.now _ _
+    (subst (HasRead _ _ _ _ _ _) (drop_all c.loop-index.index c.args.text.now c.loop-index-test.false) c.loop-index.invariant)

@@ -1,0 +1,5 @@
+use Rattle.std.specs.Prelude.{length}
+use Rattle.lexical_forms.proofs.suffix.+begins.Given as goal
+
+abbrev pub decreases-begins : goal.decreases-begins
+decreases-begins l = length l.word.now

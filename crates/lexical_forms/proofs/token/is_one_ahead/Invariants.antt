@@ -1,0 +1,8 @@
+use Rattle.lexical_forms.proofs.Common.{All, take, ◌-◌, length, IsAhead}
+use Rattle.lexical_forms.proofs.token.is_one_ahead.Given as goal
+
+abbrev pub invariant-loop-form : goal.invariant-loop-form
+invariant-loop-form l = All (λ form. IsAhead l.back l.text l.end form → ⊥) (take l.form l.forms)
+
+abbrev pub decreases-loop-form : goal.decreases-loop-form
+decreases-loop-form l = length l.forms - l.form

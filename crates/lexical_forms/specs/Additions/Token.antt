@@ -1,0 +1,107 @@
+-- What one pass over several forms finds of a token.
+use Rattle.std.specs.Prelude.{ℕ, ◌≡◌, ◌+◌, ◌-◌, ◌==◌, ◌&&◌, ◌||◌, not, Bool, if◌then◌else◌, nat_lt, List, Option, Some, None, All, IsSomeAnd}
+use Rattle.std.specs.Prelude.{◌≤◌, ◌<◌, ◌⊎◌, true, drop, get_or, length, slice_get, take}
+use Rattle.std.specs.Borrow.{Bor}
+use Rattle.lexical_literal.specs.Additions.Longest.{IsMeasured}
+use Rattle.lexical_literal.specs.Cause.{is_in}
+use Rattle.lexical_forms.specs.FormList.{FormList}
+use Rattle.lexical_forms.specs.Forms.{HasFront}
+use Rattle.lexical_literal.specs.Front.{IsFront, NoLiteral}
+use Rattle.lexical_forms.specs.Suffix.{suffix_size}
+use Rattle.lexical_forms.specs.declared.suffix.Suffixes.{Suffixes}
+use Rattle.lexical_forms.specs.Token.{IsBest, IsCandidate, IsChosen, NoCandidate, gives_back, is_shorter}
+use Rattle.lexical_forms.specs.declared.list.Tokens.{Tokens}
+use Rattle.lexical_literal.specs.declared.read.Found.{Found}
+use Rattle.lexical_literal.specs.Notation.{Notation, notation_of}
+use Rattle.lexical_forms.specs.declared.list.Form.{Form}
+use Rattle.lexical_forms.specs.declared.token.Candidate.{Candidate}
+
+-- `IsMade back needs text form c` holds if `c` is the candidate of `form` in `text`, and has the lengths of the parts of its literal.
+pub record IsMade (back needs : Bool) (text : List ℕ) (form : Form) (c : Candidate) : Type 0 where
+  pub candidate : IsCandidate back needs text form c.size c.end
+  pub measured : IsMeasured (notation_of form.syntax) (take c.size text) c.counts
+  pub within : c.end ≤ length text
+
+-- `IsBestOf back needs forms text best` holds if `best` is the index of the first of `forms` with the longest candidate, and this
+-- candidate, or `None` if there is none.
+pub record IsBestMade (back needs : Bool) (forms : List Form) (text : List ℕ) (index : ℕ) (c : Candidate) : Type 0 where
+  pub best : IsBest back needs forms text index c.size c.end
+  pub made : IsSomeAnd (slice_get forms index) (λ form. IsMade back needs text form c)
+
+abbrev pub IsBestOf : Bool → Bool → List Form → List ℕ → Option (ℕ × Candidate) → Type 0
+IsBestOf back needs forms text None = All (NoCandidate back needs text) forms
+IsBestOf back needs forms text (Some best) = IsBestMade back needs forms text best.0 best.1
+
+-- `IsOwn back m text longest own` holds if `own` has the lengths of the longest front, of `longest` bytes, or of this without its point if
+-- that is given back. `NoOwn` holds if there is no such literal.
+pub record IsOwn (back : Bool) (m : Notation) (text : List ℕ) (longest : ℕ) (own : Found) : Type 0 where
+  pub within : own.size ≤ length text
+  pub size : own.size ≡ (if gives_back back m text longest then longest - 1 else longest)
+  pub measured : IsMeasured m (take own.size text) own.counts
+
+abbrev pub NoOwn : Bool → Notation → List ℕ → ℕ → Type 0
+NoOwn back m text longest = NoLiteral m (take (if gives_back back m text longest then longest - 1 else longest) text)
+
+-- `has_float counts` is true if a literal with these lengths of its parts is a float.
+abbrev pub has_float : List ℕ → Bool
+has_float counts = not (get_or counts 3 0 == 0) || not (get_or counts 5 0 == 0)
+
+-- `better best form candidate` is `best`, or the candidate of the form with the index `form` if that is longer.
+abbrev pub better : Option (ℕ × Candidate) → ℕ → Option Candidate → Option (ℕ × Candidate)
+better best form None = best
+better None form (Some c) = Some (form, c)
+better (Some best) form (Some c) = if is_shorter best.1.size best.1.end c.size c.end then Some (form, c) else Some best
+
+-- `goes_on back m text end stop` is true if a literal that goes up to `stop` goes on behind `end`, and not only with a point.
+abbrev pub goes_on : Bool → Notation → List ℕ → ℕ → ℕ → Bool
+goes_on back m text end stop = nat_lt end stop && not (back && (stop == end + 1) && is_in m.point (slice_get text end))
+
+-- `IsPicked list t text index form c` holds if `form`, with this index, has the longest candidate, which is `c`.
+pub record IsPicked (list : FormList) (t : Tokens) (text : List ℕ) (index : ℕ) (form : Form) (c : Candidate) : Type 0 where
+  pub chosen : IsChosen list t text index form c.size c.end
+  pub measured : IsMeasured (notation_of form.syntax) (take c.size text) c.counts
+  pub order : c.size ≤ c.end
+  pub within : c.end ≤ length text
+
+-- `whole found size` is `found` if it has `size` bytes, and `None` otherwise.
+abbrev pub whole : Option Found → ℕ → Option Found
+whole None size = None
+whole (Some found) size = if found.size == size then Some found else None
+
+-- `suffixed suffixes needs text own` is the candidate with the literal `own`, or `None` if a suffix is needed and there is none.
+abbrev pub suffixed : Option (Bor Suffixes) → Bool → List ℕ → Found → Option Candidate
+suffixed suffixes needs text own =
+    if needs && (suffix_size suffixes (has_float own.counts) (drop own.size text) == 0) then None
+    else Some (record { size = own.size; counts = own.counts; end = own.size + suffix_size suffixes (has_float own.counts) (drop own.size text) })
+
+-- `IsWithin m text size` holds if no literal begins with more than the first `size` bytes of `text`. `IsNear back m text size` holds if none does,
+-- or only with a point more that is given back. `AreNear back forms but text size` holds if this holds of each of `forms`, but for the one with the
+-- index `but`. `FrontsWithin text size form` holds if each front of `text` that is a literal has at most `size` bytes.
+abbrev pub IsWithin : Notation → List ℕ → ℕ → Type 0
+IsWithin m text size = (more : ℕ) → size < more → more ≤ length text → IsFront m (take more text) → ⊥
+
+abbrev pub IsNear : Bool → Notation → List ℕ → ℕ → Type 0
+IsNear back m text size = IsWithin m text size ⊎ (IsWithin m text (size + 1) × (gives_back back m text (size + 1) ≡ true))
+
+abbrev pub AreNear : Bool → List Form → ℕ → List ℕ → ℕ → Type 0
+AreNear back forms but text size =
+    (i : ℕ) (form : Form) → i < length forms → (i ≡ but → ⊥) → IsNear back (notation_of (get_or forms i form).syntax) text size
+
+abbrev pub FrontsWithin : List ℕ → ℕ → Form → Type 0
+FrontsWithin text size form = (longest : ℕ) → HasFront text form longest → longest ≤ size
+
+-- `IsLeading list t text index form size` holds if `form`, with this index, is the first of the list whose longest front of `text`, without its point
+-- if that is given back, has `size` bytes, and if no literal of a form goes on behind them, or only with a point that is given back.
+pub record IsLeading (list : FormList) (t : Tokens) (text : List ℕ) (index : ℕ) (form : Form) (size : ℕ) : Type 0 where
+  pub at : slice_get list.forms index ≡ Some form
+  pub longest : ℕ
+  pub front : HasFront text form longest
+  pub size_is : size ≡ (if gives_back t.gives_points_back (notation_of form.syntax) text longest then longest - 1 else longest)
+  pub own : IsNear t.gives_points_back (notation_of form.syntax) text size
+  pub plain : AreNear t.gives_points_back list.forms index text size
+  pub suffixed : AreNear t.gives_points_back t.forms.now (length t.forms.now) text size
+  pub before : (reached : ℕ) × (reached < size) × All (FrontsWithin text reached) (take index list.forms)
+
+-- `has_prefix m text index` is true if a zero and a base prefix are at `index`.
+abbrev pub has_prefix : Notation → List ℕ → ℕ → Bool
+has_prefix m text index = nat_lt (index + 1) (length text) && (get_or text index 0 == 48) && m.prefix (get_or text (index + 1) 0)

@@ -1,0 +1,6 @@
+pub mod Specials
+pub mod Suffix
+pub mod FormList
+pub mod Forms
+pub mod Token
+pub mod Additions

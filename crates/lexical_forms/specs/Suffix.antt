@@ -1,0 +1,98 @@
+-- Words behind a number: suffixes, which belong to it, words that may follow it, and bytes that may not.
+use Rattle.std.specs.Prelude.{ℕ, ◌+◌, ◌-◌, ◌==◌, ◌&&◌, ◌||◌, Bool, true, false, if◌then◌else◌, nat_le, nat_lt, List, [], ◌∷◌, Option, Some, None, drop}
+use Rattle.std.specs.Prelude.{length, slice_get}
+use Rattle.std.specs.Borrow.{Bor}
+use Rattle.std.specs.Char.{eq_ignore_ascii_case}
+use Rattle.std.specs.List.{list_any}
+use Rattle.lexical_util.specs.Ascii.{ByteSet}
+use Rattle.lexical_literal.specs.Cause.{is_in}
+use Rattle.lexical_literal.specs.declared.kind.Kind.{Kind}
+use Rattle.lexical_forms.specs.declared.suffix.Stop.{Stop}
+use Rattle.lexical_forms.specs.declared.suffix.Suffixes.{Suffixes}
+
+-- `is_word_byte byte` is true if `byte` is a digit, a letter, `_` or at least 128.
+abbrev pub is_word_byte : ByteSet
+is_word_byte byte =
+    (nat_le 48 byte && nat_le byte 57) || (nat_le 65 byte && nat_le byte 90) || (byte == 95) || (nat_le 97 byte && nat_le byte 122) || nat_le 128 byte
+
+-- `is_digit byte` is true if `byte` is a decimal digit.
+abbrev pub is_digit : ByteSet
+is_digit byte = nat_le 48 byte && nat_le byte 57
+
+-- `word_size text` is the number of bytes of a word with which `text` begins.
+abbrev pub word_size : List ℕ → ℕ
+word_size [] = 0
+word_size (byte ∷ text) = if is_word_byte byte then 1 + word_size text else 0
+
+-- `stop_end text index` is the index behind the byte at `index` and the word that follows it, or `index` at the end of `text`.
+abbrev pub stop_end : List ℕ → ℕ → ℕ
+stop_end text index = if nat_lt index (length text) then index + 1 + word_size (drop (index + 1) text) else index
+
+-- `begins either word text` is true if `text` begins with `word`, letter case aside if `either` is true, and if these are bytes of a word.
+abbrev pub begins : Bool → List ℕ → List ℕ → Bool
+begins either [] text = true
+begins either (letter ∷ word) [] = false
+begins either (letter ∷ word) (byte ∷ text) =
+    is_word_byte byte && (if either then eq_ignore_ascii_case letter byte else letter == byte) && begins either word text
+
+-- `longest_word either words text` is the length of the longest of `words` with which `text` begins, or 0 if it begins with none.
+abbrev pub longest_word : Bool → List (Bor (List ℕ)) → List ℕ → ℕ
+longest_word either [] text = 0
+longest_word either (word ∷ words) text =
+    if begins either word.now text && nat_lt (longest_word either words text) (length word.now) then length word.now else longest_word either words text
+
+-- `any_word_size begin text` is the number of bytes of the word with which `text` begins, or 0 if its first byte is none of `begin`.
+abbrev pub any_word_size : List ℕ → List ℕ → ℕ
+any_word_size begin [] = 0
+any_word_size begin (byte ∷ text) = if list_any (λ it. it == byte) begin then word_size (byte ∷ text) else 0
+
+-- `suffix_size suffixes float text` is the length of the longest suffix with which `text` begins, behind a float or else an
+-- integer, or 0 if there is none.
+abbrev pub suffix_size : Option (Bor Suffixes) → Bool → List ℕ → ℕ
+suffix_size None float text = 0
+suffix_size (Some it) float text =
+    if any_word_size it.now.any.now text == 0
+    then longest_word it.now.either_case (if float then it.now.floats.now else it.now.integers.now) text
+    else any_word_size it.now.any.now text
+
+-- `kind_among either kinds word kind` is the kind of the first of `kinds` that has `word`, letter case aside if `either` is true, or `kind` if
+-- none has it.
+abbrev pub kind_among : Bool → List (Bor (List ℕ) × Kind) → List ℕ → Kind → Kind
+kind_among either [] word kind = kind
+kind_among either (first ∷ kinds) word kind =
+    if begins either first.0.now word && (length first.0.now == length word) then first.1 else kind_among either kinds word kind
+
+-- `kind_with suffixes word kind` is the kind of a number with the suffix `word`, and `kind` unless the suffixes have another.
+abbrev pub kind_with : Option (Bor Suffixes) → List ℕ → Kind → Kind
+kind_with None word kind = kind
+kind_with (Some it) word kind = kind_among it.now.either_case it.now.kinds.now word kind
+
+-- `is_followed words text` is true if the word with which `text` begins is one of `words`.
+abbrev pub is_followed : List (Bor (List ℕ)) → List ℕ → Bool
+is_followed [] text = false
+is_followed (word ∷ words) text = (begins false word.now text && (length word.now == word_size text)) || is_followed words text
+
+-- `byte_before text index` is the byte before the one at `index`, or `None` if there is none.
+abbrev pub byte_before : List ℕ → ℕ → Option ℕ
+byte_before text index = if index == 0 then None else slice_get text (index - 1)
+
+-- `admits bytes byte` is true if `byte` is one of `bytes`, or if `bytes` is empty.
+abbrev pub admits : List ℕ → Option ℕ → Bool
+admits [] byte = true
+admits (first ∷ bytes) byte = is_in (λ other. list_any (λ it. it == other) (first ∷ bytes)) byte
+
+-- `meets text end stop` is true if the number that ends at `end` of `text` ends in a byte that `stop` names, and if the two bytes
+-- behind it are such ones, too.
+abbrev pub meets : List ℕ → ℕ → Stop → Bool
+meets text end stop = admits stop.last.now (byte_before text end) && admits stop.next.now (slice_get text end)
+    && admits stop.second.now (slice_get text (end + 1))
+
+-- `stops_of suffixes` lists the stops of a form.
+abbrev pub stops_of : Option (Bor Suffixes) → List Stop
+stops_of None = []
+stops_of (Some it) = it.now.stops.now
+
+-- `is_stopped suffixes text end` is true if what is behind the number that ends at `end` of `text` may not follow it: a byte of a word,
+-- or a stop of the form.
+abbrev pub is_stopped : Option (Bor Suffixes) → List ℕ → ℕ → Bool
+is_stopped suffixes text end = is_in is_word_byte (slice_get text end) || list_any (meets text end) (stops_of suffixes)

@@ -1,0 +1,174 @@
+-- Tokens: numbers that a text begins with, each with its suffix, and whatever follows.
+use Rattle.std.specs.Prelude.{ℕ, ◌≡◌, ◌+◌, ◌-◌, ◌==◌, ◌&&◌, ◌||◌, ◌<◌, ◌⊎◌, Bool, true, false, if◌then◌else◌, nat_lt, IsTrue, IsSomeAnd, List, Option, Some}
+use Rattle.std.specs.Prelude.{None}
+use Rattle.std.specs.Prelude.{All, Result, Ok, Err, drop, length, slice_get, take}
+use Rattle.std.specs.Borrow.{Bor}
+use Rattle.lexical_literal.specs.Cause.{is_in}
+use Rattle.lexical_forms.specs.FormList.{FormList}
+use Rattle.lexical_forms.specs.Forms.{HasFront, IsFormError, IsGreatest, NoForm, ReadsForm}
+use Rattle.lexical_literal.specs.Front.{IsValidUpTo}
+use Rattle.lexical_literal.specs.Literal.{Literal, Reads, is_float}
+use Rattle.lexical_literal.specs.Notation.{Notation, notation_of}
+use Rattle.lexical_forms.specs.Suffix.{byte_before, is_digit, is_followed, is_stopped, is_word_byte, kind_with, stop_end, suffix_size, word_size}
+use Rattle.lexical_forms.specs.declared.list.Form.{Form}
+use Rattle.lexical_forms.specs.declared.list.Tokens.{Tokens}
+use Rattle.lexical_forms.specs.declared.token.Token.{Token}
+use Rattle.lexical_forms.specs.declared.token.TokenError.{TokenError}
+use Rattle.lexical_forms.specs.declared.token.TokenError.TheVariants as errors
+
+-- `gives_back back m text size` is true if the list gives points back, as `back` tells, and if the first `size` bytes of `text` end in
+-- a point, behind which another point follows or a byte of a word.
+abbrev pub gives_back : Bool → Notation → List ℕ → ℕ → Bool
+gives_back back m text size =
+    back && is_in m.point (byte_before text size) && is_in (λ byte. (byte == 46) || is_word_byte byte) (slice_get text size)
+
+-- `IsCandidate back needs text form size end` holds if the longest front of `text` that is a literal of `form`, without its point if that
+-- is given back, has `size` bytes and is a literal of `form`, and if `end` is behind its longest suffix, which is there if `needs` is true.
+pub record IsCandidate (back needs : Bool) (text : List ℕ) (form : Form) (size end : ℕ) : Type 0 where
+  pub longest : ℕ
+  pub front : HasFront text form longest
+  pub size_is : size ≡ (if gives_back back (notation_of form.syntax) text longest then longest - 1 else longest)
+  pub literal : Literal
+  pub reads : Reads (notation_of form.syntax) literal (take size text)
+  pub end_is : end ≡ size + suffix_size form.suffixes (is_float literal) (drop size text)
+  pub suffixed : IsTrue needs → size < end
+
+-- `is_shorter size end other_size other_end` is true if a candidate ends before another, or where it ends and with a shorter literal.
+abbrev pub is_shorter : ℕ → ℕ → ℕ → ℕ → Bool
+is_shorter size end other_size other_end = nat_lt end other_end || ((end == other_end) && nat_lt size other_size)
+
+-- `AllShorter`, `NoLonger` and `NoCandidate` hold of a form whose candidate, if it has one, is shorter than one of `size` bytes that ends
+-- at `end`, or not longer, or that has none.
+module _ (back needs : Bool) (text : List ℕ) where
+  abbrev pub AllShorter : ℕ → ℕ → Form → Type 0
+  AllShorter size end form = (s e : ℕ) → IsCandidate back needs text form s e → is_shorter s e size end ≡ true
+
+  abbrev pub NoLonger : ℕ → ℕ → Form → Type 0
+  NoLonger size end form = (s e : ℕ) → IsCandidate back needs text form s e → is_shorter size end s e ≡ false
+
+  abbrev pub NoCandidate : Form → Type 0
+  NoCandidate form = (s e : ℕ) → IsCandidate back needs text form s e → ⊥
+
+-- `IsBest back needs forms text index size end` holds if the form with this index is the first of `forms` with the longest candidate,
+-- which has a literal of `size` bytes and ends at `end`.
+pub record IsBest (back needs : Bool) (forms : List Form) (text : List ℕ) (index size end : ℕ) : Type 0 where
+  pub here : IsSomeAnd (slice_get forms index) (λ form. IsCandidate back needs text form size end)
+  pub before : All (AllShorter back needs text size end) (take index forms)
+  pub others : All (NoLonger back needs text size end) forms
+
+-- `IsAhead back text end form` holds if some literal of `form` begins with more than the first `end` bytes of `text`, and not only with one
+-- point more in a list that gives points back.
+pub record IsAhead (back : Bool) (text : List ℕ) (end : ℕ) (form : Form) : Type 0 where
+  pub size : ℕ
+  pub valid : IsValidUpTo (notation_of form.syntax) text size
+  pub further : end < size
+  pub more : (back && (size == end + 1) && is_in (notation_of form.syntax).point (slice_get text end)) ≡ false
+
+-- Forms of a list, and those that need a suffix, whose indexes are behind.
+module _ (list : FormList) (t : Tokens) (text : List ℕ) where
+  -- `IsPlain index form size end` holds if `form`, with this index in the list, has the best candidate of the list, and no form that
+  -- needs a suffix has a longer one.
+  pub record IsPlain (index : ℕ) (form : Form) (size end : ℕ) : Type 0 where
+    pub at : slice_get list.forms index ≡ Some form
+    pub best : IsBest t.gives_points_back false list.forms text index size end
+    pub others : All (NoLonger t.gives_points_back true text size end) t.forms.now
+
+  -- `IsSuffixed index form size end` holds if `form`, which needs a suffix, has the best candidate of such forms, and a longer one than
+  -- those of the list.
+  pub record IsSuffixed (index : ℕ) (form : Form) (size end : ℕ) : Type 0 where
+    pub behind : ℕ
+    pub index_is : index ≡ length list.forms + behind
+    pub at : slice_get t.forms.now behind ≡ Some form
+    pub best : IsBest t.gives_points_back true t.forms.now text behind size end
+    pub others : All (AllShorter t.gives_points_back false text size end) list.forms
+
+  -- `IsChosen index form size end` holds if `form`, with this index, has the longest candidate.
+  abbrev pub IsChosen : ℕ → Form → ℕ → ℕ → Type 0
+  IsChosen index form size end = IsPlain index form size end ⊎ IsSuffixed index form size end
+
+  -- `IsFollowed end` holds if a word that may follow a number is behind `end`.
+  abbrev pub IsFollowed : ℕ → Type 0
+  IsFollowed end = IsTrue (is_followed t.following.now (drop end text))
+
+  -- `IsOver end` holds if no literal of a form of the list goes on behind `end`.
+  abbrev pub IsOver : ℕ → Type 0
+  IsOver end = All (λ form. IsAhead t.gives_points_back text end form → ⊥) list.forms
+
+  -- `IsToken token` holds if `token` has the longest candidate, its kind, its suffix and the rest of `text`, which a word may be that may follow; if not,
+  -- no literal goes on, and nothing follows that may not.
+  pub record IsToken (token : Token) : Type 0 where
+    pub form : Form
+    pub size : ℕ
+    pub end : ℕ
+    pub chosen : IsChosen token.form form size end
+    pub literal : ReadsForm (take size text) token.literal form
+    pub kind : token.literal.kind ≡ kind_with form.suffixes token.suffix.now form.kind
+    pub suffix : token.suffix.now ≡ take (end - size) (drop size text)
+    pub rest : token.rest.now ≡ drop end text
+    pub ended : IsFollowed end ⊎ (IsOver end × (is_stopped form.suffixes text end ≡ false))
+
+  -- `HasNone` holds if no form has a candidate, `HasGoneOn` if a literal goes on behind the longest, and `HasDigit` if a digit is behind its
+  -- literal, which begins no suffix. Then a form is to blame.
+  pub record HasNone : Type 0 where
+    pub plain : All (NoCandidate t.gives_points_back false text) list.forms
+    pub suffixed : All (NoCandidate t.gives_points_back true text) t.forms.now
+
+  pub record HasGoneOn : Type 0 where
+    pub index : ℕ
+    pub form : Form
+    pub size : ℕ
+    pub end : ℕ
+    pub chosen : IsChosen index form size end
+    pub not_followed : IsFollowed end → ⊥
+    pub ahead : (i : ℕ) × IsSomeAnd (slice_get list.forms i) (IsAhead t.gives_points_back text end)
+
+  pub record HasDigit : Type 0 where
+    pub index : ℕ
+    pub form : Form
+    pub size : ℕ
+    pub end : ℕ
+    pub chosen : IsChosen index form size end
+    pub not_followed : IsFollowed end → ⊥
+    pub over : IsOver end
+    pub stopped : is_stopped form.suffixes text end ≡ true
+    pub digit : is_in is_digit (slice_get text size) ≡ true
+
+  abbrev pub IsRefused : Type 0
+  IsRefused = HasNone ⊎ (HasGoneOn ⊎ HasDigit)
+
+  -- `word_end index` is the index behind the word of which the byte at `index` is one, or `index` if it is in no word.
+  abbrev pub word_end : ℕ → ℕ
+  word_end index = index + word_size (drop index text)
+
+  -- `IsWordUpTo size` holds if the form of the list that goes furthest in `text` stops in a word that ends at `size`.
+  pub record IsWordUpTo (size : ℕ) : Type 0 where
+    pub index : ℕ
+    pub stop : ℕ
+    pub furthest : IsGreatest (λ form n. IsValidUpTo (notation_of form.syntax) text n) list.forms index stop
+    pub end : size ≡ word_end stop
+
+  -- `IsUnknown index start end` holds if the form with this index has the longest candidate, with a literal of `start` bytes, and if what
+  -- follows it may not, and ends at `end` with its word.
+  pub record IsUnknown (index start end : ℕ) : Type 0 where
+    pub form : Form
+    pub behind : ℕ
+    pub chosen : IsChosen index form start behind
+    pub not_followed : IsFollowed behind → ⊥
+    pub over : IsOver behind
+    pub stopped : is_stopped form.suffixes text behind ≡ true
+    pub no_digit : is_in is_digit (slice_get text start) ≡ false
+    pub end_is : end ≡ stop_end text behind
+
+  -- `IsTokenError error` holds if `error` says why `text` begins with no token.
+  abbrev pub IsTokenError : TokenError → Type 0
+  IsTokenError errors.NoTokens = ⊥
+  IsTokenError (errors.Literal error) = IsRefused × ((size : ℕ) × IsWordUpTo size × IsFormError list.forms (take size text) error)
+  IsTokenError (errors.NotAToken end) = IsRefused × IsWordUpTo end × (NoForm list.forms (take end text) → ⊥)
+  IsTokenError (errors.UnknownSuffix form start end) = IsUnknown form start end
+
+-- `IsReadByTokens list tokens text result` holds if `result` is the token that `text` begins with, or says why there is none: without rules, there
+-- are no tokens.
+abbrev pub IsReadByTokens : FormList → Option (Bor Tokens) → List ℕ → Result Token TokenError → Type 0
+IsReadByTokens list None text result = result ≡ Err errors.NoTokens
+IsReadByTokens list (Some t) text (Ok token) = IsToken list t.now text token
+IsReadByTokens list (Some t) text (Err error) = IsTokenError list t.now text error

@@ -1,0 +1,569 @@
+//! Numbers that have several forms, such as `10`, `0x1F` and `0b1`.
+
+ghost use Rattle.std.specs.Prelude.{◌≡◌, ◌<◌, ◌≤◌, IfSome, IsSomeAnd, None, Some, SomeIff, false, length, slice_get};
+ghost use Rattle.lexical_forms.specs.Additions.Forms.{IsFoundForm, IsFoundFrontForm, IsFurthestForm, further, further_on, longer, sign_size};
+ghost use Rattle.lexical_literal.specs.Additions.Longest.{IsStopped};
+ghost use Rattle.lexical_forms.specs.Forms.{HasKind, IsErrorOfForm, IsFormError, IsFrontByForms, IsReadByForms, NoForm, special_by};
+ghost use Rattle.lexical_literal.specs.Read.{exact};
+ghost use Rattle.lexical_literal.specs.Notation.{notation_of};
+
+use crate::exclude::{excludes, is_behind, is_settled, sign_size};
+use crate::specials::{Special, Specials};
+use crate::suffix::Suffixes;
+use lexical_literal::cause::ReadError;
+use lexical_literal::kind::Kind;
+use lexical_literal::literal::Literal;
+use lexical_literal::plain::At;
+use lexical_literal::read::Found;
+use lexical_literal::syntax::Syntax;
+use std::marker::Model;
+
+/// A form of numbers: its name, such as `hexadecimal`, its syntax, the suffixes of its tokens, and its kind.
+#[derive(Clone, Copy)]
+pub struct Form {
+    pub(crate) name: &'static str,
+    pub(crate) syntax: Syntax,
+    pub(crate) suffixes: Option<&'static Suffixes>,
+    pub(crate) kind: Kind,
+}
+
+impl Form {
+    /// Returns the form with a name, which may be empty, and a syntax, without suffixes, of the kind [`Kind::EXACT`].
+    #[must_use]
+    pub const fn new(name: &'static str, syntax: Syntax) -> Form
+        ensures name { result.name.now ≡ name.now }
+        ensures syntax { result.syntax ≡ syntax }
+        ensures suffixes { result.suffixes ≡ None }
+        ensures kind { result.kind ≡ exact }
+    {
+        Form {
+            name,
+            syntax,
+            suffixes: None,
+            kind: Kind::EXACT,
+        }
+    }
+
+    /// Returns the same form with the suffixes that its tokens may have.
+    #[must_use]
+    pub const fn with_suffixes(&self, suffixes: &'static Suffixes) -> Form
+        ensures name { result.name.now ≡ self.now.name.now }
+        ensures syntax { result.syntax ≡ self.now.syntax }
+        ensures suffixes { result.suffixes ≡ Some suffixes.entry }
+        ensures kind { result.kind ≡ self.now.kind }
+    {
+        Form {
+            name: self.name,
+            syntax: self.syntax,
+            suffixes: Some(suffixes),
+            kind: self.kind,
+        }
+    }
+
+    /// Returns the same form with another kind, which its literals have.
+    #[must_use]
+    pub const fn with_kind(&self, kind: Kind) -> Form
+        ensures name { result.name.now ≡ self.now.name.now }
+        ensures syntax { result.syntax ≡ self.now.syntax }
+        ensures suffixes { result.suffixes ≡ self.now.suffixes }
+        ensures kind { result.kind ≡ kind }
+    {
+        Form {
+            name: self.name,
+            syntax: self.syntax,
+            suffixes: self.suffixes,
+            kind,
+        }
+    }
+
+    /// Returns the kind.
+    #[must_use]
+    pub const fn kind(&self) -> Kind
+        ensures { result ≡ self.now.kind }
+    {
+        self.kind
+    }
+
+    /// Returns the suffixes, if there are any.
+    #[must_use]
+    pub const fn suffixes(&self) -> Option<&'static Suffixes>
+        ensures { result ≡ self.now.suffixes }
+    {
+        self.suffixes
+    }
+
+    /// Returns the name.
+    #[must_use]
+    pub const fn name(&self) -> &'static str
+        ensures { result.now ≡ self.now.name.now }
+    {
+        self.name
+    }
+
+    /// Returns the syntax.
+    #[must_use]
+    pub const fn syntax(&self) -> Syntax
+        ensures { result ≡ self.now.syntax }
+    {
+        self.syntax
+    }
+}
+
+/// How numbers end in the middle of source text: forms that need a suffix, which no call but [`Forms::token`] takes, words that may
+/// follow a number directly, and whether a point at the end of a number may belong to what follows.
+#[derive(Clone, Copy)]
+pub struct Tokens {
+    pub(crate) forms: &'static [Form],
+    pub(crate) following: &'static [&'static [u8]],
+    pub(crate) gives_points_back: bool,
+}
+
+impl Tokens {
+    /// Returns the rules with `forms` that need a suffix, such as `08f` in Java, and with words that may follow a number
+    /// directly, such as `else` in `1else` in Python.
+    #[must_use]
+    pub const fn new(forms: &'static [Form], following: &'static [&'static [u8]]) -> Tokens
+        ensures { result ≡ record { forms = forms.entry; following = following.entry; gives_points_back = false } }
+    {
+        Tokens {
+            forms,
+            following,
+            gives_points_back: false,
+        }
+    }
+
+    /// Sets whether a point at the end of a number belongs to what follows if that is another point or a word, as in `1..2` and
+    /// `1.max(2)`.
+    #[must_use]
+    pub const fn gives_points_back(self, gives: bool) -> Tokens
+        ensures { result ≡ record self { gives_points_back = gives } }
+    {
+        Tokens {
+            gives_points_back: gives,
+            ..self
+        }
+    }
+
+    /// Returns the forms that need a suffix.
+    #[must_use]
+    pub const fn forms(&self) -> &'static [Form]
+        ensures { result ≡ self.now.forms }
+    {
+        self.forms
+    }
+
+    /// Returns the words that may follow a number directly.
+    #[must_use]
+    pub const fn following(&self) -> &'static [&'static [u8]]
+        ensures { result ≡ self.now.following }
+    {
+        self.following
+    }
+}
+
+/// The forms of numbers, at least one, the spellings of NaN and infinity, and how tokens are read. The first form of which a text
+/// is a literal decides what number it is.
+#[derive(Drop)]
+pub struct Forms<'a> {
+    pub(crate) forms: &'a [Form],
+    specials: Specials<'a>,
+    pub(crate) tokens: Option<&'a Tokens>,
+}
+
+impl<'a> Model for Forms<'a> {
+    ghost use Rattle.std.specs.Prelude.{◌<◌, length};
+    ghost use Rattle.lexical_forms.specs.FormList.{FormList};
+
+    ghost Value = { FormList };
+
+    ghost view = { λ it. record { forms = it.forms.now; specials = it.specials; tokens = it.tokens } };
+
+    ghost invariant = { λ it. 0 < length it.forms.now };
+}
+
+/// A number that has one of several forms.
+///
+/// ```
+/// use peltzivar::literal::{Language, Number};
+///
+/// let described = |text| match Language::TOML.read(text) {
+///     Ok(Number::Literal { literal, .. }) => format!("{literal} in radix {}", literal.radix(peltzivar::Part::Integer)),
+///     Ok(Number::Special(special)) => format!("{special}, which is special"),
+///     Err(error) => error.to_string(),
+/// };
+/// assert_eq!(described("0xFF"), "0xFF in radix 16");
+/// assert_eq!(described("-inf"), "-inf, which is special");
+/// ```
+#[derive(Drop)]
+pub enum Number<'a> {
+    /// A literal.
+    Literal {
+        /// The literal.
+        literal: Literal<'a>,
+        /// The index of its form.
+        form: usize,
+    },
+    /// NaN or infinity.
+    Special(Special),
+}
+
+/// Why a text is not a number of any form: the error of the form that goes furthest in the text. Of several, it is the
+/// first whose cause is not a wrong byte, or the first if the cause of each is one.
+///
+/// ```
+/// use peltzivar::literal::Language;
+///
+/// let (language, text) = (Language::C, "0x1G");
+/// let error = language.read(text).unwrap_err();
+/// assert_eq!((language.forms()[error.form].name(), &text[error.span()]), ("hexadecimal", "G"));
+/// assert_eq!(error.to_string(), "unexpected character 'G'");
+/// ```
+#[derive(Debug, Clone, Copy, PartialEq, Eq, Hash)]
+pub struct FormError {
+    /// The index of the form.
+    pub form: usize,
+    /// The name of the form.
+    pub name: &'static str,
+    /// Why the text is not a literal of this form.
+    pub error: ReadError,
+}
+
+impl<'a> Forms<'a> {
+    /// Returns the list of `forms` without special values, or `None` if there are no forms.
+    #[must_use]
+    pub const fn new(forms: &'a [Form]) -> Option<Forms<'a>>
+        ensures { SomeIff result (0 < length forms.now) (record {
+          forms = forms.now;
+          specials = record { nan = None; inf = None; infinity = None };
+          tokens = None;
+        }) }
+    {
+        if forms.len() == 0 {
+            return None;
+        }
+        let specials = Specials {
+            nan: None,
+            inf: None,
+            infinity: None,
+        };
+        Some(Forms {
+            forms,
+            specials,
+            tokens: None,
+        })
+    }
+
+    /// Returns the same forms with these special values. The format of the first form decides what flags say of them.
+    ///
+    /// ```
+    /// use peltzivar::literal::{Form, Forms, Specials, Syntax};
+    /// use peltzivar::Format;
+    ///
+    /// let forms = [Form::new("", Syntax::new_or_panic(Format::default(), b'e', b'.'))];
+    /// let list = Forms::new_or_panic(&forms).with_specials(Specials { nan: Some(b"NA"), ..Specials::default() });
+    /// assert!(list.parse::<f64>("NA").unwrap().is_nan());
+    /// ```
+    #[must_use]
+    pub const fn with_specials(self, specials: Specials<'a>) -> Forms<'a>
+        ensures { result ≡ record self.entry { specials = specials.entry } }
+    {
+        Forms {
+            forms: self.forms,
+            specials,
+            tokens: self.tokens,
+        }
+    }
+
+    /// Returns the same forms with rules for tokens, without which there are none.
+    #[must_use]
+    pub const fn with_tokens(self, tokens: &'a Tokens) -> Forms<'a>
+        ensures forms { result.forms ≡ self.entry.forms }
+        ensures specials { result.specials ≡ self.entry.specials }
+        ensures tokens { result.tokens ≡ Some tokens.entry }
+    {
+        Forms {
+            forms: self.forms,
+            specials: self.specials,
+            tokens: Some(tokens),
+        }
+    }
+
+    /// Returns the forms.
+    #[must_use]
+    pub const fn as_slice(&self) -> &'a [Form]
+        ensures list { result.now ≡ self.now.forms }
+        ensures some { 0 < length self.now.forms }
+    {
+        self.forms
+    }
+
+    /// Returns the spellings of special values.
+    #[must_use]
+    pub const fn specials(&self) -> Specials<'a>
+        ensures { result ≡ self.now.specials }
+    {
+        self.specials
+    }
+
+    /// Returns the rules for tokens, if there are any.
+    #[must_use]
+    pub const fn tokens(&self) -> Option<&'a Tokens>
+        ensures { result ≡ self.now.tokens }
+    {
+        self.tokens
+    }
+
+    /// Returns the number that `text` is: a literal of the first form of which it is one, or otherwise a special value.
+    ///
+    /// # Errors
+    ///
+    /// If `text` is neither, returns the error of the form for which most of it is right. Of several, it is the first whose
+    /// cause is not a wrong byte, or the first if the cause of each is one. So `0b12` has the error of the binary form.
+    pub fn read<'t>(&self, text: &'t [u8]) -> Result<Number<'t>, FormError>
+        ensures { IsReadByForms self.now text.now result }
+    {
+        let sign = sign_size(text);
+        let mut furthest = None;
+        let mut form = 0;
+        while form < self.forms.len() {
+            let it = &self.forms[form];
+            let syntax = &it.syntax;
+            if !is_behind(syntax.grammar(), text, sign, furthest) {
+                let counted = syntax.begin(false, text, false);
+                if syntax.is_whole(text, counted) {
+                    let literal = syntax
+                        .literal(text, counted.counts, counted.sums)
+                        .with_kind(it.kind);
+                    return Ok(Number::Literal { literal, form });
+                }
+                let stop = match syntax.reached(text, counted) {
+                    Ok(counts) => {
+                        let literal = syntax.summed(text, counts).with_kind(it.kind);
+                        return Ok(Number::Literal { literal, form });
+                    }
+                    Err(stop) => stop,
+                };
+                furthest = further_on(sign, furthest, form, stop);
+            }
+            form += 1;
+        }
+        self.without_literal(text, furthest)
+    }
+
+    /// Returns the longest literal of any form that `text` begins with, of the first form if several have it, and the rest
+    /// of `text`, which may be anything. It does not find special values.
+    ///
+    /// # Errors
+    ///
+    /// If `text` does not begin with a literal, returns why it is not one.
+    pub fn read_prefix<'t>(&self, text: &'t [u8]) -> Result<(Number<'t>, &'t [u8]), FormError>
+        ensures { IsFrontByForms self.now text.now result }
+    {
+        match self.find_front(text) {
+            Ok((form, found)) => {
+                let Found { size, counts } = found;
+                let (front, rest) = text.split_at(size);
+                let summed = self.as_slice()[form].syntax.summed(front, counts);
+                let literal = self.of_form(form, summed);
+                Ok((Number::Literal { literal, form }, rest))
+            }
+            Err(error) => Err(error),
+        }
+    }
+
+    // Returns a literal with the kind of the form with the index `form`.
+    #[inline(always)]
+    fn of_form<'t>(&self, form: usize, literal: Literal<'t>) -> Literal<'t>
+        requires { form < length self.now.forms }
+        ensures format { result.format ≡ literal.entry.format }
+        ensures literal { result.literal ≡ literal.entry.literal }
+        ensures kind { HasKind self.now.forms form result }
+    {
+        literal.with_kind(self.as_slice()[form].kind)
+    }
+
+    // Returns the special value that `text` is, which is no literal, or why it is none. The form that goes furthest is known if it
+    // goes beyond the first byte behind the sign.
+    #[inline(never)]
+    fn without_literal<'t>(
+        &self,
+        text: &'t [u8],
+        furthest: Option<(usize, At)>,
+    ) -> Result<Number<'t>, FormError>
+        requires furthest { IfSome furthest (λ best. IsFurthestForm self.now.forms text.now (Some best)) }
+        requires none { NoForm self.now.forms text.now }
+        ensures { IsReadByForms self.now text.now result }
+    {
+        match self.special(text) {
+            Some(special) => Ok(Number::Special(special)),
+            None => match furthest {
+                None => Err(self.refuse(text, self.furthest(text))),
+                Some(best) => Err(self.refuse(text, Some(best))),
+            },
+        }
+    }
+
+    // Returns the special value that `text` is, if it is one.
+    fn special(&self, text: &[u8]) -> Option<Special>
+        ensures { result ≡ special_by self.now text.now }
+    {
+        self.specials.read(&self.forms[0].syntax, text)
+    }
+
+    // Returns the index of the first form of which `text` is a literal, and the literal.
+    pub(crate) fn find<'t>(&self, text: &'t [u8]) -> Option<(usize, Literal<'t>)>
+        ensures { IsFoundForm self.now.forms text.now result }
+    {
+        let mut form = 0;
+        while form < self.forms.len() {
+            let syntax = &self.forms[form].syntax;
+            if !excludes(syntax.grammar(), text, sign_size(text)) {
+                let counted = syntax.begin(false, text, false);
+                if syntax.is_whole(text, counted) {
+                    return Some((form, syntax.literal(text, counted.counts, counted.sums)));
+                }
+                let stop = syntax.reach(text, counted);
+                if let Some(counts) = syntax.lengths(text, stop) {
+                    return Some((form, syntax.summed(text, counts)));
+                }
+            }
+            form += 1;
+        }
+        None
+    }
+
+    // Returns the form that goes furthest in `text`, the first of equals, and where it stops.
+    pub(crate) fn furthest(&self, text: &[u8]) -> Option<(usize, At)>
+        ensures { IsFurthestForm self.now.forms text.now result }
+    {
+        let mut furthest = None;
+        let mut form = 0;
+        while form < self.forms.len() {
+            let stop = self.forms[form].syntax.stop_in(text);
+            furthest = further(furthest, form, stop);
+            form += 1;
+        }
+        furthest
+    }
+
+    // Returns the longest front of `text` that is a literal of a form, with the index of the form, the first of equals, or
+    // why there is none.
+    fn find_front(&self, text: &[u8]) -> Result<(usize, Found), FormError>
+        ensures { IsFoundFrontForm self.now.forms text.now result }
+    {
+        let mut furthest = None;
+        let mut longest = None;
+        let mut form = 0;
+        while form < self.forms.len() {
+            let (stop, found) = self.forms[form].syntax.front(text);
+            furthest = further(furthest, form, stop);
+            longest = longer(longest, form, found);
+            form += 1;
+        }
+        match longest {
+            Some((form, found)) => Ok((form, found)),
+            None => Err(self.refuse(text, furthest)),
+        }
+    }
+
+    // Returns why `text` is not a literal of the form that goes furthest, or, if the cause is a wrong byte, of the first that
+    // goes as far and has another cause.
+    #[cold]
+    pub(crate) fn refuse(&self, text: &[u8], furthest: Option<(usize, At)>) -> FormError
+        requires furthest { IsFurthestForm self.now.forms text.now furthest }
+        requires none { NoForm self.now.forms text.now }
+        ensures { IsFormError self.now.forms text.now result }
+    {
+        let Some((first, stop)) = furthest else {
+            unreachable!()
+        };
+        let error = self.error_at(text, first, stop);
+        let forms = self.as_slice();
+        let mut form = first + 1;
+        while form < forms.len() {
+            let syntax = &forms[form].syntax;
+            if !is_settled(syntax.grammar(), text, stop.size) {
+                if let Some(reached) = syntax.stop_at(text, stop.size) {
+                    if !error.error.is_byte() {
+                        return error;
+                    }
+                    let other = self.error_at(text, form, reached);
+                    if !other.error.is_byte() {
+                        return other;
+                    }
+                }
+            }
+            form += 1;
+        }
+        error
+    }
+
+    // Returns why `text` is not a literal of the form with the index `form`, which stops at `stop`.
+    #[inline(always)]
+    fn error_at(&self, text: &[u8], form: usize, stop: At) -> FormError
+        requires inside { form < length self.now.forms }
+        requires stopped { IsSomeAnd (slice_get self.now.forms form) (λ form. IsStopped (notation_of form.syntax) text.now stop) }
+        requires none { NoForm self.now.forms text.now }
+        ensures index { result.form ≡ form }
+        ensures error { IsSomeAnd (slice_get self.now.forms result.form) (IsErrorOfForm text.now result) }
+    {
+        let it = &self.as_slice()[form];
+        let Err(error) = it.syntax.refuse::<()>(text, stop) else {
+            unreachable!()
+        };
+        FormError {
+            form,
+            name: it.name,
+            error,
+        }
+    }
+}
+
+// Returns the longer of two fronts, the first of equals.
+#[inline(always)]
+const fn longer(
+    longest: Option<(usize, Found)>,
+    form: usize,
+    found: Option<Found>,
+) -> Option<(usize, Found)>
+    ensures { result ≡ longer longest form found }
+{
+    match (longest, found) {
+        (_, None) => longest,
+        (Some((_, best)), Some(found)) if best.size >= found.size => longest,
+        (_, Some(found)) => Some((form, found)),
+    }
+}
+
+// Returns which of two forms goes further, the first of equals.
+#[inline(always)]
+pub(crate) const fn further(
+    furthest: Option<(usize, At)>,
+    form: usize,
+    stop: At,
+) -> Option<(usize, At)>
+    ensures { result ≡ further furthest form stop }
+{
+    match furthest {
+        Some((_, best)) if best.size >= stop.size => furthest,
+        _ => Some((form, stop)),
+    }
+}
+
+// Returns the same, without a form that does not go beyond the first byte behind a sign of this length.
+#[inline(always)]
+const fn further_on(
+    sign: usize,
+    furthest: Option<(usize, At)>,
+    form: usize,
+    stop: At,
+) -> Option<(usize, At)>
+    requires { sign ≤ 1 }
+    ensures { result ≡ further_on sign furthest form stop }
+{
+    if stop.size > sign + 1 {
+        further(furthest, form, stop)
+    } else {
+        furthest
+    }
+}

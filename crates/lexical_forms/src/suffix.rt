@@ -1,0 +1,389 @@
+//! Words that stand directly behind a number, such as `u8`, and bytes that may not follow it.
+
+ghost use Rattle.std.specs.Prelude.{◌≡◌, ◌==◌, [], ◌+◌, ◌≤◌, IsTrue, Some, false, if◌then◌else◌, length, slice_get};
+ghost use Rattle.std.specs.Char.{eq_ignore_ascii_case};
+ghost use Rattle.std.specs.List.{list_any};
+ghost use Rattle.lexical_literal.specs.Cause.{is_in};
+ghost use Rattle.lexical_forms.specs.Suffix.{admits, any_word_size, begins, byte_before, is_followed, is_stopped, is_word_byte, kind_among, kind_with};
+ghost use Rattle.lexical_forms.specs.Suffix.{longest_word, meets, suffix_size, word_size};
+
+use lexical_literal::kind::Kind;
+use lexical_literal::read::byte_at;
+
+/// Bytes that may not follow a number in source text, such as the `+` behind `0xe` in C.
+///
+/// It has three lists: the last byte of the number is in the first, the next byte in the second, and the one after it in the
+/// third. A list that is empty asks for nothing.
+#[derive(Clone, Copy)]
+pub struct Stop {
+    last: &'static [u8],
+    next: &'static [u8],
+    second: &'static [u8],
+}
+
+impl Stop {
+    /// Returns a stop: a number that ends in one of the bytes `last`, and is followed by one of the bytes `next`, and then by
+    /// one of the bytes `second`, is not a token.
+    #[must_use]
+    pub const fn new(last: &'static [u8], next: &'static [u8], second: &'static [u8]) -> Stop
+        ensures last { result.last ≡ last.entry }
+        ensures next { result.next ≡ next.entry }
+        ensures second { result.second ≡ second.entry }
+    {
+        Stop { last, next, second }
+    }
+}
+
+/// The suffixes of a form: words that belong to a number directly behind it, such as `u8`, and stops.
+///
+/// ```
+/// use peltzivar::literal::{Form, Forms, Suffixes, Syntax, Tokens};
+/// use peltzivar::Format;
+///
+/// static SUFFIXES: Suffixes = Suffixes::new(&[b"u8", b"i32"], &[], &[]);
+/// let forms = [Form::new("decimal", Syntax::integers(Format::default())).with_suffixes(&SUFFIXES)];
+/// let tokens = Tokens::new(&[], &[]);
+/// let token = Forms::new_or_panic(&forms).with_tokens(&tokens).token("10u8;").unwrap();
+/// assert_eq!((token.literal.to_u64(), token.suffix, token.rest), (Ok(10), &b"u8"[..], &b";"[..]));
+/// ```
+#[derive(Clone, Copy)]
+pub struct Suffixes {
+    integers: &'static [&'static [u8]],
+    floats: &'static [&'static [u8]],
+    either_case: bool,
+    any: &'static [u8],
+    stops: &'static [Stop],
+    kinds: &'static [(&'static [u8], Kind)],
+}
+
+impl Suffixes {
+    /// Returns suffixes: the words `integers` behind integers, and `floats` behind floats, in this case, with the bytes that
+    /// may not follow. Letters, digits, `_` and bytes from 128 up never may. A word that has other bytes is never found.
+    #[must_use]
+    pub const fn new(
+        integers: &'static [&'static [u8]],
+        floats: &'static [&'static [u8]],
+        stops: &'static [Stop],
+    ) -> Suffixes
+        ensures integers { result.integers ≡ integers.entry }
+        ensures floats { result.floats ≡ floats.entry }
+        ensures case { result.either_case ≡ false }
+        ensures any { result.any.now ≡ [] }
+        ensures stops { result.stops ≡ stops.entry }
+        ensures kinds { result.kinds.now ≡ [] }
+    {
+        Suffixes {
+            integers,
+            floats,
+            either_case: false,
+            any: &[],
+            stops,
+            kinds: &[],
+        }
+    }
+
+    /// Sets whether the words may be in either case.
+    #[must_use]
+    pub const fn either_case(self, either: bool) -> Suffixes
+        ensures { result ≡ record self { either_case = either } }
+    {
+        Suffixes {
+            either_case: either,
+            ..self
+        }
+    }
+
+    /// Sets the bytes of which any word that begins with one is a suffix, such as `_` for `1_km`.
+    #[must_use]
+    pub const fn any_word(self, begins: &'static [u8]) -> Suffixes
+        ensures integers { result.integers ≡ self.integers }
+        ensures floats { result.floats ≡ self.floats }
+        ensures case { result.either_case ≡ self.either_case }
+        ensures any { result.any ≡ begins.entry }
+        ensures stops { result.stops ≡ self.stops }
+        ensures kinds { result.kinds ≡ self.kinds }
+    {
+        Suffixes {
+            any: begins,
+            ..self
+        }
+    }
+
+    /// Sets the kinds of numbers with these suffixes. With others, and without one, a number has the kind of its form.
+    #[must_use]
+    pub const fn with_kinds(self, kinds: &'static [(&'static [u8], Kind)]) -> Suffixes
+        ensures { result ≡ record self { kinds = kinds.entry } }
+    {
+        Suffixes { kinds, ..self }
+    }
+
+    /// Returns the words that may be behind integers.
+    #[must_use]
+    pub const fn integers(&self) -> &'static [&'static [u8]]
+        ensures { result ≡ self.now.integers }
+    {
+        self.integers
+    }
+
+    /// Returns the words that may be behind floats.
+    #[must_use]
+    pub const fn floats(&self) -> &'static [&'static [u8]]
+        ensures { result ≡ self.now.floats }
+    {
+        self.floats
+    }
+
+    /// Returns whether the words may be in either case.
+    #[must_use]
+    pub const fn is_either_case(&self) -> bool
+        ensures { result ≡ self.now.either_case }
+    {
+        self.either_case
+    }
+
+    /// Returns the bytes of which any word that begins with one is a suffix.
+    #[must_use]
+    pub const fn begins_any_word(&self) -> &'static [u8]
+        ensures { result ≡ self.now.any }
+    {
+        self.any
+    }
+
+    // Returns the length of the longest suffix with which `text` begins, or 0 if there is none.
+    const fn size(&self, float: bool, text: &[u8]) -> usize
+        ensures size { result ≡ suffix_size (Some self.entry) float text.now }
+        ensures within { result ≤ length text.now }
+    {
+        let size = any_word_size(self.any, text);
+        if size == 0 {
+            let words = if float { self.floats } else { self.integers };
+            longest_word(self.either_case, words, text)
+        } else {
+            size
+        }
+    }
+}
+
+// Returns the length of the longest suffix with which `text` begins, or 0 if there is none.
+#[inline(always)]
+pub(crate) const fn suffix_size(
+    suffixes: Option<&'static Suffixes>,
+    float: bool,
+    text: &[u8],
+) -> usize
+    ensures size { result ≡ suffix_size suffixes.entry float text.now }
+    ensures within { result ≤ length text.now }
+{
+    match suffixes {
+        None => 0,
+        Some(suffixes) => {
+            if has_word_byte(text, 0) {
+                suffixes.size(float, text)
+            } else {
+                0
+            }
+        }
+    }
+}
+
+// Returns the kind of a number with the suffix `word`, of a form of the kind `kind`.
+pub(crate) const fn kind_with(suffixes: Option<&'static Suffixes>, word: &[u8], kind: Kind) -> Kind
+    ensures { result ≡ kind_with suffixes.entry word.now kind }
+{
+    match suffixes {
+        None => kind,
+        Some(it) => kind_among(it.either_case, it.kinds, word, kind),
+    }
+}
+
+// Returns the kind of the first of `kinds` with the suffix `word`, or `kind` if there is none.
+const fn kind_among(either: bool, kinds: &[(&[u8], Kind)], word: &[u8], kind: Kind) -> Kind
+    ensures { result ≡ kind_among either kinds.now word.now kind }
+{
+    match kinds {
+        [] => kind,
+        [(suffix, own), rest @ ..] => {
+            if begins(either, suffix, word) && suffix.len() == word.len() {
+                *own
+            } else {
+                kind_among(either, rest, word, kind)
+            }
+        }
+    }
+}
+
+// Returns whether what is behind the number that ends at `end` may not follow it.
+#[inline(always)]
+pub(crate) const fn is_stopped(suffixes: Option<&'static Suffixes>, text: &[u8], end: usize) -> bool
+    ensures { result ≡ is_stopped suffixes.entry text.now end }
+{
+    has_word_byte(text, end)
+        || match suffixes {
+            None => false,
+            Some(suffixes) => is_one_met(suffixes.stops, text, end),
+        }
+}
+
+// Returns whether the byte at `index` is one of a word.
+#[inline(always)]
+const fn has_word_byte(text: &[u8], index: usize) -> bool
+    ensures { result ≡ is_in is_word_byte (slice_get text.now index) }
+{
+    match byte_at(text, index) {
+        None => false,
+        Some(byte) => is_word_byte(byte),
+    }
+}
+
+// Returns whether one of the stops is behind the number that ends at `end`.
+const fn is_one_met(stops: &[Stop], text: &[u8], end: usize) -> bool
+    ensures { result ≡ list_any (meets text.now end) stops.now }
+{
+    match stops {
+        [] => false,
+        [stop, rest @ ..] => meets(text, end, stop) || is_one_met(rest, text, end),
+    }
+}
+
+// Returns whether a stop is behind the number that ends at `end`.
+const fn meets(text: &[u8], end: usize, stop: &Stop) -> bool
+    ensures { result ≡ meets text.now end stop.now }
+{
+    admits(stop.last, byte_before(text, end))
+        && admits(stop.next, byte_at(text, end))
+        && admits(stop.second, byte_after(text, end))
+}
+
+// Returns the byte behind the one at `index`, if there is one.
+const fn byte_after(text: &[u8], index: usize) -> Option<u8>
+    ensures { result ≡ slice_get text.now (index + 1) }
+{
+    if index < text.len() {
+        byte_at(text, index + 1)
+    } else {
+        None
+    }
+}
+
+// Returns the byte before the one at `index`, if there is one.
+pub(crate) const fn byte_before(text: &[u8], index: usize) -> Option<u8>
+    ensures { result ≡ byte_before text.now index }
+{
+    if index == 0 {
+        None
+    } else {
+        byte_at(text, index - 1)
+    }
+}
+
+// Returns whether `byte` is one of `bytes`, or `bytes` is empty.
+const fn admits(bytes: &[u8], byte: Option<u8>) -> bool
+    ensures { result ≡ admits bytes.now byte }
+{
+    match bytes {
+        [] => true,
+        _ => match byte {
+            None => false,
+            Some(byte) => has_byte(bytes, byte),
+        },
+    }
+}
+
+// Returns whether `byte` is one of `bytes`.
+const fn has_byte(bytes: &[u8], byte: u8) -> bool
+    ensures { result ≡ list_any (λ it. it == byte) bytes.now }
+{
+    match bytes {
+        [] => false,
+        [first, rest @ ..] => *first == byte || has_byte(rest, byte),
+    }
+}
+
+// Returns whether `byte` is a digit, a letter, `_` or at least 128.
+#[inline(always)]
+pub(crate) const fn is_word_byte(byte: u8) -> bool
+    ensures { result ≡ is_word_byte byte }
+{
+    matches!(byte, b'0'..=b'9' | b'A'..=b'Z' | b'_' | b'a'..=b'z' | 128..)
+}
+
+// Returns the number of bytes of a word with which `text` begins.
+pub(crate) const fn word_size(text: &[u8]) -> usize
+    ensures size { result ≡ word_size text.now }
+    ensures within { result ≤ length text.now }
+{
+    let mut rest = text;
+    while let [byte, more @ ..] = rest {
+        if !is_word_byte(*byte) {
+            return text.len() - rest.len();
+        }
+        rest = more;
+    }
+    text.len()
+}
+
+// Returns the same if `text` begins with one of the bytes `begins`, or 0 otherwise.
+const fn any_word_size(begins: &[u8], text: &[u8]) -> usize
+    ensures size { result ≡ any_word_size begins.now text.now }
+    ensures within { result ≤ length text.now }
+{
+    match text {
+        [byte, ..] if has_byte(begins, *byte) => word_size(text),
+        _ => 0,
+    }
+}
+
+// Returns whether `text` begins with `word`, letter case aside if `either` is true, and if these are bytes of a word.
+const fn begins(either: bool, word: &[u8], text: &[u8]) -> bool
+    ensures begins { result ≡ begins either word.now text.now }
+    ensures within { IsTrue result → length word.now ≤ length text.now }
+{
+    match word {
+        [] => true,
+        [letter, word @ ..] => match text {
+            [] => false,
+            [byte, text @ ..] => {
+                is_same(either, *letter, *byte) && is_word_byte(*byte) && begins(either, word, text)
+            }
+        },
+    }
+}
+
+// Returns whether two bytes are the same, letter case aside if `either` is true.
+const fn is_same(either: bool, letter: u8, byte: u8) -> bool
+    ensures { result ≡ (if either then eq_ignore_ascii_case letter byte else letter == byte) }
+{
+    if either {
+        letter.eq_ignore_ascii_case(&byte)
+    } else {
+        letter == byte
+    }
+}
+
+// Returns the length of the longest of `words` with which `text` begins, or 0 if it begins with none.
+const fn longest_word(either: bool, words: &[&[u8]], text: &[u8]) -> usize
+    ensures size { result ≡ longest_word either words.now text.now }
+    ensures within { result ≤ length text.now }
+{
+    let mut longest = 0;
+    let mut rest = words;
+    while let [word, more @ ..] = rest {
+        if longest < word.len() && begins(either, word, text) {
+            longest = word.len();
+        }
+        rest = more;
+    }
+    longest
+}
+
+// Returns whether the word with which `text` begins is one of `words`.
+pub(crate) const fn is_followed(words: &[&[u8]], text: &[u8]) -> bool
+    ensures { result ≡ is_followed words.now text.now }
+{
+    match words {
+        [] => false,
+        [word, rest @ ..] => {
+            (begins(false, word, text) && word.len() == word_size(text)) || is_followed(rest, text)
+        }
+    }
+}

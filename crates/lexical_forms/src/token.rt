@@ -1,0 +1,664 @@
+//! Tokens: numbers in the middle of a text, each with its suffix.
+
+ghost use Rattle.std.specs.Prelude.{◌≡◌, ◌<◌, ◌≤◌, ◌+◌, ◌-◌, ℕ, All, IsNone, IsSomeAnd, IsTrue, Some, drop, false, length, slice_get, take, true};
+ghost use Rattle.std.specs.Option.{ForSome};
+ghost use Rattle.lexical_forms.specs.Additions.Forms.{IsFurthestForm, PlaysNoRole, sign_size};
+ghost use Rattle.lexical_literal.specs.Additions.Longest.{HasBegun, IsCountedFront, IsMeasured, IsStopped};
+ghost use Rattle.lexical_literal.specs.Additions.Read.{AreSums, cut};
+ghost use Rattle.lexical_literal.specs.Additions.Summary.{cuts_of};
+ghost use Rattle.lexical_forms.specs.Additions.Token.{AreNear, FrontsWithin, IsBestOf, IsLeading, IsMade, IsNear, IsOwn, IsPicked, IsWithin, NoOwn, better};
+ghost use Rattle.lexical_forms.specs.Additions.Token.{goes_on};
+ghost use Rattle.lexical_forms.specs.Additions.Token.{has_float, has_prefix, suffixed, whole};
+ghost use Rattle.lexical_literal.specs.Cause.{is_in};
+ghost use Rattle.lexical_forms.specs.Forms.{ReadsForm};
+ghost use Rattle.lexical_literal.specs.Notation.{notation_of};
+ghost use Rattle.lexical_forms.specs.Suffix.{is_digit, kind_with, stop_end};
+ghost use Rattle.lexical_forms.specs.Token.{HasNone, IsAhead, IsReadByTokens, IsToken, IsTokenError, IsRefused, IsWordUpTo, NoCandidate, gives_back};
+ghost use Rattle.lexical_forms.specs.Token.{is_shorter};
+ghost use Rattle.lexical_util.specs.Record.{raw};
+
+use crate::exclude::sign_size;
+use crate::list::{Form, FormError, Forms, Tokens, further};
+use crate::suffix::{
+    byte_before, is_followed, is_stopped, is_word_byte, kind_with, suffix_size, word_size,
+};
+use lexical_literal::literal::Literal;
+use lexical_literal::plain::{At, Counted};
+use lexical_literal::read::{Found, byte_at};
+use lexical_literal::steps::{is_digit, is_point, role_at};
+use lexical_literal::syntax::{Condition, Grammar, Syntax};
+use lexical_util::format::Part;
+
+/// A number that a text begins with, and what follows it.
+///
+/// ```
+/// use peltzivar::literal::Language;
+///
+/// let token = Language::C.token("10ul+1").unwrap();
+/// assert_eq!((token.literal.to_u64(), token.suffix, token.rest), (Ok(10), &b"ul"[..], &b"+1"[..]));
+/// ```
+#[derive(Drop)]
+pub struct Token<'a> {
+    /// The literal, with the kind that its form and its suffix give it.
+    pub literal: Literal<'a>,
+    /// The index of its form. Those of forms that need a suffix are behind the others.
+    pub form: usize,
+    /// The suffix, which is empty if there is none.
+    pub suffix: &'a [u8],
+    /// What follows.
+    pub rest: &'a [u8],
+}
+
+/// Why a text does not begin with a token.
+///
+/// ```
+/// use peltzivar::literal::Language;
+///
+/// let text = "10ux;";
+/// let error = Language::C.token(text).unwrap_err();
+/// assert_eq!(format!("{error}: {}", &text[error.span()]), "unknown suffix: ux");
+/// ```
+#[derive(Debug, Clone, Copy, PartialEq, Eq, Hash)]
+pub enum TokenError {
+    /// The list has no rules for tokens.
+    NoTokens,
+    /// The text, up to the end of the word where reading stops, is not a literal.
+    Literal(FormError),
+    /// The text up to `end` is a literal, but its point belongs to what follows, and without the point it is not one.
+    NotAToken {
+        /// The index behind the number.
+        end: usize,
+    },
+    /// The word behind a number is not a suffix of its form, or a byte follows that may not.
+    UnknownSuffix {
+        /// The index of the form.
+        form: usize,
+        /// The index where the word begins, which is the end of the literal.
+        start: usize,
+        /// The index behind the word.
+        end: usize,
+    },
+}
+
+// The candidate of a form: the length of its literal, the lengths of its parts, and the index behind its suffix.
+#[derive(Clone, Copy)]
+pub(crate) struct Candidate {
+    pub(crate) size: usize,
+    pub(crate) counts: [usize; 9],
+    pub(crate) end: usize,
+}
+
+// What one pass over forms finds: the form that goes furthest and where it stops, and the best candidate with the index of its form.
+#[derive(Clone, Copy)]
+pub(crate) struct Scanned {
+    pub(crate) furthest: Option<(usize, At)>,
+    pub(crate) best: Option<(usize, Candidate)>,
+}
+
+impl<'a> Forms<'a> {
+    /// Returns the number that `text` begins with as a token: the longest literal of a form with the longest of its suffixes, if
+    /// nothing follows that belongs to it or may not follow it. It does not find special values.
+    ///
+    /// # Errors
+    ///
+    /// If the list has no rules for tokens, if a form goes on behind the number without an end, or if there is no number,
+    /// or if the word behind the number is not a suffix of its form, returns why.
+    pub fn token<'t>(&self, text: &'t [u8]) -> Result<Token<'t>, TokenError>
+        ensures { IsReadByTokens self.now self.now.tokens text.now result }
+    {
+        let Some(tokens) = self.tokens else {
+            return Err(TokenError::NoTokens);
+        };
+        match self.leading(tokens, text, has_letter_behind_zero(text)) {
+            Some(token) => Ok(token),
+            None => self.token_of(tokens, text),
+        }
+    }
+
+    // Returns the token that `text` begins with.
+    #[cold]
+    fn token_of<'t>(&self, tokens: &Tokens, text: &'t [u8]) -> Result<Token<'t>, TokenError>
+        ensures { IsReadByTokens self.now (Some tokens.entry) text.now result }
+    {
+        if let Some(token) = self.leading(tokens, text, false) {
+            return Ok(token);
+        }
+        let back = tokens.gives_points_back;
+        let plain = scan(self.forms, back, false, text);
+        let suffixed = scan(tokens.forms, back, true, text);
+        let Some((form, it, candidate)) = self.choose(tokens, text, plain.best, suffixed.best)
+        else {
+            return Err(self.fail(tokens, text, plain.furthest));
+        };
+        let Candidate { size, end, .. } = candidate;
+        let (_, rest) = text.split_at(end);
+        if is_followed(tokens.following, rest) {
+            return Ok(made(it, text, form, candidate));
+        }
+        if is_one_ahead(self.forms, back, text, end) {
+            return Err(self.fail(tokens, text, plain.furthest));
+        }
+        if !is_stopped(it.suffixes, text, end) {
+            return Ok(made(it, text, form, candidate));
+        }
+        if has_digit(text, size) {
+            return Err(self.fail(tokens, text, plain.furthest));
+        }
+        let end = stop_end(text, end);
+        Err(TokenError::UnknownSuffix {
+            form,
+            start: size,
+            end,
+        })
+    }
+
+    // Returns the token that `text` begins with, if reading the forms of the list once tells it. If `excluding` is true, a form of
+    // which no literal goes on behind the first byte and the sign is not asked.
+    fn leading<'t>(&self, tokens: &Tokens, text: &'t [u8], excluding: bool) -> Option<Token<'t>>
+        ensures { ForSome result (IsToken self.now tokens.now text.now) }
+    {
+        let back = tokens.gives_points_back;
+        let sign = sign_size(text);
+        let mut reached = sign;
+        let mut form = 0;
+        while form < self.forms.len() {
+            let it = &self.forms[form];
+            if is_excluded(it.syntax.grammar(), text, sign, excluding) {
+                reached = larger(reached, sign + 1);
+            } else {
+                let counted = it.syntax.begin(false, text, true);
+                let size = counted.at.size;
+                if counted.complete
+                    && reached < size
+                    && it.ends(back, text, counted)
+                    && are_past(self.forms, form, back, text, size)
+                    && are_past(tokens.forms, tokens.forms.len(), back, text, size)
+                {
+                    return self.behind(tokens, text, it, form, counted);
+                }
+                let stop = it.syntax.reach(text, counted);
+                if gives_back(it.syntax, back, text, stop.size) {
+                    return self.before_point(tokens, text, it, form, stop, reached);
+                }
+                reached = larger(reached, it.bound(text, stop));
+            }
+            form += 1;
+        }
+        None
+    }
+
+    // Returns the token of the form with this index that stops at `stop`, behind a point that is given back. The forms before have
+    // no literal of more than `reached` bytes.
+    #[inline(never)]
+    fn before_point<'t>(
+        &self,
+        tokens: &Tokens,
+        text: &'t [u8],
+        it: &Form,
+        form: usize,
+        stop: At,
+        reached: usize,
+    ) -> Option<Token<'t>>
+        requires at { slice_get self.now.forms form ≡ Some it.now }
+        requires stopped { IsStopped (notation_of it.now.syntax) text.now stop }
+        requires gives { gives_back tokens.now.gives_points_back (notation_of it.now.syntax) text.now stop.size ≡ true }
+        requires sign { sign_size text.now ≤ reached }
+        requires before { All (FrontsWithin text.now reached) (take form self.now.forms) }
+        ensures { ForSome result (IsToken self.now tokens.now text.now) }
+    {
+        let back = tokens.gives_points_back;
+        let size = stop.size - 1;
+        let (front, _) = text.split_at(size);
+        let counted = it.syntax.begin(false, front, true);
+        if counted.complete
+            && counted.at.size == size
+            && reached < size
+            && !gives_back(it.syntax, back, text, size)
+            && are_past(self.forms, form, back, text, size)
+            && are_past(tokens.forms, tokens.forms.len(), back, text, size)
+        {
+            self.behind(tokens, text, it, form, counted)
+        } else {
+            None
+        }
+    }
+
+    // Returns the token of which `counted` is the literal, of the form with this index, if nothing follows that may not.
+    #[inline(always)]
+    fn behind<'t>(
+        &self,
+        _tokens: &Tokens,
+        text: &'t [u8],
+        it: &Form,
+        form: usize,
+        counted: Counted,
+    ) -> Option<Token<'t>>
+        requires within { counted.at.size ≤ length text.now }
+        requires measured { IsMeasured (notation_of it.now.syntax) (take counted.at.size text.now) counted.counts }
+        requires sums { AreSums (raw it.now.syntax.word) (cut (take counted.at.size text.now) (cuts_of counted.counts)) counted.sums }
+        requires leading { IsLeading self.now _tokens.now text.now form it.now counted.at.size }
+        ensures { ForSome result (IsToken self.now _tokens.now text.now) }
+    {
+        let Counted {
+            at,
+            counts,
+            sums,
+            ..
+        } = counted;
+        let (front, rest) = text.split_at(at.size);
+        let more = suffix_size(it.suffixes, is_float(counts), rest);
+        if is_stopped(it.suffixes, text, at.size + more) {
+            return None;
+        }
+        let (suffix, rest) = rest.split_at(more);
+        let kind = kind_with(it.suffixes, suffix, it.kind);
+        let literal = it.syntax.literal(front, counts, sums).with_kind(kind);
+        Some(Token {
+            literal,
+            form,
+            suffix,
+            rest,
+        })
+    }
+
+    // Returns the longest of the candidates of the list and of the forms that need a suffix, with its form.
+    fn choose<'f>(
+        &'f self,
+        tokens: &'f Tokens,
+        _text: &[u8],
+        plain: Option<(usize, Candidate)>,
+        suffixed: Option<(usize, Candidate)>,
+    ) -> Option<(usize, &'f Form, Candidate)>
+        requires plain { IsBestOf tokens.now.gives_points_back false self.now.forms _text.now plain }
+        requires suffixed { IsBestOf tokens.now.gives_points_back true tokens.now.forms.now _text.now suffixed }
+        ensures none { IsNone result → HasNone self.now tokens.now _text.now }
+        ensures some { ForSome result (λ it. IsPicked self.now tokens.now _text.now it.0 it.1.now it.2) }
+    {
+        match suffixed {
+            None => match plain {
+                None => None,
+                Some((form, best)) => Some((form, &self.forms[form], best)),
+            },
+            Some((behind, other)) => match plain {
+                None => Some((self.forms.len() + behind, &tokens.forms[behind], other)),
+                Some((form, best)) => {
+                    if is_shorter(best, other) {
+                        Some((self.forms.len() + behind, &tokens.forms[behind], other))
+                    } else {
+                        Some((form, &self.forms[form], best))
+                    }
+                }
+            },
+        }
+    }
+
+    // Returns why `text`, in which forms go as far as `furthest`, does not begin with a token.
+    #[cold]
+    fn fail(&self, _tokens: &Tokens, text: &[u8], furthest: Option<(usize, At)>) -> TokenError
+        requires furthest { IsFurthestForm self.now.forms text.now furthest }
+        requires refused { IsRefused self.now _tokens.now text.now }
+        ensures { IsTokenError self.now _tokens.now text.now result }
+    {
+        let Some((_, stop)) = furthest else {
+            unreachable!()
+        };
+        let (_, rest) = text.split_at(stop.size);
+        let end = stop.size + word_size(rest);
+        let (word, _) = text.split_at(end);
+        match self.find(word) {
+            None => TokenError::Literal(self.refuse(word, self.furthest(word))),
+            Some(_) => TokenError::NotAToken { end },
+        }
+    }
+}
+
+// Returns whether no literal of the forms, but for the one with the index `but`, begins with more than the first `size` bytes of
+// `text`, which are more than a sign, or only with a point more that is given back.
+#[inline(always)]
+fn are_past(forms: &[Form], but: usize, back: bool, text: &[u8], size: usize) -> bool
+    requires { size ≤ length text.now }
+    ensures { IsTrue result → sign_size text.now < size → AreNear back forms.now but text.now size }
+{
+    let mut form = 0;
+    while form < forms.len() {
+        if form != but && !forms[form].is_past(back, text, size) {
+            return false;
+        }
+        form += 1;
+    }
+    true
+}
+
+// Returns whether the form is not asked: there is not the prefix that is required, or, if `excluding` is true, no literal begins
+// with more than one byte behind the sign, which has this length.
+#[inline(always)]
+const fn is_excluded(grammar: Grammar, text: &[u8], sign: usize, excluding: bool) -> bool
+    requires { sign ≡ sign_size text.now }
+    ensures { IsTrue result → IsWithin (notation_of grammar) text.now (sign + 1) }
+{
+    lacks_prefix(grammar, text) || (excluding && is_over(grammar, text, sign + 1))
+}
+
+// Returns whether a zero and a letter are behind the sign.
+#[inline(always)]
+const fn has_letter_behind_zero(text: &[u8]) -> bool {
+    let sign = sign_size(text);
+    sign + 1 < text.len() && text[sign] == b'0' && text[sign + 1] > b'9'
+}
+
+// Returns whether the text ends behind the first `size` bytes, or a byte follows that plays no role.
+#[inline(always)]
+const fn is_over(grammar: Grammar, text: &[u8], size: usize) -> bool
+    ensures { IsTrue result → IsWithin (notation_of grammar) text.now size }
+{
+    match byte_at(text, size) {
+        None => true,
+        Some(byte) => has_no_role(grammar, byte),
+    }
+}
+
+// Returns whether `byte` plays no role, and is not the zero of a prefix.
+#[inline(always)]
+const fn has_no_role(grammar: Grammar, byte: u8) -> bool
+    ensures { IsTrue result → PlaysNoRole (notation_of grammar) byte }
+{
+    byte != b'0'
+        && matches!(role_at(grammar, Part::Integer, byte), None)
+        && !is_digit(grammar, Part::Exponent, byte)
+}
+
+// Returns whether there is not the base prefix that is required.
+#[inline(always)]
+const fn lacks_prefix(grammar: Grammar, text: &[u8]) -> bool
+    ensures { IsTrue result → IsWithin (notation_of grammar) text.now (sign_size text.now + 1) }
+{
+    grammar.conditions.has(Condition::BasePrefix) && !has_prefix(grammar, text, sign_size(text))
+}
+
+// Returns whether a zero and a base prefix are at `index`.
+#[inline(always)]
+const fn has_prefix(grammar: Grammar, text: &[u8], index: usize) -> bool
+    requires { index ≤ length text.now }
+    ensures { result ≡ has_prefix (notation_of grammar) text.now index }
+{
+    index + 1 < text.len() && text[index] == b'0' && grammar.view().is_base_prefix(text[index + 1])
+}
+
+// Returns the larger of two sizes.
+#[inline(always)]
+const fn larger(one: usize, other: usize) -> usize
+    ensures one { one ≤ result }
+    ensures other { other ≤ result }
+{
+    if one < other { other } else { one }
+}
+
+// Returns the token with this candidate.
+#[inline(always)]
+fn made<'t>(it: &Form, text: &'t [u8], form: usize, candidate: Candidate) -> Token<'t>
+    requires measured { IsMeasured (notation_of it.now.syntax) (take candidate.size text.now) candidate.counts }
+    requires order { candidate.size ≤ candidate.end }
+    requires within { candidate.end ≤ length text.now }
+    ensures form { result.form ≡ form }
+    ensures literal { ReadsForm (take candidate.size text.now) result.literal it.now }
+    ensures kind { result.literal.kind ≡ kind_with it.now.suffixes result.suffix.now it.now.kind }
+    ensures suffix { result.suffix.now ≡ take (candidate.end - candidate.size) (drop candidate.size text.now) }
+    ensures rest { result.rest.now ≡ drop candidate.end text.now }
+{
+    let Candidate { size, counts, end } = candidate;
+    let (front, behind) = text.split_at(size);
+    let (suffix, _) = behind.split_at(end - size);
+    let (_, rest) = text.split_at(end);
+    let kind = kind_with(it.suffixes, suffix, it.kind);
+    let literal = it.syntax.summed(front, counts).with_kind(kind);
+    Token {
+        literal,
+        form,
+        suffix,
+        rest,
+    }
+}
+
+impl Form {
+    // Returns whether the front that has been read, which is a literal, is the longest, and does not end in a point that is given back.
+    #[inline(always)]
+    fn ends(&self, back: bool, text: &[u8], counted: Counted) -> bool
+        requires { HasBegun (notation_of self.now.syntax) text.now counted }
+        ensures within { IsTrue result → IsWithin (notation_of self.now.syntax) text.now counted.at.size }
+        ensures kept { IsTrue result → gives_back back (notation_of self.now.syntax) text.now counted.at.size ≡ false }
+    {
+        let size = counted.at.size;
+        (is_over(self.syntax.grammar(), text, size)
+            || self.syntax.reach(text, counted).size == size)
+            && !gives_back(self.syntax, back, text, size)
+    }
+
+    // Returns whether no literal begins with more than the first `size` bytes of `text`, which are more than a sign, or only with a
+    // point more that is given back.
+    #[inline(always)]
+    fn is_past(&self, back: bool, text: &[u8], size: usize) -> bool
+        requires { size ≤ length text.now }
+        ensures { IsTrue result → sign_size text.now < size → IsNear back (notation_of self.now.syntax) text.now size }
+    {
+        let grammar = self.syntax.grammar();
+        lacks_prefix(grammar, text) || is_over(grammar, text, size) || self.stops(back, text, size)
+    }
+
+    // Returns the same by reading.
+    #[inline(never)]
+    fn stops(&self, back: bool, text: &[u8], size: usize) -> bool
+        requires { size ≤ length text.now }
+        ensures { IsTrue result → IsNear back (notation_of self.now.syntax) text.now size }
+    {
+        let stop = self.syntax.stop_in(text);
+        stop.size <= size
+            || (stop.size == size + 1 && gives_back(self.syntax, back, text, size + 1))
+    }
+
+    // Returns a size that no front of `text` that is a literal exceeds, where reading stops at `stop`.
+    #[inline(always)]
+    fn bound(&self, text: &[u8], stop: At) -> usize
+        requires { IsStopped (notation_of self.now.syntax) text.now stop }
+        ensures { FrontsWithin text.now result self.now }
+    {
+        if stop.size == 0 || self.syntax.is_literal_up_to(text, stop) {
+            stop.size
+        } else {
+            stop.size - 1
+        }
+    }
+
+    // Returns where reading `text` stops, and the candidate, if there is one.
+    #[inline(always)]
+    fn candidate(&self, back: bool, needs: bool, text: &[u8]) -> (At, Option<Candidate>)
+        ensures stop { IsStopped (notation_of self.now.syntax) text.now result.0 }
+        ensures some { ForSome result.1 (IsMade back needs text.now self.now) }
+        ensures none { IsNone result.1 → NoCandidate back needs text.now self.now }
+    {
+        let (stop, found) = self.syntax.front(text);
+        let candidate = match found {
+            None => None,
+            Some(found) => self.behind(back, needs, text, found),
+        };
+        (stop, candidate)
+    }
+
+    // Returns the candidate of which `found` is the longest front, if there is one.
+    #[inline(always)]
+    fn behind(&self, back: bool, needs: bool, text: &[u8], found: Found) -> Option<Candidate>
+        requires { IsCountedFront (notation_of self.now.syntax) text.now found }
+        ensures some { ForSome result (IsMade back needs text.now self.now) }
+        ensures none { IsNone result → NoCandidate back needs text.now self.now }
+    {
+        match self.own(back, text, found) {
+            None => None,
+            Some(own) => self.suffixed(needs, text, own),
+        }
+    }
+
+    // Returns the candidate with the literal `own`, if there is a suffix or none is needed.
+    #[inline(always)]
+    fn suffixed(&self, needs: bool, text: &[u8], own: Found) -> Option<Candidate>
+        requires { own.size ≤ length text.now }
+        ensures candidate { result ≡ suffixed self.now.suffixes needs text.now own }
+        ensures within { ForSome result (λ c. c.end ≤ length text.now) }
+    {
+        let Found { size, counts } = own;
+        let (_, rest) = text.split_at(size);
+        let more = suffix_size(self.suffixes, is_float(counts), rest);
+        if needs && more == 0 {
+            None
+        } else {
+            let end = size + more;
+            Some(Candidate { size, counts, end })
+        }
+    }
+
+    // Returns the front `found`, or without its point if that is given back, if it is a literal.
+    #[inline(always)]
+    fn own(&self, back: bool, text: &[u8], found: Found) -> Option<Found>
+        requires { IsCountedFront (notation_of self.now.syntax) text.now found }
+        ensures some { ForSome result (IsOwn back (notation_of self.now.syntax) text.now found.size) }
+        ensures none { IsNone result → NoOwn back (notation_of self.now.syntax) text.now found.size }
+    {
+        if gives_back(self.syntax, back, text, found.size) {
+            let (shorter, _) = text.split_at(found.size - 1);
+            let (_, own) = self.syntax.front(shorter);
+            whole(own, shorter.len())
+        } else {
+            Some(found)
+        }
+    }
+}
+
+// Returns the front `found` if it has `size` bytes.
+#[inline(always)]
+fn whole(found: Option<Found>, size: usize) -> Option<Found>
+    ensures { result ≡ whole found size }
+{
+    match found {
+        Some(found) if found.size == size => Some(found),
+        _ => None,
+    }
+}
+
+// Returns whether the first `size` bytes of `text` end in a point that is given back.
+#[inline(always)]
+fn gives_back(syntax: Syntax, back: bool, text: &[u8], size: usize) -> bool
+    ensures { result ≡ gives_back back (notation_of syntax) text.now size }
+{
+    back && is_one(syntax, byte_before(text, size))
+        && match byte_at(text, size) {
+            None => false,
+            Some(byte) => byte == b'.' || is_word_byte(byte),
+        }
+}
+
+// Returns whether `byte` is the decimal point.
+#[inline(always)]
+fn is_one(syntax: Syntax, byte: Option<u8>) -> bool
+    ensures { result ≡ is_in (notation_of syntax).point byte }
+{
+    match byte {
+        None => false,
+        Some(byte) => is_point(syntax.grammar(), byte),
+    }
+}
+
+// Returns whether the byte at `index` is a digit.
+fn has_digit(text: &[u8], index: usize) -> bool
+    ensures { result ≡ is_in is_digit (slice_get text.now index) }
+{
+    match byte_at(text, index) {
+        None => false,
+        Some(byte) => matches!(byte, b'0'..=b'9'),
+    }
+}
+
+// Returns the index behind the byte at `index` and the word that follows it, or `index` at the end of `text`.
+fn stop_end(text: &[u8], index: usize) -> usize
+    ensures { result ≡ stop_end text.now index }
+{
+    if index < text.len() {
+        let (_, rest) = text.split_at(index + 1);
+        index + 1 + word_size(rest)
+    } else {
+        index
+    }
+}
+
+// Returns whether a literal with these parts is a float.
+#[inline(always)]
+fn is_float(counts: [usize; 9]) -> bool
+    ensures { result ≡ has_float counts }
+{
+    counts[3] != 0 || counts[5] != 0
+}
+
+// Returns whether a candidate is shorter than another.
+#[inline(always)]
+fn is_shorter(one: Candidate, other: Candidate) -> bool
+    ensures { result ≡ is_shorter one.size one.end other.size other.end }
+{
+    one.end < other.end || (one.end == other.end && one.size < other.size)
+}
+
+// Returns what the forms find in `text`.
+fn scan(forms: &[Form], back: bool, needs: bool, text: &[u8]) -> Scanned
+    ensures furthest { 0 < length forms.now → IsFurthestForm forms.now text.now result.furthest }
+    ensures best { IsBestOf back needs forms.now text.now result.best }
+{
+    let mut furthest = None;
+    let mut best = None;
+    let mut form = 0;
+    while form < forms.len() {
+        let (stop, candidate) = forms[form].candidate(back, needs, text);
+        furthest = further(furthest, form, stop);
+        best = better(best, form, candidate);
+        form += 1;
+    }
+    Scanned { furthest, best }
+}
+
+// Returns the longer of two candidates, the first of equals.
+#[inline(always)]
+fn better(
+    best: Option<(usize, Candidate)>,
+    form: usize,
+    candidate: Option<Candidate>,
+) -> Option<(usize, Candidate)>
+    ensures { result ≡ better best form candidate }
+{
+    match candidate {
+        None => best,
+        Some(candidate) => match best {
+            Some((_, other)) if !is_shorter(other, candidate) => best,
+            _ => Some((form, candidate)),
+        },
+    }
+}
+
+// Returns whether a literal of one of the forms goes on behind `end`.
+#[cold]
+fn is_one_ahead(forms: &[Form], back: bool, text: &[u8], end: usize) -> bool
+    ensures ahead { IsTrue result → (i : ℕ) × IsSomeAnd (slice_get forms.now i) (IsAhead back text.now end) }
+    ensures over { result ≡ false → All (λ form. IsAhead back text.now end form → ⊥) forms.now }
+{
+    let mut form = 0;
+    while form < forms.len() {
+        let it = &forms[form];
+        let stop = it.syntax.stop_in(text);
+        if goes_on(it.syntax, back, text, end, stop.size) {
+            return true;
+        }
+        form += 1;
+    }
+    false
+}
+
+// Returns whether a literal that goes up to `stop` goes on behind `end`.
+fn goes_on(syntax: Syntax, back: bool, text: &[u8], end: usize, stop: usize) -> bool
+    ensures { result ≡ goes_on back (notation_of syntax) text.now end stop }
+{
+    end < stop && !(back && stop == end + 1 && is_one(syntax, byte_at(text, end)))
+}

@@ -1,9 +1,0 @@
-use Rattle.lexical_literal.proofs.Common.{subst, notation_of}
-use Rattle.lexical_literal.specs.Additions.Forms.{IsSpare}
-use Rattle.lexical_literal.proofs.exclude.is_stranger.Goals as goal
-
-pub returns-then-is_spare : goal.returns-then-is_spare
-returns-then-is_spare c = λ is. (
-  c.is_spare.ensures c.if-is_spare.true,
-  subst (IsSpare (notation_of c.args.grammar)) c.other_case.ensures (c.is_spare-then-is_spare.ensures is),
-)

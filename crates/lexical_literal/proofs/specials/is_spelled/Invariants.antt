@@ -1,9 +1,0 @@
-use Rattle.lexical_literal.proofs.Common.{◌-◌, drop, notation_of, length}
-use Rattle.lexical_literal.proofs.SpecialLemmas.{HasRead}
-use Rattle.lexical_literal.proofs.specials.is_spelled.Given as goal
-
-abbrev pub invariant-loop-index : goal.invariant-loop-index
-invariant-loop-index l = HasRead (notation_of l.grammar) l.separator l.word l.text l.taken l.letters (drop l.index l.text)
-
-abbrev pub decreases-loop-index : goal.decreases-loop-index
-decreases-loop-index l = length l.text - l.index

@@ -1,5 +1,0 @@
-use Rattle.std.specs.Prelude.{length}
-use Rattle.lexical_literal.proofs.suffix.+begins.Given as goal
-
-abbrev pub decreases-begins : goal.decreases-begins
-decreases-begins l = length l.word.now

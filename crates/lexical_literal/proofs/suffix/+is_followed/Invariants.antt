@@ -1,5 +1,0 @@
-use Rattle.std.specs.Prelude.{length}
-use Rattle.lexical_literal.proofs.suffix.+is_followed.Given as goal
-
-abbrev pub decreases-is_followed : goal.decreases-is_followed
-decreases-is_followed l = length l.words.now

@@ -1,0 +1,23 @@
+-- The names that most proofs of this crate cite, passed on from one place. Declares nothing.
+pub use Rattle.core.proofs.dec2flt.ExactLemmas.{ten_to_pos}
+pub use Rattle.core.proofs.dec2flt.Extremes.{nearest_of_huge, nearest_of_tiny, nearest_of_zero}
+pub use Rattle.core.proofs.dec2flt.LimbsLemmas.{limb_weight-suc, limb_weight-zero, power_pos, value_below-set, value_below-suc, value_below-zero}
+unfoldable pub use Rattle.core.specs.Dec2flt.Limbs.{limb_weight, value_below}
+pub use Rattle.core.specs.Dec2flt.Rounding.{IsNearestBits}
+pub use Rattle.lexical_number.specs.Float.{format_of, raised_down, raised_up}
+pub use Rattle.lexical_number.specs.Leading.{IsCutTo, Leads}
+pub use Rattle.lexical_number.specs.Nearest.{LiesAround}
+pub use Rattle.lexical_number.specs.Number.{digits_in, number, number_after, places}
+pub use Rattle.lexical_number.specs.Word.{leading_zeros}
+pub use Rattle.std.proofs.Common.{Bool, Equal, Greater, IsTrue, Less, List, None, Option, Some, [], ap, arith, cond, drop, drop-cons, eq-zero-or-pos}
+pub use Rattle.std.proofs.Common.{false, get_or, if◌then◌else◌, inl, inr, le_of_eq, le_trans, length, lt_of_mul-lt-mul_right, lt_of_not-le, min}
+pub use Rattle.std.proofs.Common.{mod-eq_of_lt, mul-le-mul, mul-le-mul_left, mul-le-mul_right, mul-lt-mul_of_pos_right, mul-pos, nat_cmp, nat_le}
+pub use Rattle.std.proofs.Common.{nat_lt, pow-suc, refl, set, slice_index, slice_index_or, subst, suc, sym, true, zero, ℕ, ◌%◌, ◌&&◌, ◌*◌, ◌++◌, ◌+◌}
+pub use Rattle.std.proofs.Common.{◌-◌, ◌/◌, ◌<◌, ◌==◌, ◌^◌, ◌||◌, ◌↔◌, ◌∙◌, ◌∷◌, ◌≡◌, ◌≤◌}
+pub use Rattle.std.proofs.lemmas.Bool.{cases_lt, false≢true}
+pub use Rattle.std.proofs.lemmas.Bool.Decides.{nat_tests}
+pub use Rattle.std.proofs.lemmas.List.Elements.{filter_map-append}
+pub use Rattle.std.specs.Cmp.{nat_cmp_is}
+pub use Rattle.std.specs.Int.Digits.{number_from_digits_after}
+pub use lib.Count.{count_leading_zeros, leading_top}
+pub use lib.Pow.{pow-add, pow_mono, pow_pos}

@@ -1,0 +1,46 @@
+-- Leading digits and an exponent, in radixes that are powers of two, as a whole number times a power of two.
+use Rattle.lexical_number.proofs.Common.{pow_pos, pow_mono, pow-add, IsNearestBits, raised_up, raised_down, ◌≡◌, ℕ, zero, suc, ◌+◌, ◌*◌, ◌^◌, ◌≤◌, Bool, true}
+use Rattle.lexical_number.proofs.Common.{false, if◌then◌else◌, sym, ap, ◌∙◌, subst, arith, mul-le-mul, mul-le-mul_right, le_trans, le_of_eq, pow-suc}
+use Rattle.lexical_number.proofs.Common.{nearest_of_tiny, nearest_of_huge, Leads}
+use native.Mathlib.Nat.{pow-zero}
+use lib.Dec.{lit≤}
+use lib.Ieee.{Format, hid, ones}
+
+pub pow_of : (a n : ℕ) → (2 ^ a) ^ n ≡ 2 ^ (n * a)
+pow_of a zero = pow-zero (2 ^ a) ∙ sym (ap (λ x. 2 ^ x) {x = 0 * a} {y = 0} (omega arith))
+pow_of a (suc n) =
+    pow-suc (2 ^ a) n ∙ ap (λ x. x * 2 ^ a) (pow_of a n) ∙ sym (pow-add 2 (n * a) a) ∙ ap (λ x. 2 ^ x) {x = n * a + a} {y = suc n * a} (omega arith)
+
+-- What holds of powers of two holds of powers of the radixes.
+pub in_radixes : (P : ℕ → ℕ → Type 0) (n bits places base e : ℕ) (negative : Bool)
+    → P (n * 2 ^ (if negative then 0 else e * base)) (2 ^ (places * bits + (if negative then e * base else 0)))
+    → P (n * raised_up negative (2 ^ base) e) ((2 ^ bits) ^ places * raised_down negative (2 ^ base) e)
+in_radixes P n bits places base e negative = go negative
+  where
+    go : (b : Bool) → P (n * 2 ^ (if b then 0 else e * base)) (2 ^ (places * bits + (if b then e * base else 0)))
+        → P (n * raised_up b (2 ^ base) e) ((2 ^ bits) ^ places * raised_down b (2 ^ base) e)
+    go true h = subst (P (n * 1)) (pow-add 2 (places * bits) (e * base) ∙ (λ i. sym (pow_of bits places) i * sym (pow_of base e) i)) h
+    go false h = subst (P (n * (2 ^ base) ^ e)) (pow-add 2 (places * bits) 0 ∙ ap (λ x. x * 1) (sym (pow_of bits places)))
+        (subst (λ x. P (n * x) (2 ^ (places * bits + 0))) (sym (pow_of base e)) h)
+
+-- A number is not larger than its leading digits allow.
+pub bound : {n digits : ℕ} {more : Bool} (bits dropped : ℕ) → bits ≤ 5 → Leads (2 ^ bits) n digits more dropped → n ≤ 2 ^ (96 + dropped * bits)
+bound {digits = digits} bits dropped C l =
+    let radix : 2 ^ bits ≤ 2 ^ 5 = pow_mono {i = bits} {j = 5} C in
+    let front : digits + 1 ≤ 2 ^ 96 = omega (arith, l.small) in
+    le_trans (omega (arith, l.cut.below)) (le_trans (mul-le-mul front (le_of_eq (pow_of bits dropped))) (le_of_eq (sym (pow-add 2 96 (dropped * bits)))))
+
+-- Where the exponent is large enough, nothing else counts.
+pub vanishes : (f : Format) (n x p q : ℕ) → n ≤ 2 ^ x → p ≡ 0 → x + 1140 ≤ q → IsNearestBits f (n * 2 ^ p) (2 ^ q) 0
+vanishes f n x p q N none far =
+    let ten : 10 ^ 343 ≤ 2 ^ 1140 = lit≤ tt in
+    let one : n * 2 ^ p ≡ n = ap (λ p. n * 2 ^ p) none ∙ omega arith in
+    let top : n * 10 ^ 343 ≤ 2 ^ q = le_trans (mul-le-mul N ten) (le_trans (le_of_eq (sym (pow-add 2 x 1140))) (pow_mono far)) in
+    nearest_of_tiny f (n * 2 ^ p) (2 ^ q) (pow_pos q) (omega (arith, ap (λ m. m * 10 ^ 343) one, top))
+
+pub explodes : (f : Format) (n p q : ℕ) → 1 ≤ n → 1027 + q ≤ p → IsNearestBits f (n * 2 ^ p) (2 ^ q) (ones f * hid f)
+explodes f n p q N far =
+    let ten : 10 ^ 309 ≤ 2 ^ 1027 = lit≤ tt in
+    let top : 10 ^ 309 * 2 ^ q ≤ 2 ^ p = le_trans (mul-le-mul_right (2 ^ q) ten) (le_trans (le_of_eq (sym (pow-add 2 1027 q))) (pow_mono far)) in
+    let more : 1 * 2 ^ p ≤ n * 2 ^ p = mul-le-mul_right (2 ^ p) N in
+    nearest_of_huge f (n * 2 ^ p) (2 ^ q) (pow_pos q) (omega (arith, top, more))

@@ -1,0 +1,16 @@
+-- Both numbers are floats.
+use Rattle.std.proofs.Common.{arith}
+use Rattle.std.specs.Float.{binary32}
+use Rattle.core.proofs.dec2flt.ExactLemmas.{IsTenTo-get_or}
+use Rattle.lexical_number.specs.declared.float.TheConstants.{TENS_F32}
+use Rattle.lexical_number.proofs.TenLemmas.{divided, multiplied}
+use Rattle.lexical_number.proofs.float.F32Float.by_ten_to.Goals as goal
+use lib.Ieee.{of_bits}
+
+pub returns-then-over : goal.returns-then-over
+unfolding of_bits
+returns-then-over c = divided binary32 c.args.scale _ c.if-over.true c.requires (omega arith) (IsTenTo-get_or TENS_F32 c.args.scale _ tt (omega arith))
+
+pub returns-else-over : goal.returns-else-over
+unfolding of_bits
+returns-else-over c = multiplied binary32 c.args.scale _ c.if-over.false c.requires (omega arith) (IsTenTo-get_or TENS_F32 c.args.scale _ tt (omega arith))

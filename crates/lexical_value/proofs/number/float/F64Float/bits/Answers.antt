@@ -1,8 +1,0 @@
--- The bits are those of the value.
-use Rattle.std.specs.Bool.{passes}
-use lib.Ieee.{binary64}
-use lib.Ieee.Bits.{of_bits-to_bits}
-use Rattle.lexical_value.proofs.number.float.F64Float.bits.Goals as goal
-
-pub returns-else-is_nan-clause-value : goal.returns-else-is_nan-clause-value
-returns-else-is_nan-clause-value c = of_bits-to_bits binary64 c.args.self (passes _ c.well_formed.0.1)
