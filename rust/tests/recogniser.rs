@@ -1,7 +1,7 @@
 //! A recogniser of literals, written from docs/FORMAT.md and docs/EXPLANATIONS.md alone, and the comparison of the
 //! library with it. The recogniser tries all splits of a text into parts, all fronts of a text, and all flags.
 //!
-//! `cargo test` compares a sample. To compare all texts, which takes a quarter of an hour:
+//! `cargo test` compares a sample, in 25 seconds. To compare all texts, which takes a quarter of an hour:
 //!
 //!     cargo test --release --test recogniser -- --ignored
 
@@ -171,7 +171,9 @@ impl Syntax {
             let is_literal = start == text.len() && has_number && satisfies();
             return found.extend(is_literal.then(|| pieces.clone()));
         };
-        for end in start..=text.len() {
+        // Other parts than runs have at most two bytes.
+        let most = if let Integer | Fraction | Exponent = piece { text.len() } else { text.len().min(start + 2) };
+        for end in start..=most {
             if self.is_piece(word, pieces, piece, &text[start..end]) {
                 pieces[at] = start..end;
                 self.split(word, text, at + 1, end, pieces, found);
