@@ -1,6 +1,6 @@
 //! Numbers of several forms: which form has a text, and which has its error.
 
-use peltzivar::literal::{Form, Forms, Language, Number, ParseError, Special, Specials, Spelling, Syntax};
+use peltzivar::literal::{Condition, Form, Forms, Language, Number, ParseError, Special, Specials, Spelling, Syntax};
 use peltzivar::{Format, NumberFormatBuilder};
 
 /// Asserts that a text has a value, by a form.
@@ -18,6 +18,8 @@ fn is_refused(language: Language, text: &str, form: &str, valid_up_to: usize, se
     assert_eq!(language.forms()[error.form].name(), name, "{text}");
     assert_eq!((name, error.valid_up_to(), printed.as_str()), (form, valid_up_to, sentence), "{text}");
     assert_eq!(language.parse::<i64>(text).unwrap_err().to_string(), error.to_string(), "{text}");
+    let (of_form, it) = ((error.kind(), error.is_incomplete(), error.byte(), error.mask(), error.name()), error.error);
+    assert_eq!(of_form, (it.kind(), it.is_incomplete(), it.byte(), it.mask(), form), "{text}");
 }
 
 #[test]
@@ -30,8 +32,10 @@ fn the_error_is_that_of_the_form_that_goes_furthest() {
         is_refused(language, "1fz", "decimal", 1, "unexpected character 'f'");
         is_refused(language, "-1", "decimal", 0, "unexpected minus sign");
         is_refused(language, "0xfg", "hexadecimal", 3, "unexpected character 'g'");
-        // Of forms that go as far, it is the first whose cause is not a wrong byte, or the first.
-        is_refused(language, "ff", "hexadecimal", 0, "expected the prefix 0x");
+        // Of forms that go as far, it is the first whose cause is not a wrong byte and that lacks no prefix, or the first.
+        is_refused(language, "ff", "decimal", 0, "unexpected character 'f'");
+        is_refused(language, "pq", "decimal", 0, "unexpected character 'p'");
+        is_refused(language, "0p", "decimal", 1, "unexpected character 'p'");
         is_refused(language, "z", "decimal", 0, "unexpected character 'z'");
     }
     for language in [Language::RUST, Language::TOML] {
@@ -53,6 +57,40 @@ fn the_error_is_that_of_the_form_that_goes_furthest() {
     assert_eq!((error.form, error.to_string()), (1, "unexpected case of the exponent character".into()));
     is(Language::RUST, "09", "decimal", 9.0);
     is_refused(Language::NASM, "0FF", "hexadecimal, h", 3, "expected the suffix h");
+}
+
+/// A form that lacks its required prefix is blamed only if each form that goes as far requires one.
+#[test]
+fn no_form_is_blamed_that_lacks_its_prefix() {
+    for language in Language::ALL {
+        let mut texts = vec![String::new()];
+        for _ in 0..3 {
+            texts = texts.iter().flat_map(|it| "09afhinpqx_.+-".chars().map(move |last| format!("{it}{last}"))).collect();
+            for text in &texts {
+                let Err(error) = language.read(text) else { continue };
+                if error.error.conditions().has(Condition::BasePrefix) {
+                    let requires = |form: &Form| form.syntax().conditions().has(Condition::BasePrefix);
+                    let goes = |form: &&Form| form.syntax().read(text).unwrap_err().valid_up_to() == error.valid_up_to();
+                    assert!(language.forms().into_iter().filter(goes).all(requires), "{language}: {text}");
+                }
+            }
+        }
+    }
+}
+
+/// The point of an English number is a separator in a German cell. It is shown, and not the zero before it.
+#[test]
+fn the_separator_behind_a_leading_zero_is_shown() {
+    for (language, text) in [
+        (Language::CSV_DE, "0.123"),
+        (Language::CSV_EN, "0,123"),
+        (Language::JAVASCRIPT, "0_123"),
+        (Language::TOML, "0_123"),
+    ] {
+        is_refused(language, text, "decimal", 1, "unexpected digit separator after a leading zero");
+        assert_eq!(language.read(text).unwrap_err().span(), 1..2, "{language}");
+    }
+    is_refused(Language::CSV_DE, "01", "decimal", 1, "unexpected leading zero");
 }
 
 #[test]

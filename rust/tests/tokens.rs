@@ -1,7 +1,7 @@
 //! Numbers in the middle of source text: what is the token, and why there is none. Expected results are those of the grammars, and of the
 //! scanners of rustc, javac, go/scanner, CPython, node, gcc, ocaml and ripper where these take a word for a number's end.
 
-use peltzivar::literal::{Form, Forms, Language, Stop, Suffixes, Syntax, TokenError, Tokens};
+use peltzivar::literal::{Form, Forms, Language, Specials, Stop, Suffixes, Syntax, TokenError, Tokens};
 use peltzivar::NumberFormatBuilder;
 
 /// Returns what a row states.
@@ -12,7 +12,10 @@ fn stated(forms: &Forms, text: &str) -> String {
             assert!(forms[token.form].syntax().read(token.literal.as_bytes()).is_ok(), "{text}");
             format!("{}|{}", token.literal, String::from_utf8_lossy(token.suffix))
         }
-        Err(error) => format!("{}..{} {error}", error.span().start, error.span().end),
+        Err(error) => {
+            let (sentence, range) = (error.to_string(), error.span());
+            format!("{}..{} {}", range.start, range.end, sentence.split(';').next().unwrap())
+        }
     }
 }
 
@@ -101,12 +104,54 @@ fn rules_are_those_of_the_list() {
         ("1.F", "1.|F", "1|"),
         ("1..F", "1.|", "1|"),
         ("1.is", "1.|", "1|"),
-        ("1.5f--", "3..5 unknown suffix", "3..5 unknown suffix"),
+        ("1.5f--", "4..5 the number cannot end here", "4..5 the number cannot end here"),
         ("1.5f-", "1.5|f", "1.5|f"),
         ("1uis", "1|u", "1..4 unknown suffix"),
         ("1%", "1|", "1|"),
     ] {
         assert_eq!((stated(&plain, text), stated(&back, text)), (without.into(), with.into()), "{text}");
         assert_eq!(none.token(text), Err(TokenError::NoTokens));
+    }
+}
+
+/// Lists whose forms differ from those of languages: a suffix that begins with a digit, a point without digits, and a name.
+#[test]
+fn errors_are_those_of_the_page() {
+    const WORDS: Suffixes = Suffixes::new(&[b"2x"], &[], &[]);
+    const BINARY: Syntax = Syntax::integers(NumberFormatBuilder::new().mantissa_radix(2).build_format_or_panic());
+    const POINT: Syntax = Syntax::new_or_panic(
+        NumberFormatBuilder::new().required_mantissa_digits(false).build_format_or_panic(),
+        b'e',
+        b'.',
+    );
+    let tokens = Tokens::new(&[], &[]).gives_points_back(true);
+    for (form, text, wanted) in [
+        (Form::new("", BINARY).with_suffixes(&WORDS), "12x_", "1..4 unknown suffix"),
+        (Form::new("", BINARY).with_suffixes(&WORDS), "12y", "1..2 unexpected character '2'"),
+        (Form::new("", POINT), "..", "1..1 the decimal point belongs to what follows"),
+        (Form::new("", POINT), "nan", "0..1 unexpected character 'n'"),
+    ] {
+        let (forms, specials) = ([form], Specials { nan: Some(b"nan"), ..Specials::default() });
+        let forms = Forms::new(&forms).unwrap().with_specials(specials).with_tokens(&tokens);
+        assert_eq!(stated(&forms, text), wanted, "{text}");
+    }
+    assert!(Form::new("", POINT).syntax().read(".").is_ok());
+}
+
+/// An unknown suffix has the words that its form has behind such a literal, and prints six of them.
+#[test]
+fn an_unknown_suffix_lists_those_that_are_known() {
+    let printed = |language: Language, text| language.token(text).unwrap_err().to_string();
+    let six = "unknown suffix; a suffix is one of u8, u16, u32, u64, u128, usize, ..";
+    assert_eq!(printed(Language::RUST, "1u9"), six);
+    assert_eq!(printed(Language::RUST, "1.5u8"), "unknown suffix; a suffix is one of f32, f64");
+    assert_eq!(printed(Language::SWIFT, "1x"), "unknown suffix");
+    for language in Language::ALL {
+        for text in ["1zz", "1.5zz", "0x1zz", "0b1zz", "0o1zz"] {
+            let Err(TokenError::UnknownSuffix { form, start, suffixes, .. }) = language.token(text) else { continue };
+            let float = language.forms()[form].syntax().read(&text[..start]).unwrap().is_float();
+            let known = language.forms()[form].suffixes().map(|it| if float { it.floats() } else { it.integers() });
+            assert_eq!(suffixes, known.unwrap_or(&[]), "{language}: {text}");
+        }
     }
 }

@@ -9,7 +9,7 @@ pub use Rattle.lexical_forms.specs.declared.token.Candidate.{Candidate}
 pub use Rattle.lexical_literal.specs.Additions.Longest.{IsCountedFront, IsMeasured, IsStopped}
 pub use Rattle.lexical_literal.specs.Additions.Read.{AreSums, cut}
 pub use Rattle.lexical_literal.specs.Additions.Summary.{Cuts, HasLengths, cuts_of, role_at}
-pub use Rattle.lexical_literal.specs.Cause.{IsRefusal, bare, is_byte, with_rules}
+pub use Rattle.lexical_literal.specs.Cause.{IsRefusal, bare, is_byte, is_stray, with_rules}
 pub use Rattle.lexical_literal.specs.Front.{IsFront, IsValidUpTo, NoFront, NoLiteral, ReadsFront}
 pub use Rattle.lexical_literal.specs.Literal.{Literal, Reads, is_absent, is_float, is_none_or_one, is_none_or_prefix, is_present, text_of}
 pub use Rattle.lexical_literal.specs.Notation.{Notation, notation_of, set_of_role}

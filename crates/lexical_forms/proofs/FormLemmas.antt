@@ -2,8 +2,8 @@
 use Rattle.lexical_forms.proofs.Common.{ℕ, ◌≡◌, ◌*◌, inl, inr, nat_lt, Bool, true, false, ◌<◌, ◌≤◌, ◌+◌, List, Ok, Option, Some, None, All, IsSomeAnd, []}
 use Rattle.lexical_forms.proofs.Common.{◌∷◌, take, get_or, IfSome, IsNone, refl, sym, subst, ap, arith, nat_tests, cases_lt, false≢true, take_all, All-more}
 use Rattle.lexical_forms.proofs.Common.{slice_get-get_or, Literal, Reads, Notation, notation_of, common_steps, if◌then◌else◌, length, slice_get}
-use Rattle.lexical_forms.proofs.Common.{IsFurthestForm, sign_size, IsCountedFront, IsStopped, IsRefusal, Refusal, FormList, NoForm, ReadsForm, is_byte, reach}
-use Rattle.lexical_forms.proofs.Common.{IsValidUpTo, NoFront, NoLiteral, ReadsFront, Read, Found, At, Form}
+use Rattle.lexical_forms.proofs.Common.{IsFurthestForm, sign_size, IsCountedFront, IsStopped, IsRefusal, Refusal, FormList, NoForm, ReadsForm, is_stray, reach}
+use Rattle.lexical_forms.proofs.Common.{IsValidUpTo, NoFront, ReadsFront, Read, Found, At, Form}
 use Rattle.lexical_forms.specs.Additions.Forms.{GoesTo, IsFoundForm, IsFoundFrontForm, IsNoBetter, bound, further, further_on, greater, longer}
 use Rattle.lexical_forms.specs.Forms.{HasFront, HasKind, IsErrorOfForm, IsFirst, IsFormError, IsGreatest, IsReadByForms, Reaches}
 use Rattle.std.specs.Option.{ForSome}
@@ -11,7 +11,6 @@ use Rattle.std.proofs.Math.Nat.{le_antisymm}
 use Rattle.std.proofs.lemmas.Option.{slice_get_within}
 use Rattle.lexical_forms.specs.declared.list.FormError.{FormError}
 use Rattle.lexical_forms.specs.declared.list.Number.TheVariants as numbers
-use Rattle.lexical_literal.proofs.PieceLemmas.{none_whole}
 use Rattle.lexical_literal.proofs.OneCauseLemmas.{one_refusal}
 
 -- What holds of some value of an option holds of the value that it is.
@@ -64,7 +63,7 @@ module _ (g : Form) (text : List ℕ) where
 
   -- Its reach is that of its error.
   pub reach_of : (error : Refusal) (size : ℕ) (b : Bool) → IsRefusal (notation_of g.syntax) text error → IsValidUpTo (notation_of g.syntax) text size
-      → is_byte error.kind ≡ b
+      → is_stray error ≡ b
       → (n : ℕ) → Reaches text g n → n ≡ 2 * size + (if b then 0 else 1)
   reach_of error size b is valid byte n other = grind (arith, one_refusal)
 
@@ -291,17 +290,17 @@ module _ (forms : List Form) (text : List ℕ) (first size : ℕ) (furthest : Is
   -- The error of a form that goes up to `size`.
   module _ (form : ℕ) (error : FormError) (same : error.form ≡ form) (is : IsSomeAnd (slice_get forms error.form) (IsErrorOfForm text error))
       (valid : IsSomeAnd (slice_get forms form) (λ g. GoesTo text g size)) where
-    reach_is : (b : Bool) → is_byte error.error.refusal.kind ≡ b → reach error.error.refusal ≡ 2 * size + (if b then 0 else 1)
+    reach_is : (b : Bool) → is_stray error.error.refusal ≡ b → reach error.error.refusal ≡ 2 * size + (if b then 0 else 1)
     reach_is b byte = let here = some_of (IsErrorOfForm text error) (slice_get forms error.form) is in
         let goes = subst (λ k. IsSomeAnd (slice_get forms k) (λ g. GoesTo text g size)) (sym same) valid in
         reach_of here.0 text error.error.refusal size b here.2.refusal (subst (λ o. IsSomeAnd o (λ g. GoesTo text g size)) here.1 goes) byte _
         (error.error.refusal, here.2.refusal, refl)
 
-    pub reach_byte : is_byte error.error.refusal.kind ≡ true → reach error.error.refusal ≡ 2 * size
+    pub reach_byte : is_stray error.error.refusal ≡ true → reach error.error.refusal ≡ 2 * size
     reach_byte byte = let all = reach_is true byte in omega (arith, all)
 
     pub no_less : 2 * size ≤ reach error.error.refusal
-    no_less = go (is_byte error.error.refusal.kind) (reach_is (is_byte error.error.refusal.kind) refl) where
+    no_less = go (is_stray error.error.refusal) (reach_is (is_stray error.error.refusal) refl) where
       go : (b : Bool) → reach error.error.refusal ≡ 2 * size + (if b then 0 else 1) → 2 * size ≤ reach error.error.refusal
       go true same = omega (arith, same)
       go false same = omega (arith, same)
@@ -327,7 +326,7 @@ module _ (forms : List Form) (text : List ℕ) (first size : ℕ) (furthest : Is
       refusal = is;
     }
 
-    pub other_error : is_byte error.error.refusal.kind ≡ false → All (IsAtMost (2 * size)) (take form forms) → IsFormError forms text error
+    pub other_error : is_stray error.error.refusal ≡ false → All (IsAtMost (2 * size)) (take form forms) → IsFormError forms text error
     other_error right before = let size_is = reach_is false right in error_from
         (λ k d below n reaches. let less = before k d below n reaches in omega (arith, less, size_is))
         (λ k d below n reaches. let less = reach_up_to (get_or forms k d) text size (furthest.others k d below) n reaches in omega (arith, less, size_is))
@@ -339,8 +338,8 @@ module _ (forms : List Form) (text : List ℕ) (first size : ℕ) (furthest : Is
         omega (arith, less, no_less)))
         others
 
-    -- Its cause is a wrong byte.
-    pub wrong_byte : (most : ℕ) → 2 * size ≤ most → is_byte error.error.refusal.kind ≡ true → All (IsAtMost most) (take form forms)
+    -- Its cause is a wrong byte, or it lacks a required prefix.
+    pub wrong_byte : (most : ℕ) → 2 * size ≤ most → is_stray error.error.refusal ≡ true → All (IsAtMost most) (take form forms)
         → All (IsAtMost most) (take (form + 1) forms)
     wrong_byte most low byte = one_more most low form
         (go (slice_get forms form) (subst (λ k. IsSomeAnd (slice_get forms k) (IsErrorOfForm text error)) same is) valid) where

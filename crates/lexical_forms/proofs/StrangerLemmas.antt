@@ -3,9 +3,11 @@ use Rattle.lexical_forms.proofs.Common.{ℕ, ◌≡◌, ◌+◌, ◌*◌, ◌<�
 use Rattle.lexical_forms.proofs.Common.{subst, ◌∙◌, arith, AllByRecursion, cases_lt, false≢true, nat_tests, length-take-le, slice_get-get_or, ByteSet, Flag}
 use Rattle.lexical_forms.proofs.Common.{raw, signs, Role, Part, Literal, Reads, is_none_or_one, is_none_or_prefix, text_of, Notation, notation_of}
 use Rattle.lexical_forms.proofs.Common.{set_of_role, Grammar, sign_size, bare, with_rules, is_byte, reach, IsFront, IsValidUpTo, NoLiteral, AllIn, run_byte}
-use Rattle.lexical_forms.proofs.Common.{ReadErrorKind, Refusal, role_at}
+use Rattle.lexical_forms.proofs.Common.{ReadErrorKind, Refusal, role_at, is_stray, ◌||◌}
 use Rattle.lexical_forms.specs.Additions.Forms.{IsNoBetter, IsSpare, IsStranger}
 use Rattle.lexical_literal.specs.Cause.{IsCause}
+use Rattle.lexical_literal.specs.Notation.{has}
+use Rattle.lexical_literal.specs.declared.syntax.Condition.TheVariants as conditions
 use Rattle.std.proofs.Common.{length, IsTrue, if◌then◌else◌}
 use Rattle.std.specs.Prelude.{slice_get}
 use Rattle.std.proofs.lemmas.List.{append_assoc}
@@ -130,12 +132,21 @@ module _ (m : Notation) (front : List ℕ) (b : ℕ) (far : sign_size front + 1 
   kind_is causes.Byte flags is = refl
   kind_is (causes.Missing part) flags is = absurd is
 
+-- What is added to twice a number of bytes.
+one_more : (n : ℕ) (b : Bool) → 2 * n + (if b then 0 else 1) ≤ 2 * n + 1
+one_more n true = omega arith
+one_more n false = omega arith
+
+no_more : (n size : ℕ) (b lacks : Bool) → b ≡ true → n ≡ size → 2 * n + (if b || lacks then 0 else 1) ≤ 2 * size
+no_more n size true lacks is same = omega (arith, same)
+no_more n size false lacks is same = absurd (false≢true is)
+
 -- An error goes no further than to a stranger, and there it is a wrong byte.
 module _ (m : Notation) (text : List ℕ) (size : ℕ) (far : sign_size text + 1 < size) where
   pub near_is : ((n : ℕ) → IsValidUpTo m text n → n ≤ sign_size text + 1) → IsNoBetter m text size
   near_is near error is = let up = near error.valid_up_to is.valid_up_to in let most = at_most error in omega (arith, up, most, far) where
     at_most : (error : Refusal) → reach error ≤ 2 * error.valid_up_to + 1
-    at_most error = grind arith
+    at_most error = one_more error.valid_up_to (is_stray error)
 
   pub stranger_is : size < length text → IsStranger m (get_or text size 0) → IsNoBetter m text size
   stranger_is inside stranger error is =
@@ -145,7 +156,7 @@ module _ (m : Notation) (text : List ℕ) (size : ℕ) (far : sign_size text + 1
         | inr past ↦ at_size (le_antisymm past up)
       ] where
         at_most : (error : Refusal) → reach error ≤ 2 * error.valid_up_to + 1
-        at_most error = grind arith
+        at_most error = one_more error.valid_up_to (is_stray error)
 
         sign_at : (text : List ℕ) (size : ℕ) → sign_size text + 1 < size → size < length text → sign_size (take size text) + 1 < size
         sign_at [] size far inside = absurd (omega (arith, inside))
@@ -162,7 +173,7 @@ module _ (m : Notation) (text : List ℕ) (size : ℕ) (far : sign_size text + 1
             (subst (λ next. IsCause m (take size text) next error.kind (raw error.mask).flag) here cause) in
             least error byte (sym same) where
               least : (error : Refusal) → is_byte error.kind ≡ true → error.valid_up_to ≡ size → reach error ≤ 2 * size
-              least error byte same = grind arith
+              least error byte same = no_more error.valid_up_to size (is_byte error.kind) (has error.conditions conditions.BasePrefix) byte same
 
 -- `AreFalse d s p e f g` holds if the tests of all roles but the prefix are false.
 record AreFalse (d s p e f g : Bool) : Type 0 where

@@ -5,13 +5,15 @@ use Rattle.lexical_forms.proofs.Common.{slice_get-get_or, Literal, Reads, is_flo
 use Rattle.lexical_forms.proofs.Common.{IsCountedFront, HasLengths, cuts_of, FormList, NoForm, ReadsForm, IsValidUpTo, NoFront, Read, IsAhead, Form, Found}
 use Rattle.lexical_forms.proofs.Common.{Candidate}
 use Rattle.lexical_forms.specs.Forms.{IsFirst}
-use Rattle.lexical_forms.specs.Token.{AllShorter, IsChosen, IsFollowed, IsOver, IsRefused, IsToken, IsUnknown, IsCandidate, NoCandidate, NoLonger}
-use Rattle.lexical_forms.specs.Additions.Token.{IsBestMade, IsBestOf, IsMade, IsOwn, IsPicked, NoOwn, better, goes_on, has_float, suffixed, whole}
+use Rattle.lexical_forms.specs.Token.{AllShorter, IsChosen, IsFollowed, IsOver, IsCut, IsRefused, IsToken, IsTokenError, IsCandidate, NoCandidate, NoLonger}
+use Rattle.lexical_forms.specs.Additions.Token.{IsBestMade, IsBestOf, IsEnd, IsMade, IsOwn, IsPicked, NoOwn, better, goes_on, has_float, suffixed, whole}
 use Rattle.lexical_literal.specs.Cause.{is_in}
-use Rattle.lexical_forms.specs.Suffix.{is_digit, is_stopped, kind_with, stop_end, suffix_size}
+use Rattle.lexical_forms.specs.Suffix.{is_digit, is_stopped, is_word_byte, kind_with, stop_end, suffix_size, suffix_words}
 use Rattle.lexical_forms.specs.Token.{gives_back, is_shorter}
 use Rattle.lexical_forms.specs.declared.list.Tokens.{Tokens}
 use Rattle.lexical_forms.specs.declared.token.Token.{Token}
+use Rattle.lexical_forms.specs.declared.token.TokenError.{TokenError}
+use Rattle.lexical_forms.specs.declared.token.TokenError.TheVariants as errors
 use Rattle.lexical_forms.proofs.FormLemmas.{all_at, one_front, one_size}
 use Rattle.lexical_literal.proofs.MadeLemmas.{present}
 
@@ -386,7 +388,7 @@ module _ (list : FormList) (t : Tokens) (text : List ℕ) where
       }))
 
       module _ (over : IsOver list t text c.end) (stopped : is_stopped form.suffixes text c.end ≡ true) where
-        pub before_digit : is_in is_digit (slice_get text c.size) ≡ true → IsRefused list t text
+        pub before_digit : ((c.size == c.end) && is_in is_digit (slice_get text c.size)) ≡ true → IsRefused list t text
         before_digit digit = inr (inr (record {
           index = index;
           form = form;
@@ -399,14 +401,32 @@ module _ (list : FormList) (t : Tokens) (text : List ℕ) where
           digit = digit;
         }))
 
-        pub unknown : is_in is_digit (slice_get text c.size) ≡ false → IsUnknown list t text index c.size (stop_end text c.end)
-        unknown other = record {
-          form = form;
-          behind = c.end;
-          chosen = is.chosen;
-          not_followed = apart;
-          over = over;
-          stopped = stopped;
-          no_digit = other;
-          end_is = refl;
-        }
+        module _ (other : ((c.size == c.end) && is_in is_digit (slice_get text c.size)) ≡ false) where
+          cut : IsCut list t text index form c.size c.end
+          cut = record { chosen = is.chosen; not_followed = apart; over = over; stopped = stopped; no_digit = other }
+
+          pub ended : (error : TokenError) → IsEnd form text index c error → IsTokenError list t text error
+          ended (errors.UnknownSuffix i start end suffixes) e =
+              let l = is.measured.literal.0 in
+              let reads = is.measured.literal.1 in
+              let here = sym e.2 in record {
+                form = form;
+                behind = c.end;
+                cut = subst (λ n. IsCut list t text n form start c.end) (sym e.1) (subst (λ n. IsCut list t text index form n c.end) here cut);
+                word = e.0;
+                end_is = e.3;
+                literal = l;
+                reads = subst (λ n. Reads (notation_of form.syntax) l (take n text)) here reads;
+                words_are = e.4 ∙ ap (suffix_words form.suffixes) (float_is l c.counts (is.measured.counted l reads));
+              }
+          ended (errors.Stopped i start end) e =
+              let here = sym e.2 in record {
+                form = form;
+                size = c.size;
+                cut = subst (λ n. IsCut list t text n form c.size start) (sym e.1) (subst (λ n. IsCut list t text index form c.size n) here cut);
+                no_word = subst (λ n. is_in is_word_byte (slice_get text n) ≡ false) here e.0;
+                end_is = subst (λ n. end ≡ stop_end text n) here e.3;
+              }
+          ended errors.NoTokens e = absurd e
+          ended (errors.Literal error) e = absurd e
+          ended (errors.NotAToken end) e = absurd e

@@ -1,17 +1,15 @@
 -- Several forms of numbers: which form has a text, and which error a text has that is of no form.
-use Rattle.std.specs.Prelude.{ℕ, ◌≡◌, ◌+◌, ◌*◌, ◌<◌, ◌≤◌, Bool, true, false, if◌then◌else◌, IfErr, IfOk, IsErr, IsSomeAnd, List, Option, Some, None, Result}
+use Rattle.std.specs.Prelude.{ℕ, ◌≡◌, ◌+◌, ◌*◌, ◌<◌, ◌≤◌, if◌then◌else◌, IfErr, IfOk, IsErr, IsSomeAnd, List, Option, Some, None, Result}
 use Rattle.std.specs.Prelude.{All}
 use Rattle.std.specs.Prelude.{drop, slice_get, take}
 use Rattle.std.specs.Borrow.{Bor}
-use Rattle.lexical_literal.specs.Cause.{IsRefusal, is_byte}
+use Rattle.lexical_literal.specs.Cause.{IsRefusal, is_stray}
 use Rattle.lexical_forms.specs.FormList.{FormList}
 use Rattle.lexical_literal.specs.Front.{NoFront, NoLiteral, ReadsFront}
 use Rattle.lexical_literal.specs.Literal.{Literal, Reads}
 use Rattle.lexical_literal.specs.Notation.{notation_of}
 use Rattle.lexical_literal.specs.Read.{Read}
 use Rattle.lexical_forms.specs.Specials.{special_of}
-use Rattle.lexical_literal.specs.declared.cause.ReadErrorKind.{ReadErrorKind}
-use Rattle.lexical_literal.specs.declared.cause.ReadErrorKind.TheVariants as causes
 use Rattle.lexical_literal.specs.declared.cause.Refusal.{Refusal}
 use Rattle.lexical_forms.specs.declared.list.Form.{Form}
 use Rattle.lexical_forms.specs.declared.list.FormError.{FormError}
@@ -44,9 +42,9 @@ pub record IsGreatest (P : Form → ℕ → Type 0) (forms : List Form) (index s
   pub before : All (λ form. (other : ℕ) → P form other → other < size) (take index forms)
   pub others : All (λ form. (other : ℕ) → P form other → other ≤ size) forms
 
--- `reach error` is twice the number of bytes that are right, and 1 more unless the cause is a wrong byte.
+-- `reach error` is twice the number of bytes that are right, and 1 more unless the cause is a wrong byte or a required prefix is not there.
 abbrev pub reach : Refusal → ℕ
-reach error = 2 * error.valid_up_to + (if is_byte error.kind then 0 else 1)
+reach error = 2 * error.valid_up_to + (if is_stray error then 0 else 1)
 
 -- `Reaches text form n` holds if an error of `text` in `form` has the reach `n`.
 abbrev pub Reaches : List ℕ → Form → ℕ → Type 0
@@ -62,7 +60,7 @@ pub record IsErrorOfForm (text : List ℕ) (error : FormError) (form : Form) : T
   pub refusal : IsRefusal (notation_of form.syntax) text error.error.refusal
 
 -- `IsFormError forms text error` holds if `error` is that of the form that goes furthest in `text`. Of several, it is the first
--- whose cause is not a wrong byte, or the first if the cause of each is one.
+-- whose cause is not a wrong byte and that does not lack a required prefix, or the first if there is none.
 pub record IsFormError (forms : List Form) (text : List ℕ) (error : FormError) : Type 0 where
   pub furthest : IsGreatest (Reaches text) forms error.form (reach error.error.refusal)
   pub refusal : IsSomeAnd (slice_get forms error.form) (IsErrorOfForm text error)

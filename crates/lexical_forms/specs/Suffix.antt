@@ -46,6 +46,11 @@ abbrev pub any_word_size : List ℕ → List ℕ → ℕ
 any_word_size begin [] = 0
 any_word_size begin (byte ∷ text) = if list_any (λ it. it == byte) begin then word_size (byte ∷ text) else 0
 
+-- `suffix_words suffixes float` lists the words that are suffixes behind a float or else an integer.
+abbrev pub suffix_words : Option (Bor Suffixes) → Bool → List (Bor (List ℕ))
+suffix_words None float = []
+suffix_words (Some it) float = if float then it.now.floats.now else it.now.integers.now
+
 -- `suffix_size suffixes float text` is the length of the longest suffix with which `text` begins, behind a float or else an
 -- integer, or 0 if there is none.
 abbrev pub suffix_size : Option (Bor Suffixes) → Bool → List ℕ → ℕ

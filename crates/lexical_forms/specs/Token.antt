@@ -9,7 +9,7 @@ use Rattle.lexical_forms.specs.Forms.{HasFront, IsFormError, IsGreatest, NoForm,
 use Rattle.lexical_literal.specs.Front.{IsValidUpTo}
 use Rattle.lexical_literal.specs.Literal.{Literal, Reads, is_float}
 use Rattle.lexical_literal.specs.Notation.{Notation, notation_of}
-use Rattle.lexical_forms.specs.Suffix.{byte_before, is_digit, is_followed, is_stopped, is_word_byte, kind_with, stop_end, suffix_size, word_size}
+use Rattle.lexical_forms.specs.Suffix.{byte_before, is_digit, is_followed, is_stopped, is_word_byte, kind_with, stop_end, suffix_size, suffix_words, word_size}
 use Rattle.lexical_forms.specs.declared.list.Form.{Form}
 use Rattle.lexical_forms.specs.declared.list.Tokens.{Tokens}
 use Rattle.lexical_forms.specs.declared.token.Token.{Token}
@@ -107,8 +107,8 @@ module _ (list : FormList) (t : Tokens) (text : List ℕ) where
     pub rest : token.rest.now ≡ drop end text
     pub ended : IsFollowed end ⊎ (IsOver end × (is_stopped form.suffixes text end ≡ false))
 
-  -- `HasNone` holds if no form has a candidate, `HasGoneOn` if a literal goes on behind the longest, and `HasDigit` if a digit is behind its
-  -- literal, which begins no suffix. Then a form is to blame.
+  -- `HasNone` holds if no form has a candidate, `HasGoneOn` if a literal goes on behind the longest, and `HasDigit` if a digit is directly
+  -- behind its literal, which has no suffix. Then a form is to blame.
   pub record HasNone : Type 0 where
     pub plain : All (NoCandidate t.gives_points_back false text) list.forms
     pub suffixed : All (NoCandidate t.gives_points_back true text) t.forms.now
@@ -131,7 +131,7 @@ module _ (list : FormList) (t : Tokens) (text : List ℕ) where
     pub not_followed : IsFollowed end → ⊥
     pub over : IsOver end
     pub stopped : is_stopped form.suffixes text end ≡ true
-    pub digit : is_in is_digit (slice_get text size) ≡ true
+    pub digit : ((size == end) && is_in is_digit (slice_get text size)) ≡ true
 
   abbrev pub IsRefused : Type 0
   IsRefused = HasNone ⊎ (HasGoneOn ⊎ HasDigit)
@@ -147,24 +147,42 @@ module _ (list : FormList) (t : Tokens) (text : List ℕ) where
     pub furthest : IsGreatest (λ form n. IsValidUpTo (notation_of form.syntax) text n) list.forms index stop
     pub end : size ≡ word_end stop
 
-  -- `IsUnknown index start end` holds if the form with this index has the longest candidate, with a literal of `start` bytes, and if what
-  -- follows it may not, and ends at `end` with its word.
-  pub record IsUnknown (index start end : ℕ) : Type 0 where
+  -- `IsCut index form size end` holds if the form with this index has the longest candidate, no literal goes on behind it, and what follows may not.
+  pub record IsCut (index : ℕ) (form : Form) (size end : ℕ) : Type 0 where
+    pub chosen : IsChosen index form size end
+    pub not_followed : IsFollowed end → ⊥
+    pub over : IsOver end
+    pub stopped : is_stopped form.suffixes text end ≡ true
+    pub no_digit : ((size == end) && is_in is_digit (slice_get text size)) ≡ false
+
+  -- `IsUnknown index start end words` holds if behind the longest candidate, of the form with this index and with a literal of `start` bytes, a
+  -- word follows, which ends at `end`, and if `words` are the suffixes of the form behind such a literal.
+  pub record IsUnknown (index start end : ℕ) (words : List (Bor (List ℕ))) : Type 0 where
     pub form : Form
     pub behind : ℕ
-    pub chosen : IsChosen index form start behind
-    pub not_followed : IsFollowed behind → ⊥
-    pub over : IsOver behind
-    pub stopped : is_stopped form.suffixes text behind ≡ true
-    pub no_digit : is_in is_digit (slice_get text start) ≡ false
+    pub cut : IsCut index form start behind
+    pub word : is_in is_word_byte (slice_get text behind) ≡ true
     pub end_is : end ≡ stop_end text behind
+    pub literal : Literal
+    pub reads : Reads (notation_of form.syntax) literal (take start text)
+    pub words_are : words ≡ suffix_words form.suffixes (is_float literal)
+
+  -- `IsStop index start end` holds if behind the longest candidate, of the form with this index, which ends at `start`, no word but a stop follows,
+  -- and if its byte and the word behind this end at `end`.
+  pub record IsStop (index start end : ℕ) : Type 0 where
+    pub form : Form
+    pub size : ℕ
+    pub cut : IsCut index form size start
+    pub no_word : is_in is_word_byte (slice_get text start) ≡ false
+    pub end_is : end ≡ stop_end text start
 
   -- `IsTokenError error` holds if `error` says why `text` begins with no token.
   abbrev pub IsTokenError : TokenError → Type 0
   IsTokenError errors.NoTokens = ⊥
   IsTokenError (errors.Literal error) = IsRefused × ((size : ℕ) × IsWordUpTo size × IsFormError list.forms (take size text) error)
   IsTokenError (errors.NotAToken end) = IsRefused × IsWordUpTo end × (NoForm list.forms (take end text) → ⊥)
-  IsTokenError (errors.UnknownSuffix form start end) = IsUnknown form start end
+  IsTokenError (errors.UnknownSuffix form start end suffixes) = IsUnknown form start end suffixes.now
+  IsTokenError (errors.Stopped form start end) = IsStop form start end
 
 -- `IsReadByTokens list tokens text result` holds if `result` is the token that `text` begins with, or says why there is none: without rules, there
 -- are no tokens.

@@ -208,7 +208,7 @@ pub enum Number<'a> {
 }
 
 /// Why a text is not a number of any form: the error of the form that goes furthest in the text. Of several, it is the
-/// first whose cause is not a wrong byte, or the first if the cause of each is one.
+/// first whose cause is not a wrong byte and that does not lack a required prefix, or the first if there is none.
 ///
 /// ```
 /// use peltzivar::literal::Language;
@@ -318,7 +318,8 @@ impl<'a> Forms<'a> {
     /// # Errors
     ///
     /// If `text` is neither, returns the error of the form for which most of it is right. Of several, it is the first whose
-    /// cause is not a wrong byte, or the first if the cause of each is one. So `0b12` has the error of the binary form.
+    /// cause is not a wrong byte and that does not lack a required prefix, or the first if there is none. So `0b12` has the
+    /// error of the binary form.
     pub fn read<'t>(&self, text: &'t [u8]) -> Result<Number<'t>, FormError>
         ensures { IsReadByForms self.now text.now result }
     {
@@ -466,8 +467,8 @@ impl<'a> Forms<'a> {
         }
     }
 
-    // Returns why `text` is not a literal of the form that goes furthest, or, if the cause is a wrong byte, of the first that
-    // goes as far and has another cause.
+    // Returns why `text` is not a literal of the form that goes furthest, or, if the cause is a wrong byte or a required prefix is
+    // not there, of the first that goes as far and has another cause.
     #[cold]
     pub(crate) fn refuse(&self, text: &[u8], furthest: Option<(usize, At)>) -> FormError
         requires furthest { IsFurthestForm self.now.forms text.now furthest }
@@ -484,11 +485,11 @@ impl<'a> Forms<'a> {
             let syntax = &forms[form].syntax;
             if !is_settled(syntax.grammar(), text, stop.size) {
                 if let Some(reached) = syntax.stop_at(text, stop.size) {
-                    if !error.error.is_byte() {
+                    if !error.error.is_stray() {
                         return error;
                     }
                     let other = self.error_at(text, form, reached);
-                    if !other.error.is_byte() {
+                    if !other.error.is_stray() {
                         return other;
                     }
                 }

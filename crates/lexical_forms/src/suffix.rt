@@ -5,7 +5,7 @@ ghost use Rattle.std.specs.Char.{eq_ignore_ascii_case};
 ghost use Rattle.std.specs.List.{list_any};
 ghost use Rattle.lexical_literal.specs.Cause.{is_in};
 ghost use Rattle.lexical_forms.specs.Suffix.{admits, any_word_size, begins, byte_before, is_followed, is_stopped, is_word_byte, kind_among, kind_with};
-ghost use Rattle.lexical_forms.specs.Suffix.{longest_word, meets, suffix_size, word_size};
+ghost use Rattle.lexical_forms.specs.Suffix.{longest_word, meets, suffix_size, suffix_words, word_size};
 
 use lexical_literal::kind::Kind;
 use lexical_literal::read::byte_at;
@@ -186,6 +186,19 @@ pub(crate) const fn suffix_size(
     }
 }
 
+// Returns the words that are named as suffixes behind a float or else an integer.
+pub(crate) const fn suffix_words(
+    suffixes: Option<&'static Suffixes>,
+    float: bool,
+) -> &'static [&'static [u8]]
+    ensures { result.now ≡ suffix_words suffixes.entry float }
+{
+    match suffixes {
+        None => &[],
+        Some(it) => { if float { it.floats } else { it.integers } }
+    }
+}
+
 // Returns the kind of a number with the suffix `word`, of a form of the kind `kind`.
 pub(crate) const fn kind_with(suffixes: Option<&'static Suffixes>, word: &[u8], kind: Kind) -> Kind
     ensures { result ≡ kind_with suffixes.entry word.now kind }
@@ -226,7 +239,7 @@ pub(crate) const fn is_stopped(suffixes: Option<&'static Suffixes>, text: &[u8],
 
 // Returns whether the byte at `index` is one of a word.
 #[inline(always)]
-const fn has_word_byte(text: &[u8], index: usize) -> bool
+pub(crate) const fn has_word_byte(text: &[u8], index: usize) -> bool
     ensures { result ≡ is_in is_word_byte (slice_get text.now index) }
 {
     match byte_at(text, index) {

@@ -1,12 +1,12 @@
 //! Tokens: numbers in the middle of a text, each with its suffix.
 
-ghost use Rattle.std.specs.Prelude.{◌≡◌, ◌<◌, ◌≤◌, ◌+◌, ◌-◌, ℕ, All, IsNone, IsSomeAnd, IsTrue, Some, drop, false, length, slice_get, take, true};
+ghost use Rattle.std.specs.Prelude.{◌≡◌, ◌<◌, ◌≤◌, ◌+◌, ◌-◌, ◌==◌, ◌&&◌, ℕ, All, IsNone, IsSomeAnd, IsTrue, Some, drop, false, length, slice_get, take, true};
 ghost use Rattle.std.specs.Option.{ForSome};
 ghost use Rattle.lexical_forms.specs.Additions.Forms.{IsFurthestForm, PlaysNoRole, sign_size};
 ghost use Rattle.lexical_literal.specs.Additions.Longest.{HasBegun, IsCountedFront, IsMeasured, IsStopped};
 ghost use Rattle.lexical_literal.specs.Additions.Read.{AreSums, cut};
 ghost use Rattle.lexical_literal.specs.Additions.Summary.{cuts_of};
-ghost use Rattle.lexical_forms.specs.Additions.Token.{AreNear, FrontsWithin, IsBestOf, IsLeading, IsMade, IsNear, IsOwn, IsPicked, IsWithin, NoOwn, better};
+ghost use Rattle.lexical_forms.specs.Additions.Token.{AreNear, FrontsWithin, IsBestOf, IsEnd, IsLeading, IsMade, IsNear, IsOwn, IsPicked, IsWithin, NoOwn, better};
 ghost use Rattle.lexical_forms.specs.Additions.Token.{goes_on};
 ghost use Rattle.lexical_forms.specs.Additions.Token.{has_float, has_prefix, suffixed, whole};
 ghost use Rattle.lexical_literal.specs.Cause.{is_in};
@@ -20,7 +20,8 @@ ghost use Rattle.lexical_util.specs.Record.{raw};
 use crate::exclude::sign_size;
 use crate::list::{Form, FormError, Forms, Tokens, further};
 use crate::suffix::{
-    byte_before, is_followed, is_stopped, is_word_byte, kind_with, suffix_size, word_size,
+    byte_before, has_word_byte, is_followed, is_stopped, is_word_byte, kind_with, suffix_size,
+    suffix_words, word_size,
 };
 use lexical_literal::literal::Literal;
 use lexical_literal::plain::{At, Counted};
@@ -56,7 +57,8 @@ pub struct Token<'a> {
 ///
 /// let text = "10ux;";
 /// let error = Language::C.token(text).unwrap_err();
-/// assert_eq!(format!("{error}: {}", &text[error.span()]), "unknown suffix: ux");
+/// assert_eq!(&text[error.span()], "ux");
+/// assert_eq!(error.to_string(), "unknown suffix; a suffix is one of u, U, l, L, ll, LL, ..");
 /// ```
 #[derive(Debug, Clone, Copy, PartialEq, Eq, Hash)]
 pub enum TokenError {
@@ -69,13 +71,24 @@ pub enum TokenError {
         /// The index behind the number.
         end: usize,
     },
-    /// The word behind a number is not a suffix of its form, or a byte follows that may not.
+    /// The word behind a number is not a suffix of its form.
     UnknownSuffix {
         /// The index of the form.
         form: usize,
         /// The index where the word begins, which is the end of the literal.
         start: usize,
         /// The index behind the word.
+        end: usize,
+        /// The words that the form names as suffixes behind such a literal, an integer or a float.
+        suffixes: &'static [&'static [u8]],
+    },
+    /// A `Stop` of the form refuses what follows the number.
+    Stopped {
+        /// The index of the form.
+        form: usize,
+        /// The index behind the number, with its suffix.
+        start: usize,
+        /// The index behind the byte that follows, and the word behind this byte.
         end: usize,
     },
 }
@@ -141,15 +154,10 @@ impl<'a> Forms<'a> {
         if !is_stopped(it.suffixes, text, end) {
             return Ok(made(it, text, form, candidate));
         }
-        if has_digit(text, size) {
+        if has_digit(text, size, end) {
             return Err(self.fail(tokens, text, plain.furthest));
         }
-        let end = stop_end(text, end);
-        Err(TokenError::UnknownSuffix {
-            form,
-            start: size,
-            end,
-        })
+        Err(stopped(it, text, form, candidate))
     }
 
     // Returns the token that `text` begins with, if reading the forms of the list once tells it. If `excluding` is true, a form of
@@ -565,13 +573,35 @@ fn is_one(syntax: Syntax, byte: Option<u8>) -> bool
     }
 }
 
-// Returns whether the byte at `index` is a digit.
-fn has_digit(text: &[u8], index: usize) -> bool
-    ensures { result ≡ is_in is_digit (slice_get text.now index) }
+// Returns whether a digit is behind a literal of `size` bytes that has no suffix, so that the number ends where the literal does.
+fn has_digit(text: &[u8], size: usize, end: usize) -> bool
+    ensures { result ≡ ((size == end) && is_in is_digit (slice_get text.now size)) }
 {
-    match byte_at(text, index) {
-        None => false,
-        Some(byte) => matches!(byte, b'0'..=b'9'),
+    size == end
+        && match byte_at(text, size) {
+            None => false,
+            Some(byte) => matches!(byte, b'0'..=b'9'),
+        }
+}
+
+// Returns why what is behind the number with this candidate may not follow it: a word, or otherwise a byte that a stop names.
+fn stopped(it: &Form, text: &[u8], form: usize, candidate: Candidate) -> TokenError
+    ensures { IsEnd it.now text.now form candidate result }
+{
+    let Candidate { size, counts, end } = candidate;
+    if has_word_byte(text, end) {
+        TokenError::UnknownSuffix {
+            form,
+            start: size,
+            end: stop_end(text, end),
+            suffixes: suffix_words(it.suffixes, is_float(counts)),
+        }
+    } else {
+        TokenError::Stopped {
+            form,
+            start: end,
+            end: stop_end(text, end),
+        }
     }
 }
 

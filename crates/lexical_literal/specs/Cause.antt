@@ -206,11 +206,18 @@ abbrev pub wrong_end : Marks → Option ℕ → ℕ
 wrong_end k None = k.size
 wrong_end k (Some byte) = k.size + 1
 
+-- `zeros_span m k next` has the first index and the end of the bytes to show for leading zeros: the integer, to which `next` may belong, or `next` if it
+-- is a separator.
+abbrev pub zeros_span : Notation → Marks → Option ℕ → ℕ × ℕ
+zeros_span m k next =
+    if is_in (m.digit parts.Integer) next then (k.first, wrong_end k next)
+    else (if is_in m.separator next then (k.size, wrong_end k next) else (k.first, k.run))
+
 -- `requirement_span f m k next` has the first index and the end of the bytes to show for the flag `f`: an exponent, the integer, `next`, or none.
 abbrev pub requirement_span : Flag → Notation → Marks → Option ℕ → ℕ × ℕ
 requirement_span layout.required_exponent_digits m k next = (k.exponent, k.size)
-requirement_span layout.no_integer_leading_zeros m k next = (k.first, if is_in (m.digit parts.Integer) next then wrong_end k next else k.run)
-requirement_span layout.no_float_leading_zeros m k next = (k.first, if is_in (m.digit parts.Integer) next then wrong_end k next else k.run)
+requirement_span layout.no_integer_leading_zeros m k next = zeros_span m k next
+requirement_span layout.no_float_leading_zeros m k next = zeros_span m k next
 requirement_span layout.no_positive_mantissa_sign m k next = (k.size, wrong_end k next)
 requirement_span layout.no_exponent_notation m k next = (k.size, wrong_end k next)
 requirement_span layout.no_positive_exponent_sign m k next = (k.size, wrong_end k next)
@@ -301,3 +308,7 @@ pub record SameBlame (c d : ReadErrorKind) (a b : Flag → Bool) : Type 0 where
 abbrev pub is_byte : ReadErrorKind → Bool
 is_byte causes.Byte = true
 is_byte _ = false
+
+-- `is_stray error` is true if the cause is a wrong byte, or if a required prefix is not there.
+abbrev pub is_stray : Refusal → Bool
+is_stray error = is_byte error.kind || has error.conditions conditions.BasePrefix

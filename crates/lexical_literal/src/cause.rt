@@ -10,7 +10,7 @@ ghost use Rattle.lexical_literal.specs.Additions.Explained.{zeros};
 ghost use Rattle.lexical_literal.specs.Additions.Sizes.{fits, goes, role_next, unsized};
 ghost use Rattle.lexical_literal.specs.Additions.Summary.{part_of, role_at};
 ghost use Rattle.lexical_literal.specs.Cause.{adding, bare, binds, case_set, first_unmet, with_rules};
-ghost use Rattle.lexical_literal.specs.Cause.{is_byte};
+ghost use Rattle.lexical_literal.specs.Cause.{is_byte, is_stray};
 ghost use Rattle.lexical_literal.specs.Notation.{has, kept, notation_of, number_of};
 
 use crate::groups::{Group, follows, has_size};
@@ -179,12 +179,12 @@ impl ReadError {
         self.explain().code
     }
 
-    // Returns whether the cause is a wrong byte.
+    // Returns whether the cause is a wrong byte, or a required prefix is not there.
     #[doc(hidden)]
-    pub const fn is_byte(&self) -> bool
-        ensures { result ≡ is_byte self.now.refusal.kind }
+    pub const fn is_stray(&self) -> bool
+        ensures { result ≡ is_stray self.now.refusal }
     {
-        self.spot.is_byte()
+        self.spot.is_stray()
     }
 
     // Returns all answers. It finds the cause once.
@@ -207,12 +207,13 @@ impl Spot {
         }
     }
 
-    // Returns whether the cause is a wrong byte. It takes less time than all answers.
+    // Returns whether the cause is a wrong byte, or a required prefix is not there. It takes less time than all answers.
     #[inline(always)]
-    const fn is_byte(self) -> bool
-        ensures { result ≡ is_byte (refusal_of (notation_of (grammar_at self)) self).kind }
+    const fn is_stray(self) -> bool
+        ensures { result ≡ is_stray (refusal_of (notation_of (grammar_at self)) self) }
     {
-        self.stop().is_byte()
+        let stop = self.stop();
+        stop.is_byte() || stop.is_unmet(Condition::BasePrefix)
     }
 
     // Returns what has been read, and the byte that cannot follow.

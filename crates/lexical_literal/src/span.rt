@@ -160,6 +160,7 @@ const fn requirement_span(
     match number {
         2 => (marks.exponent, size),
         12 | 13 if is_digit_next(grammar, next) => (marks.first, end),
+        12 | 13 if is_separator_next(grammar, next) => (size, end),
         12 | 13 => (marks.first, marks.run),
         4 | 6 | 7 | 9 => (size, end),
         _ => (size, size),

@@ -141,9 +141,9 @@ impl ReadError {
         self.explain().code
     }
 
-    // Returns whether the cause is a wrong byte.
-    pub(crate) const fn is_byte(&self) -> bool {
-        self.spot.is_byte()
+    // Returns whether the cause is a wrong byte, or a required prefix is not there.
+    pub(crate) const fn is_stray(&self) -> bool {
+        self.spot.is_stray()
     }
 
     // Returns all answers. It finds the cause once.
@@ -158,10 +158,11 @@ impl Spot {
         Grammar { word: self.word, options: self.options, conditions: self.conditions }
     }
 
-    // Returns whether the cause is a wrong byte. It takes less time than all answers.
+    // Returns whether the cause is a wrong byte, or a required prefix is not there. It takes less time than all answers.
     #[inline(always)]
-    const fn is_byte(self) -> bool {
-        self.stop().is_byte()
+    const fn is_stray(self) -> bool {
+        let stop = self.stop();
+        stop.is_byte() || stop.is_unmet(Condition::BasePrefix)
     }
 
     // Returns what has been read, and the byte that cannot follow.

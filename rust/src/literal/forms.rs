@@ -3,7 +3,8 @@
 use core::{fmt, ops, ops::Range, slice};
 
 use crate::literal::{
-    Form, FormError, Forms, FromLiteral, Literal, Number, ParseError, ReadError, Special, Specials, Syntax,
+    Form, FormError, Forms, FromLiteral, Literal, Number, ParseError, ReadError, ReadErrorKind, Special, Specials,
+    Syntax,
 };
 
 impl<'a> Forms<'a> {
@@ -158,6 +159,36 @@ impl FormError {
     #[must_use]
     pub const fn form(&self) -> usize {
         self.form
+    }
+
+    /// Returns the name of the form.
+    #[must_use]
+    pub const fn name(&self) -> &'static str {
+        self.name
+    }
+
+    /// Returns the kind, as [`ReadError::kind`] does.
+    #[must_use]
+    pub const fn kind(&self) -> ReadErrorKind {
+        self.error.kind()
+    }
+
+    /// Returns whether bytes are missing, as [`ReadError::is_incomplete`] does.
+    #[must_use]
+    pub const fn is_incomplete(&self) -> bool {
+        self.error.is_incomplete()
+    }
+
+    /// Returns the byte that cannot follow, or `None` if bytes are missing, as [`ReadError::byte`] does.
+    #[must_use]
+    pub const fn byte(&self) -> Option<u8> {
+        self.error.byte()
+    }
+
+    /// Returns the mask of the flags to blame, as [`ReadError::mask`] does.
+    #[must_use]
+    pub const fn mask(&self) -> u128 {
+        self.error.mask()
     }
 
     /// Returns the number of bytes at the beginning of the text that are right, as [`ReadError::valid_up_to`] does.

@@ -122,6 +122,10 @@ impl ReadError {
             return self.unmet(condition);
         }
         match kind {
+            // The bytes to show are the zeros, or otherwise the separator behind them.
+            ReadErrorKind::Requirement if named(mask) & ZEROS != 0 && refusal.start == refusal.valid_up_to => {
+                ShortText::of("unexpected digit separator after a leading zero")
+            }
             ReadErrorKind::Requirement | ReadErrorKind::Case => ShortText::of(required_by(lowest(mask))),
             ReadErrorKind::Separator(part, place) => {
                 ShortText::of("unexpected digit separator in the ").and(part.name()).and(behind(place))

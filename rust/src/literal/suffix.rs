@@ -128,6 +128,20 @@ pub(crate) const fn suffix_size(suffixes: Option<&'static Suffixes>, float: bool
     }
 }
 
+// Returns the words that are named as suffixes behind a float or else an integer.
+pub(crate) const fn suffix_words(suffixes: Option<&'static Suffixes>, float: bool) -> &'static [&'static [u8]] {
+    match suffixes {
+        None => &[],
+        Some(it) => {
+            if float {
+                it.floats
+            } else {
+                it.integers
+            }
+        }
+    }
+}
+
 // Returns the kind of a number with the suffix `word`, of a form of the kind `kind`.
 pub(crate) const fn kind_with(suffixes: Option<&'static Suffixes>, word: &[u8], kind: Kind) -> Kind {
     match suffixes {
@@ -162,7 +176,7 @@ pub(crate) const fn is_stopped(suffixes: Option<&'static Suffixes>, text: &[u8],
 
 // Returns whether the byte at `index` is one of a word.
 #[inline(always)]
-const fn has_word_byte(text: &[u8], index: usize) -> bool {
+pub(crate) const fn has_word_byte(text: &[u8], index: usize) -> bool {
     match byte_at(text, index) {
         None => false,
         Some(byte) => is_word_byte(byte),

@@ -8,7 +8,9 @@ use crate::literal::literal::Literal;
 use crate::literal::plain::{At, Counted};
 use crate::literal::read::{byte_at, Found};
 use crate::literal::steps::{is_digit, is_point, role_at};
-use crate::literal::suffix::{byte_before, is_followed, is_stopped, is_word_byte, kind_with, suffix_size, word_size};
+use crate::literal::suffix::{
+    byte_before, has_word_byte, is_followed, is_stopped, is_word_byte, kind_with, suffix_size, suffix_words, word_size,
+};
 use crate::literal::syntax::{Condition, Grammar, Syntax};
 use crate::word::Part;
 
@@ -40,7 +42,8 @@ pub struct Token<'a> {
 ///
 /// let text = "10ux;";
 /// let error = Language::C.token(text).unwrap_err();
-/// assert_eq!(format!("{error}: {}", &text[error.span()]), "unknown suffix: ux");
+/// assert_eq!(&text[error.span()], "ux");
+/// assert_eq!(error.to_string(), "unknown suffix; a suffix is one of u, U, l, L, ll, LL, ..");
 /// ```
 #[derive(Debug, Clone, Copy, PartialEq, Eq, Hash)]
 #[non_exhaustive]
@@ -54,13 +57,24 @@ pub enum TokenError {
         /// The index behind the number.
         end: usize,
     },
-    /// The word behind a number is not a suffix of its form, or a byte follows that may not.
+    /// The word behind a number is not a suffix of its form.
     UnknownSuffix {
         /// The index of the form.
         form: usize,
         /// The index where the word begins, which is the end of the literal.
         start: usize,
         /// The index behind the word.
+        end: usize,
+        /// The words that the form names as suffixes behind such a literal, an integer or a float.
+        suffixes: &'static [&'static [u8]],
+    },
+    /// A `Stop` of the form refuses what follows the number.
+    Stopped {
+        /// The index of the form.
+        form: usize,
+        /// The index behind the number, with its suffix.
+        start: usize,
+        /// The index behind the byte that follows, and the word behind this byte.
         end: usize,
     },
 }
@@ -121,11 +135,10 @@ impl<'a> Forms<'a> {
         if !is_stopped(it.suffixes, text, end) {
             return Ok(made(it, text, form, candidate));
         }
-        if has_digit(text, size) {
+        if has_digit(text, size, end) {
             return Err(self.fail(tokens, text, plain.furthest));
         }
-        let end = stop_end(text, end);
-        Err(TokenError::UnknownSuffix { form, start: size, end })
+        Err(stopped(it, text, form, candidate))
     }
 
     // Returns the token that `text` begins with, if reading the forms of the list once tells it. If `excluding` is true, a form of
@@ -438,11 +451,27 @@ const fn is_one(syntax: Syntax, byte: Option<u8>) -> bool {
     }
 }
 
-// Returns whether the byte at `index` is a digit.
-const fn has_digit(text: &[u8], index: usize) -> bool {
-    match byte_at(text, index) {
-        None => false,
-        Some(byte) => matches!(byte, b'0'..=b'9'),
+// Returns whether a digit is behind a literal of `size` bytes that has no suffix, so that the number ends where the literal does.
+const fn has_digit(text: &[u8], size: usize, end: usize) -> bool {
+    size == end
+        && match byte_at(text, size) {
+            None => false,
+            Some(byte) => matches!(byte, b'0'..=b'9'),
+        }
+}
+
+// Returns why what is behind the number with this candidate may not follow it: a word, or otherwise a byte that a stop names.
+const fn stopped(it: &Form, text: &[u8], form: usize, candidate: Candidate) -> TokenError {
+    let Candidate { size, counts, end } = candidate;
+    if has_word_byte(text, end) {
+        TokenError::UnknownSuffix {
+            form,
+            start: size,
+            end: stop_end(text, end),
+            suffixes: suffix_words(it.suffixes, is_float(counts)),
+        }
+    } else {
+        TokenError::Stopped { form, start: end, end: stop_end(text, end) }
     }
 }
 

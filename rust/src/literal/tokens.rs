@@ -1,8 +1,9 @@
 //! What is written by hand around the proved call for tokens.
 
-use core::{fmt, ops::Range};
+use core::{fmt, ops::Range, str};
 
 use crate::literal::{Form, Forms, Kind, Stop, Suffixes, Token, TokenError, Tokens};
+use crate::short_text::ShortText;
 
 impl Forms<'_> {
     /// Returns the number that `text` begins with as a token, with its suffix, and the rest, as
@@ -59,19 +60,34 @@ impl TokenError {
             TokenError::NoTokens => 0..0,
             TokenError::Literal(error) => error.span(),
             TokenError::NotAToken { end } => *end..*end,
-            TokenError::UnknownSuffix { start, end, .. } => *start..*end,
+            TokenError::UnknownSuffix { start, end, .. } | TokenError::Stopped { start, end, .. } => *start..*end,
         }
     }
 }
 
-/// Prints why, as in `unknown suffix` or `expected a digit after the exponent character`.
+/// Returns the sentence with up to six of the suffixes that a form has.
+fn unknown(suffixes: &[&[u8]]) -> ShortText {
+    let mut text = ShortText::of("unknown suffix");
+    let mut before = "; a suffix is one of ";
+    for suffix in suffixes.iter().take(6) {
+        text = text.and(before).and(str::from_utf8(suffix).unwrap_or("\u{FFFD}"));
+        before = ", ";
+    }
+    if suffixes.len() > 6 {
+        text = text.and(", ..");
+    }
+    text
+}
+
+/// Prints why, as in `unknown suffix; a suffix is one of f32, f64` or `expected a digit after the exponent character`.
 impl fmt::Display for TokenError {
     fn fmt(&self, f: &mut fmt::Formatter<'_>) -> fmt::Result {
         match self {
             TokenError::NoTokens => f.pad("these forms have no tokens"),
             TokenError::Literal(error) => error.fmt(f),
             TokenError::NotAToken { .. } => f.pad("the decimal point belongs to what follows"),
-            TokenError::UnknownSuffix { .. } => f.pad("unknown suffix"),
+            TokenError::UnknownSuffix { suffixes, .. } => f.pad(unknown(suffixes).as_str()),
+            TokenError::Stopped { .. } => f.pad("the number cannot end here"),
         }
     }
 }

@@ -1,13 +1,13 @@
 -- What one pass over several forms finds of a token.
 use Rattle.std.specs.Prelude.{ℕ, ◌≡◌, ◌+◌, ◌-◌, ◌==◌, ◌&&◌, ◌||◌, not, Bool, if◌then◌else◌, nat_lt, List, Option, Some, None, All, IsSomeAnd}
-use Rattle.std.specs.Prelude.{◌≤◌, ◌<◌, ◌⊎◌, true, drop, get_or, length, slice_get, take}
+use Rattle.std.specs.Prelude.{◌≤◌, ◌<◌, ◌⊎◌, true, false, drop, get_or, length, slice_get, take}
 use Rattle.std.specs.Borrow.{Bor}
 use Rattle.lexical_literal.specs.Additions.Longest.{IsMeasured}
 use Rattle.lexical_literal.specs.Cause.{is_in}
 use Rattle.lexical_forms.specs.FormList.{FormList}
 use Rattle.lexical_forms.specs.Forms.{HasFront}
 use Rattle.lexical_literal.specs.Front.{IsFront, NoLiteral}
-use Rattle.lexical_forms.specs.Suffix.{suffix_size}
+use Rattle.lexical_forms.specs.Suffix.{is_word_byte, stop_end, suffix_size, suffix_words}
 use Rattle.lexical_forms.specs.declared.suffix.Suffixes.{Suffixes}
 use Rattle.lexical_forms.specs.Token.{IsBest, IsCandidate, IsChosen, NoCandidate, gives_back, is_shorter}
 use Rattle.lexical_forms.specs.declared.list.Tokens.{Tokens}
@@ -15,6 +15,8 @@ use Rattle.lexical_literal.specs.declared.read.Found.{Found}
 use Rattle.lexical_literal.specs.Notation.{Notation, notation_of}
 use Rattle.lexical_forms.specs.declared.list.Form.{Form}
 use Rattle.lexical_forms.specs.declared.token.Candidate.{Candidate}
+use Rattle.lexical_forms.specs.declared.token.TokenError.{TokenError}
+use Rattle.lexical_forms.specs.declared.token.TokenError.TheVariants as errors
 
 -- `IsMade back needs text form c` holds if `c` is the candidate of `form` in `text`, and has the lengths of the parts of its literal.
 pub record IsMade (back needs : Bool) (text : List ℕ) (form : Form) (c : Candidate) : Type 0 where
@@ -62,6 +64,15 @@ pub record IsPicked (list : FormList) (t : Tokens) (text : List ℕ) (index : �
   pub measured : IsMeasured (notation_of form.syntax) (take c.size text) c.counts
   pub order : c.size ≤ c.end
   pub within : c.end ≤ length text
+
+-- `IsEnd form text index c error` holds if `error` says what follows the candidate `c` of `form`, which has this index: a word, with the suffixes of
+-- the form, or another byte.
+abbrev pub IsEnd : Form → List ℕ → ℕ → Candidate → TokenError → Type 0
+IsEnd form text index c (errors.UnknownSuffix i start end suffixes) = (is_in is_word_byte (slice_get text c.end) ≡ true) × (i ≡ index) × (start ≡ c.size)
+    × (end ≡ stop_end text c.end) × (suffixes.now ≡ suffix_words form.suffixes (has_float c.counts))
+IsEnd form text index c (errors.Stopped i start end) =
+    (is_in is_word_byte (slice_get text c.end) ≡ false) × (i ≡ index) × (start ≡ c.end) × (end ≡ stop_end text c.end)
+IsEnd form text index c _ = ⊥
 
 -- `whole found size` is `found` if it has `size` bytes, and `None` otherwise.
 abbrev pub whole : Option Found → ℕ → Option Found

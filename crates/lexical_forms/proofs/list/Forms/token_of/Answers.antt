@@ -1,9 +1,8 @@
 -- The token that was chosen, or why there is none.
 use Rattle.lexical_forms.proofs.Common.{ℕ, ◌≡◌, All, IsSomeAnd, true, false, inl, inr, refl, sym, subst, slice_get, FormList, IsAhead}
-use Rattle.lexical_forms.specs.Token.{IsUnknown}
 use Rattle.lexical_forms.specs.Additions.Token.{IsBestOf}
 use Rattle.lexical_forms.specs.Suffix.{is_followed}
-use Rattle.lexical_forms.proofs.TokenLemmas.{before_digit, gone_on, not_both, token_is, unknown}
+use Rattle.lexical_forms.proofs.TokenLemmas.{before_digit, ended, gone_on, not_both, token_is}
 use Rattle.lexical_forms.proofs.list.Forms.token_of.Goals as goal
 
 pub choose-requires-clause-plain : goal.choose-requires-clause-plain
@@ -73,5 +72,5 @@ returns c =
     let apart = not_both _ (subst (λ r. is_followed t.following.now r ≡ false) c.split_at.ensures.back (sym c.if-is_followed.ensures)) in
     let over = subst (λ (l : FormList). All (λ form. IsAhead t.gives_points_back text best.end form → ⊥) l.forms) c.self.view_is
     (c.if-is_one_ahead.ensures.over refl) in
-    (subst (IsUnknown list t text c.in-Some-choose.form best.size) (sym c.stop_end-end.ensures)
-    (unknown list t text c.in-Some-choose.form form best picked apart over (sym c.if-not-is_stopped.ensures) (sym c.if-has_digit.ensures)))
+    ended list t text c.in-Some-choose.form form best picked apart over (sym c.if-not-is_stopped.ensures) (sym c.if-has_digit.ensures)
+    c.stopped.result c.stopped.ensures
