@@ -206,7 +206,7 @@ typedef struct {
 /* Where reading stopped. The first `valid_up_to` bytes are the longest beginning of the text that some literal begins
  * with. If these are all of its bytes, bytes are missing, and a longer text may be a literal. `form` is, of several
  * forms, the index of that for which this beginning is the longest, and otherwise 0. Of equals, it is the first whose
- * kind is not PELTZIVAR_KIND_BYTE, or else the first. */
+ * kind is not PELTZIVAR_KIND_BYTE and that does not lack a required prefix, or else the first. */
 typedef struct {
     PELTZIVAR_ALIGNED uint64_t magic;
     size_t valid_up_to;
@@ -292,8 +292,9 @@ enum {
     PELTZIVAR_KIND_CASE = 3, /* A letter has the wrong case. */
     PELTZIVAR_KIND_BYTE = 4, /* A byte cannot follow the bytes before it. */
     PELTZIVAR_KIND_MISSING = 5, /* Digits are missing. */
-    PELTZIVAR_KIND_SUFFIX = 6, /* The word behind a number is not a suffix of its form, or a byte follows that may not. */
-    PELTZIVAR_KIND_POINT = 7 /* The decimal point of a number belongs to what follows, and it is none without the point. */
+    PELTZIVAR_KIND_SUFFIX = 6, /* The word behind a number is not a suffix of its form. */
+    PELTZIVAR_KIND_POINT = 7, /* The decimal point of a number belongs to what follows, and it is none without the point. */
+    PELTZIVAR_KIND_STOP = 8 /* A stop of the form refuses what follows the number. */
 };
 
 /* Why a text is not a literal. `span` has the bytes to show. If it is empty, it marks the place before `start`. `mask`
@@ -500,6 +501,12 @@ typedef struct {
  * forms without rules for tokens, as those of SQL and of languages of data, and with more words than PELTZIVAR_WORDS_MAX. */
 PELTZIVAR_MUST_USE bool peltzivar_forms_token(const peltzivar_forms *forms, const char *text, size_t len,
     peltzivar_token *token, peltzivar_read_error *error);
+
+/* Writes why peltzivar_forms_token refuses a text, as peltzivar_read_error_text does, and behind "unknown suffix" up to six
+ * of the suffixes that the form has: "unknown suffix; a suffix is one of f32, f64". Writes an empty string if it returns a
+ * token. The buffer `to` has to_len bytes. */
+size_t peltzivar_token_error_text(
+    const peltzivar_forms *forms, const char *text, size_t len, char *to, size_t to_len);
 
 /* TEXTS AND COLUMNS
  *

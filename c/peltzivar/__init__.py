@@ -249,6 +249,7 @@ class ReadErrorKind(_Named):
     MISSING = 5
     SUFFIX = 6
     POINT = 7
+    STOP = 8
 
 
 class Spelling(_Named):
@@ -504,6 +505,7 @@ _CALLS: Dict[str, Tuple[Any, List[Any]]] = {
     "forms_read_prefix": (c_bool, [c_void_p, c_char_p, c_size_t, POINTER(_Literal), POINTER(_ReadError)]),
     "forms_read_special": (c_bool, [c_void_p, c_char_p, c_size_t, POINTER(_Special)]),
     "forms_token": (c_bool, [c_void_p, c_char_p, c_size_t, POINTER(_Token), POINTER(_ReadError)]),
+    "token_error_text": (c_size_t, [c_void_p, c_char_p, c_size_t, c_char_p, c_size_t]),
     "parse_i64": (c_uint8, [c_void_p, c_char_p, c_size_t, POINTER(c_int64), POINTER(_ReadError)]),
     "parse_u64": (c_uint8, [c_void_p, c_char_p, c_size_t, POINTER(c_uint64), POINTER(_ReadError)]),
     "parse_f64": (c_uint8, [c_void_p, c_char_p, c_size_t, POINTER(c_double), POINTER(_ReadError)]),

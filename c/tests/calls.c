@@ -517,6 +517,7 @@ static void test_tokens(void) {
     int64_t value = 7;
     form.suffixes = &suffixes;
     CHECK(!peltzivar_forms_token(&forms, "1", 1, &token, &error) && WRITES("these forms have no tokens", peltzivar_read_error_text(&error, text, sizeof text)));
+    CHECK(WRITES("these forms have no tokens", peltzivar_token_error_text(&forms, "1", 1, text, sizeof text)));
     forms.tokens = &rules;
     CHECK(peltzivar_forms_token(&forms, "200U8;", 6, &token, &error) && token.size == 5 && *token.rest == ';' && token.suffix.start == 3 && token.suffix.end == 5);
     CHECK(token.literal.size == 3 && !peltzivar_to_i64(&token.literal, &value) && value == -56);
@@ -524,7 +525,12 @@ static void test_tokens(void) {
     CHECK(peltzivar_forms_token(&forms, "1km ", 4, &token, NULL) && token.literal.size == 1 && token.suffix.end == 3);
     CHECK(!peltzivar_forms_token(&forms, "1abc", 4, NULL, &error) && error.valid_up_to == 1 && peltzivar_explain(&error, &why));
     CHECK(why.kind == PELTZIVAR_KIND_SUFFIX && why.span.start == 1 && why.span.end == 4 && why.code == PELTZIVAR_INVALID_DIGIT && why.index == 1);
-    CHECK(!peltzivar_forms_token(&forms, "1u8-", 4, NULL, &error) && peltzivar_explain(&error, &why) && why.kind == PELTZIVAR_KIND_SUFFIX);
+    CHECK(!peltzivar_forms_token(&forms, "1u8-", 4, NULL, &error) && peltzivar_explain(&error, &why) && why.kind == PELTZIVAR_KIND_STOP);
+    CHECK(why.span.start == 3 && why.span.end == 4 && WRITES("the number cannot end here", peltzivar_read_error_text(&error, text, sizeof text)));
+    CHECK(WRITES("the number cannot end here", peltzivar_token_error_text(&forms, "1u8-", 4, text, sizeof text)));
+    CHECK(WRITES("unknown suffix; a suffix is one of u, u8", peltzivar_token_error_text(&forms, "1abc", 4, text, sizeof text)));
+    CHECK(WRITES("unexpected character 'x'", peltzivar_token_error_text(&forms, "x", 1, text, sizeof text)));
+    CHECK(WRITES("", peltzivar_token_error_text(&forms, "1", 1, text, sizeof text)) && peltzivar_token_error_text(NULL, "1", 1, text, sizeof text));
     CHECK(peltzivar_forms_token(language("JAVA"), "08f+", 4, &token, NULL) && token.literal.form == 5 && token.size == 3);
     CHECK(!strcmp(language("JAVA")->tokens->forms[0].suffixes->floats, "f d") && language("JAVA")->tokens->count == 1 && !language("JSON")->tokens);
     CHECK(!peltzivar_forms_token(NULL, "1", 1, &token, &error) && !peltzivar_forms_token(&forms, "1", SIZE_MAX, &token, &error));

@@ -225,7 +225,7 @@ static void test_literals(peltzivar_word word) {
     if (peltzivar_forms_token(&forms, from, len, &token, &error)) {
         CHECK(token.literal.size <= token.size && token.size <= len && token.rest == from + token.size);
         CHECK_LAWFUL(token.literal.size < len || is_read);
-    } else CHECK(!peltzivar_explain(&error, &why) || (why.span.start <= why.span.end && why.kind <= 7));
+    } else CHECK(!peltzivar_explain(&error, &why) || (why.span.start <= why.span.end && why.kind <= 8));
     if (peltzivar_read_prefix(&syntax, from, len, &literal, &error)) {
         const peltzivar_span *const parts = &literal.sign;
         for (int i = 0; i < 9; i++) CHECK(parts[i].start == (i ? parts[i - 1].end : 0) && parts[i].start <= parts[i].end);

@@ -364,7 +364,7 @@ class Literals(unittest.TestCase):
             forms = Forms({"": point}, suffixes={"": words}, tokens=rules)
             self.assertEqual({text: "|".join((str((it := forms.token(text)).literal), it.suffix)) for text in rows}, rows)
         self.assertEqual((forms.token("0.1f").literal.value, forms.token("17o").literal.value, forms.token("17o").literal.form), (0.10000000149011612, 15, "octal"))
-        self.assertRaisesRegex(LiteralError, "unknown suffix", forms.token, "1.5f--")
+        self.assertRaisesRegex(LiteralError, "the number cannot end here", forms.token, "1.5f--")
         self.assertRaisesRegex(ValueError, "no tokens", Forms({"": point}).token, "1")
         self.assertRaisesRegex(ValueError, "no form", Forms, {"": point}, suffixes={"x": words})
         many = Forms({"": point}, suffixes={"": Suffixes(" ".join(f"a{it}" for it in range(257)))}, tokens=Tokens())
@@ -435,7 +435,7 @@ class Literals(unittest.TestCase):
                 blamed = (*(it.name for it in error.edits), *error.conditions)[: 2 if error.part else 1]
                 causes.add((error.kind, error.part, *blamed, error.full_sentence))
                 self.assertRegex(error.full_sentence, f"^{re.escape(str(error))}{', which .*' + blamed[0] if blamed else ''}")
-        of_tokens = {ReadErrorKind.SUFFIX, ReadErrorKind.POINT}
+        of_tokens = {ReadErrorKind.SUFFIX, ReadErrorKind.POINT, ReadErrorKind.STOP}
         self.assertEqual(({it[0] for it in causes}, {name for it in causes for name in it[2:-1]}), ({*ReadErrorKind} - of_tokens, names))
         for sentences in (descriptions, [it.description for it in Error], [it[-1] for it in causes], [it[:-1] for it in causes]):
             self.assertEqual((len({*sentences}), all(sentences)), (len(sentences), True), sentences)

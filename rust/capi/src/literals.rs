@@ -158,6 +158,11 @@ pub enum Refusal<E> {
     Point {
         end: usize,
     },
+    /// The bytes from `start` to `end` are a stop of the form.
+    Stop {
+        start: usize,
+        end: usize,
+    },
 }
 
 impl<E: Display> Display for Refusal<E> {
@@ -168,6 +173,7 @@ impl<E: Display> Display for Refusal<E> {
             Refusal::Library(error) => error.fmt(f),
             Refusal::Suffix { .. } => f.write_str("unknown suffix"),
             Refusal::Point { .. } => f.write_str("the decimal point belongs to what follows"),
+            Refusal::Stop { .. } => f.write_str("the number cannot end here"),
         }
     }
 }
@@ -391,6 +397,7 @@ calls! {
             Some(Refusal::Library(error)) => Some(Explanation::from(*error)),
             Some(Refusal::Suffix { start, end }) => Some(Explanation::of_bytes(6, *start, *end)),
             Some(Refusal::Point { end }) => Some(Explanation::of_bytes(7, *end, *end)),
+            Some(Refusal::Stop { start, end }) => Some(Explanation::of_bytes(8, *start, *end)),
             _ => None,
         })
     }
