@@ -118,24 +118,22 @@ fn rules_are_those_of_the_list() {
 #[test]
 fn errors_are_those_of_the_page() {
     const WORDS: Suffixes = Suffixes::new(&[b"2x"], &[], &[]);
-    const BINARY: Syntax = Syntax::integers(NumberFormatBuilder::new().mantissa_radix(2).build_format_or_panic());
-    const POINT: Syntax = Syntax::new_or_panic(
-        NumberFormatBuilder::new().required_mantissa_digits(false).build_format_or_panic(),
-        b'e',
-        b'.',
-    );
+    let formats = [NumberFormatBuilder::new().mantissa_radix(2), NumberFormatBuilder::new().required_digits(false)];
+    let [binary, loose] = formats.map(|it| it.build_format_or_panic());
+    let binary = [Form::new("", Syntax::integers(binary)).with_suffixes(&WORDS)];
+    let loose = [Form::new("", Syntax::new_or_panic(loose, b'e', b'.'))];
     let tokens = Tokens::new(&[], &[]).gives_points_back(true);
-    for (form, text, wanted) in [
-        (Form::new("", BINARY).with_suffixes(&WORDS), "12x_", "1..4 unknown suffix"),
-        (Form::new("", BINARY).with_suffixes(&WORDS), "12y", "1..2 unexpected character '2'"),
-        (Form::new("", POINT), "..", "1..1 the decimal point belongs to what follows"),
-        (Form::new("", POINT), "nan", "0..1 unexpected character 'n'"),
+    for (forms, text, wanted) in [
+        (&binary, "12x_", "1..4 unknown suffix"),
+        (&binary, "12y", "1..2 unexpected character '2'"),
+        (&loose, "..", "1..1 the decimal point belongs to what follows"),
+        (&loose, "nan", "0..1 unexpected character 'n'"),
     ] {
-        let (forms, specials) = ([form], Specials { nan: Some(b"nan"), ..Specials::default() });
-        let forms = Forms::new(&forms).unwrap().with_specials(specials).with_tokens(&tokens);
+        let specials = Specials { nan: Some(b"nan"), ..Specials::default() };
+        let forms = Forms::new(forms).unwrap().with_specials(specials).with_tokens(&tokens);
         assert_eq!(stated(&forms, text), wanted, "{text}");
     }
-    assert!(Form::new("", POINT).syntax().read(".").is_ok());
+    assert!(loose[0].syntax().read(".").is_ok());
 }
 
 /// An unknown suffix has the words that its form has behind such a literal, and prints six of them.

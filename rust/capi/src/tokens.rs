@@ -1,7 +1,7 @@
 //! The call that reads a token, and what the header has for it: suffixes, stops, and rules of a list.
 
 use crate::arguments::{input, write_text, Out};
-use crate::languages::{form_at, numbers_of, with_tokens, Form, Forms, KindNumbers};
+use crate::languages::{form_at, numbers_of, with_tokens, Form, Forms, Given, KindNumbers};
 use crate::literals::{Literal, ReadError, Refusal, Span, TOO_LONG};
 use core::ffi::CStr;
 use core::mem::MaybeUninit;
@@ -367,45 +367,35 @@ pub struct Constant<T>(pub T);
 // SAFETY: all pointers point to constants.
 unsafe impl<T> Sync for Constant<T> {}
 
-/// Where reading stopped, the index of a form, and why there is no token.
-type Failure = (usize, usize, Refusal<literal::ReadError>);
+/// A token, or where reading stopped, the index of a form, and why there is none.
+type Read<'a> = Result<Token<'a>, (usize, usize, Refusal<literal::ReadError>)>;
 
-/// Returns the token that a text begins with. The words of an unknown suffix's error last as long as the call of `unknown`.
-#[inline(never)]
-unsafe fn token<'a>(
-    forms: *const Forms,
-    (text, len): (*const u8, usize),
-    unknown: &mut dyn FnMut(&TokenError),
-) -> Result<Token<'a>, Failure> {
-    let text = input(text, len).ok_or((0, 0, Refusal::Argument(TOO_LONG)))?;
-    with_tokens(forms, |forms| {
-        let forms = forms.map_err(|sentence| (0, 0, Refusal::Argument(sentence)))?;
-        forms.token_bytes(text).map(|it| Token::of(text, it)).map_err(|why| {
-            if let TokenError::UnknownSuffix { .. } = why {
-                unknown(&why);
-            }
-            failure(why)
-        })
-    })
-}
-
-impl<'a> Token<'a> {
-    /// Returns the token of a text for C.
-    fn of(text: &[u8], it: literal::Token<'a>) -> Token<'a> {
-        let (size, start) = (text.len() - it.rest.len(), it.literal.as_bytes().len());
-        let (literal, rest) = (Literal::of(it.literal, it.form), it.rest.as_ptr());
-        Token { literal, suffix: Span { start, end: size }, size, rest }
+/// Returns the token that a text begins with. An error of a suffix has words of the caller, and is passed to `print`.
+fn token<'a>(forms: Given<'_>, text: &'a [u8], print: &mut dyn FnMut(&TokenError)) -> Read<'a> {
+    let forms = forms.map_err(|sentence| (0, 0, Refusal::Argument(sentence)))?;
+    match forms.token_bytes(text) {
+        Ok(it) => {
+            let (size, start) = (text.len() - it.rest.len(), it.literal.as_bytes().len());
+            let (literal, rest) = (Literal::of(it.literal, it.form), it.rest.as_ptr());
+            Ok(Token { literal, suffix: Span { start, end: size }, size, rest })
+        }
+        Err(TokenError::Literal(it)) => Err((it.error.valid_up_to(), it.form, Refusal::Library(it.error))),
+        Err(why @ TokenError::UnknownSuffix { form, start, end, .. }) => {
+            print(&why);
+            Err((start, form, Refusal::Suffix { start, end }))
+        }
+        Err(TokenError::Stopped { form, start, end }) => Err((start, form, Refusal::Stop { start, end })),
+        Err(TokenError::NotAToken { end }) => Err((end, 0, Refusal::Point { end })),
+        Err(_) => Err((0, 0, Refusal::Argument("these forms have no tokens"))),
     }
 }
 
-/// Returns what C has of an error, without the words of the forms.
-fn failure(why: TokenError) -> Failure {
-    match why {
-        TokenError::Literal(it) => (it.error.valid_up_to(), it.form, Refusal::Library(it.error)),
-        TokenError::UnknownSuffix { form, start, end, .. } => (start, form, Refusal::Suffix { start, end }),
-        TokenError::Stopped { form, start, end } => (start, form, Refusal::Stop { start, end }),
-        TokenError::NotAToken { end } => (end, 0, Refusal::Point { end }),
-        _ => (0, 0, Refusal::Argument("these forms have no tokens")),
+/// Does the same by forms of C.
+#[inline(never)]
+unsafe fn found<'a>(forms: *const Forms, text: *const u8, len: usize, print: &mut dyn FnMut(&TokenError)) -> Read<'a> {
+    match input(text, len) {
+        Some(text) => with_tokens(forms, |forms| token(forms, text, print)),
+        None => Err((0, 0, Refusal::Argument(TOO_LONG))),
     }
 }
 
@@ -413,7 +403,7 @@ calls! {
     fn peltzivar_forms_token(
         forms: *const Forms, text: *const u8, len: usize, out: Out<Token>, error: Out<ReadError>
     ) -> bool {
-        match token(forms, (text, len), &mut |_| ()) {
+        match found(forms, text, len, &mut |_| ()) {
             Ok(token) => {
                 out.write(token);
                 true
@@ -429,7 +419,7 @@ calls! {
         forms: *const Forms, text: *const u8, len: usize, to: *mut u8, to_len: usize
     ) -> usize {
         let mut size = None;
-        let found = token(forms, (text, len), &mut |why| size = Some(write_text(to, to_len, Some(why))));
+        let found = found(forms, text, len, &mut |why| size = Some(write_text(to, to_len, Some(why))));
         size.unwrap_or_else(|| write_text(to, to_len, found.err().as_ref().map(|it| &it.2)))
     }
 }
