@@ -593,7 +593,7 @@ enum {
     PELTZIVAR_WRITE_ARGUMENT = 8, /* The syntax or the forms are null or refused, or no call has made the literal. */
     PELTZIVAR_WRITE_LONG = 9, /* Without an exponent, which no literal has, the text has more than 800 bytes, or by forms more than 4096. */
     PELTZIVAR_WRITE_READ_BACK = 10, /* The forms read the text as another number. */
-    PELTZIVAR_WRITE_TOO_LARGE = 11 /* The literal is too large for its kind. */
+    PELTZIVAR_WRITE_TOO_LARGE = 11 /* The literal, or the one that the forms read, is too large for its kind. */
 };
 
 /* The sizes of buffers for any integer of the next three calls, and for any float of peltzivar_format_f64. */
@@ -622,10 +622,11 @@ PELTZIVAR_MUST_USE peltzivar_write_status peltzivar_format_literal(const peltziv
 PELTZIVAR_MUST_USE peltzivar_write_status peltzivar_format_special(const peltzivar_syntax *syntax,
     const peltzivar_specials *specials, peltzivar_special special, char *text, size_t len, size_t *needed);
 
-/* Write a number by the first form whose text all forms read as the same integer, the same bits of a double or, of a literal, the
- * same of these. Forms of the mantissa radix of a literal are asked first, then decimal ones, and then the others, each in
- * their order. If there is none, the error is that of the form that is asked first. NaN and infinity have
- * PELTZIVAR_WRITE_SPECIAL. */
+/* Write a number by the first form whose text all forms read as the same integer, also as a double that is exactly this
+ * integer, or the same bits of a double. Forms of the mantissa radix of a literal are asked first, then decimal ones, and then
+ * the others, each in their order. If there is none, the error is that of the form that is asked first or, of a float, of the
+ * first with a point. NaN and infinity are the first of their spellings that the forms read as special values, or have
+ * PELTZIVAR_WRITE_SPECIAL if there is none. */
 PELTZIVAR_MUST_USE peltzivar_write_status peltzivar_forms_format_i64(const peltzivar_forms *forms, int64_t value,
     const peltzivar_style *style, char *text, size_t len, size_t *needed);
 PELTZIVAR_MUST_USE peltzivar_write_status peltzivar_forms_format_u64(const peltzivar_forms *forms, uint64_t value,

@@ -9,7 +9,7 @@ use peltzivar::literal::{
 };
 use peltzivar::Format;
 use random::Random;
-use std::fmt::{Debug, LowerExp};
+use std::fmt::{Debug, Display, LowerExp};
 
 /// How many floats are written: `FLOATS=1000000 cargo test --release --test floats` writes more.
 fn count() -> usize {
@@ -183,9 +183,29 @@ fn a_style_decides_on_the_exponent() {
     }
 }
 
+/// Rounds a float to so many digits behind the point, without an exponent and with one, as std does.
+fn is_rounded<F: Bits + Display>(value: F, places: usize) {
+    let json = Language::JSON.forms()[0].syntax();
+    let style = Style::PLAIN.decimals(places as u8);
+    let [plain, scientific] = [format!("{value:.places$}"), format!("{value:.places$e}")];
+    for (style, wanted) in [(style, plain), (style.exponent(ExponentStyle::Always), scientific)] {
+        match json.format_float(value, style) {
+            Ok(text) => assert_eq!(text.to_string(), wanted, "{value:e}"),
+            Err(error) => {
+                assert!(error == WriteError::Special && !wanted.contains(char::is_numeric), "{value:e}: {error}");
+            }
+        }
+    }
+}
+
 #[test]
 fn floats_are_rounded_as_std_rounds_them() {
-    let json = Language::JSON.forms()[0].syntax();
+    for places in 0..=24 {
+        (-323..=308).for_each(|power| is_rounded(format!("1e{power}").parse::<f64>().unwrap(), places));
+        (-45..=38).for_each(|power| is_rounded(format!("1e{power}").parse::<f32>().unwrap(), places));
+        (1..100).for_each(|bits| is_rounded(f64::from_bits(bits), places));
+        (1..100).for_each(|bits| is_rounded(f32::from_bits(bits), places));
+    }
     let state = &mut Random::new(20_261_130);
     for index in 0..20 * count() {
         let places = if index % 10 == 0 { state.next() % 256 } else { state.next() % 21 };
@@ -194,14 +214,8 @@ fn floats_are_rounded_as_std_rounds_them() {
             0 => (state.next() >> (11 + places % 50) | 1) as f64 / 2_f64.powi(places as i32 + 1),
             _ => float::<f64>(state),
         };
-        let style = Style::PLAIN.decimals(places as u8);
-        let [plain, scientific] = [format!("{value:.*}", places as usize), format!("{value:.*e}", places as usize)];
-        for (style, wanted) in [(style, plain), (style.exponent(ExponentStyle::Always), scientific)] {
-            match json.format_float(value, style) {
-                Ok(text) => assert_eq!(text.to_string(), wanted, "{value:e}"),
-                Err(error) => assert!(error == WriteError::Special && !value.is_finite(), "{value:e}: {error}"),
-            }
-        }
+        is_rounded(value, places as usize);
+        is_rounded(float::<f32>(state), places as usize);
     }
 }
 
@@ -224,8 +238,9 @@ fn floats_are_rounded_where_a_style_wishes() {
         (1e-300, json, two, "0.00"),
         (1.9e16, json, two, "19000000000000000.00"),
         (5e-324, json, two, "0.00"),
-        (0.5, c, Style::PLAIN.decimals(0), "0x1p-1"),
-        (12.0, c, two, "0x1.80p3"),
+        (0.5, c, none, "0x0p0"),
+        (12.0, c, two, "0xC.00p0"),
+        (12.0, c, two.exponent(ExponentStyle::Always), "0x1.80p3"),
         (99999.0, json, two.exponent(ExponentStyle::From(5)), "99999.00"),
         (99999.0, json, two.exponent(ExponentStyle::From(4)), "1.00e5"),
         (9.9951e22, json, two.exponent(ExponentStyle::Always), "1.00e23"),

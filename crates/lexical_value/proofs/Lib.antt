@@ -1,4 +1,4 @@
 mod Common
 pub mod FloatLemmas
-mod KindLemmas
+pub mod KindLemmas
 mod ValueLemmas

@@ -7,3 +7,4 @@ mod ConversionLemmas
 mod PlainLemmas
 mod WholeLemmas
 mod FloatLemmas
+mod ChoiceLemmas

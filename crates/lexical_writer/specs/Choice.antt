@@ -1,18 +1,23 @@
 -- Which form of a list writes a number, and how the text is read back.
-use Rattle.std.specs.Prelude.{ℕ, ◌≡◌, ◌==◌, ◌⊎◌, if◌then◌else◌, List, Ok, ℤ}
+use Rattle.std.specs.Prelude.{ℕ, ◌≡◌, ◌==◌, ◌&&◌, ◌||◌, ◌⊎◌, if◌then◌else◌, Bool, true, false, is_some, List, Ok, Option, Some, None, ℤ}
 use Rattle.std.specs.Float.{Float, Format, binary64}
+use lib.Ieee.Exact.{HasValue as HasFraction}
 use Rattle.lexical_util.specs.Layout as layout
 use Rattle.lexical_util.specs.Record.{bytes_of, raw}
 use Rattle.lexical_forms.specs.FormList.{FormList}
 use Rattle.lexical_forms.specs.Forms.{HasKind, IsFirst}
 use Rattle.lexical_literal.specs.Read.{exact}
-use Rattle.lexical_literal.specs.Literal.{Literal}
+use Rattle.lexical_literal.specs.Literal.{Literal, is_float}
 use Rattle.lexical_literal.specs.Read.{Read}
 use Rattle.lexical_literal.specs.declared.syntax.Grammar.{Grammar}
-use Rattle.lexical_value.specs.Float.{nearest}
+use Rattle.lexical_number.specs.Numeral.{with_sign}
+use Rattle.lexical_value.specs.Float.{is_binary, is_decimal, nearest}
 use Rattle.lexical_value.specs.Kind.{IsWorth, float_worth}
-use Rattle.lexical_writer.specs.Conversion.{SameFraction}
+use Rattle.lexical_writer.specs.Conversion.{IsNear, SameFraction}
 use Rattle.lexical_writer.specs.Layout.{HasValue}
+use Rattle.lexical_writer.specs.Rounded.{IsRounded, decimals_in}
+use Rattle.lexical_writer.specs.declared.layout.ExponentStyle.TheVariants as exponents
+use Rattle.lexical_writer.specs.declared.layout.Style.{Style}
 
 -- `turn radix g` is in which turn a form with the syntax `g` is asked to write a number of a radix: first the forms of this radix, then
 -- the decimal ones, and then the others.
@@ -24,20 +29,70 @@ turn radix g =
 abbrev pub exact_read : ℕ → Literal → Read
 exact_read word l = record { format = word; literal = l; kind = exact }
 
--- `IsWhole z read` holds if `read` is worth the integer `z` by its kind, or if it is of the exact kind, and its value is `z`.
+-- `has_float read` is true if `read` has a decimal point or an exponent, and is worth a float.
+abbrev pub has_float : Read → Bool
+has_float read = is_float read.literal && (is_decimal (bytes_of read.format) || is_binary (bytes_of read.format))
+
+-- `IsExactly z read` holds if `read` is worth an `f64` that is exactly the integer `z`, or -0 for 0.
+abbrev pub IsExactly : ℤ → Read → Type 0
+IsExactly z read = (value : Float) × (negative : Bool) × (size : ℕ) × (z ≡ with_sign negative size) × HasFraction value negative size 1
+    × (float_worth read.kind binary64 (bytes_of read.format) read.literal ≡ Ok value)
+
+-- `IsWhole z read` holds if `read` is worth the integer `z` by its kind, or a float that is exactly `z`, or if it is of the exact kind,
+-- its value is `z`, and it is worth no float.
 abbrev pub IsWhole : ℤ → Read → Type 0
-IsWhole z read = IsWorth read.kind.integers (bytes_of read.format) read.literal z ⊎ ((read.kind ≡ exact) × HasValue (raw read.format) read.literal z)
+IsWhole z read = IsWorth read.kind.integers (bytes_of read.format) read.literal z
+    ⊎ (IsExactly z read ⊎ ((read.kind ≡ exact) × (has_float read ≡ false) × HasValue (raw read.format) read.literal z))
 
 -- `IsReal f value read` holds if `read` is worth the float `value` of `f` by its kind, or if it is of the exact kind, and `value` is nearest to it.
 abbrev pub IsReal : Format → Float → Read → Type 0
 IsReal f value read = (float_worth read.kind f (bytes_of read.format) read.literal ≡ Ok value)
     ⊎ ((read.kind ≡ exact) × (value ≡ nearest f (bytes_of read.format) read.literal))
 
--- `IsSameNumber a b` holds if `a` and `b` are worth the same integer or the same `f64` by their kinds, or if they are of the exact kind, and
--- have the same value as fractions with a sign.
-abbrev pub IsSameNumber : Read → Read → Type 0
-IsSameNumber a b = ((z : ℤ) × IsWhole z a × IsWhole z b) ⊎ (((value : Float) × IsReal binary64 value a × IsReal binary64 value b)
-    ⊎ ((a.kind ≡ exact) × (b.kind ≡ exact) × SameFraction (raw a.format) a.literal (raw b.format) b.literal))
+-- `IsWrittenReal f value decimals g l` holds if the float `value` of `f` is nearest to the literal `l` of `g` or, with a number of
+-- decimals, if `l` is `value`, rounded to these.
+abbrev pub IsWrittenReal : Format → Float → Option ℕ → Grammar → Literal → Type 0
+IsWrittenReal f value None g l = value ≡ nearest f (bytes_of g.word) l
+IsWrittenReal f value (Some n) g l = IsRounded value (raw g.word) l (decimals_in g n)
+
+-- `IsAmount f value decimals read` holds if `read` is worth the float `value` of `f` or, with a number of decimals, the float that is
+-- nearest to a literal that is `value`, rounded to these.
+abbrev pub IsAmount : Format → Float → Option ℕ → Read → Type 0
+IsAmount f value None read = IsReal f value read
+IsAmount f value (Some n) read = (g : Grammar) × (l : Literal) × IsRounded value (raw g.word) l (decimals_in g n)
+    × IsReal f (nearest f (bytes_of g.word) l) read
+
+-- `IsSameNumber near a b` holds if `a` and `b` are worth the same integer or, if `a` has a decimal point or an exponent, or `near` is
+-- true, the same `f64`, by their kinds. Or they are of the exact kind, and have the same value as fractions with a sign, and `b` is
+-- worth no float unless `a` has a decimal point or an exponent.
+abbrev pub IsSameNumber : Bool → Read → Read → Type 0
+IsSameNumber near a b = ((z : ℤ) × IsWhole z a × IsWhole z b)
+    ⊎ ((((is_float a.literal ≡ true) ⊎ (near ≡ true)) × (value : Float) × IsReal binary64 value a × IsReal binary64 value b)
+    ⊎ ((a.kind ≡ exact) × (b.kind ≡ exact) × ((is_float a.literal ≡ true) ⊎ (has_float b ≡ false))
+    × SameFraction (raw a.format) a.literal (raw b.format) b.literal))
+
+-- `IsWrittenNumber read style g l` holds if the literal `l` of `g` has the value of `read` or, by a style that wishes so, that of the
+-- `f64` that is nearest to it, which has the decimals of the style, if it has any.
+pub record IsWrittenNumber (read : Read) (style : Style) (g : Grammar) (l : Literal) : Type 0 where
+  pub near : style.decimals ≡ None → IsNear binary64 (raw read.format) read.literal (raw g.word) l
+  pub rounded : (n : ℕ) → style.decimals ≡ Some n → SameFraction (raw read.format) read.literal (raw g.word) l
+      ⊎ IsRounded (nearest binary64 (bytes_of read.format) read.literal) (raw g.word) l (decimals_in g n)
+  pub exact : style.nearest ≡ false → SameFraction (raw read.format) read.literal (raw g.word) l
+
+-- `IsSameInteger a b` holds if `a` and `b` have neither a decimal point nor an exponent, and are worth the same integer by their kinds.
+abbrev pub IsSameInteger : Read → Read → Type 0
+IsSameInteger a b = (z : ℤ) × IsWorth a.kind.integers (bytes_of a.format) a.literal z × IsWorth b.kind.integers (bytes_of b.format) b.literal z
+
+-- `IsInStyle a style b` holds if `a` and `b` are the same number, or if `b` is worth the same integer as a literal that is written for
+-- `a` or, if the style wishes for the nearest float and for decimals, the `f64` that is nearest to such a literal.
+abbrev pub IsInStyle : Read → Style → Read → Type 0
+IsInStyle a style b = IsSameNumber style.nearest a b ⊎ ((g : Grammar) × (l : Literal) × IsWrittenNumber a style g l
+    × (IsSameInteger (exact_read g.word l) b
+    ⊎ ((style.nearest ≡ true) × (is_some style.decimals ≡ true) × IsReal binary64 (nearest binary64 (bytes_of g.word) l) b)))
+
+-- `IsStyleOf integer style it` holds if `it` is `style` or, for an integer, `style` without the wish for an exponent.
+abbrev pub IsStyleOf : Bool → Style → Style → Type 0
+IsStyleOf integer style it = (it ≡ style) ⊎ ((integer ≡ true) × (it ≡ record style { exponent = exponents.AsNumber }))
 
 -- `IsReadBack list text P` holds if `text` is a literal of some form of the list, and if `P` holds of the literal that it is in the
 -- first such form, with the kind of this form.

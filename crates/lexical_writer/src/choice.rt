@@ -1,46 +1,58 @@
 //! A list of forms writes numbers: in the first form whose text the list reads as the number.
 
-ghost use Rattle.std.specs.Prelude.{◌≡◌, ◌≤◌, ◌<◌, true, IfOk, IfSome, IsFalse, None, Ok, Some, from_bits, length, take};
+ghost use Rattle.std.specs.Prelude.{◌≡◌, ◌≤◌, ◌<◌, Bool, true, IfOk, IfSome, IsFalse, Ok, Some, from_bits, length, take};
+ghost use Rattle.std.specs.Float.{Float as Value};
 ghost use Rattle.lexical_util.specs.Record.{bytes_of};
 ghost use Rattle.lexical_literal.specs.Read.{exact};
 ghost use Rattle.lexical_literal.specs.Literal.{Literal as Parts, Reads, is_float, text_of};
 ghost use Rattle.lexical_literal.specs.Notation.{notation_of};
 ghost use Rattle.lexical_literal.specs.Read.{Read};
 ghost use Rattle.lexical_number.specs.Float.{format_of};
-ghost use Rattle.lexical_number.specs.Numeral.{size_of};
+ghost use Rattle.lexical_literal.specs.declared.syntax.Grammar.{Grammar};
+ghost use Rattle.lexical_number.specs.Numeral.{magnitude_size, with_sign};
 ghost use Rattle.lexical_value.specs.Kind.{float_worth, integer_worth};
 ghost use Rattle.lexical_writer.specs.Buffer.{IsTaken};
-ghost use Rattle.lexical_writer.specs.Choice.{IsReadBack, exact_read, turn};
+ghost use Rattle.lexical_writer.specs.Choice.{IsReadBack, IsReal, IsSameInteger, IsStyleOf, IsWhole, has_float, turn};
+ghost use Rattle.lexical_writer.specs.declared.layout.Style.{Style as Wishes};
 
+use crate::checked::is_integer;
 use crate::float::format_float;
 use crate::float_digits::FloatDigits;
-use crate::layout::{Style, WriteError};
+use crate::layout::{ExponentStyle, Style, WriteError};
 use crate::literal::write_number;
 use crate::near::format_near;
 use lexical_forms::list::{Forms, Number};
 use lexical_literal::kind::{FloatKind, IntegerKind, Kind};
-use lexical_literal::laws::literal_facts;
 use lexical_literal::literal::Literal;
 use lexical_literal::syntax::{Condition, Syntax};
 use lexical_number::float::Float;
 use lexical_number::integer::Integer;
-use lexical_value::float::to_float;
-use lexical_value::integer::{own_numeral, to_integer};
+use lexical_number::numeral::Magnitude;
+use lexical_value::float::{supports_floats, to_float};
+use lexical_value::integer::own_numeral;
 
 /// A number that a list of forms is asked to write.
 pub trait Writable {
-    // A literal is this number.
-    ghost is: { Self → Read → Type 0 };
+    // Whether the number is an integer.
+    ghost integer: { Self → Bool };
 
-    // A literal of the exact kind with its value is this number.
-    ghost plain: { Self → Type 0 };
+    // A literal of a syntax is written for this number in a style.
+    ghost has: { Self → Wishes → Grammar → Parts → Type 0 };
+
+    // A literal is this number in a style.
+    ghost is: { Self → Wishes → Read → Type 0 };
 
     /// Returns the radix of the forms that are asked first.
     fn radix(&self) -> u32;
 
-    /// Returns whether the number is that of the digits with which it is written.
-    fn is_plain(&self) -> bool
-        ensures { result ≡ true → plain self.now };
+    /// Returns whether the number is an integer.
+    fn is_integer(&self) -> bool
+        ensures { result ≡ integer self.now };
+
+    /// Returns whether a literal of the exact kind is the number if it is written for it.
+    fn is_plain(&self, literal: &Literal) -> bool
+        ensures { result ≡ true → literal.now.kind ≡ exact → (g : Grammar) → (style : Wishes) → literal.now.format ≡ g.word
+            → has self.now style g literal.now.literal → is self.now style literal.now };
 
     /// Writes the number as a literal of `syntax` to the beginning of a buffer, as far as it has room, and returns the length of
     /// the text.
@@ -50,11 +62,13 @@ pub trait Writable {
     /// If no literal has the number, returns why.
     fn write(&self, syntax: &Syntax, style: Style, buffer: &mut [u8]) -> Result<usize, WriteError>
         ensures { IfOk result (λ size. (l : Parts) × Reads (notation_of syntax.now) l (text_of l)
-            × (plain self.now → style.decimals ≡ None → is self.now (exact_read syntax.now.word l)) × IsTaken (text_of l) buffer.old buffer.new size) };
+            × has self.now style syntax.now l × IsTaken (text_of l) buffer.old buffer.new size) };
 
-    /// Returns whether a literal is worth the number.
-    fn is_read_as(&self, literal: &Literal) -> bool
-        ensures { result ≡ true → is self.now literal.now };
+    /// Returns whether a literal is worth the number in a style, of which `own` is what its form alone reads. A number that is
+    /// rounded is that of `own`.
+    fn is_read_as(&self, style: Style, own: &Literal, literal: &Literal) -> bool
+        ensures { result ≡ true → own.now.kind ≡ exact → (g : Grammar) → own.now.format ≡ g.word
+            → has self.now style g own.now.literal → is self.now style literal.now };
 }
 
 /// The value of an integer type.
@@ -65,19 +79,27 @@ pub struct Whole<T> {
 }
 
 impl<T: Integer> Writable for Whole<T> {
-    ghost use Rattle.std.specs.Prelude.{⊤};
+    ghost use Rattle.std.specs.Prelude.{true};
+    ghost use Rattle.lexical_util.specs.Record.{raw};
     ghost use Rattle.lexical_writer.specs.Choice.{IsWhole};
+    ghost use Rattle.lexical_writer.specs.Layout.{HasValue};
 
-    ghost is = { λ number read. IsWhole (T.range.value number.value) read };
+    ghost integer = { λ number. true };
 
-    ghost plain = { λ number. ⊤ };
+    ghost has = { λ number style g l. HasValue (raw g.word) l (T.range.value number.value) };
+
+    ghost is = { λ number style read. IsWhole (T.range.value number.value) read };
 
     fn radix(&self) -> u32 {
         10
     }
 
-    fn is_plain(&self) -> bool {
+    fn is_integer(&self) -> bool {
         true
+    }
+
+    fn is_plain(&self, literal: &Literal) -> bool {
+        !has_float(literal)
     }
 
     fn write(&self, syntax: &Syntax, style: Style, buffer: &mut [u8]) -> Result<usize, WriteError> {
@@ -88,11 +110,9 @@ impl<T: Integer> Writable for Whole<T> {
         Ok(write_number(negative, Ok(size), syntax, style)?.write(buffer))
     }
 
-    fn is_read_as(&self, literal: &Literal) -> bool {
-        match to_integer::<T>(literal) {
-            Ok(value) => value.sign_and_size() == self.value.sign_and_size(),
-            Err(_) => false,
-        }
+    fn is_read_as(&self, _: Style, _: &Literal, literal: &Literal) -> bool {
+        let (negative, size) = self.value.sign_and_size();
+        is_worth(literal, negative, size)
     }
 }
 
@@ -104,19 +124,25 @@ pub struct Real<F> {
 }
 
 impl<F: Float> Writable for Real<F> {
-    ghost use Rattle.std.specs.Prelude.{⊤};
+    ghost use Rattle.std.specs.Prelude.{false};
     ghost use Rattle.lexical_number.specs.Float.{format_of};
-    ghost use Rattle.lexical_writer.specs.Choice.{IsReal};
+    ghost use Rattle.lexical_writer.specs.Choice.{IsAmount, IsWrittenReal};
 
-    ghost is = { λ number read. IsReal (format_of F.DOUBLE) (F.value number.value) read };
+    ghost integer = { λ number. false };
 
-    ghost plain = { λ number. ⊤ };
+    ghost has = { λ number style g l. IsWrittenReal (format_of F.DOUBLE) (F.value number.value) style.decimals g l };
+
+    ghost is = { λ number style read. IsAmount (format_of F.DOUBLE) (F.value number.value) style.decimals read };
 
     fn radix(&self) -> u32 {
         10
     }
 
-    fn is_plain(&self) -> bool {
+    fn is_integer(&self) -> bool {
+        false
+    }
+
+    fn is_plain(&self, _: &Literal) -> bool {
         true
     }
 
@@ -125,7 +151,10 @@ impl<F: Float> Writable for Real<F> {
         Ok(format_float(syntax, self.value, style, &mut digits)?.write(buffer))
     }
 
-    fn is_read_as(&self, literal: &Literal) -> bool {
+    fn is_read_as(&self, style: Style, own: &Literal, literal: &Literal) -> bool {
+        if style.decimals.is_some() {
+            return is_same::<F>(own, literal);
+        }
         match self.value.bits() {
             Some(bits) => bits_in::<F>(literal) == Some(bits),
             None => false,
@@ -145,21 +174,37 @@ fn bits_in<F: Float>(literal: &Literal) -> Option<u64>
     }
 }
 
+// Returns whether two literals are worth the same float.
+fn is_same<F: Float>(own: &Literal, literal: &Literal) -> bool
+    ensures { result ≡ true → (value : Value) × IsReal (format_of F.DOUBLE) value own.now × IsReal (format_of F.DOUBLE) value literal.now }
+{
+    match (bits_in::<F>(own), bits_in::<F>(literal)) {
+        (Some(own), Some(bits)) => own == bits,
+        _ => false,
+    }
+}
+
 impl Writable for Literal<'_> {
-    ghost use Rattle.std.specs.Prelude.{◌≡◌};
-    ghost use Rattle.lexical_literal.specs.Read.{exact};
-    ghost use Rattle.lexical_writer.specs.Choice.{IsSameNumber};
+    ghost use Rattle.std.specs.Prelude.{not};
+    ghost use Rattle.lexical_literal.specs.Literal.{is_float};
+    ghost use Rattle.lexical_writer.specs.Choice.{IsInStyle, IsWrittenNumber};
 
-    ghost is = { λ number read. IsSameNumber number read };
+    ghost integer = { λ number. not (is_float number.literal) };
 
-    ghost plain = { λ number. number.kind ≡ exact };
+    ghost has = { λ number style g l. IsWrittenNumber number style g l };
+
+    ghost is = { λ number style read. IsInStyle number style read };
 
     fn radix(&self) -> u32 {
         self.format().mantissa_radix()
     }
 
-    fn is_plain(&self) -> bool {
-        is_exact(self.kind())
+    fn is_integer(&self) -> bool {
+        !self.is_float()
+    }
+
+    fn is_plain(&self, literal: &Literal) -> bool {
+        is_exact(self.kind()) && (self.is_float() || !has_float(literal))
     }
 
     fn write(&self, syntax: &Syntax, style: Style, buffer: &mut [u8]) -> Result<usize, WriteError> {
@@ -167,17 +212,63 @@ impl Writable for Literal<'_> {
         Ok(format_near::<f64>(self, syntax, style, &mut digits)?.write(buffer))
     }
 
-    fn is_read_as(&self, literal: &Literal) -> bool {
-        if self.is_float() || literal.is_float() {
-            return match (bits_in::<f64>(self), bits_in::<f64>(literal)) {
-                (Some(own), Some(bits)) => own == bits,
-                _ => false,
-            };
+    fn is_read_as(&self, style: Style, own: &Literal, literal: &Literal) -> bool {
+        if let Some((negative, size)) = whole_worth(self) {
+            return is_worth(literal, negative, size);
         }
-        match (whole_worth(self), whole_worth(literal)) {
-            (Some((sign, own)), Some((negative, size))) => sign == negative && own == size,
-            _ => false,
+        if is_exact(self.kind()) && is_same_integer(own, literal) {
+            return true;
         }
+        if is_exact(self.kind()) && style.nearest && style.decimals.is_some() {
+            return is_same::<f64>(own, literal);
+        }
+        (self.is_float() || style.nearest) && is_same::<f64>(self, literal)
+    }
+}
+
+// Returns whether two literals are worth the same integer, by the same digits.
+fn is_same_integer(own: &Literal, literal: &Literal) -> bool
+    ensures { result ≡ true → IsSameInteger own.now literal.now }
+{
+    match (own_numeral(own), own_numeral(literal)) {
+        (Ok(own), Ok(numeral)) => own.negative == numeral.negative
+            && is_same_size(own.magnitude, numeral.magnitude),
+        _ => false,
+    }
+}
+
+// Returns whether two numbers have the same digits.
+fn is_same_size(own: Magnitude, magnitude: Magnitude) -> bool
+    ensures { result ≡ true → magnitude_size own ≡ magnitude_size magnitude }
+{
+    match (own, magnitude) {
+        (Magnitude::Digits(bytes, radix), Magnitude::Digits(digits, base)) => radix == base
+            && bytes == digits,
+        _ => false,
+    }
+}
+
+// Returns whether a literal is worth a float, and no integer.
+fn has_float(literal: &Literal) -> bool
+    ensures { result ≡ has_float literal.now }
+{
+    literal.is_float() && supports_floats(literal.format())
+}
+
+// Returns whether a literal is worth an integer: as an integer, or as a float that is exactly this integer.
+#[inline(never)]
+fn is_worth(literal: &Literal, negative: bool, size: u128) -> bool
+    ensures { result ≡ true → IsWhole (with_sign negative size) literal.now }
+{
+    if literal.is_float() {
+        return match to_float::<f64>(literal) {
+            Ok(value) => is_integer(value, negative, size),
+            Err(_) => false,
+        };
+    }
+    match whole_worth(literal) {
+        Some((sign, own)) => sign == negative && own == size,
+        None => false,
     }
 }
 
@@ -203,38 +294,46 @@ const fn is_exact(kind: Kind) -> bool
 }
 
 /// Writes a number by the first form whose text the list reads as this number, to the beginning of a buffer, and returns the
-/// index of the form and the length of the text. Forms of the number's radix are asked first, then decimal ones, and then
-/// the others, each in the order of the list.
+/// index of the form, the length of the text, and the style in which it is written. Forms of the number's radix are asked first,
+/// then decimal ones, and then the others, each in the order of the list. Where an exponent would make an integer another number,
+/// the wish for one is dropped.
 ///
 /// # Errors
 ///
-/// If there is no such form, returns the error of the form that is asked first, or [`WriteError::ReadBack`] if its text is read
-/// as another number. If a text that is tried does not fit the buffer, returns [`WriteError::Buffer`].
+/// If there is no such form, returns the error of the form that is asked first, or of the first that has floats, if the number is no
+/// integer: [`WriteError::ReadBack`] if its text is read as another number, [`WriteError::TooLarge`] if it is too large for its kind,
+/// and [`WriteError::Buffer`] if it does not fit the buffer.
 pub fn choose<N: Writable>(
     forms: &Forms,
     number: &N,
     style: Style,
     buffer: &mut [u8],
-) -> Result<(usize, usize), WriteError>
-    // The list reads the text as the number, unless a float is to be rounded.
-    ensures value { style.decimals ≡ None → IfOk result (λ it. IsReadBack forms.now (take it.1 buffer.new) (N.is number.now)) }
+) -> Result<(usize, usize, Style), WriteError>
+    // The list reads the text as the number.
+    ensures value { IfOk result (λ it. IsReadBack forms.now (take it.1 buffer.new) (N.is number.now it.2)) }
     ensures length { IfOk result (λ it. it.1 ≤ length buffer.new) }
     ensures form { IfOk result (λ it. it.0 < length forms.now.forms) }
+    ensures style { IfOk result (λ it. IsStyleOf (N.integer number.now) style it.2) }
 {
-    let mut error = None;
+    let mut first = None;
+    let mut float = None;
     for wanted in 0..3 {
         for (index, form) in forms.as_slice().iter().enumerate() {
             if turn(number.radix(), &form.syntax()) != wanted {
                 continue;
             }
-            match write_by(forms, index, number, style, buffer) {
-                Ok(length) => return Ok((index, length)),
-                Err(WriteError::Buffer(length)) => return Err(WriteError::Buffer(length)),
-                Err(other) => error = error.or(Some(other)),
+            match write_in(forms, index, number, style, buffer) {
+                Ok((length, style)) => return Ok((index, length, style)),
+                Err(error) => {
+                    first = first.or(Some(error));
+                    if !number.is_integer() && form.syntax().options().is_some() {
+                        float = float.or(Some(error));
+                    }
+                }
             }
         }
     }
-    Err(error.unwrap_or(WriteError::ReadBack))
+    Err(float.or(first).unwrap_or(WriteError::ReadBack))
 }
 
 // Returns in which turn a form with a syntax is asked to write a number of a radix.
@@ -251,6 +350,36 @@ fn turn(radix: u32, syntax: &Syntax) -> u8
     }
 }
 
+// Writes a number by one form, and returns the length of the text and the style in which it is written, or why it is not used.
+fn write_in<N: Writable>(
+    forms: &Forms,
+    index: usize,
+    number: &N,
+    style: Style,
+    buffer: &mut [u8],
+) -> Result<(usize, Style), WriteError>
+    requires { index < length forms.now.forms }
+    ensures value { IfOk result (λ it. IsReadBack forms.now (take it.0 buffer.new) (N.is number.now it.1)) }
+    ensures length { IfOk result (λ it. it.0 ≤ length buffer.new) }
+    ensures style { IfOk result (λ it. IsStyleOf (N.integer number.now) style it.1) }
+{
+    let error = match write_by(forms, index, number, style, buffer) {
+        Ok(length) => return Ok((length, style)),
+        Err(error) => error,
+    };
+    if !number.is_integer() || !matches!(style.exponent, ExponentStyle::Always) {
+        return Err(error);
+    }
+    let style = Style {
+        exponent: ExponentStyle::AsNumber,
+        ..style
+    };
+    match write_by(forms, index, number, style, buffer) {
+        Ok(length) => Ok((length, style)),
+        Err(error) => Err(error),
+    }
+}
+
 // Writes a number by one form, and returns the length of the text, or why it is not used.
 fn write_by<N: Writable>(
     forms: &Forms,
@@ -260,20 +389,31 @@ fn write_by<N: Writable>(
     buffer: &mut [u8],
 ) -> Result<usize, WriteError>
     requires { index < length forms.now.forms }
-    ensures value { style.decimals ≡ None → IfOk result (λ size. IsReadBack forms.now (take size buffer.new) (N.is number.now)) }
+    ensures value { IfOk result (λ size. IsReadBack forms.now (take size buffer.new) (N.is number.now style)) }
     ensures length { IfOk result (λ size. size ≤ length buffer.new) }
 {
     let it = &forms.as_slice()[index];
-    let size = number.write(&it.syntax(), style, buffer)?;
+    let syntax = it.syntax();
+    let size = number.write(&syntax, style, buffer)?;
     // A text that is longer than a `usize` has the size `usize::MAX`.
     if size == usize::MAX || size > buffer.len() {
         return Err(WriteError::Buffer(size));
     }
-    literal_facts();
-    let plain = number.is_plain() && is_exact(it.kind());
-    match forms.read(&buffer[..size]) {
-        Ok(Number::Literal { literal, form })
-            if (plain && form == index) || number.is_read_as(&literal) => { Ok(size) }
+    let text = &buffer[..size];
+    let Ok(own) = syntax.read(text) else {
+        return Err(WriteError::ReadBack);
+    };
+    match forms.read(text) {
+        Ok(Number::Literal { literal, form }) => {
+            let plain = is_exact(it.kind()) && form == index && number.is_plain(&literal);
+            if plain || number.is_read_as(style, &own, &literal) {
+                Ok(size)
+            } else if !literal.is_float() && own_numeral(&literal).is_err() {
+                Err(WriteError::TooLarge)
+            } else {
+                Err(WriteError::ReadBack)
+            }
+        }
         _ => Err(WriteError::ReadBack),
     }
 }

@@ -160,6 +160,17 @@ unsafe fn write_number(
     })
 }
 
+/// Writes NaN or infinity by forms, and the size that is enough.
+#[cold]
+unsafe fn write_special(forms: *const Forms, to: (*mut u8, usize, Out<usize>), value: f64) -> WriteStatus {
+    let spelling = if value.is_nan() { Spelling::Nan } else { Spelling::Inf };
+    let special = Special { sign: (value < 0.0).then_some(Sign::Minus), spelling };
+    by(forms, |forms| match forms.map_or(Err(WriteError::Special), |it| it.format_special(special)) {
+        Ok(written) => print(&written, to),
+        Err(error) => status_of(error),
+    })
+}
+
 /// Writes an integer. All calls share it, since a copy for each type takes 2 kB.
 #[inline(never)]
 unsafe fn write_integer(
@@ -241,7 +252,10 @@ calls! {
     fn peltzivar_forms_format_f64(
         forms: *const Forms, value: f64, style: Option<&Style>, text: *mut u8, len: usize, needed: Out<usize>
     ) -> WriteStatus {
-        write_number((forms, style), (text, len, needed), Ok(&Real { value }))
+        match write_number((forms, style), (text, len, needed), Ok(&Real { value })) {
+            SPECIAL => write_special(forms, (text, len, needed), value),
+            status => status,
+        }
     }
 
     fn peltzivar_forms_format_literal(

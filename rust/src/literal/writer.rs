@@ -130,8 +130,8 @@ impl Style {
     }
 
     /// Rounds a float to `count` digits behind the point, as `{:.2}` of std does: to the nearest, or to the even one if two
-    /// are as near. The sign of a number that becomes 0 is kept. There is no exponent, unless the syntax requires one, or the
-    /// style has [`ExponentStyle::Always`] or [`ExponentStyle::From`]. Then one digit is before the point. In a syntax of
+    /// are as near. The sign of a number that becomes 0 is kept. There is no exponent, or 0 where the syntax requires one, unless
+    /// the style has [`ExponentStyle::Always`] or [`ExponentStyle::From`]. Then one digit is before the point. In a syntax of
     /// integers alone, no digit is behind it.
     ///
     /// ```
@@ -307,7 +307,7 @@ const LONGEST: usize = 4096;
 
 impl<'a> Forms<'a> {
     /// Returns the value of an integer as a number of one of these forms. [Reading][Self::read] the text returns the same
-    /// value.
+    /// value, also as a float that is exactly this integer.
     ///
     /// Decimal forms are asked first, and then the others, each in the order of the list. The first is taken whose text is
     /// read, by all forms, as the same value: in C, 15 is not written as `17` of the octal form, which is decimal if it
@@ -323,11 +323,13 @@ impl<'a> Forms<'a> {
     ///
     /// # Errors
     ///
-    /// If no form is taken, returns the error of the form that was asked first, or [`WriteError::ReadBack`] if its text is read
-    /// as another number. [`WriteError::Buffer`] is that of a text of more than 4,096 bytes, which is not read back.
+    /// If no form is taken, returns the error of the form that was asked first: [`WriteError::ReadBack`] if its text is read
+    /// as another number, and [`WriteError::TooLarge`] if it is too large for its kind. [`WriteError::Buffer`] is that of a
+    /// text of more than 4,096 bytes, which is not read back.
     pub fn format_integer<T: WriteInteger>(&self, value: T, style: Style) -> Result<Written<'static>, WriteError> {
         let (negative, size) = value.sign_and_size();
-        let layout = write_number(negative, Ok(size), &self.syntax_for(&Whole { value }, style)?, style)?;
+        let (syntax, style) = self.syntax_for(&Whole { value }, style)?;
+        let layout = write_number(negative, Ok(size), &syntax, style)?;
         Ok(Written { text: Text::Number(layout) })
     }
 
@@ -346,22 +348,22 @@ impl<'a> Forms<'a> {
     ///
     /// # Errors
     ///
-    /// As [`format_integer`][Self::format_integer], and [`WriteError::Special`] for NaN and infinity without a spelling.
+    /// As [`format_integer`][Self::format_integer], but of the first form with a point, and [`WriteError::Special`] for NaN
+    /// and infinity without a spelling.
     pub fn format_float<T: WriteFloat>(&self, value: T, style: Style) -> Result<Written<'a>, WriteError> {
         match self.syntax_for(&Real { value }, style) {
-            Ok(syntax) => syntax.format_float(value, style),
+            Ok((syntax, style)) => syntax.format_float(value, style),
             Err(WriteError::Special) => {
                 let sign = value.bits().filter(|bits| *bits > u64::MAX >> if T::DOUBLE { 1 } else { 33 });
                 let spelling = value.bits().map_or(Spelling::Nan, |_| Spelling::Inf);
-                let special = Special { sign: sign.map(|_| Sign::Minus), spelling };
-                self.specials().format(&self[0].syntax(), special)
+                self.format_special(Special { sign: sign.map(|_| Sign::Minus), spelling })
             }
             Err(error) => Err(error),
         }
     }
 
     /// Returns a literal, which may be of other forms, as a number of one of these forms. [Reading][Self::read] the text
-    /// returns the same integer or, if either is a float, the same bits of `f64`.
+    /// returns the same integer, also as a float, or the same bits of `f64` if the literal is a float.
     ///
     /// Forms of the radix of the literal are asked first, then decimal ones, and then the others, each in the order of the
     /// list. The first is taken whose text is read, by all forms, as the same number.
@@ -378,20 +380,39 @@ impl<'a> Forms<'a> {
     ///
     /// # Errors
     ///
-    /// As [`format_integer`][Self::format_integer].
+    /// As [`format_integer`][Self::format_integer], or as [`format_float`][Self::format_float] if the literal is a float.
     pub fn format_literal<'b>(&self, literal: &Literal<'b>, style: Style) -> Result<Written<'b>, WriteError> {
         match literal.other_value() {
-            None => self.syntax_for(literal, style)?.format_literal(literal, style),
+            None => self.syntax_for(literal, style).and_then(|(syntax, style)| syntax.format_literal(literal, style)),
             Some(Other::Integer(value)) => self.format_integer(value, style),
-            Some(Other::Single(value)) => self.syntax_for(&Real { value }, style)?.format_float(value, style),
+            Some(Other::Single(value)) => {
+                self.syntax_for(&Real { value }, style).and_then(|(syntax, style)| syntax.format_float(value, style))
+            }
             Some(Other::TooLarge) => Err(WriteError::TooLarge),
         }
     }
 
-    /// Returns the syntax of the form that writes a number.
-    fn syntax_for(&self, number: &dyn Writable, style: Style) -> Result<Syntax, WriteError> {
-        let (form, _) = choose(self, number, style, &mut [0; LONGEST])?;
-        Ok(self[form].syntax())
+    /// Returns the text of NaN or infinity. Another spelling than the first is written if the first is a literal of a form.
+    ///
+    /// # Errors
+    ///
+    /// [`WriteError::Special`] if no spelling is read as this value.
+    #[doc(hidden)]
+    #[cold]
+    pub fn format_special(&self, special: Special) -> Result<Written<'a>, WriteError> {
+        let (syntax, specials) = (self[0].syntax(), self.specials());
+        let spelled = [Specials { infinity: None, ..specials }, Specials { inf: None, ..specials }];
+        let mut written = spelled.iter().filter_map(|spellings| spellings.format(&syntax, special).ok());
+        let is_read = |it: &Written| {
+            it.write_into(&mut [0; LONGEST]).is_ok_and(|text| self.read(text).is_ok_and(|it| it.form().is_none()))
+        };
+        written.find(is_read).ok_or(WriteError::Special)
+    }
+
+    /// Returns the syntax of the form that writes a number, and the style in which it does.
+    fn syntax_for(&self, number: &dyn Writable, style: Style) -> Result<(Syntax, Style), WriteError> {
+        let (form, _, style) = choose(self, number, style, &mut [0; LONGEST])?;
+        Ok((self[form].syntax(), style))
     }
 
     /// Passes the text of a number in one of these forms, for programs with few bytes.
@@ -407,7 +428,7 @@ impl<'a> Forms<'a> {
         then: impl FnOnce(&[u8]) -> R,
     ) -> Result<R, WriteError> {
         let buffer = &mut [0; LONGEST];
-        let (_, length) = choose(self, number, style, buffer)?;
+        let (_, length, _) = choose(self, number, style, buffer)?;
         Ok(then(&buffer[..length]))
     }
 

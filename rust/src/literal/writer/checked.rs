@@ -81,3 +81,15 @@ pub(crate) fn is_exact<F: Float>(value: F, negative: bool, exact: Exact) -> bool
     let size: F = nearest_binary(exact.number, exact.up, exact.down);
     is_same(size, negative, value)
 }
+
+// Returns whether a float is an integer with this sign and this size, without rounding.
+pub(crate) fn is_integer<F: Float>(value: F, negative: bool, size: u128) -> bool {
+    // The number 0 has as many zeros as bits.
+    let up = size.trailing_zeros() % 128;
+    let number = size >> up;
+    if number > u64::MAX as u128 || number << up != size {
+        return false;
+    }
+    let exact = Exact { number: number as u64, up: up as u64, down: 0 };
+    is_exact(value, negative, exact)
+}

@@ -6,13 +6,15 @@ use crate::literal::kind::{FloatKind, IntegerKind, Kind};
 use crate::literal::list::{Forms, Number};
 use crate::literal::literal::Literal;
 use crate::literal::syntax::{Condition, Syntax};
-use crate::literal::value::float::to_float;
-use crate::literal::value::integer::{own_numeral, to_integer};
+use crate::literal::value::float::{supports_floats, to_float};
+use crate::literal::value::integer::own_numeral;
 use crate::literal::value::number::float::Float;
 use crate::literal::value::number::integer::Integer;
+use crate::literal::value::number::numeral::Magnitude;
+use crate::literal::writer::checked::is_integer;
 use crate::literal::writer::float::format_float;
 use crate::literal::writer::float_digits::FloatDigits;
-use crate::literal::writer::layout::{Style, WriteError};
+use crate::literal::writer::layout::{ExponentStyle, Style, WriteError};
 use crate::literal::writer::literal::write_number;
 use crate::literal::writer::near::format_near;
 
@@ -21,8 +23,11 @@ pub trait Writable {
     /// Returns the radix of the forms that are asked first.
     fn radix(&self) -> u32;
 
-    /// Returns whether the number is that of the digits with which it is written.
-    fn is_plain(&self) -> bool;
+    /// Returns whether the number is an integer.
+    fn is_integer(&self) -> bool;
+
+    /// Returns whether a literal of the exact kind is the number if it is written for it.
+    fn is_plain(&self, literal: &Literal) -> bool;
 
     /// Writes the number as a literal of `syntax` to the beginning of a buffer, as far as it has room, and returns the length of
     /// the text.
@@ -32,8 +37,9 @@ pub trait Writable {
     /// If no literal has the number, returns why.
     fn write(&self, syntax: &Syntax, style: Style, buffer: &mut [u8]) -> Result<usize, WriteError>;
 
-    /// Returns whether a literal is worth the number.
-    fn is_read_as(&self, literal: &Literal) -> bool;
+    /// Returns whether a literal is worth the number in a style, of which `own` is what its form alone reads. A number that is
+    /// rounded is that of `own`.
+    fn is_read_as(&self, style: Style, own: &Literal, literal: &Literal) -> bool;
 }
 
 /// The value of an integer type.
@@ -48,8 +54,12 @@ impl<T: Integer> Writable for Whole<T> {
         10
     }
 
-    fn is_plain(&self) -> bool {
+    fn is_integer(&self) -> bool {
         true
+    }
+
+    fn is_plain(&self, literal: &Literal) -> bool {
+        !has_float(literal)
     }
 
     fn write(&self, syntax: &Syntax, style: Style, buffer: &mut [u8]) -> Result<usize, WriteError> {
@@ -60,11 +70,9 @@ impl<T: Integer> Writable for Whole<T> {
         Ok(write_number(negative, Ok(size), syntax, style)?.write(buffer))
     }
 
-    fn is_read_as(&self, literal: &Literal) -> bool {
-        match to_integer::<T>(literal) {
-            Ok(value) => value.sign_and_size() == self.value.sign_and_size(),
-            Err(_) => false,
-        }
+    fn is_read_as(&self, _: Style, _: &Literal, literal: &Literal) -> bool {
+        let (negative, size) = self.value.sign_and_size();
+        is_worth(literal, negative, size)
     }
 }
 
@@ -80,7 +88,11 @@ impl<F: Float> Writable for Real<F> {
         10
     }
 
-    fn is_plain(&self) -> bool {
+    fn is_integer(&self) -> bool {
+        false
+    }
+
+    fn is_plain(&self, _: &Literal) -> bool {
         true
     }
 
@@ -89,7 +101,10 @@ impl<F: Float> Writable for Real<F> {
         Ok(format_float(syntax, self.value, style, &mut digits)?.write(buffer))
     }
 
-    fn is_read_as(&self, literal: &Literal) -> bool {
+    fn is_read_as(&self, style: Style, own: &Literal, literal: &Literal) -> bool {
+        if style.decimals.is_some() {
+            return is_same::<F>(own, literal);
+        }
         match self.value.bits() {
             Some(bits) => bits_in::<F>(literal) == Some(bits),
             None => false,
@@ -106,13 +121,25 @@ fn bits_in<F: Float>(literal: &Literal) -> Option<u64> {
     }
 }
 
+// Returns whether two literals are worth the same float.
+fn is_same<F: Float>(own: &Literal, literal: &Literal) -> bool {
+    match (bits_in::<F>(own), bits_in::<F>(literal)) {
+        (Some(own), Some(bits)) => own == bits,
+        _ => false,
+    }
+}
+
 impl Writable for Literal<'_> {
     fn radix(&self) -> u32 {
         self.format().mantissa_radix()
     }
 
-    fn is_plain(&self) -> bool {
-        is_exact(self.kind())
+    fn is_integer(&self) -> bool {
+        !self.is_float()
+    }
+
+    fn is_plain(&self, literal: &Literal) -> bool {
+        is_exact(self.kind()) && (self.is_float() || !has_float(literal))
     }
 
     fn write(&self, syntax: &Syntax, style: Style, buffer: &mut [u8]) -> Result<usize, WriteError> {
@@ -120,17 +147,53 @@ impl Writable for Literal<'_> {
         Ok(format_near::<f64>(self, syntax, style, &mut digits)?.write(buffer))
     }
 
-    fn is_read_as(&self, literal: &Literal) -> bool {
-        if self.is_float() || literal.is_float() {
-            return match (bits_in::<f64>(self), bits_in::<f64>(literal)) {
-                (Some(own), Some(bits)) => own == bits,
-                _ => false,
-            };
+    fn is_read_as(&self, style: Style, own: &Literal, literal: &Literal) -> bool {
+        if let Some((negative, size)) = whole_worth(self) {
+            return is_worth(literal, negative, size);
         }
-        match (whole_worth(self), whole_worth(literal)) {
-            (Some((sign, own)), Some((negative, size))) => sign == negative && own == size,
-            _ => false,
+        if is_exact(self.kind()) && is_same_integer(own, literal) {
+            return true;
         }
+        if is_exact(self.kind()) && style.nearest && style.decimals.is_some() {
+            return is_same::<f64>(own, literal);
+        }
+        (self.is_float() || style.nearest) && is_same::<f64>(self, literal)
+    }
+}
+
+// Returns whether two literals are worth the same integer, by the same digits.
+fn is_same_integer(own: &Literal, literal: &Literal) -> bool {
+    match (own_numeral(own), own_numeral(literal)) {
+        (Ok(own), Ok(numeral)) => own.negative == numeral.negative && is_same_size(own.magnitude, numeral.magnitude),
+        _ => false,
+    }
+}
+
+// Returns whether two numbers have the same digits.
+fn is_same_size(own: Magnitude, magnitude: Magnitude) -> bool {
+    match (own, magnitude) {
+        (Magnitude::Digits(bytes, radix), Magnitude::Digits(digits, base)) => radix == base && bytes == digits,
+        _ => false,
+    }
+}
+
+// Returns whether a literal is worth a float, and no integer.
+fn has_float(literal: &Literal) -> bool {
+    literal.is_float() && supports_floats(literal.format())
+}
+
+// Returns whether a literal is worth an integer: as an integer, or as a float that is exactly this integer.
+#[inline(never)]
+fn is_worth(literal: &Literal, negative: bool, size: u128) -> bool {
+    if literal.is_float() {
+        return match to_float::<f64>(literal) {
+            Ok(value) => is_integer(value, negative, size),
+            Err(_) => false,
+        };
+    }
+    match whole_worth(literal) {
+        Some((sign, own)) => sign == negative && own == size,
+        None => false,
     }
 }
 
@@ -151,33 +214,40 @@ const fn is_exact(kind: Kind) -> bool {
 }
 
 /// Writes a number by the first form whose text the list reads as this number, to the beginning of a buffer, and returns the
-/// index of the form and the length of the text. Forms of the number's radix are asked first, then decimal ones, and then
-/// the others, each in the order of the list.
+/// index of the form, the length of the text, and the style in which it is written. Forms of the number's radix are asked first,
+/// then decimal ones, and then the others, each in the order of the list. Where an exponent would make an integer another number,
+/// the wish for one is dropped.
 ///
 /// # Errors
 ///
-/// If there is no such form, returns the error of the form that is asked first, or [`WriteError::ReadBack`] if its text is read
-/// as another number. If a text that is tried does not fit the buffer, returns [`WriteError::Buffer`].
+/// If there is no such form, returns the error of the form that is asked first, or of the first that has floats, if the number is no
+/// integer: [`WriteError::ReadBack`] if its text is read as another number, [`WriteError::TooLarge`] if it is too large for its kind,
+/// and [`WriteError::Buffer`] if it does not fit the buffer.
 pub fn choose<N: Writable + ?Sized>(
     forms: &Forms,
     number: &N,
     style: Style,
     buffer: &mut [u8],
-) -> Result<(usize, usize), WriteError> {
-    let mut error = None;
+) -> Result<(usize, usize, Style), WriteError> {
+    let mut first = None;
+    let mut float = None;
     for wanted in 0..3 {
         for (index, form) in forms.as_slice().iter().enumerate() {
             if turn(number.radix(), &form.syntax()) != wanted {
                 continue;
             }
-            match write_by(forms, index, number, style, buffer) {
-                Ok(length) => return Ok((index, length)),
-                Err(WriteError::Buffer(length)) => return Err(WriteError::Buffer(length)),
-                Err(other) => error = error.or(Some(other)),
+            match write_in(forms, index, number, style, buffer) {
+                Ok((length, style)) => return Ok((index, length, style)),
+                Err(error) => {
+                    first = first.or(Some(error));
+                    if !number.is_integer() && form.syntax().options().is_some() {
+                        float = float.or(Some(error));
+                    }
+                }
             }
         }
     }
-    Err(error.unwrap_or(WriteError::ReadBack))
+    Err(float.or(first).unwrap_or(WriteError::ReadBack))
 }
 
 // Returns in which turn a form with a syntax is asked to write a number of a radix.
@@ -192,6 +262,28 @@ fn turn(radix: u32, syntax: &Syntax) -> u8 {
     }
 }
 
+// Writes a number by one form, and returns the length of the text and the style in which it is written, or why it is not used.
+fn write_in<N: Writable + ?Sized>(
+    forms: &Forms,
+    index: usize,
+    number: &N,
+    style: Style,
+    buffer: &mut [u8],
+) -> Result<(usize, Style), WriteError> {
+    let error = match write_by(forms, index, number, style, buffer) {
+        Ok(length) => return Ok((length, style)),
+        Err(error) => error,
+    };
+    if !number.is_integer() || !matches!(style.exponent, ExponentStyle::Always) {
+        return Err(error);
+    }
+    let style = Style { exponent: ExponentStyle::AsNumber, ..style };
+    match write_by(forms, index, number, style, buffer) {
+        Ok(length) => Ok((length, style)),
+        Err(error) => Err(error),
+    }
+}
+
 // Writes a number by one form, and returns the length of the text, or why it is not used.
 fn write_by<N: Writable + ?Sized>(
     forms: &Forms,
@@ -201,14 +293,27 @@ fn write_by<N: Writable + ?Sized>(
     buffer: &mut [u8],
 ) -> Result<usize, WriteError> {
     let it = &forms.as_slice()[index];
-    let size = number.write(&it.syntax(), style, buffer)?;
+    let syntax = it.syntax();
+    let size = number.write(&syntax, style, buffer)?;
     // A text that is longer than a `usize` has the size `usize::MAX`.
     if size == usize::MAX || size > buffer.len() {
         return Err(WriteError::Buffer(size));
     }
-    let plain = number.is_plain() && is_exact(it.kind());
-    match forms.read(&buffer[..size]) {
-        Ok(Number::Literal { literal, form }) if (plain && form == index) || number.is_read_as(&literal) => Ok(size),
+    let text = &buffer[..size];
+    let Ok(own) = syntax.read(text) else {
+        return Err(WriteError::ReadBack);
+    };
+    match forms.read(text) {
+        Ok(Number::Literal { literal, form }) => {
+            let plain = is_exact(it.kind()) && form == index && number.is_plain(&literal);
+            if plain || number.is_read_as(style, &own, &literal) {
+                Ok(size)
+            } else if !literal.is_float() && own_numeral(&literal).is_err() {
+                Err(WriteError::TooLarge)
+            } else {
+                Err(WriteError::ReadBack)
+            }
+        }
         _ => Err(WriteError::ReadBack),
     }
 }

@@ -99,7 +99,7 @@ impl Style {
 pub enum WriteError {
     /// The number is NaN or infinity, which no literal is. No spelling is read back as this value.
     Special,
-    /// The literal is too large for its kind, and so has no value.
+    /// The literal, or the one that a list of forms reads, is too large for its kind, and so has no value.
     TooLarge,
     /// The number is below 0, or -0, and no literal has the sign `-`.
     Negative,

@@ -1,35 +1,24 @@
--- Both literals are worth the same.
-use Rattle.lexical_writer.proofs.Common.{ℕ, ℤ, ◌≡◌, ◌∙◌, Bool, IsFalse, IsSomeAnd, Ok, Some, ap, arith, inl, inr, refl, subst, sym, nat_tests, raw}
-use Rattle.std.proofs.Common.{from_bits}
-use Rattle.std.specs.Float.{binary64}
-use Rattle.lexical_literal.specs.Literal.{is_float}
-use Rattle.lexical_literal.specs.Read.{Read}
-use Rattle.lexical_number.specs.Numeral.{with_sign}
-use Rattle.lexical_value.specs.Kind.{integer_worth}
-use Rattle.lexical_writer.specs.Choice.{IsWhole}
+-- What the list reads is the number.
+use Rattle.lexical_writer.proofs.Common.{◌∙◌, inl, inr, sym}
+use Rattle.lexical_writer.proofs.ChoiceLemmas.{rounded_number}
 use Rattle.lexical_writer.proofs.choice.LiteralWritable.is_read_as.Goals as goal
+use Rattle.lexical_writer.proofs.choice.LiteralWritable.is_read_as.Goals.{then-is_float, else-is_float}
 
-worth_is : (read : Read) (s : Bool) (n : ℕ) (z : ℤ) → IsFalse (is_float read.literal)
-    → integer_worth read.kind.integers (raw read.format).byte read.literal ≡ Some (s, n) → z ≡ with_sign s n → IsWhole z read
-worth_is read s n z whole is same = inl (whole, subst (λ o. IsSomeAnd o (λ w. z ≡ with_sign w.0 w.1)) (sym is) same)
+pub returns-then-is_some : goal.returns-then-is_some
+returns-then-is_some c equal kind g word has =
+    let same = c.is_same.ensures equal in
+    rounded_number c.args.self.now c.args.style g c.args.own.now c.args.literal.now c.if-style.true (sym c.is_some.ensures ∙ c.if-is_some.true) kind word has
+    same.0 same.1 same.2
 
-pub returns-in-Some-Some : goal.returns-in-Some-Some
-returns-in-Some-Some c equal =
-    let same : c.in-Some-Some.own ≡ c.in-Some-Some.bits = grind (arith, nat_tests, equal) in
-    inr (inl (
-      from_bits binary64 c.in-Some-Some.own,
-      inl c.in-Some-Some.ensures,
-      inl (c.in-Some-Some.ensures' ∙ ap (λ b. Ok (from_bits binary64 b)) (sym same)),
-    ))
-
-pub returns-then-sign-negative : goal.returns-then-sign-negative
-returns-then-sign-negative c equal =
-    let it = c.in-Some-Some-2 in
-    let same : it.own ≡ it.size = grind (arith, nat_tests, equal) in
-    let sign : it.sign ≡ it.negative = grind (arith, c.if-sign-negative.true) in
-    let own = c.in-Some-Some-2.ensures in let other = c.in-Some-Some-2.ensures' in
-    inl (
-      with_sign it.sign it.own,
-      worth_is _ it.sign it.own _ own.0 own.1 refl,
-      worth_is _ it.negative it.size _ other.0 other.1 (ap (λ s. with_sign s it.own) sign ∙ ap (with_sign it.negative) same),
-    )
+pub returns-then-style-2 : goal.returns-then-style-2
+returns-then-style-2 c equal kind g word has =
+    let same = c.is_same-then-style-2.ensures equal in
+    inl (inr (inl (
+      elim c.if-is_float.branch [
+        | then-is_float w ↦ inl (sym c.is_float.ensures.value ∙ w.if-is_float.true)
+        | else-is_float w ↦ inr (sym w.value-is ∙ c.if-style-2.true)
+      ],
+      same.0,
+      same.1,
+      same.2,
+    )))

@@ -1,5 +1,4 @@
 -- What is written has the value.
-use Rattle.lexical_writer.proofs.Common.{inr, refl}
 use Rattle.lexical_writer.specs.Layout.{literal_of}
 use Rattle.lexical_writer.proofs.PlainLemmas.{has_value}
 use Rattle.lexical_writer.proofs.choice.WholeWritable.write.Goals as goal
@@ -9,10 +8,7 @@ returns g c =
     let written = c.in_ok-write_number.ensures in (
       literal_of c.in_ok-write_number.field-0,
       written.literal,
-      (λ plain none. inr (
-        refl,
-        has_value c.args.syntax.now _ _ _ c.sign_and_size-negative.ensures.value written.lawful
-            (literal_of c.in_ok-write_number.field-0) written.number,
-      )),
+      has_value c.args.syntax.now _ _ _ c.sign_and_size-negative.ensures.value written.lawful
+          (literal_of c.in_ok-write_number.field-0) written.number,
       c.write.ensures,
     )
