@@ -33,60 +33,9 @@ WORD = r"\[.*?\]|\"[^\"]*\"|'[^']*'|#x\w+|\w+|."
 # All kinds of a byte, of which the last are not visible or have to be escaped.
 BYTES = "_',.~eExXhHpPzZ#&-\"`/ \\[]^\t\n\v\f\r"
 
-# For settings, what the sentence has beside "decimal" and "NaN", or lacks. All bytes that they need are set.
-PHRASES = {
-    "required_integer_digits=true": ["digits required before `.`"],
-    "required_fraction_digits=true": ["digits required after `.`"],
-    "required_exponent_digits=false": ["digits optional after `e`"],
-    "required_mantissa_digits=false": ["mantissa digits optional"],
-    "required_mantissa_digits=false required_integer_digits=true": ["digits required before `.`"],
-    "no_positive_mantissa_sign=true": ["no `+`"],
-    "required_mantissa_sign=true": ["sign required"],
-    "no_exponent_notation=true": ["no exponent"],
-    "no_positive_exponent_sign=true": ["no `+` after `e`"],
-    "required_exponent_sign=true": ["sign required after `e`"],
-    "no_exponent_without_fraction=true": ["no exponent without `.`"],
-    "no_special=true": ["NaN"],
-    "case_sensitive_special=true": ["NaN", "case-sensitive NaN"],
-    "no_integer_leading_zeros=true": ["no leading zeros in integers"],
-    "no_float_leading_zeros=true": ["no leading zeros in floats"],
-    "no_integer_leading_zeros=true no_float_leading_zeros=true": ["no leading zeros"],
-    "no_integer_leading_zeros=true required_exponent_notation=true": ["exponent required"],
-    "required_exponent_notation=true": ["exponent required"],
-    "case_sensitive_exponent=true": ["no `E`"],
-    "case_sensitive_exponent=true exponent=94": ["exponent `^`"],
-    "case_sensitive_base_prefix=true base_prefix='x'": ["optional prefix `0x`", "no `0X`"],
-    "case_sensitive_base_suffix=true base_suffix='H'": ["optional suffix `H`", "no `h`"],
-    "integer_internal_digit_separator=true": ["`_` between digits in the integer"],
-    "fraction_internal_digit_separator=true": ["`_` between digits in the fraction"],
-    "exponent_internal_digit_separator=true": ["`_` between digits in the exponent"],
-    "internal_digit_separator=true": ["`_` between digits"],
-    "internal_digit_separator=true no_exponent_notation=true": ["`_` between digits", "no exponent"],
-    "integer_leading_digit_separator=true": ["`_` before digits in the integer"],
-    "fraction_leading_digit_separator=true": ["`_` before digits in the fraction"],
-    "exponent_leading_digit_separator=true": ["`_` before digits in the exponent"],
-    "integer_trailing_digit_separator=true": ["`_` after digits in the integer"],
-    "fraction_trailing_digit_separator=true": ["`_` after digits in the fraction"],
-    "exponent_trailing_digit_separator=true": ["`_` after digits in the exponent"],
-    "leading_digit_separator=true integer_consecutive_digit_separator=true": ["`_` before digits", "several `_` in a row in the integer"],
-    "leading_digit_separator=true fraction_consecutive_digit_separator=true": ["`_` before digits", "several `_` in a row in the fraction"],
-    "leading_digit_separator=true exponent_consecutive_digit_separator=true": ["`_` before digits", "several `_` in a row in the exponent"],
-    "special_digit_separator=true": ["`_` in NaN"],
-    "mantissa_radix=16 exponent='p'": ["decimal", "hexadecimal", "exponent `p`", "exponent base 16", "hexadecimal exponent digits"],
-    "mantissa_radix=2 exponent_base=2 exponent_radix=10 base_suffix='b'": ["decimal", "binary", "optional suffix `b`", "exponent base 2"],
-    "mantissa_radix=12 exponent=none point=none": ["decimal", "radix-12 integers"],
-    "point=','": ["point `,`"],
-    "point=9 digit_separator=96 integer_internal_digit_separator=true": ["point `byte 9`", "`byte 96` between digits in the integer"],
-    "base_prefix='b' required_base_prefix=true no_integer_leading_zeros=true": ["prefix `0b`"],
-    "base_suffix='h' required_base_suffix=true": ["suffix `h`"],
-    "no_negative_mantissa_sign=true": ["no `-`"],
-    "required_leading_zero=true": ["leading zero required"],
-    "decimal_first_digit=true": ["first digit decimal"],
-    "internal_digit_separator=true integer_group_size=4": ["`_` between groups of four", "`_` between digits in the fraction and the exponent"],
-    "integer_internal_digit_separator=true integer_group_size=3 higher_group_size=2": ["`_` between groups of two and a last one of three"],
-    "fraction_internal_digit_separator=true fraction_group_size=5": ["`_` between groups of five in the fraction"],
-    "fraction_internal_digit_separator=true fraction_group_size=5 exponent=none point=none": ["decimal", "decimal integers"],
-}
+# Settings, and the phrases that the sentence has beside "decimal" and "NaN", or lacks.
+LINES = (TOP / "rust/tests/phrases.txt").read_text().splitlines()
+PHRASES = {settings: phrases.split("; ") for settings, phrases in (it.split(" | ") for it in LINES if it[:1] not in ("", "#"))}
 
 
 def changes():
@@ -245,9 +194,7 @@ class Notations(unittest.TestCase):
 
     def test_sentences_state_each_difference(self):
         for settings, phrases in PHRASES.items():
-            lines = settings.split()
-            separator = ["digit_separator=95"] * ("digit_separator=true" in settings and "digit_separator=96" not in settings)
-            sentence = Syntax.of(*lines, *separator).sentence()
+            sentence = Syntax.of(*settings.split()).sentence()
             self.assertEqual({*sentence.split("; ")} ^ {"decimal", "NaN"}, {*phrases}, settings)
         self.assertEqual([it for it, _ in FLAGS if f"{it}=" not in " ".join(PHRASES)], [])
         flags = ("no_integer_leading_zeros", "no_positive_mantissa_sign", "integer_internal_digit_separator")

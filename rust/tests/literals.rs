@@ -2,7 +2,7 @@
 
 use peltzivar::format::{CASE_SENSITIVE_SPECIAL, DIGIT_SEPARATOR_FLAG_MASK, NO_SPECIAL};
 use peltzivar::literal::{Condition, Form, Language, Literal, Number, ReadError, ReadErrorKind, Specials, Syntax};
-use peltzivar::{Edit, FlagSetter, Format, NumberFormatBuilder, Part, Settings};
+use peltzivar::{Edit, FlagSetter, Format, FormatView, NumberFormatBuilder, Part, Rule, Settings};
 use std::collections::HashSet;
 
 const FORMAT: &str = include_str!("../../docs/FORMAT.md");
@@ -143,13 +143,35 @@ fn flags_accept_and_reject_the_texts_of_the_page() {
 #[test]
 fn conditions_accept_and_reject_the_texts_of_the_page() {
     for row in table(FORMAT, "Conditions") {
-        let [setting, _, with, accepted, rejected, _] = row[..] else { panic!("{row:?}") };
+        let [setting, _, with, accepted, rejected, refused] = row[..] else { panic!("{row:?}") };
+        // Without the other settings, the format contradicts the last condition, but for one that forbids leading zeros.
+        let code = refused.rsplit_once(": `").map(|it| it.1);
+        for flag in ["", "no_integer_leading_zeros=true", "no_float_leading_zeros=true"] {
+            let settings = setting.split(' ').next_back().into_iter().chain([flag]);
+            let error = Settings::read(settings).unwrap().build_syntax().err().map(|it| format!("{:?}", it.code()));
+            let wanted = code.filter(|it| *it != "InvalidFlags" || !flag.is_empty());
+            assert_eq!(error.as_deref(), wanted, "{setting} {flag}");
+        }
         let syntaxes = [syntax_of(with), syntax_of(&format!("{with} {setting}"))];
         for (text, is_accepted) in both(accepted, rejected) {
             let results = syntaxes.map(|syntax| read(syntax, text).is_ok());
             assert_eq!(results, [true, is_accepted], "{setting}: {text}");
         }
     }
+}
+
+/// Each rule, by its row: its condition and its error, and the reason for which the word of the row breaks it.
+#[test]
+fn rules_are_those_of_the_page() {
+    let mut rules = Rule::ALL.iter();
+    for row in table(FORMAT, "The rules") {
+        let [_, condition, error, _, word, reason] = row[..] else { panic!("{row:?}") };
+        let (rule, found) = (rules.next().unwrap(), word.parse::<Format>().unwrap_err());
+        assert_eq!((rule.condition(), format!("{:?}", found.code())), (condition, error.into()));
+        let broken = word.parse::<FormatView>().unwrap().broken_rules().next();
+        assert_eq!((found.to_string(), broken), (reason.into(), Some(*rule)));
+    }
+    assert_eq!(rules.next(), None);
 }
 
 #[test]
@@ -199,21 +221,13 @@ fn sentences_name_what_is_seen() {
         ("", "1\u{e9}2", "unexpected character '\u{e9}'", "\u{e9}"),
         ("", "1\u{a0}000", "unexpected no-break space", "\u{a0}"),
         ("", "\u{feff}1", "unexpected invisible character", "\u{feff}"),
-        ("", "1e+", "expected a digit after the exponent character, which required_exponent_digits requires", "+"),
-        ("digit_separator=95 integer_internal_digit_separator=true", "1_0.0_5", "unexpected digit separator in the fraction after a digit, which requires fraction_internal_digit_separator or fraction_trailing_digit_separator", "_"),
-        ("digit_separator=95 integer_internal_digit_separator=true", "1__0", "unexpected digit separator in the integer after another, which requires integer_consecutive_digit_separator", "_"),
-        ("no_integer_leading_zeros=true", "007", "unexpected leading zero, which no_integer_leading_zeros forbids", "007"),
-        ("case_sensitive_exponent=true", "1E5", "unexpected case of the exponent character, which case_sensitive_exponent forbids", "E"),
-        ("base_prefix='x' required_base_prefix=true", "-01", "expected the prefix 0x, which required_base_prefix requires", ""),
-        ("base_suffix='h' required_base_suffix=true", "1.0", "expected the suffix h, which required_base_suffix requires", ""),
-        ("no_negative_mantissa_sign=true", "-1", "unexpected minus sign, which no_negative_mantissa_sign forbids", "-"),
-        ("digit_separator=',' internal_digit_separator=true integer_group_size=3", "12,34", "expected groups of 3 digits, which integer_group_size requires", "34"),
-        ("digit_separator=',' internal_digit_separator=true integer_group_size=3 higher_group_size=2", "123,456", "expected groups of 2 digits and a last one of 3, which integer_group_size requires", "123"),
-        ("digit_separator=',' internal_digit_separator=true fraction_group_size=3", "0.12,3", "expected groups of 3 fraction digits, which fraction_group_size requires", "12"),
-        // A flag and a condition are both to blame.
-        ("base_prefix='x' required_base_prefix=true required_mantissa_sign=true", "1", "expected a sign, which required_mantissa_sign requires", ""),
     ];
-    for (settings, text, sentence, shown) in rows {
+    let lines = include_str!("sentences.txt").lines().filter(|line| !line.is_empty() && !line.starts_with('#'));
+    let lines = lines.map(|line| match Vec::from_iter(line.split('|').map(str::trim))[..] {
+        [settings, text, sentence, shown] => (settings, text, sentence, shown),
+        _ => panic!("{line}"),
+    });
+    for (settings, text, sentence, shown) in lines.chain(rows) {
         let error = read(syntax_of(settings), text).unwrap_err();
         assert_eq!((format!("{error:#}").as_str(), &text[error.span()]), (sentence, shown), "{text}");
         assert_eq!(Some(error.to_string().as_str()), sentence.split(", which").next(), "{text}");
@@ -300,4 +314,15 @@ fn languages_answer_as_their_grammars_and_tools_do() {
     let forms = Language::ALL.iter().flat_map(|it| (0..it.forms().as_slice().len()).map(move |form| (it, form)));
     let mut wanted = forms.flat_map(|(it, form)| [(it, form, true), (it, form, false)]);
     assert_eq!(wanted.find(|it| !seen.contains(it)), None, "a form without a row");
+}
+
+/// The phrases that a sentence has beside `decimal` and `NaN`, or lacks.
+#[test]
+fn sentences_on_syntaxes_state_each_difference() {
+    for row in include_str!("phrases.txt").lines().filter(|row| !row.is_empty() && !row.starts_with('#')) {
+        let (settings, phrases) = row.split_once(" | ").expect(row);
+        let sentence = syntax_of(settings).sentence().to_string();
+        let [found, usual, wanted] = [&*sentence, "decimal; NaN", phrases].map(|it| HashSet::<_>::from_iter(it.split("; ")));
+        assert_eq!(&found ^ &usual, wanted, "{settings}");
+    }
 }

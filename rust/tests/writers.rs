@@ -230,6 +230,13 @@ fn literals_are_written_as_the_rows_say() {
             panic!("{line}")
         };
         assert_eq!(convert(text, source, target, style), wanted, "{line}");
+        // An integer of Rust is written as the literal that std prints of it, if there is one without an exponent.
+        if let Some(value) = text.parse::<i128>().ok().filter(|it| source.is_empty() && it.to_string() == text) {
+            let written = syntax_of(target).format_integer(value, style_of(style)).map(|it| it.to_string());
+            let is_float = syntax_of(target).format().required_exponent_notation();
+            let wanted = if is_float { "!Float" } else { wanted };
+            assert_eq!(written.unwrap_or_else(|error| format!("!{error:?}")), wanted, "{line}");
+        }
         count += 1;
     }
     assert!(count > 80);

@@ -493,7 +493,7 @@ languages! {
 
     /// OCaml's integers and floats (Manual 5.2, 11.1 Lexical conventions). A format cannot accept `1._`, whose fraction has a
     /// separator alone, or `1l`, `1L` and `1n`. An integer has 63 bits, so `0x7fffffffffffffff` is -1.
-    /// `4611686018427387904`, which is lawful only after the operator `-`, is too large.
+    /// `4611686018427387904`, of which OCaml makes its least integer, -2^62, is too large.
     OCAML = {
         "decimal": decimal(RUST
             .required_integer_digits(true) // rejects `.5`, not `1.`
