@@ -109,9 +109,10 @@ typedef struct {
  * If both are 0, numbers are integers. The other members are conditions: that a number has the base prefix or the base
  * suffix, that its sign is not `-`, and that the digit separators of its integer or its fraction, if there are any, make
  * groups of 2 to 8 digits, as in `1,234`. Groups of the integer before the last have higher_group_size digits, if this
- * is not 0, as in `12,34,567`. The last two conditions are that a number begins, behind its sign, with `0`, as C's `017`,
- * or with `0` to `9`, as NASM's `0FFh`. Members that an initialiser leaves out are 0 or false, which is no condition. A
- * later version may have conditions in `reserved`, so a syntax is refused if one of these bytes is not 0.
+ * is not 0, as in `12,34,567`. The last two conditions are that a number begins, behind its sign, with `0`, as C's
+ * `017`, or with a digit from `0` to `9`, as NASM's `0FFh`. Members that an initialiser leaves out are 0 or false, which
+ * is no condition. A later version may have conditions in `reserved`, so a syntax is refused if one of these bytes is
+ * not 0.
  * peltzivar_read_settings writes a syntax, and the forms of a language have some. Check one of your own with
  * peltzivar_check_syntax. */
 typedef struct {
@@ -139,22 +140,23 @@ typedef struct {
 PELTZIVAR_MUST_USE size_t peltzivar_read_settings(const char *text, size_t len, peltzivar_syntax *out);
 
 /* Writes a problem as a sentence, such as "unknown setting `base_suffx`; did you mean `base_suffix`?". The problems
- * have the indices from 0 on. Behind them are the notes: first at most 32 on settings that do nothing, since later ones
- * set the same fields, in the order of the last of these, and then those on fields that have no effect. Each call
- * reads the whole text. The buffer `to` has to_len bytes. */
+ * have the indices from 0 on. Behind them are the notes: first at most 32 on settings that do nothing, in the order of
+ * the later settings that leave them no field, and then those on fields that have no effect. Each call reads the whole
+ * text. The buffer `to` has to_len bytes. */
 size_t peltzivar_settings_text(const char *text, size_t len, size_t index, char *to, size_t to_len);
 
 /* Returns the number of lines that cause the problem or note with an index. Writes their indices, in ascending
  * order, to the array `to` of to_len elements, as far as they fit. The first line has the index 0, and a default
- * has no line. A setting that does nothing has its own line and that of the last of these later ones. */
+ * has no line. A setting that does nothing has its own line and that of the setting that leaves it no field. */
 size_t peltzivar_settings_lines(const char *text, size_t len, size_t index, size_t *to, size_t to_len);
 
 /* Returns PELTZIVAR_SUCCESS if the word of a syntax is lawful, if the options fit its normal form or are both 0, and if
  * the format does not contradict the conditions. Otherwise, returns the error of the first rule that the word breaks,
- * the error that peltzivar_check_options returns for the normal form, the format error of the field that contradicts a
- * condition, or PELTZIVAR_INVALID_FLAGS for a reserved byte or a null pointer. Calls that take a syntax do not repeat
- * this check, which takes longer than reading a text. By a syntax that it refuses, they read and write nothing, or
- * something that no rule describes, but all of them are safe. */
+ * the error that peltzivar_check_options returns for the normal form, the error of the first condition that the format
+ * contradicts, which FORMAT.md names (PELTZIVAR_INVALID_FLAGS if leading zeros are forbidden), or
+ * PELTZIVAR_INVALID_FLAGS for a reserved byte or a null pointer. Calls that take a syntax do not repeat this check,
+ * which takes longer than reading a text. By a syntax that it refuses, they read and write nothing, or something that
+ * no rule describes, but all of them are safe. */
 peltzivar_error peltzivar_check_syntax(const peltzivar_syntax *syntax);
 
 /* Writes why peltzivar_check_syntax refuses a syntax as a sentence, such as "the exponent character 'e' is a digit in

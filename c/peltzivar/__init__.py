@@ -2617,8 +2617,8 @@ class Language(_Several, _Named):
 
     OCAML: OCaml's integers and floats (Manual 5.2, 11.1 Lexical conventions). A format cannot accept `1._`, whose
         fraction has a separator alone, or `1l`, `1L` and `1n`. An integer has 63 bits, so `0x7fffffffffffffff` is -1.
-        `4611686018427387904`, which is lawful only after the operator `-`, is too large. Forms: decimal; hexadecimal;
-        octal; binary.
+        `4611686018427387904`, of which OCaml makes its least integer, -2^62, is too large. Forms: decimal;
+        hexadecimal; octal; binary.
 
     PHP: PHP's integers and floats (Manual, 8.1 and later, Integers and Floating point numbers). In PHP, an integer
         from 2^63 on is a float. Forms: decimal; octal; hexadecimal; octal, 0o; binary.

@@ -76,7 +76,7 @@ pub struct Settings {
     count: usize,
     /// The settings of which a field is not overridden, sorted by their indexes.
     live: [Option<Setting>; LIVE],
-    /// Settings that are completely overridden, each with the index of the last setting that does this.
+    /// Settings that are completely overridden, each with the index of the setting that leaves it no field.
     overridden: [Option<(Setting, usize)>; OVERRIDDEN],
 }
 
@@ -362,7 +362,8 @@ pub enum FindingKind {
     Reason(Reason),
     /// A condition that contradicts the format, so that the settings do not build a syntax.
     Conditions(ConditionsError),
-    /// A note that later settings override the setting with this name completely. The second index is the last of them.
+    /// A note that later settings override the setting with this name completely. The second index is that of the setting that
+    /// leaves it no field.
     Overridden(&'static str),
     /// A note that a field is set but has no effect on any number.
     Note(Note),

@@ -234,6 +234,7 @@ fn floats_are_rounded_where_a_style_wishes() {
         (0.125, json, two, "0.12"),
         (0.375, json, two, "0.38"),
         (2.5, json, none, "2"),
+        (2.5, json, none.point(), "2"),
         (3.5, whole, two, "4"),
         (1e-300, json, two, "0.00"),
         (1.9e16, json, two, "19000000000000000.00"),

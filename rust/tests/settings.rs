@@ -12,7 +12,7 @@ use settings::load;
 #[test]
 fn files_give_a_syntax_and_what_is_found() {
     #[rustfmt::skip]
-    let rows: [(&[u8], &str, &[&str]); 51] = [
+    let rows: [(&[u8], &str, &[&str]); 52] = [
         (include_bytes!("../examples/settings.txt"), "0x100A10007800005F000000010000000C 112 46", &[]),
         // Nothing is set.
         (b"\n \t\r\n\r\n", "0x0A0A0A0000000000000000000000000C 101 46", &[]),
@@ -70,6 +70,9 @@ fn files_give_a_syntax_and_what_is_found() {
         (b"required_digits=true\nrequired_mantissa_digits=false", "0x0A0A0A00000000000000000000000007 101 46", &[]),
         (b"digit_separator='_'\ntrailing_digit_separator=true\ninteger_digit_separator_flags=false\nfraction_digit_separator_flags=false\nexponent_digit_separator_flags=false\nspecial_digit_separator=true",
             "0x0A0A0A000000005F000010000000000C 101 46", &["lines 2, 5: a later setting overrides trailing_digit_separator"]),
+        // A note has the line that leaves a setting no field, also if another one sets the same field later.
+        (b"digit_separator_flags=true\ninternal_digit_separator=false\nleading_digit_separator=false\ntrailing_digit_separator=false\nconsecutive_digit_separator=false\nspecial_digit_separator=false\nleading_digit_separator=false",
+            "0x0A0A0A0000000000000000000000000C 101 46", &["lines 1, 6: a later setting overrides digit_separator_flags", "lines 3, 7: a later setting overrides leading_digit_separator"]),
         (b"point=','\nexponent='x'\npoint='.'\nexponent=94", "0x0A0A0A0000000000000000000000000C 94 46",
             &["lines 1, 3: a later setting overrides point", "lines 2, 4: a later setting overrides exponent"]),
         // No such name, and none that is near.

@@ -11,15 +11,17 @@ use crate::short_text::ShortText;
 
 impl ReadError {
     /// Returns whether bytes are missing, so that a longer text may be a literal. Then
-    /// [`valid_up_to`][Self::valid_up_to] is the length of the text.
+    /// [`valid_up_to`][Self::valid_up_to] is the length of the text. The error may still name what is there: `08` of C has an
+    /// `unexpected leading zero`, and `08.5` is a literal.
     ///
     /// ```
-    /// use peltzivar::literal::Syntax;
+    /// use peltzivar::literal::{Language, Syntax};
     ///
     /// // While a number is typed.
     /// let syntax = Syntax::new_or_panic(peltzivar::Format::default(), b'e', b'.');
     /// assert!(["", "-", "1e", "1e+"].iter().all(|text| syntax.read(text).unwrap_err().is_incomplete()));
     /// assert!(!syntax.read("1x").unwrap_err().is_incomplete());
+    /// assert!(Language::C.read("08").unwrap_err().error.is_incomplete() && Language::C.read("08.5").is_ok());
     /// ```
     #[must_use]
     pub const fn is_incomplete(&self) -> bool {

@@ -151,7 +151,8 @@ impl Style {
         self
     }
 
-    /// Writes a float with a point and a digit behind it, also before an exponent: `1.0e16`.
+    /// Writes a float with a point and a digit behind it, also before an exponent: `1.0e16`. With
+    /// [`decimals(0)`][Self::decimals], there is no point.
     ///
     /// ```
     /// use peltzivar::literal::{Language, Style};
