@@ -110,9 +110,8 @@ typedef struct {
  * suffix, that its sign is not `-`, and that the digit separators of its integer or its fraction, if there are any, make
  * groups of 2 to 8 digits, as in `1,234`. Groups of the integer before the last have higher_group_size digits, if this
  * is not 0, as in `12,34,567`. The last two conditions are that a number begins, behind its sign, with `0`, as C's
- * `017`, or with a digit from `0` to `9`, as NASM's `0FFh`. Members that an initialiser leaves out are 0 or false, which
- * is no condition. A later version may have conditions in `reserved`, so a syntax is refused if one of these bytes is
- * not 0.
+ * `017`, or with a digit from `0` to `9`, as NASM's `0FFh`. Members that an initialiser leaves out are 0 or false: no
+ * condition. A later version may have conditions in `reserved`, so a syntax is refused if one of these bytes is not 0.
  * peltzivar_read_settings writes a syntax, and the forms of a language have some. Check one of your own with
  * peltzivar_check_syntax. */
 typedef struct {

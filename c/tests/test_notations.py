@@ -34,8 +34,8 @@ WORD = r"\[.*?\]|\"[^\"]*\"|'[^']*'|#x\w+|\w+|."
 BYTES = "_',.~eExXhHpPzZ#&-\"`/ \\[]^\t\n\v\f\r"
 
 # Settings, and the phrases that the sentence has beside "decimal" and "NaN", or lacks.
-LINES = (TOP / "rust/tests/phrases.txt").read_text().splitlines()
-PHRASES = {settings: phrases.split("; ") for settings, phrases in (it.split(" | ") for it in LINES if it[:1] not in ("", "#"))}
+LINES = re.findall(r"^(.*) \| (.*)$", (TOP / "rust/tests/phrases.txt").read_text(), re.M)
+PHRASES = {settings: phrases.split("; ") for settings, phrases in LINES}
 
 
 def changes():

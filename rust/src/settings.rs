@@ -362,8 +362,8 @@ pub enum FindingKind {
     Reason(Reason),
     /// A condition that contradicts the format, so that the settings do not build a syntax.
     Conditions(ConditionsError),
-    /// A note that later settings override the setting with this name completely. The second index is that of the setting that
-    /// leaves it no field.
+    /// A note that later settings override the setting with this name completely. The second index is that of the
+    /// setting that leaves it no field.
     Overridden(&'static str),
     /// A note that a field is set but has no effect on any number.
     Note(Note),

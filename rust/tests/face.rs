@@ -228,7 +228,8 @@ fn syntaxes_are_parsed() {
     const INTEGERS: &str = "0x0A0A0A0000000000000000000000000C";
     const NUMBERS: &str = "0x0A0A0A0000000000000000000000000C 101 46";
     const CONDITIONS: &str = "0x101010687800005F000000070000000C required_base_prefix=true required_base_suffix=true \
-        no_negative_mantissa_sign=true integer_group_size=8";
+        no_negative_mantissa_sign=true integer_group_size=8 higher_group_size=2 fraction_group_size=3 \
+        required_leading_zero=true decimal_first_digit=true";
     #[rustfmt::skip]
     let rows = [
         ("0x00000A0000000000000000000000000C", Ok(INTEGERS)),
@@ -289,4 +290,18 @@ fn syntaxes_are_parsed() {
     }
     let [integers, numbers] = [INTEGERS, NUMBERS].map(|text| text.parse::<Syntax>().expect(text));
     assert!(integers < numbers);
+}
+
+/// What `{:?}` shows. The span is that which is shown to users.
+#[test]
+fn syntaxes_and_errors_are_shown() {
+    let syntax = Syntax::new_or_panic(Format::new(0xC | 8 << 104).unwrap(), b'e', b',');
+    let (shown, front) =
+        (format!("{syntax:?}"), "Syntax { format: FormatView { word: 0x0808080000000000000000000000000C, ");
+    assert!(shown.starts_with(front), "{shown}");
+    assert!(shown.contains(" }, exponent: Some('e'), point: Some(','), conditions: Conditions {"), "{shown}");
+    let answers = "valid_up_to: 4, byte: Some(195), kind: Byte, span: 4..6, message: \"unexpected character '\u{E9}'\"";
+    assert_eq!(format!("{:?}", syntax.read("+12,\u{E9}").unwrap_err()), format!("ReadError {{ {answers} }}"));
+    let parts = r#"sign: "+", integer: "1", point: ",", fraction: "2", exponent_character: "e", exponent: "3""#;
+    assert_eq!(format!("{:?}", syntax.read("+1,2e3").unwrap()), format!("Literal {{ {parts} }}"));
 }

@@ -126,6 +126,7 @@ fn each_number_of_bits_has_its_limits() {
                 let low = signed << (128 - u32::from(bits)) >> (128 - u32::from(bits));
                 let fits = |value: i128| (number < power).then_some(value);
                 for (kind, wanted) in [(most, fits(signed)), (wraps, fits(low)), (modulo, Some(low))] {
+                    assert_eq!((of(kind).integers(), of(kind).floats()), (kind, FloatKind::Nearest));
                     let literal = HEXADECIMAL.read(&text).unwrap().with_kind(of(kind));
                     assert_eq!(literal.to_i128().ok(), wanted, "{kind:?}: {text}");
                     assert_eq!(literal.to_i64().ok(), wanted.and_then(|it| it.try_into().ok()), "{kind:?}: {text}");

@@ -1,16 +1,9 @@
-//! What users read and set, over the lists that the library has: texts with each padding, sentences at each limit, settings
-//! of each setter, integers of each type, and the code of each field. Expected results are those of std or of a page, or are
-//! worked out here.
+//! What users read and set, over the lists that the library has: texts with each padding, sentences at each limit,
+//! settings of each setter, integers of each type, and the code of each byte. Expected results are those of std or of a
+//! page, or are worked out here.
 
-use peltzivar::literal::{
-    Condition, Conditions, FloatKind, Form, Forms, IntegerKind, Kind, Language, Number, Specials, Style, Syntax,
-    TokenError, WriteError,
-};
-use peltzivar::source::BuilderExpression;
-use peltzivar::{
-    Edit, FindingKind, FlagSetter, Format, FormatView, NumberFormatBuilder, Part, Role, Rule, Setter, Settings,
-    ShortText,
-};
+use peltzivar::literal::*;
+use peltzivar::{source::BuilderExpression, *};
 use std::fmt::Display;
 
 /// Formats a value with a width in some ways.
@@ -24,18 +17,7 @@ macro_rules! named {
 }
 
 /// The public types whose texts have no padding.
-const NOT_PADDED: [&str; 10] = [
-    "BuilderExpression",
-    "Edit",
-    "EditError",
-    "Error",
-    "Finding",
-    "LineError",
-    "Note",
-    "Plain",
-    "Reason",
-    "ValueError",
-];
+const NOT_PADDED: &str = "BuilderExpression Edit EditError Error Finding LineError Note Plain Reason ValueError";
 
 /// Texts are padded as std pads texts, and NaN, infinity and what is written as it pads numbers.
 #[test]
@@ -63,21 +45,16 @@ fn paddings_are_those_of_std() {
         Written spelled.format_float(f64::NEG_INFINITY, plain).unwrap();
     };
     let listed = include_str!("surface.rs").lines().filter_map(|line| line.strip_suffix(": Display {} };"));
+    let known = Vec::from_iter(texts.iter().chain(&numbers).map(|it| it.0).chain(NOT_PADDED.split(' ')));
     let mut listed = listed.filter_map(|line| line.rsplit(' ').next()?.split('<').next());
-    let is_known = |name| NOT_PADDED.contains(&name) || texts.iter().chain(&numbers).any(|it| it.0 == name);
-    assert_eq!(listed.find(|name| !is_known(name)), None);
-    let (texts, numbers) = (texts.iter().map(|it| (it, false)), numbers.iter().map(|it| (it, true)));
-    for ((name, value), is_number) in texts.chain(numbers) {
+    assert_eq!(listed.find(|name| !known.contains(name)), None);
+    for (index, (name, value)) in texts.iter().chain(&numbers).enumerate() {
         let text = value.to_string();
         for width in (0..=12).flat_map(|more| [more, text.chars().count() + more]) {
-            let own = if is_number { format!("{text:>width$}") } else { format!("{text:width$}") };
-            assert_eq!(format!("{value:width$}"), own, "{name}");
-            let [found, wanted] = [&**value, &text as &dyn Display].map(|it| {
-                padded! {
-                    it, width, "<" ">" "^" "*<" "*>" "*^" "\u{E9}<" "\u{20AC}>" "\u{E9}^" "\u{1F600}^"
-                }
-            });
-            assert_eq!(found, wanted, "{name}");
+            let own = if index < texts.len() { format!("{text:width$}") } else { format!("{text:>width$}") };
+            let ways =
+                |it: &dyn Display| padded!(it, width, "<" ">" "^" "*<" "*>" "*^" "\u{E9}<" "\u{20AC}>" "\u{1F600}^");
+            assert_eq!((format!("{value:width$}"), ways(value)), (own, ways(&text)), "{name}");
         }
     }
 }
@@ -87,19 +64,22 @@ fn paddings_are_those_of_std() {
 fn signs_and_zeros_are_those_of_std() {
     let [json, hexadecimal] = [Language::JSON.forms()[0], Language::C.forms()[2]].map(|it| it.syntax());
     let (toml, plain, refused) = (Language::TOML.forms(), Style::PLAIN, Language::JSON.read("+1").unwrap_err());
-    let full = format!("{refused:#}");
-    let ways = |it: &dyn Display, width| padded!(it, width, "+" "0" "+0" "<+" "*^+" "\u{E9}>+" "*^0" "*<+0");
+    let (hexadecimal, full) = (hexadecimal.format_integer(0xAB, plain).unwrap(), format!("{refused:#}"));
     for width in 0..=12 {
+        let ways = |it: &dyn Display| padded!(it, width, "+" "0" "+0" "<+" "*^+" "\u{E9}>+" "*^0" "*<+0");
         for value in [0, 7, -7, 123, -1234, 123_456_789] {
-            assert_eq!(ways(&json.format_integer(value, plain).unwrap(), width), ways(&value, width));
+            assert_eq!(ways(&json.format_integer(value, plain).unwrap()), ways(&value));
         }
-        for value in [0.5, -12.25, 1234.5, f64::INFINITY, f64::NEG_INFINITY] {
-            assert_eq!(ways(&toml.format_float(value, plain).unwrap(), width), ways(&value, width));
+        for value in [0.5, -12.25, 1234.5] {
+            assert_eq!(ways(&toml.format_float(value, plain).unwrap()), ways(&value));
         }
-        let written = hexadecimal.format_integer(0xAB, plain).unwrap();
-        assert_eq!(format!("{written:0width$} {written:+0width$}"), format!("{0:#0width$X} {0:+#0width$X}", 0xAB));
-        let width = full.len() + width;
-        assert_eq!(format!("{refused:#width$}{refused:*^#width$}"), format!("{full:width$}{full:*^width$}"));
+        for value in [f64::INFINITY, f64::NEG_INFINITY] {
+            let written = toml.format_float(value, plain).unwrap();
+            assert_eq!(padded!(written, width, "+" "<+" "*^+"), padded!(value, width, "+" "<+" "*^+"));
+        }
+        let wanted = [format!("{:#0width$X}", 0xAB), format!("{:+#0width$X}", 0xAB)];
+        assert_eq!(padded!(hexadecimal, width, "0" "+0"), wanted);
+        assert_eq!(padded!(refused, width + full.len(), "#" "*^#"), padded!(full, width + full.len(), "" "*^"));
     }
 }
 
@@ -116,51 +96,40 @@ fn settings() -> impl Iterator<Item = (&'static str, &'static str)> {
 fn sentences_on_settings_show_forty_bytes() {
     for value in (0..=42).flat_map(|size| ["", "\u{E9}", "\u{20AC}", "\u{1F600}"].map(|it| "~".repeat(size) + it)) {
         let refused = settings().map(|(name, _)| format!("{name}={value}"));
-        let is_kept = |text: &String| !text.is_empty();
-        for text in refused.chain([format!("{value}=1")]).chain([value.clone()].into_iter().filter(is_kept)) {
+        for text in refused.chain([format!("{value}=1")]).chain(Some(value.clone()).filter(|it| !it.is_empty())) {
             let sentence = Settings::new().add(&text).unwrap_err().to_string();
-            let shown = value.bytes().take(40).map(|it| match it {
-                b'~' => "~".to_string(),
-                _ => format!("\\x{it:02x}"),
-            });
-            let end = if value.len() > 40 { "..`" } else { "`" };
-            let wanted = format!("`{}{end}", String::from_iter(shown));
+            let shown = value.as_bytes()[..value.len().min(40)].escape_ascii();
+            let wanted = format!("`{shown}{}`", if value.len() > 40 { ".." } else { "" });
             assert!(sentence.split("; did you mean").next().unwrap().ends_with(&wanted), "{text}: {sentence}");
         }
     }
 }
 
-/// Lines that set nothing, and ends of lines as Windows writes them, change no index: of a setting that is overridden, of one
-/// that is refused, and of one that contradicts others.
+/// Lines that set nothing, and ends of lines as Windows writes them, change no index: of a setting that is overridden,
+/// of one that is refused, and of one that contradicts others.
 #[test]
 fn settings_are_found_in_their_lines() {
     for (name, value) in settings() {
         let set = format!("{name} = {value}");
         let mut lines = ["# about", "", &set, " \t", "  # more", &set].map(|it| format!("{it}\r"));
-        let settings = Settings::read(&lines).unwrap();
-        let plain = Settings::read([&set]).unwrap();
-        let built = |it: &Settings| it.build_syntax().map_err(|error| error.to_string());
-        assert_eq!(built(&settings), built(&plain), "{name}");
-        let note = settings.notes().next().unwrap();
+        let [all, plain] = [Settings::read(&lines), Settings::read([&set])].map(Result::unwrap);
+        assert!(all.reasons().map(|it| it.indexes().to_vec()).eq(plain.reasons().map(|_| [5])), "{name}");
+        let note = all.notes().next().unwrap();
         assert_eq!((note.kind(), note.indexes()), (FindingKind::Overridden(name), &[2, 5][..]));
-        assert_eq!(note.to_string(), format!("a later setting overrides {name}"));
-        let (last, only) = (Vec::from_iter(settings.reasons()), Vec::from_iter(plain.reasons()));
-        assert!(last.iter().map(|it| it.indexes()).eq(only.iter().map(|_| &[5][..])), "{name}: {last:?}");
-        let edit = lines[2].parse::<Edit>().ok().map(|it| it.to_string());
-        assert_eq!(edit, Edit::NAMES.contains(&name).then(|| format!("{name}={value}")));
+        assert_eq!(lines[2].parse::<Edit>().is_ok(), Edit::NAMES.contains(&name));
         lines[4] = format!("{name}=?\r");
         let error = Settings::read(&lines).unwrap_err();
-        assert_eq!((error.index(), error.to_string().starts_with(&format!("{name} takes "))), (4, true), "{error}");
-        assert!(error.to_string().contains(", not `?`"), "{error}");
+        let (index, sentence) = (error.index(), error.to_string());
+        assert!(index == 4 && sentence.starts_with(&format!("{name} takes ")) && sentence.contains(", not `?`"));
     }
-    // A digit separator and all flags that allow one are the most that one note blames, and 32 notes on others are kept.
+    // One note blames at most a digit separator and all flags that allow one. The first 32 notes on settings are kept.
     let flags = FlagSetter::FLAGS.iter().filter(|it| it.name().ends_with("digit_separator"));
     let lines = Vec::from_iter(flags.map(|it| format!("{}=true", it.name())).chain(["digit_separator=none".into()]));
     let note = Settings::read(&lines).unwrap().notes().next().unwrap();
     assert_eq!(note.indexes(), Vec::from_iter(0..lines.len()), "{note}");
     for count in 30..=35 {
-        let settings = Settings::read(vec!["radix=8"; count + 1]).unwrap();
-        let notes = settings.notes().map(|it| it.indexes().to_vec());
+        let notes = Settings::read(vec!["radix=8"; count + 1]).unwrap();
+        let notes = notes.notes().map(|it| it.indexes().to_vec());
         assert!(notes.eq((0..count.min(32)).map(|index| [index, index + 1])), "{count}");
     }
 }
@@ -186,10 +155,10 @@ fn integers_at_limits_are_read_by_std() {
             for value in [Type::MIN, Type::MIN + 1, (0 as Type).wrapping_sub(1), 0, 1, Type::MAX - 1, Type::MAX] {
                 let text = forms[0].syntax().format_integer(value, Style::PLAIN).unwrap().to_string();
                 assert_eq!(forms.format_integer(value, Style::PLAIN).unwrap().to_string(), text);
+                let digits = text.trim_start_matches('-').trim_start_matches(|it| value != 0 && it == '0');
+                let sign = if value.to_string().starts_with('-') { "-" } else { "" };
+                assert_eq!(text, format!("{sign}{}", digits.to_uppercase()));
                 assert_eq!(Type::from_str_radix(&text, radix.into()), Ok(value), "{text}");
-                let digits = text.strip_prefix('-').unwrap_or(&text);
-                let is_plain = digits.bytes().all(|it| it.is_ascii_digit() || it.is_ascii_uppercase());
-                assert!(is_plain && (digits == "0" || !digits.starts_with('0')), "{text}");
             }
         });
     }
@@ -197,23 +166,18 @@ fn integers_at_limits_are_read_by_std() {
 
 /// Of two limits, the sentence names that which has fewer numbers, and of equals that of the type.
 #[test]
+#[allow(clippy::unnecessary_cast, reason = "it is for each type")]
 fn sentences_name_the_nearer_limit() {
-    for (bits, of) in
-        (1..=64).flat_map(|bits| [IntegerKind::AtMost(bits), IntegerKind::Wraps(bits)].map(|it| (bits, it)))
-    {
+    for (bits, of) in (1..=64).flat_map(|it| [IntegerKind::AtMost(it), IntegerKind::Wraps(it)].map(|of| (it, of))) {
         let forms = [Form::new("", integers(10)).with_kind(Kind::new(of, FloatKind::Nearest).unwrap())];
         let (forms, most) = (Forms::new_or_panic(&forms), (1_u128 << bits) - 1);
         each_type!(Type => {
             let (name, largest, least) = (std::any::type_name::<Type>(), Type::MAX as u128, Type::MIN as i128);
-            let above = match most < largest {
-                true => format!("above {most}, the largest number of its form"),
-                false => format!("above {largest}, the largest {name}"),
-            };
-            let below = match least < -(most as i128) {
-                true => format!("below -{most}, the least number of its form"),
-                false => format!("below {least}, the least {name}"),
-            };
-            for (sign, wanted) in [("", above), ("-", below)] {
+            let above = if most < largest { (most, "number of its form") } else { (largest, name) };
+            let is_nearer = least < -(most as i128);
+            let below = if is_nearer { (-(most as i128), "number of its form") } else { (least, name) };
+            let above = format!("above {}, the largest {}", above.0, above.1);
+            for (sign, wanted) in [("", above), ("-", format!("below {}, the least {}", below.0, below.1))] {
                 for number in [most + 1, 1 << 100, u128::MAX] {
                     let text = format!("{sign}{number}");
                     let error = forms.parse::<Type>(&text).unwrap_err();
@@ -227,9 +191,9 @@ fn sentences_name_the_nearer_limit() {
 /// An error of a list is that of one of its forms, with its index and its name.
 #[test]
 fn errors_of_lists_are_those_of_their_forms() {
-    for language in Language::ALL {
-        let texts = "01.ej_+x".chars().flat_map(|one| "08.pb-\u{E9}".chars().map(move |two| format!("{one}{two}e")));
-        for text in texts.chain(["".into(), "0x".into(), "0b12".into(), "1__0".into()]) {
+    let texts = "01.ej_+x".chars().flat_map(|one| "08.pb-\u{E9}".chars().map(move |two| format!("{one}{two}e")));
+    for text in texts.chain(["".into(), "0x".into(), "0b12".into(), "1__0".into()]) {
+        for language in Language::ALL {
             let Err(error) = language.read(&text) else { continue };
             let form = language.forms()[error.form];
             assert_eq!((error.form(), error.name), (error.form, form.name()), "{language}: {text}");
@@ -239,26 +203,54 @@ fn errors_of_lists_are_those_of_their_forms() {
     }
 }
 
-/// The code of each field, by the rules of EXPLANATIONS.
+/// Code has a byte as a character where EXPLANATIONS says so.
 #[test]
-fn code_sets_each_field() {
-    for edit in
-        Setter::ALL.iter().flat_map(|it| (0..=255).filter_map(|byte| it.with_flag(byte == 1).or(it.with_byte(byte))))
-    {
-        let word = std::iter::once(edit).collect::<NumberFormatBuilder>().build_unchecked();
-        let view = FormatView::new(word);
-        let calls = view.edits().map(|it| match (it, it.argument_byte()) {
-            (Edit::Flag(_, value), _) => format!(".{}({value})", it.name()),
-            (Edit::MantissaRadix(radix), _) => format!(".mantissa_radix({radix})"),
-            (_, 0) => format!(".{}(None)", it.name()),
-            (Edit::ExponentBase(_) | Edit::ExponentRadix(_), byte) => format!(".{}(NonZeroU8::new({byte}))", it.name()),
-            (_, byte @ b'!'..=b'~') if !b"'\\".contains(&byte) => {
-                format!(".{}(NonZeroU8::new(b'{}'))", it.name(), char::from(byte))
-            }
-            (_, byte) => format!(".{}(NonZeroU8::new({byte}))", it.name()),
-        });
-        let end = if view.is_valid() { ".build_or_panic()" } else { ".build_unchecked()" };
-        let wanted = format!("NumberFormatBuilder::new(){}{end}", String::from_iter(calls));
-        assert_eq!(BuilderExpression(word).to_string(), wanted);
+fn code_shows_characters() {
+    for (name, shift, flag) in [("digit_separator", 64, 1 << 32), ("base_prefix", 88, 0), ("base_suffix", 96, 0)] {
+        for byte in 1..=u8::MAX {
+            let code = BuilderExpression(format::STANDARD | flag | u128::from(byte) << shift).to_string();
+            let is_shown = byte.is_ascii_graphic() && !b"'\\".contains(&byte);
+            let argument = if is_shown { format!("b'{}'", char::from(byte)) } else { byte.to_string() };
+            assert!(code.contains(&format!(".{name}(NonZeroU8::new({argument}))")), "{code}");
+        }
     }
+}
+
+/// A wrong character is shown or, if it is white space, a control character or one that cannot be seen, named.
+#[test]
+fn wrong_characters_are_shown_or_named() {
+    let named = [" space", "\ttab", "\nline feed", "\rcarriage return", "'character \"'\"", "\u{A0}no-break space"];
+    let marks = ["\u{200B}\u{200C}\u{200D}\u{200E}\u{200F}", "\u{202A}\u{202B}\u{202C}\u{202D}\u{202E}"];
+    let hidden = marks.concat() + "\u{AD}\u{2060}\u{FEFF}";
+    let sentence = |text: &[u8]| Syntax::default().read(text).unwrap_err().to_string();
+    let others = (0x600..0x11_0000).step_by(0x1F1).filter_map(char::from_u32);
+    let characters = ('\0'..'\u{600}').chain('\u{2000}'..'\u{2060}').chain(others).chain(hidden.chars());
+    for it in characters.filter(|it| !"0123456789.eE\u{202F}".contains(*it)) {
+        let wanted = match named.iter().find_map(|named| named.strip_prefix(it)) {
+            Some(name) => name.to_string(),
+            None if it.is_ascii_control() => format!("byte {}", u32::from(it)),
+            None if it.is_control() || it.is_whitespace() || hidden.contains(it) => "invisible character".to_string(),
+            None => format!("character '{it}'"),
+        };
+        assert_eq!(sentence(format!("1{it}2").as_bytes()), format!("unexpected {wanted}"));
+    }
+    for byte in 0x80..=0xFF {
+        assert_eq!(sentence(&[b'1', byte]), format!("unexpected byte {byte}"));
+    }
+}
+
+/// Names of parts and roles are those of their variants. Errors of writing and of tokens have the sentences of the
+/// rows.
+#[test]
+fn names_and_sentences_are_known() {
+    let roles = [Role::Digit, Role::Sign, Role::Separator, Role::Prefix, Role::Suffix, Role::Exponent, Role::Point];
+    let parts = [Part::Integer, Part::Fraction, Part::Exponent].map(|it| (it.name(), format!("{it:?}")));
+    let mut named = roles.map(|it| (it.name(), format!("{it:?}"))).into_iter().chain(parts);
+    assert!(named.all(|(name, variant)| name == variant.to_lowercase()));
+    use WriteError::*;
+    let written = [Special, TooLarge, Negative, Fraction, Float, Radix, Exponent, Long, Buffer(12), ReadBack];
+    let tokens = [TokenError::NoTokens, TokenError::NotAToken { end: 1 }].map(|it| (format!("{it:?}"), it.to_string()));
+    let found = written.map(|it| (format!("{it:?}"), it.to_string())).into_iter().chain(tokens);
+    let rows = include_str!("errors.txt").lines().filter(|row| !row.starts_with('#'));
+    assert!(rows.eq(found.map(|(name, sentence)| format!("{name} | {sentence}"))));
 }

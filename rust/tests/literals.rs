@@ -4,6 +4,8 @@ use peltzivar::format::{CASE_SENSITIVE_SPECIAL, DIGIT_SEPARATOR_FLAG_MASK, NO_SP
 use peltzivar::literal::{Condition, Form, Language, Literal, Number, ReadError, ReadErrorKind, Specials, Syntax};
 use peltzivar::{Edit, FlagSetter, Format, FormatView, NumberFormatBuilder, Part, Rule, Settings};
 use std::collections::HashSet;
+use std::io::Write;
+use std::process::{Command, Stdio};
 
 const FORMAT: &str = include_str!("../../docs/FORMAT.md");
 const EXPLANATIONS: &str = include_str!("../../docs/EXPLANATIONS.md");
@@ -144,13 +146,15 @@ fn flags_accept_and_reject_the_texts_of_the_page() {
 fn conditions_accept_and_reject_the_texts_of_the_page() {
     for row in table(FORMAT, "Conditions") {
         let [setting, _, with, accepted, rejected, refused] = row[..] else { panic!("{row:?}") };
-        // Without the other settings, the format contradicts the last condition, but for one that forbids leading zeros.
+        // Without other settings, the format contradicts the last condition, unless that is on the first digit.
         let code = refused.rsplit_once(": `").map(|it| it.1);
         for flag in ["", "no_integer_leading_zeros=true", "no_float_leading_zeros=true"] {
-            let settings = setting.split(' ').next_back().into_iter().chain([flag]);
-            let error = Settings::read(settings).unwrap().build_syntax().err().map(|it| format!("{:?}", it.code()));
+            let settings = Settings::read(setting.split(' ').next_back().into_iter().chain([flag])).unwrap();
+            let error = settings.build_syntax().err().map(|it| format!("{:?}", it.code()));
             let wanted = code.filter(|it| *it != "InvalidFlags" || !flag.is_empty());
             assert_eq!(error.as_deref(), wanted, "{setting} {flag}");
+            let blamed = settings.reasons().next().map(|it| it.indexes().len());
+            assert_eq!(blamed, wanted.map(|it| 1 + usize::from(it == "InvalidFlags")), "{setting} {flag}");
         }
         let syntaxes = [syntax_of(with), syntax_of(&format!("{with} {setting}"))];
         for (text, is_accepted) in both(accepted, rejected) {
@@ -316,13 +320,41 @@ fn languages_answer_as_their_grammars_and_tools_do() {
     assert_eq!(wanted.find(|it| !seen.contains(it)), None, "a form without a row");
 }
 
-/// The phrases that a sentence has beside `decimal` and `NaN`, or lacks.
+/// Returns the settings of each row, and what a sentence has beside `decimal` and `NaN`, or lacks.
+fn phrases() -> impl Iterator<Item = (&'static str, &'static str)> {
+    let rows = include_str!("phrases.txt").lines().filter(|row| !row.is_empty() && !row.starts_with('#'));
+    rows.map(|row| row.split_once(" | ").expect(row))
+}
+
 #[test]
 fn sentences_on_syntaxes_state_each_difference() {
-    for row in include_str!("phrases.txt").lines().filter(|row| !row.is_empty() && !row.starts_with('#')) {
-        let (settings, phrases) = row.split_once(" | ").expect(row);
+    for (settings, phrases) in phrases() {
         let sentence = syntax_of(settings).sentence().to_string();
-        let [found, usual, wanted] = [&*sentence, "decimal; NaN", phrases].map(|it| HashSet::<_>::from_iter(it.split("; ")));
+        let [found, usual, wanted] =
+            [&*sentence, "decimal; NaN", phrases].map(|it| HashSet::<_>::from_iter(it.split("; ")));
         assert_eq!(&found ^ &usual, wanted, "{settings}");
     }
+}
+
+/// By Python's `re`, if it is installed, regular expressions match the texts that are read.
+#[test]
+fn regular_expressions_match_what_is_read() {
+    const PROGRAM: &str = "import re, sys\nfor row in sys.stdin:\n  regex, text, is_read = row[:-1].split('\\t')\n  \
+        assert str(bool(re.fullmatch(regex, text))) == is_read, row";
+    let texts =
+        HashSet::<_>::from_iter(include_str!("literals.txt").lines().filter_map(|row| row.split_whitespace().nth(2)));
+    let groups = "1_23_456 12_345 123_456 1234,567 1234.567,5 0.1234_5 0.12345_6 -0x1_ 1^5";
+    let texts = Vec::from_iter(texts.into_iter().chain(groups.split(' ')));
+    let forms = Language::ALL.iter().flat_map(Language::forms).map(Form::syntax);
+    let mut rows = String::new();
+    for syntax in forms.chain(phrases().map(|it| syntax_of(it.0))) {
+        let regex = syntax.regex().to_string();
+        for text in &texts {
+            rows += &format!("{regex}\t{text}\t{}\n", if syntax.read(text).is_ok() { "True" } else { "False" });
+        }
+    }
+    let python = Command::new("python3").args(["-c", PROGRAM]).stdin(Stdio::piped()).spawn();
+    let Ok(mut python) = python else { return eprintln!("skipped: python3 is not installed") };
+    python.stdin.take().unwrap().write_all(rows.as_bytes()).unwrap();
+    assert!(python.wait().unwrap().success());
 }

@@ -12,12 +12,13 @@ use settings::load;
 #[test]
 fn files_give_a_syntax_and_what_is_found() {
     #[rustfmt::skip]
-    let rows: [(&[u8], &str, &[&str]); 52] = [
+    let rows: [(&[u8], &str, &[&str]); 53] = [
         (include_bytes!("../examples/settings.txt"), "0x100A10007800005F000000010000000C 112 46", &[]),
         // Nothing is set.
         (b"\n \t\r\n\r\n", "0x0A0A0A0000000000000000000000000C 101 46", &[]),
         // A byte order mark is read over before the first line alone.
         (b"\xEF\xBB\xBFradix=8", "0x0808080000000000000000000000000C 101 46", &[]),
+        (b"\xEF\xBB\xBF\t # octal\nradix=8", "0x0808080000000000000000000000000C 101 46", &[]),
         (b"\n\xEF\xBB\xBFradix=8", "", &[r"line 2: unknown setting `\xef\xbb\xbfradix`; did you mean `radix`?"]),
         // Conditions.
         (b"base_prefix='x'\nrequired_base_prefix=true", "0x0A0A0A0078000000000000000000000C 101 46 required_base_prefix=true", &[]),

@@ -93,6 +93,8 @@ fn rules_are_those_of_the_list() {
         b'e',
         b'.',
     );
+    let words = (WORDS.integers(), WORDS.floats(), WORDS.is_either_case(), WORDS.begins_any_word());
+    assert_eq!(words, (&[&b"u"[..], b"uu", b"%"][..], &[&b"f"[..]][..], true, &b""[..]));
     let forms = [Form::new("", POINT).with_suffixes(&WORDS)];
     let (plain, back) = (Tokens::new(&[], &[b"is"]), Tokens::new(&[], &[]).gives_points_back(true));
     let [none, plain, back] = [None, Some(&plain), Some(&back)].map(|tokens| {

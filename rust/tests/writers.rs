@@ -313,10 +313,11 @@ fn forms_write_what_they_read_as_the_same_number() {
     }
     assert_eq!(chosen(Language::JSON, &(1_u128 << 127).to_string(), &forms), format!("{:X}", 1_u128 << 127));
     assert_eq!(chosen(Language::JSON, "340282366920938463463374607431768211456", &forms), "!ReadBack");
-    assert_eq!(
-        chosen(Language::JSON, &"9.".to_string().replace('.', &"0".repeat(5000)), Language::JSON.forms()),
-        "!Buffer(5001)"
-    );
+    for size in [4095, 4096, 4097, 5001] {
+        let text = format!("9{}", "0".repeat(size - 1));
+        let wanted = if size > 4096 { format!("!Buffer({size})") } else { text.clone() };
+        assert_eq!(chosen(Language::JSON, &text, Language::JSON.forms()), wanted);
+    }
     assert_eq!(forms.format_integer(-300, Style::PLAIN).unwrap().to_string(), "-12C");
     assert_eq!(forms.format_integer(5_u8, Style::PLAIN).unwrap().to_string(), "5");
     assert_eq!(forms.format_float(0.1_f32, Style::PLAIN).unwrap().to_string(), "0.1");

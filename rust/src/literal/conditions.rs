@@ -64,8 +64,8 @@ conditions! {
     /// Requires that a number begins with `0` behind its sign. If set, a reader of C's octal integers accepts `0` and `017`,
     /// and refuses `17`, and a writer adds the zero.
     LeadingZero: required_leading_zero(flag);
-    /// Requires that a number begins with a digit from `0` to `9` behind its sign. If set, a reader of NASM's hexadecimal
-    /// integers accepts `0FFh` and `1Fh`, and refuses `FFh`, and a writer adds a zero before a letter.
+    /// Requires that a number begins with a digit from `0` to `9` behind its sign. If set, a reader of NASM's
+    /// hexadecimal integers accepts `0FFh` and `1Fh`, and refuses `FFh`, and a writer adds a zero before a letter.
     DecimalFirstDigit: decimal_first_digit(flag);
 }
 

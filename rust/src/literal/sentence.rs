@@ -11,8 +11,8 @@ use crate::short_text::ShortText;
 
 impl ReadError {
     /// Returns whether bytes are missing, so that a longer text may be a literal. Then
-    /// [`valid_up_to`][Self::valid_up_to] is the length of the text. The error may still name what is there: `08` of C has an
-    /// `unexpected leading zero`, and `08.5` is a literal.
+    /// [`valid_up_to`][Self::valid_up_to] is the length of the text. The error may still name what is there: `08` of C
+    /// has an `unexpected leading zero`, and `08.5` is a literal.
     ///
     /// ```
     /// use peltzivar::literal::{Language, Syntax};
@@ -227,9 +227,9 @@ impl fmt::Display for ReadError {
 /// Writes the answers, and what `{:#}` prints.
 impl fmt::Debug for ReadError {
     fn fmt(&self, f: &mut fmt::Formatter<'_>) -> fmt::Result {
-        let Refusal { valid_up_to, byte, kind, start, end, .. } = self.explain();
+        let Refusal { valid_up_to, byte, kind, .. } = self.explain();
         let mut text = f.debug_struct("ReadError");
-        text.field("valid_up_to", &valid_up_to).field("byte", &byte).field("kind", &kind).field("span", &(start..end));
+        text.field("valid_up_to", &valid_up_to).field("byte", &byte).field("kind", &kind).field("span", &self.span());
         text.field("message", &format_args!("\"{self:#}\"")).finish()
     }
 }
