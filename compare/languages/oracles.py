@@ -154,3 +154,11 @@ LANGUAGES = [
 
 # Languages that no package of Debian has a tool for, and what only its faulty one judges.
 TABLES = {"JULIA": "no tool", "SWIFT": "no tool", "C_SHARP": "separators have no tool"}
+
+# Languages without tokens, and suffixes that the tools alone take.
+DATA = "ADA CSV_DE CSV_EN FORTRAN JSON NASM SQL TOML XML_SCHEMA YAML YAML_1_1".split()
+SUFFIXES = {
+    "C": [Cause("+", ".*[dD][fFdDlL]", "a decimal float")],
+    "C_PLUS_PLUS": [Cause("+", ".*([uU]?[zZ]|[zZ][uU])", "a size of C++23")],
+    "C_SHARP": [Cause("+", "[^lLuU]*(?i:[ul]*(u[ul]*u|l[ul]*l)[ul]*)", "a letter that is repeated, beside the standard")],
+}

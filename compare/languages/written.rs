@@ -1,6 +1,6 @@
 //! The writer of the library. Reads numbers on standard input, one a line, a language and a literal of it, or `f64` and the bits
-//! of one, and prints each in another language: `+` and the text, which must be read as the number; or `-` and why it is not
-//! written, which must be true.
+//! of one, and prints each in another language: `+` and the text, or `!` if it is read as another number, and the one that was
+//! given; or `-` and why it is not written, which must be true.
 
 use peltzivar::literal::{Condition, Forms, Kind, Language, Literal, Number, Style, Syntax, WriteError};
 use peltzivar::Part;
@@ -12,10 +12,26 @@ enum Given<'a> {
     Literal(Literal<'a>),
 }
 
-/// Returns the integer that a literal is worth: its sign and its size, if a type has it.
-fn integer(literal: &Literal<'_>) -> Option<(bool, u128)> {
-    let signed = i128::try_from(*literal).map(|it| (it < 0, it.unsigned_abs()));
-    signed.or_else(|_| u128::try_from(*literal).map(|it| (false, it))).ok()
+/// Returns the decimal digits of the integer that a literal is worth, which may be the value of a float.
+fn integer(literal: &Literal<'_>) -> Option<String> {
+    if literal.is_float() {
+        return literal.to_f64().ok().filter(|it| it.fract() == 0.0).map(|it| format!("{it:.0}"));
+    }
+    let signed = i128::try_from(*literal).map(|it| it.to_string());
+    Some(signed.or_else(|_| u128::try_from(*literal).map(|it| it.to_string())).unwrap_or_else(|_| long(literal)))
+}
+
+/// Returns the decimal digits of an integer that no type has.
+fn long(literal: &Literal<'_>) -> String {
+    let mut digits = [0; 1000];
+    for digit in literal.digits(Part::Integer) {
+        digits.iter_mut().fold(u32::from(digit), |carry, it| {
+            let sum = *it * literal.radix(Part::Integer) + carry;
+            *it = sum % 10;
+            sum / 10
+        });
+    }
+    String::from_iter(digits.iter().rev().map(u32::to_string)).trim_start_matches('0').into()
 }
 
 /// Returns the bits of the float that a literal is worth.
@@ -24,13 +40,11 @@ fn bits(literal: &Literal<'_>) -> Option<u64> {
 }
 
 impl Given<'_> {
-    /// Returns whether a literal is the same integer or, if either is a float or no type has it, the same float.
+    /// Returns whether a literal, which may be a float, is exactly the same integer or, if a float was given, the same float.
     fn is(&self, literal: &Literal<'_>) -> bool {
         match self {
             Given::Float(value) => bits(literal) == Some(value.to_bits()),
-            Given::Literal(own) if own.is_float() || literal.is_float() => {
-                bits(own).is_some() && bits(own) == bits(literal)
-            }
+            Given::Literal(own) if own.is_float() => bits(own).is_some() && bits(own) == bits(literal),
             Given::Literal(own) => integer(own) == integer(literal) && bits(own) == bits(literal),
         }
     }
@@ -116,8 +130,7 @@ fn main() -> io::Result<()> {
         match given.in_forms(forms) {
             Ok(written) => {
                 let read = forms.read(&written).expect(&line).literal().expect(&line);
-                assert!(given.is(&read), "{line}: {written}");
-                writeln!(out, "+ {written}")?;
+                writeln!(out, "{} {written} {text}", if given.is(&read) { '+' } else { '!' })?;
             }
             Err(error) => {
                 given.check(forms, error);

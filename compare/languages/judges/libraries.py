@@ -34,7 +34,7 @@ def sqlite(text):
 
 def css(text):
     tokens = tinycss2.parse_component_value_list(text)
-    token = tokens[0] if len(tokens) == 1 and tokens[0].type == "number" else None
+    token = tokens[0] if len(tokens) == 1 and tokens[0].type in ("number", *sys.argv[2:]) else None
     return token and (token.int_value if token.is_integer else token.value)
 
 
