@@ -1,6 +1,6 @@
-//! The writer of the library. Reads numbers on standard input, one a line, a language and a literal of it, or `f64` and the bits
-//! of one, and prints each in another language: `+` and the text, or `!` if it is read as another number, and the one that was
-//! given; or `-` and why it is not written, which must be true.
+//! The writer of the library. Reads numbers on standard input, one a line, a language and a literal of it, or `f64` and
+//! the bits of one, and prints each in another language: `+` and the text, or `!` if it is read as another number, and
+//! the one that was given; or `-` and why it is not written, or `?`, the number and why, if that is not true.
 
 use peltzivar::literal::{Condition, Forms, Kind, Language, Literal, Number, Style, Syntax, WriteError};
 use peltzivar::Part;
@@ -12,26 +12,22 @@ enum Given<'a> {
     Literal(Literal<'a>),
 }
 
-/// Returns the decimal digits of the integer that a literal is worth, which may be the value of a float.
+/// Returns the integer that a literal is worth, as an integer or a float: its decimal digits, or those of its radix if
+/// no type has it.
 fn integer(literal: &Literal<'_>) -> Option<String> {
     if literal.is_float() {
-        return literal.to_f64().ok().filter(|it| it.fract() == 0.0).map(|it| format!("{it:.0}"));
+        let value = literal.to_f64().ok().filter(|it| it.fract() == 0.0 && it.abs() < 2_f64.powi(128));
+        return value.map(|it| format!("{it:.0}"));
     }
     let signed = i128::try_from(*literal).map(|it| it.to_string());
-    Some(signed.or_else(|_| u128::try_from(*literal).map(|it| it.to_string())).unwrap_or_else(|_| long(literal)))
+    let value = signed.or_else(|_| u128::try_from(*literal).map(|it| it.to_string()));
+    let digits = literal.digits(Part::Integer).skip_while(|it| *it == 0);
+    Some(value.unwrap_or_else(|_| format!("{}: {:?}", literal.radix(Part::Integer), digits.collect::<Vec<_>>())))
 }
 
-/// Returns the decimal digits of an integer that no type has.
-fn long(literal: &Literal<'_>) -> String {
-    let mut digits = [0; 1000];
-    for digit in literal.digits(Part::Integer) {
-        digits.iter_mut().fold(u32::from(digit), |carry, it| {
-            let sum = *it * literal.radix(Part::Integer) + carry;
-            *it = sum % 10;
-            sum / 10
-        });
-    }
-    String::from_iter(digits.iter().rev().map(u32::to_string)).trim_start_matches('0').into()
+/// Returns the literal that a text is to a list.
+fn read<'t>(forms: &Forms<'_>, text: &'t str) -> Option<Literal<'t>> {
+    forms.read(text).ok()?.literal()
 }
 
 /// Returns the bits of the float that a literal is worth.
@@ -40,7 +36,8 @@ fn bits(literal: &Literal<'_>) -> Option<u64> {
 }
 
 impl Given<'_> {
-    /// Returns whether a literal, which may be a float, is exactly the same integer or, if a float was given, the same float.
+    /// Returns whether a literal, which may be a float, is exactly the same integer or, if a float was given, the same
+    /// float.
     fn is(&self, literal: &Literal<'_>) -> bool {
         match self {
             Given::Float(value) => bits(literal) == Some(value.to_bits()),
@@ -65,15 +62,17 @@ impl Given<'_> {
         }
     }
 
-    /// Returns the syntax that is asked first: of the radix of the digits that are written, or else decimal.
+    /// Returns the syntax that is asked first: of the radix of the digits that are written, or else decimal. It has a
+    /// point for a float, if any has.
     fn first(&self, forms: &Forms<'_>) -> Syntax {
-        let syntaxes = Vec::from_iter(forms.into_iter().map(|it| it.syntax()));
-        let has = |radix: u32| syntaxes.iter().find(|it| it.format().mantissa_radix() == radix);
-        let radix = match self {
-            Given::Literal(it) if self.is(&it.with_kind(Kind::EXACT)) => it.radix(Part::Integer),
-            _ => 10,
+        let (radix, is_float) = match self {
+            Given::Literal(it) if self.is(&it.with_kind(Kind::EXACT)) => (it.radix(Part::Integer), it.is_float()),
+            Given::Literal(it) => (10, it.is_float()),
+            Given::Float(_) => (10, true),
         };
-        *has(radix).or_else(|| has(10)).unwrap_or(&syntaxes[0])
+        let mut syntaxes = Vec::from_iter(forms.into_iter().map(|it| it.syntax()));
+        syntaxes.sort_by_key(|it| [radix, 10].map(|radix| it.format().mantissa_radix() != radix));
+        *syntaxes.iter().find(|it| is_float && it.point().is_some()).unwrap_or(&syntaxes[0])
     }
 
     /// Returns whether a syntax has this reason to refuse the number.
@@ -99,17 +98,18 @@ impl Given<'_> {
         }
     }
 
-    /// Panics if a list that refuses the number for `error` has a form whose text it reads as the number, or if `error` is not
-    /// that of the form that is asked first: its own reason, or that its text is read as another number.
-    fn check(&self, forms: &Forms<'_>, error: WriteError) {
-        let is_read = |text: &str| matches!(forms.read(text), Ok(Number::Literal { literal, .. }) if self.is(&literal));
+    /// Returns whether a list refuses the number for a true reason: no form has a text that it reads as the number, and
+    /// `error` is that of the form that is asked first: its own reason, or that its text is read as another number, or
+    /// as one that is too large.
+    fn is_refused(&self, forms: &Forms<'_>, error: WriteError) -> bool {
         let texts = forms.into_iter().filter_map(|it| self.in_syntax(it.syntax()).ok());
-        assert!(!texts.clone().any(|text| is_read(&text)), "a form writes what is refused: {error}");
         let first = self.first(forms);
-        match self.in_syntax(first) {
-            Ok(text) => assert_eq!(error, WriteError::ReadBack, "{text}"),
-            Err(reason) => assert!(error == reason && self.is_reason(first, reason), "{error} for {reason}"),
-        }
+        let is_true = match self.in_syntax(first) {
+            Ok(text) if read(forms, &text).is_some_and(|it| it.to_f64().is_err()) => error == WriteError::TooLarge,
+            Ok(_) => error == WriteError::ReadBack,
+            Err(reason) => error == reason && self.is_reason(first, reason),
+        };
+        is_true && !texts.into_iter().any(|it| read(forms, &it).is_some_and(|it| self.is(&it)))
     }
 }
 
@@ -129,13 +129,11 @@ fn main() -> io::Result<()> {
         };
         match given.in_forms(forms) {
             Ok(written) => {
-                let read = forms.read(&written).expect(&line).literal().expect(&line);
-                writeln!(out, "{} {written} {text}", if given.is(&read) { '+' } else { '!' })?;
+                let mark = if given.is(&read(forms, &written).expect(&line)) { '+' } else { '!' };
+                writeln!(out, "{mark} {written} {text}")?;
             }
-            Err(error) => {
-                given.check(forms, error);
-                writeln!(out, "- {error}")?;
-            }
+            Err(error) if given.is_refused(forms, error) => writeln!(out, "- {error}")?,
+            Err(error) => writeln!(out, "? {text} {error}")?,
         }
     }
     out.flush()

@@ -1,8 +1,9 @@
 //! Numbers in the middle of source text: what is the token, and why there is none. Expected results are those of the grammars, and of the
 //! scanners of rustc, javac, go/scanner, CPython, node, gcc, ocaml and ripper where these take a word for a number's end.
 
-use peltzivar::literal::{Form, Forms, Language, Specials, Stop, Suffixes, Syntax, TokenError, Tokens};
+use peltzivar::literal::{Form, Forms, Language, Specials, Stop, Suffixes, Syntax, Token, TokenError, Tokens};
 use peltzivar::NumberFormatBuilder;
+use std::collections::BTreeSet;
 
 /// Returns what a row states.
 fn stated(forms: &Forms, text: &str) -> String {
@@ -19,24 +20,89 @@ fn stated(forms: &Forms, text: &str) -> String {
     }
 }
 
-#[test]
-fn each_language_ends_its_numbers_as_its_scanner_does() {
+/// Returns the texts of `tokens.txt`, each with a language and what is stated of its token.
+fn rows() -> impl Iterator<Item = (Language, &'static str, &'static str)> {
     let rows = include_str!("tokens.txt");
     let back = rows.lines().find_map(|it| it.strip_prefix("# BACK = ")).unwrap();
-    for row in rows.lines().filter(|it| !it.is_empty() && !it.starts_with('#')) {
-        let &[text, languages, wanted] = &*row.split(" ; ").collect::<Vec<_>>() else { panic!("{row}") };
-        for name in if languages == "BACK" { back } else { languages }.split(' ') {
-            let language = Language::from_name(name).expect(name);
-            assert_eq!(stated(language.forms(), text), wanted, "{name}: {text}");
-            // What may follow any number ends it.
-            let token = language.token(&[text.as_bytes(), b" "].concat()).map(|it| it.literal.as_bytes().to_vec());
-            assert_eq!(
-                token.ok(),
-                language.token(text).ok().map(|it| it.literal.as_bytes().to_vec()),
-                "{name}: {text}"
-            );
+    rows.lines().filter(|it| !it.is_empty() && !it.starts_with('#')).flat_map(move |row| {
+        let &[text, names, wanted] = &*row.split(" ; ").collect::<Vec<_>>() else { panic!("{row}") };
+        let names = if names == "BACK" { back } else { names }.split(' ');
+        names.map(move |name| (Language::from_name(name).expect(name), text, wanted))
+    })
+}
+
+#[test]
+fn each_language_ends_its_numbers_as_its_scanner_does() {
+    for (language, text, wanted) in rows() {
+        assert_eq!(stated(language.forms(), text), wanted, "{language}: {text}");
+        // What may follow any number ends it.
+        let token = language.token(&[text.as_bytes(), b" "].concat()).map(|it| it.literal.as_bytes().to_vec());
+        assert_eq!(
+            token.ok(),
+            language.token(text).ok().map(|it| it.literal.as_bytes().to_vec()),
+            "{language}: {text}"
+        );
+    }
+}
+
+/// Returns the rows of `compare/languages/run --suffixes`: a language, a number, and its suffixes, each with `f32` if 0.1 is a
+/// single with it.
+fn suffixes() -> impl Iterator<Item = (Language, &'static str, Vec<(&'static str, &'static str)>)> {
+    include_str!("known/suffixes.txt").lines().filter(|it| !it.starts_with('#')).map(|row| {
+        let &[name, number, ref words @ ..] = &*row.split(' ').collect::<Vec<_>>() else { panic!("{row}") };
+        let words = words.iter().map(|it| it.split_once(':').unwrap_or((it, "")));
+        (Language::from_name(name).expect(name), number, words.collect())
+    })
+}
+
+/// The words of all rows are tried behind each number: one that is in other rows alone is no suffix there.
+#[test]
+fn suffixes_are_those_of_the_tools() {
+    let (all, mut wrong) = (BTreeSet::from_iter(suffixes().flat_map(|it| it.2).map(|it| it.0)), Vec::new());
+    for (language, number, words) in suffixes() {
+        for word in &all {
+            let text = format!("{number}{word}");
+            let parts = [number, word].map(str::as_bytes);
+            let token = language.token(&text).ok().filter(|it| [it.literal.as_bytes(), it.suffix] == parts);
+            let found = token.map(|it| if it.literal.to_f64() == Ok(0.1_f32.into()) { "f32" } else { "" });
+            let any = token.and_then(|it| Some(language.forms()[it.form].suffixes()?.begins_any_word()));
+            let wanted = words.iter().find(|it| it.0 == *word).map(|it| it.1);
+            if found != wanted && !any.is_some_and(|it| it.contains(&parts[1][0])) {
+                wrong.push(format!("{language} {text}"));
+            }
         }
     }
+    assert!(wrong.is_empty(), "suffixes of the library or of the tool alone: {wrong:#?}");
+}
+
+#[test]
+fn each_form_suffix_and_keyword_has_a_row() {
+    let mut texts = Vec::from_iter(rows().map(|(language, text, _)| (language, text.to_string())));
+    for (language, number, words) in suffixes() {
+        texts.extend([vec![("", "")], words].concat().iter().map(|it| (language, format!("{number}{}", it.0))));
+    }
+    let mut missing = BTreeSet::new();
+    for language in Language::ALL {
+        let Some(tokens) = language.forms().tokens() else { continue };
+        let texts = texts.iter().filter(|it| it.0 == *language);
+        let read: Vec<Token> = texts.filter_map(|it| language.token(&it.1).ok()).collect();
+        let mut require = |is_read: bool, name: &str| missing.extend((!is_read).then(|| format!("{language} {name}")));
+        for (index, form) in language.forms().into_iter().chain(tokens.forms()).enumerate() {
+            require(read.iter().any(|it| it.form == index), form.name());
+            let Some(suffixes) = form.suffixes() else { continue };
+            let upper = |it: &[u8]| if suffixes.is_either_case() { it.to_ascii_uppercase() } else { it.to_vec() };
+            let words = [suffixes.integers(), suffixes.floats()].concat().into_iter();
+            for word in words.chain(suffixes.begins_any_word().get(..1)).flat_map(|it| [it.to_vec(), upper(it)]) {
+                require(read.iter().any(|it| it.suffix == word), &String::from_utf8_lossy(&word));
+            }
+        }
+        for word in tokens.following() {
+            let is_read = read.iter().any(|it| it.suffix.is_empty() && it.rest.starts_with(word));
+            require(is_read, &String::from_utf8_lossy(word));
+        }
+    }
+    // Ruby reads `1if` and `1in` as `1` and a keyword. They are refused, since `i` is a suffix.
+    assert!(missing.iter().eq(["RUBY if", "RUBY in"]), "no rows of these, but for `if` and `in` of RUBY: {missing:#?}");
 }
 
 /// Lengths of tokens by the scanners of the languages' own tools, as `compare/languages/tokens` records them.

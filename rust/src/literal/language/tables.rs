@@ -253,7 +253,7 @@ const R_WORDS: Suffixes = words(&[b"L", b"i"], &[b"L", b"i"]);
 const RUBY_INTEGERS: &[&[u8]] = &[b"r", b"i", b"ri"];
 const RUBY_WORDS: Suffixes = Suffixes::new(RUBY_INTEGERS, &[b"i"], POINT_AND_DIGIT);
 
-/// Words of Ruby that may follow a number: `1if x`.
+/// Words of Ruby that may follow a number: `1unless x`. `1if x` is refused, since `i` is a suffix.
 const RUBY_KEYWORDS: &[&[u8]] = &[
     b"alias", b"and", b"begin", b"break", b"case", b"class", b"def", b"do", b"else", b"elsif", b"end", b"ensure",
     b"false", b"for", b"if", b"in", b"module", b"next", b"nil", b"not", b"or", b"redo", b"rescue", b"retry", b"return",
