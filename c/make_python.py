@@ -19,6 +19,7 @@ ERRORS = HERE.parent.joinpath("rust/src/error.rs").read_text()
 FORMAT = HERE.parent.joinpath("docs/FORMAT.md").read_text()
 LANGUAGES = HERE.parent.joinpath("rust/src/literal/language/tables.rs").read_text()
 CODE = " ".join(re.sub(r"/\*.*?\*/|^#.*?$", "", HEADER, flags=re.S | re.M).split())
+PAGE_OF_LANGUAGES = HERE.parent.joinpath("docs/languages.py").read_text()
 LANGUAGE_NAMES = re.findall(r"^    (\w+) = \{", LANGUAGES, re.M)
 STRUCTS = {name: f"_{name[10:].title().replace('_', '')}" for name in re.findall(r"} (peltzivar_\w+);", CODE)}
 # The setters, by the lowest bits of fields, and from 128 on by the order of groups.
@@ -53,6 +54,7 @@ def argument(text):
     return f"{kind} * {count}" if count else kind
 
 
+SIGNS = re.search(r"Numbers have a sign in .*? it\.", PAGE_OF_LANGUAGES, re.S)[0]
 RULE = "`condition` is what a rule requires of a word."
 ERROR = "`description` is the sentence of an error in single quotes. Success is 0, and false."
 DESCRIPTION = text("description", "description", "The description of the error in single quotes.")
@@ -68,9 +70,10 @@ def constants():
     yield f"STANDARD = 0x{high:>016}{low:>016}"
     flags, others = re.fullmatch(r"\{UINT64_C\((\w+)\), (.*)\}", defined("NEW_FIELDS_INIT")).groups()
     yield f"_NEW_FIELDS = ({flags}, {others})"
-    yield from (f"_{name} = {defined(name)}" for name in ("FIELD_COUNT", "FORMS_MAX", "SOURCE_SIZE", "TEXT_SIZE", "NO_PART"))
+    yield from (f"_{name} = {defined(name)}" for name in ("FIELD_COUNT", "FORMS_MAX", "WORDS_MAX", "SOURCE_SIZE", "TEXT_SIZE", "NO_PART"))
     yield f"_NO_DIGIT = {2**32 - 1}"
     yield "_REFUSED = " + re.search(r"PELTZIVAR_VALUE_REFUSED = (\d+)", HEADER)[1]
+    yield "_WRITE_SPECIAL = " + re.search(r"PELTZIVAR_WRITE_SPECIAL = (\d+)", HEADER)[1]
     for row in (
         ("Setter", r"SET_(\w+)", "The setters. A member has the name of the setter in uppercase."),
         ("Rule", r"RULE_(\w+)", f"The rules, in the order in which they are checked. {RULE}", *CONDITION),
@@ -171,6 +174,7 @@ def languages():
     yield from ("", "`read(text)` returns a `Literal` of one of its forms, or a `Special`. Raises LiteralError if the text is neither.")
     yield "`read_prefix(text)` returns the longest literal that a text begins with, and the rest. Raises LiteralError if there"
     yield "is none. `forms` has the same forms, with the syntax of each by its name, and the spellings of NaN and infinity."
+    yield from ("", *textwrap.wrap(SIGNS, 115))
     for text, name, forms in documented:
         about = " ".join(text.replace("///", " ").replace("×", "*").split())
         names = "; ".join(re.findall(r'"([^"]+)":', forms))

@@ -376,7 +376,7 @@ typedef struct {
 
 /* The suffixes of a form, which only peltzivar_forms_token reads: words directly behind integers and behind floats, in this
  * case or, with either_case, in either one. A string of words has spaces between them, as in "u8 u16". Words have letters,
- * digits, `_` and bytes from 128 up, and others are never found. Any word that begins with a byte of the string `any` is a
+ * digits, `_` and bytes from 128 up, and others are never found, nor is one that begins with a digit of its form. Any word that begins with a byte of the string `any` is a
  * suffix, too, as in `1_km`. A string may be null. Initialise the reserved bytes with 0. */
 typedef struct {
     const char *integers, *floats, *any;
@@ -432,7 +432,10 @@ typedef struct {
 #define PELTZIVAR_WORDS_MAX 256
 
 /* Returns the forms of the language or file format with a name of len bytes in either case, such as "JSON" or
- * "C_SHARP", or a null pointer if there is none. In Python, `help(peltzivar.Language)` describes each. */
+ * "C_SHARP", or a null pointer if there is none. In Python, `help(peltzivar.Language)` describes each.
+ *
+ * Numbers have a sign in CSS, CSV_DE, CSV_EN, FORTRAN, JSON, RUBY, SQL, SWIFT, TOML, XML_SCHEMA, YAML and YAML_1_1. In
+ * the other languages, `-` is an operator: they refuse `-5`, so read what is behind it. */
 const peltzivar_forms *peltzivar_language(const char *name, size_t len);
 
 /* Return the forms of a language. A program that calls these alone has only the forms of these languages in it. */

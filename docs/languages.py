@@ -22,9 +22,12 @@ in [source text](FORMAT.md#tokens), with its suffix, such as the `L` of `1L`, wh
 explorer have the same lists. `cargo run --example languages -- 0x1F` prints which languages read a text, and without a
 text the syntax of each form. What no format can express is in [FORMAT](FORMAT.md#what-a-format-cannot-express).
 
+Numbers have a sign in CSS, CSV_DE, CSV_EN, FORTRAN, JSON, RUBY, SQL, SWIFT, TOML, XML_SCHEMA, YAML and YAML_1_1. In the
+other languages, `-` is an operator: they refuse `-5`, so read what is behind it.
+
 A form reads an optional sign, `.5` and `1.` beside `1.5`, and exponents with `e` or `E`, unless its row says otherwise:
-*integers* have neither a point nor an exponent, and a prefix is required. In most languages `-` is an operator, so that
-their numbers have no sign. Values are those of the numbers, unless a form has a [kind](FORMAT.md#kinds).
+*integers* have neither a point nor an exponent, and a prefix is required. Values are those of the numbers, unless a form
+has a [kind](FORMAT.md#kinds).
 
 [languages.py](languages.py) writes this page from the [constants](../rust/src/literal/language/tables.rs). Each language
 of which Debian has a tool is [compared with it](../compare/README.md#languages-and-their-tools).

@@ -35,6 +35,7 @@ another library, set PELTZIVAR_LIBRARY to its path. If none is found, importing 
 
 from __future__ import annotations
 
+import contextlib
 import functools
 import inspect
 import math
@@ -73,11 +74,13 @@ STANDARD = 0x00000A0000000000000000000000000C
 _NEW_FIELDS = (0xC, 0, 0, 0, 10, 0, 0)
 _FIELD_COUNT = 37
 _FORMS_MAX = 64
+_WORDS_MAX = 256
 _SOURCE_SIZE = 2048
 _TEXT_SIZE = 256
 _NO_PART = 255
 _NO_DIGIT = 4294967295
 _REFUSED = 6
+_WRITE_SPECIAL = 6
 
 
 class Setter(_Named):
@@ -662,17 +665,18 @@ def _joined(halves: _Word) -> int:
 def _typed(name: str, value: object, kind: Type[Typed], wanted: str = "") -> Typed:
     """Returns a value of this type. Raises an error that names the argument if the value has another one."""
     if not isinstance(value, kind):
-        raise TypeError(f"{name} is {wanted or 'a ' + kind.__name__}, not {type(value).__name__}")
+        a = "an" if kind.__name__[0] in "aeiouAEIOU" else "a"
+        raise TypeError(f"{name} must be {wanted or f'{a} {kind.__name__}'}, not {type(value).__name__}")
     return value
 
 
 def _number(name: str, value: Any, limit: int = 256, wanted: str = "a number from 0 to 255") -> int:
     """Returns a number below the limit. Raises an error that names the argument if the value is not one."""
     if isinstance(value, bool) or not hasattr(type(value), "__index__"):
-        raise TypeError(f"{name} is {wanted}, not {type(value).__name__}")
+        raise TypeError(f"{name} must be {wanted}, not {type(value).__name__}")
     number = operator.index(value)
     if not 0 <= number < limit:
-        raise ValueError(f"{name} is {wanted}: {number:#x}")
+        raise ValueError(f"{name} must be {wanted}, not {number if number.bit_length() < 64 else hex(number)}")
     return number
 
 
@@ -682,7 +686,7 @@ def _byte(name: str, value: Any) -> int:
     if not isinstance(value, (str, bytes)):
         return _number(name, value, wanted=wanted)
     if len(value) != 1 or isinstance(value, str) and not value.isascii():
-        raise ValueError(f"{name} is {wanted}: {reprlib.repr(value)}")
+        raise ValueError(f"{name} must be {wanted}, not {reprlib.repr(value)}")
     return ord(value)
 
 
@@ -1377,7 +1381,10 @@ class Literal(Generic[AnyStr]):
             return value.value
         if self._found.is_float:
             raise ValueError(f"{reprlib.repr(self._text)} is a float")
-        if _library.to_f64(self._found, c_double()) in (2, 3):
+        kind, wide = self.kind, _I128()
+        if not _library.to_i128(self._found, wide):
+            return int(wide.high << 64 | wide.low)
+        if kind.at_most or kind.wraps:
             raise ValueError(f"{reprlib.repr(self._text)} is too large for its kind")
         sign, integer, *_ = self._written()
         return int(sign + integer, self.syntax._fields.mantissa_radix)
@@ -1571,7 +1578,7 @@ class _Reader:
     def _plains(self) -> List[Optional[Tuple[Optional[bytes], bytes]]]:
         """For each syntax, what `bytes.translate` takes to make its texts those of Python, or None if a radix is not 10."""
         found: List[Optional[Tuple[Optional[bytes], bytes]]] = []
-        for of, by in ((it._fields, it._by) for it in self._named.values()):
+        for of, by in ((it._fields, it._by) for _, it in self._listed):
             is_plain = of.mantissa_radix == of.exponent_base == of.exponent_radix == 10 and not (of.base_prefix or of.base_suffix)
             marks = bytes([by.exponent]).lower() + bytes([by.exponent]).upper() + bytes([by.decimal_point])
             table = None if marks == b"eE." and not of.digit_separator else bytes.maketrans(marks, b"ee.")
@@ -1635,8 +1642,9 @@ class _Reader:
             >>> languages.PYTHON.format_number(languages.C.read("0x1.8p1"))
             '3'
 
-        Takes an int, a float, a Decimal, a `Literal`, or an object with `__index__` or `__float__`, as those of numpy,
-        but no bool. Without `decimals`, the digits of a float are those of `repr`, and a Fraction is exact. A `Literal`
+        Takes an int, a float, a Decimal, a `Literal`, a `Special`, or an object with `__index__` or `__float__`, as those
+        of numpy, but no bool. Without `decimals`, a float has the fewest digits that are read as it, the nearest of these
+        or, where `repr` has the even one of two, the upper one, and a Fraction is exact. A `Literal`
         keeps its exponent, and a Decimal has one from 1E+401 on and below 1E-400. Where no exponent is allowed, the
         point moves, and the text has at most 800 bytes.
 
@@ -1661,7 +1669,7 @@ class _Reader:
         the error is that of the first. An int that no form of integers can have is written as a float that is nearest to
         it: `languages.JAVA.format_number(3000000000)` is 0xB2D05E00p0.
 
-        Raises ValueError for NaN and infinity without a spelling, for a Fraction that no decimal number is equal to, for
+        Raises ValueError for NaN and infinity without a spelling that is read as them, for a Fraction that no decimal number is equal to, for
         a sign `-` if no literal has one, for a number that is not whole if literals are integers, for an int if each
         literal has an exponent, for an int of more than 4300 digits in radix 10, as `str` does, for another mantissa
         radix than that of the syntax, which is 10 for a float and a Decimal, if the number is not whole or has more than
@@ -1677,9 +1685,8 @@ class _Reader:
         flags_of, least = (_typed(name, flag, bool) for name, flag in flags), _number("min_digits", min_digits)
         places = 0 if decimals is None else _number("decimals", decimals)
         style = _Style(*groups, *flags_of, least, *wish, _typed("point", point, bool), decimals is not None, places, _typed("nearest", nearest, bool))
-        if isinstance(self, _Several) and isinstance(value, float) and not math.isfinite(value):
-            spelling = Spelling.NAN if math.isnan(value) else Spelling.INF
-            return cast(str, self.specials.format(next(iter(self._named.values())), Special("-" if value < 0 else "", spelling)))
+        if isinstance(self, _Several) and (special := _special_of(value)):
+            return self._spelled(special)
         radix = self._fields.mantissa_radix if isinstance(self, Syntax) else 10
         if decimals is not None and radix == 10 and not isinstance(value, float):
             value = _rounded(value, places)
@@ -1700,7 +1707,7 @@ class _Reader:
             data = text.encode()  # type: ignore[union-attr]
             size = _SIZES[len(data)]
         except KeyError:
-            raise TypeError(f"type is float or int, not {type!r}") from None
+            raise TypeError(f"type must be float or int, not {type!r}") from None
         except (AttributeError, IndexError, UnicodeEncodeError):
             data = _readable(text)
             size = c_size_t(len(data))
@@ -1734,7 +1741,7 @@ class _Reader:
         data, offsets, missing, text_of = _texts_of(cells)
         count, status = len(offsets) - 1, bytearray(len(offsets) - 1)
         if errors not in ("raise", "coerce"):
-            raise ValueError(f"errors is 'raise' or 'coerce', not {errors!r}")
+            raise ValueError(f"errors must be 'raise' or 'coerce', not {errors!r}")
         if fill is None and kind in "qQ" and (missing or errors == "coerce"):
             raise ValueError("integers have no NaN: pass `fill`, the value of cells that are missing or wrong")
         filling = array(kind, [(math.nan if kind in "df" else 0) if fill is None else fill])
@@ -1759,20 +1766,24 @@ class _Reader:
 def _format(type: Any, out: Any) -> str:
     """Returns the format of values. Raises TypeError if it does not fit the type."""
     formats: str = {float: "df", int: "qQ", **{it: it for it in _FORMATS}}.get(type, "")
+    if not formats:
+        raise TypeError(f"type must be float, int, or one of the formats d, f, q and Q, not {type!r}")
     found = formats[:1] if out is None else memoryview(out).format
     found = {"l": "q", "L": "Q"}.get(found, found)
     if found not in _FORMATS or found not in formats:
-        raise TypeError(f"type is float, int or one of the formats d, f, q and Q, which is that of out: {type!r}, {found!r}")
+        raise TypeError(f"out must have the format {' or '.join(formats)}, not {found!r}")
     return found
 
 
 def _texts_of(cells: Any) -> Tuple[bytes, Any, Tuple[int, ...], Callable[[int], Any]]:
     """Returns cells as bytes with offsets, the indexes of missing cells, and what returns the text with an index."""
-    try:
-        given = memoryview(cells[1]) if type(cells) is tuple and len(cells) == 2 else memoryview(b"")
-    except TypeError:
-        given = memoryview(b"")
-    if given.format in "iIlLqQ":
+    given = None
+    if type(cells) is tuple and len(cells) == 2 and not isinstance(cells[1], bytes):
+        with contextlib.suppress(TypeError):
+            given = memoryview(cells[1])
+    if given is not None:
+        if given.format not in _OFFSETS:
+            raise TypeError(f"offsets must have one of the formats {', '.join(_OFFSETS)}, not {given.format!r}")
         data, offsets = bytes(memoryview(cells[0])), array("q", bytes(8 * (len(given) or 1)))
         # Offsets of 32 bits are the lower halves of the others.
         halves = given.itemsize == 4
@@ -1781,13 +1792,15 @@ def _texts_of(cells: Any) -> Tuple[bytes, Any, Tuple[int, ...], Callable[[int], 
             raise ValueError(f"offsets are not within the data, which has {len(data)} bytes")
         return data, offsets, (), lambda it: data[offsets[it] : offsets[it + 1]]
     if isinstance(cells, (str, bytes)):
-        raise TypeError(f"cells is a sequence of texts, not {type(cells).__name__}")
+        raise TypeError(f"cells must be a sequence of texts, not {type(cells).__name__}")
     texts: Tuple[Any, ...] = tuple(cells)
     missing: Tuple[int, ...] = ()
     parts: Any = texts
     empty = next((it[:0] for it in texts if isinstance(it, (str, bytes))), "")
     try:
         joined = empty.join(texts)
+        if isinstance(joined, bytes) and {*map(type, texts)} != {bytes}:
+            raise TypeError  # `join` takes any buffer.
     except TypeError:
         na = getattr(sys.modules.get("pandas"), "NA", None)
         missing = tuple(at for at, it in enumerate(texts) if type(it) is not str and (it is None or it is na or it != it))
@@ -1816,6 +1829,7 @@ _READ, _READ_PREFIX, _READ_SPECIAL = (_fast(f"forms_read{it}", c_bool) for it in
 # The calls that make a value, and the type of its memory.
 _ONE: Dict[Any, Any] = {float: (_fast("parse_f64", c_uint8), c_double * 1), int: (_fast("parse_i64", c_uint8), c_int64 * 1)}
 _SIZES = [c_size_t(size) for size in range(64)]
+_OFFSETS = ("i", "I", "l", "L", "q", "Q")
 _FORMATS: Dict[Any, Any] = {"d": ("f64", c_double), "f": ("f32", c_float), "q": ("i64", c_int64), "Q": ("u64", c_uint64)}
 
 
@@ -2126,7 +2140,7 @@ def _writing(value: Any, radix: int) -> Tuple[str, Any, Optional[Literal[Any]]]:
     bits is a literal of the radix."""
     kind = type(value)
     if kind is bool or not (hasattr(kind, "__float__") or hasattr(kind, "__index__")):
-        raise TypeError(f"value is a number or a Literal, not {kind.__name__}")
+        raise TypeError(f"value must be a number or a Literal, not {kind.__name__}")
     if isinstance(value, Fraction) and (radix == 10 or value != float(value)):
         value = _decimal_of(value)
     if isinstance(value, Literal):
@@ -2143,6 +2157,20 @@ def _writing(value: Any, radix: int) -> Tuple[str, Any, Optional[Literal[Any]]]:
             rest, digits = rest // radix, "0123456789ABCDEFGHIJKLMNOPQRSTUVWXYZ"[rest % radix] + digits
         literal = Syntax.integers(Format.of(radix=radix)).read(digits if number > 0 else f"-{digits}")
     return "format_literal", literal._found, literal
+
+
+def _special_of(value: Any) -> Optional[Special]:
+    """Returns NaN or infinity as a special value, with a sign if it is shown with one, or None for another number."""
+    if isinstance(value, Special) or not hasattr(type(value), "__float__") or hasattr(type(value), "__index__"):
+        return value if isinstance(value, Special) else None
+    if isinstance(value, (Literal, Fraction)) or isinstance(value, Decimal) and value.is_finite():
+        return None
+    if isinstance(value, Decimal):
+        return Special("-" if value.is_signed() else "", Spelling.NAN if value.is_nan() else Spelling.INF)
+    number = float(value)
+    if math.isfinite(number):
+        return None
+    return Special("-" if number < 0 else "", Spelling.NAN if math.isnan(number) else Spelling.INF)
 
 
 def _rounded(value: Any, places: int) -> Any:
@@ -2183,7 +2211,9 @@ def _characters(text: str, size: int) -> int:
 
 def _string(text: str) -> bytes:
     """Returns a string as one of C, of UTF-8. A surrogate stands for a byte that is not."""
-    return _typed("a string", text, str).encode("utf-8", "surrogateescape")
+    if "\0" in _typed("a string", text, str):
+        raise ValueError(f"a string has a null character: {text!r}")
+    return text.encode("utf-8", "surrogateescape")
 
 
 def _shown(text: Optional[bytes]) -> str:
@@ -2293,6 +2323,16 @@ class _Several(_Reader):
             raise self._refusal(text)
         return number
 
+    def _spelled(self, special: Special) -> str:
+        """Returns a special value by the first of its spellings that is read as it."""
+        for name in ("nan",) if special.spelling is Spelling.NAN else ("inf", "infinity"):
+            one = Specials(**{name: getattr(self.specials, name)})
+            with contextlib.suppress(ValueError):
+                text = one.format(next(iter(self._named.values())), special)
+                if isinstance(found := self.read(text), Special) and repr(found.value) == repr(special.value):
+                    return text
+        raise ValueError(_library.write_description(_WRITE_SPECIAL).decode())
+
     def token(self, text: AnyStr) -> Token[AnyStr]:
         """Returns the number that a text begins with as a token, as a lexer reads it: the longest literal of a form with the
         longest of its suffixes. Raises LiteralError if a form goes on behind the number without an end, if what follows may
@@ -2382,7 +2422,8 @@ class Kind:
 @dataclass(frozen=True)
 class Suffixes:
     """The suffixes of a form, which only `token` reads: words directly behind `integers` and `floats`, with spaces between
-    them, in this case or in either one. Words have letters, digits, `_` and characters that are not ASCII. Any word that
+    them, in this case or in either one. Words have letters, digits, `_` and characters that are not ASCII, or a ValueError is
+    raised. One that begins with a digit of a form, such as `5k`, is never found behind its numbers. Any word that
     begins with a character of `any` is a suffix, too, as in `1_km`. `kinds` has the kinds of numbers by their suffixes, a dict
     or pairs. A number is not a token if it is at one of the `stops`: if it ends in a character of the first string, one of the
     second follows, and then one of the third. An empty string asks for nothing.
@@ -2407,7 +2448,10 @@ class Suffixes:
         object.__setattr__(self, "stops", tuple(tuple(_typed("a stop", it, str) for it in stop) for stop in self.stops))
         if any(len(stop) != 3 for stop in self.stops):
             raise ValueError(f"a stop has three strings: {self.stops}")
-        [_string(it) for it in (self.integers, self.floats, self.any)]
+        words = [*self.integers.split(" "), *self.floats.split(" "), *(it for it, _ in self.kinds)]
+        [_string(it) for it in (*words, self.any, *(it for stop in self.stops for it in stop))]
+        if wrong := [it for it in words if any(it.isascii() and not it.isalnum() and it != "_" for it in it)]:
+            raise ValueError(f"a suffix has letters, digits, `_` and characters that are not ASCII: {wrong[0]!r}")
 
     def _structure(self) -> _Suffixes:
         kinds = [_SuffixKind(_string(it), *kind._numbers()) for it, kind in self.kinds]
@@ -2449,8 +2493,8 @@ class Forms(_Several, Mapping[str, Syntax]):
     of none, a spelling may match, by the flags of the first form. A LiteralError is that of the form for which most of
     the text is right. `forms["hexadecimal"]` is the syntax with this name. `kinds` has the kinds of forms, by
     their names, `suffixes` the `Suffixes` of forms, and `tokens` the rules for `token`. They are those of `forms` if these
-    are `Forms`. Raises ValueError if there are no forms or more than 64, if two have the same name, or if there is a kind or
-    there are suffixes of no form.
+    are `Forms`. Raises ValueError if there are no forms or more than 64, if two have the same name, if there is a kind or
+    there are suffixes of no form, or if forms that have tokens have more than 256 words, kinds of suffixes, or stops.
     """
 
     def __init__(
@@ -2488,6 +2532,9 @@ class Forms(_Several, Mapping[str, Syntax]):
             self._kept += [behind, rules]
         self._kept += made
         self._forms = c_void_p(addressof(self._made))
+        _library.forms_token(self._forms, b"", 0, None, stopped := _ReadError())
+        if self.tokens is not None and not _library.explain(stopped, None):
+            raise ValueError(f"the forms have more than {_WORDS_MAX} words, kinds of suffixes, or stops")
 
     def _by_form(self, what: str, given: Optional[Mapping[str, Any]], kind: Type[Typed]) -> Dict[str, Typed]:
         """Returns what is given for forms."""
@@ -2545,6 +2592,9 @@ class Language(_Several, _Named):
     `read(text)` returns a `Literal` of one of its forms, or a `Special`. Raises LiteralError if the text is neither.
     `read_prefix(text)` returns the longest literal that a text begins with, and the rest. Raises LiteralError if there
     is none. `forms` has the same forms, with the syntax of each by its name, and the spellings of NaN and infinity.
+
+    Numbers have a sign in CSS, CSV_DE, CSV_EN, FORTRAN, JSON, RUBY, SQL, SWIFT, TOML, XML_SCHEMA, YAML and YAML_1_1.
+    In the other languages, `-` is an operator: they refuse `-5`, so read what is behind it.
 
     ADA: Ada's decimal literals (Reference Manual 2012, 2.4.1). A format cannot accept based literals, such as
         `16#FF#`, or accept `1.0E-3` and `1E3` but reject `1E-3`. So `1E-3` is read here, but the first form never

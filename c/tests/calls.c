@@ -230,10 +230,12 @@ static void test_values(void) {
     const peltzivar_syntax decimal = first_form("SWIFT");
     peltzivar_literal it;
     float real = 7;
-/* Whether a literal has the value of the row, if a type has the rows from `first` to `last`, or else leaves the 7. */
+/* Whether a literal has the value of the row, if a type has the rows from `first` to `last`, or else leaves the 7. It is
+ * written alike by a syntax and by a list. */
 #define HAS(number, type, first, last) \
     (peltzivar_to_##type(&it, &number) == (i < first ? PELTZIVAR_VALUE_TOO_SMALL : i > last ? PELTZIVAR_VALUE_TOO_LARGE : PELTZIVAR_VALUE_OK) && \
-        !peltzivar_format_##type(&decimal, number, NULL, text, sizeof text, NULL) && !strcmp(text, first <= i && i <= last ? rows[i][0] : "7"))
+        !peltzivar_format_##type(&decimal, number, NULL, text, sizeof text, NULL) && !strcmp(text, first <= i && i <= last ? rows[i][0] : "7") && \
+        !peltzivar_forms_format_##type(swift, number, NULL, text, sizeof text, NULL) && !strcmp(text, first <= i && i <= last ? rows[i][0] : "7"))
     for (int i = 0; i < 12; i++) {
         for (int j = 0; j < 2; j++) {
             int64_t integer = 7;
@@ -304,9 +306,14 @@ static void test_writing(void) {
     size_t needed = 7;
     CHECK(make_syntax("digit_separator='.'\ninternal_digit_separator=true\npoint=','\nbase_prefix='x'", &german));
     CHECK(make_syntax("radix=16\nbase_prefix='x'\nexponent='p'", &hexadecimal));
+    peltzivar_form form = language("JSON")->forms[0];
+    const peltzivar_forms list = forms_of(&form, 1);
+    form.syntax = german;
 /* Whether a number is written in groups, and without its base if the style is so. */
 #define IN_GROUPS(wanted, number, type) \
-    (!peltzivar_format_##type(&german, number, &styles[i], text, sizeof text, &needed) && !strcmp(text, &(wanted)[2 * i]) && needed == strlen(text) + 1)
+    (!peltzivar_format_##type(&german, number, &styles[i], text, sizeof text, &needed) && !strcmp(text, &(wanted)[2 * i]) && needed == strlen(text) + 1 \
+        && !peltzivar_forms_format_##type(&list, number, &styles[i], text, needed, NULL) && !strcmp(text, &(wanted)[2 * i]) \
+        && peltzivar_forms_format_##type(&list, number, &styles[i], text, needed - 1, NULL) == PELTZIVAR_WRITE_BUFFER)
     CHECK(peltzivar_read(&json, "1234567", 7, &literal, NULL));
     for (int i = 0; i < 2; i++) {
         CHECK(IN_GROUPS("0x1.234.567", 1234567, i64) && IN_GROUPS("0x1.234.567", 1234567, u64) && IN_GROUPS("0x1.234.567", wide, i128));
@@ -462,6 +469,7 @@ static void read_alike(const peltzivar_forms *forms, const peltzivar_forms *othe
     CHECK(peltzivar_forms_read(others, from, len, &other, &why) == is_read);
     CHECK(is_read ? literal.form == other.form && !memcmp(&literal.sign, &other.sign, 9 * sizeof literal.sign) : is_same_error(&error, &why));
     CHECK(peltzivar_forms_read_special(others, from, len, &again) == is_special && !memcmp(&special, &again, sizeof special));
+    const peltzivar_literal whole = literal;
     CHECK(peltzivar_forms_read_prefix(forms, from, len, &literal, NULL) == peltzivar_forms_read_prefix(others, from, len, &other, NULL));
 /* Checks the values of a type. */
 #define VALUES_ALIKE(T, type) { \
@@ -469,6 +477,7 @@ static void read_alike(const peltzivar_forms *forms, const peltzivar_forms *othe
     const peltzivar_value_status status = peltzivar_parse_##type(forms, from, len, &value, &why); \
     CHECK((status == PELTZIVAR_VALUE_REFUSED) == !(is_read || is_special) && (status != PELTZIVAR_VALUE_REFUSED || is_same_error(&error, &why))); \
     CHECK(peltzivar_parse_##type(others, from, len, &another, &why) == status && !memcmp(&value, &another, sizeof value)); \
+    CHECK(!is_read || (peltzivar_to_##type(&whole, &another) == status && !memcmp(&value, &another, sizeof value))); \
     CHECK(status != PELTZIVAR_VALUE_REFUSED || is_same_error(&error, &why)); }
     VALUES_ALIKE(int64_t, i64)
     VALUES_ALIKE(uint64_t, u64)
@@ -479,7 +488,8 @@ static void read_alike(const peltzivar_forms *forms, const peltzivar_forms *othe
 
 /* Each language has a name by which it is found, and forms, which read the same as a copy. */
 static void test_languages(void) {
-    static const char *const texts[] = {"", "0x1G", "09", "0b2", "0x1p", "1e", "1.5.5", "0b", "0o9", "-", "017", "0x1F", "1_0", "1.5e3", "nan", "-inf"};
+    static const char *const texts[] = {"", "0x1G", "09", "0b2", "0x1p", "1e", "1.5.5", "0b", "0o9", "-", "017", "0x1F", "1_0", "1.5e3", "nan", "-inf",
+        "1.00000005960464477540", "3.4028236e38", "1e-46", "0xFFFFFFFF", "-9223372036854775808", "9223372036854775808", "18446744073709551616"};
     size_t stops[256] = {0};
     peltzivar_special special = {7, 7};
     peltzivar_literal literal;
@@ -575,7 +585,7 @@ static void test_forms(void) {
         CHECK(peltzivar_forms_read(&most, "1", 1, &literal, NULL) == (i < sizeof most.reserved || i >= sizeof most.reserved + sizeof list->reserved + sizeof list->syntax.reserved));
         CHECK(!peltzivar_forms_read(by, "1", 1, &literal, NULL) && !peltzivar_forms_read_special(by, "nan", 3, &special));
         CHECK(!peltzivar_forms_read_prefix(by, "1", 1, &literal, &error) && error.valid_up_to == 0 && !peltzivar_explain(&error, NULL));
-        CHECK(WRITES("the forms are null, not 1 to 64, or have an unknown kind or reserved members", peltzivar_read_error_text(&error, text, sizeof text)));
+        CHECK(WRITES("the forms are null, not 1 to 64, or have an unknown kind, reserved members or too many words", peltzivar_read_error_text(&error, text, sizeof text)));
         CHECK(peltzivar_parse_f64(by, "1", 1, &real, &error) == PELTZIVAR_VALUE_REFUSED && !peltzivar_explain(&error, NULL));
         CHECK(peltzivar_parse_i64_column(by, "1", offsets, 1, &value, &status) == 1 && status == PELTZIVAR_VALUE_REFUSED);
         list[63] = kept;
@@ -602,6 +612,44 @@ static void test_forms(void) {
     CHECK(!peltzivar_parse_f64(language("FORTRAN"), "0.1", 3, &real, NULL) && real == (double)0.1f);
     CHECK(!peltzivar_parse_i64(language("JAVA"), "0xffffffff", 10, &value, NULL) && value == -1);
     CHECK(language("JAVA")->forms[0].integer_kind == PELTZIVAR_INTEGERS_AT_MOST && language("JAVA")->forms[0].integer_bits == 31);
+}
+
+/* Each error has a message, with an index if it is one of parsing, in a buffer of any size. */
+static void test_messages(void) {
+    char wanted[PELTZIVAR_TEXT_SIZE];
+    for (peltzivar_error code = 1; *peltzivar_description(code); code++) {
+        const char *const kind = code < 20 ? "parse" : code < 37 ? "number format" : "options", *const index = code < 20 ? " at index 7" : "";
+        snprintf(wanted, sizeof wanted, "lexical %s error: %s%s", kind, peltzivar_description(code), index);
+        for (size_t size = strlen(wanted) + 3; size-- > 0;) {
+            const size_t shown = !size ? 0 : size <= strlen(wanted) ? size - 1 : strlen(wanted);
+            memset(text, '#', sizeof text);
+            CHECK(peltzivar_error_text(code, 7, text, size) == strlen(wanted) && text[size] == '#' && !strncmp(text, wanted, shown) && text[shown] == (size ? 0 : '#'));
+        }
+    }
+}
+
+/* The lines to blame for a problem or a note are the same in each way to write a file. */
+static void test_lines(void) {
+    static const char *const lines[][3] = {{"radix", "16", "0x10"}, {"colour", "7", "7"}, {"base_prefix", "'b'", "0x62"},
+        {"digit_separator", "'_'", "95"}, {"no_special", "1", "no"}, {"radix", "18", "18"}, {"point", "','", "44"}};
+    static const char *const ends[] = {"\n", "\r\n"}, *const spaces[] = {"", " ", "\t "}, *const marks[] = {"", "\xEF\xBB\xBF"},
+        *const skipped[] = {NULL, "", "# radix=9", " \t"};
+    static const size_t blamed[][2] = {{1, 1}, {4, 4}, {2, 5}, {0, 5}, {3, 3}};
+    for (int i = 0; i < 2 * 3 * 2 * 4 * 2; i++) {
+        const char *const end = ends[i % 2], *const space = spaces[i / 2 % 3], *const more = skipped[i / 12 % 4];
+        char file[512], *to = file + sprintf(file, "%s", marks[i / 6 % 2]);
+        for (int j = 0; j < 7; j++) {
+            if (more) to += sprintf(to, "%s%s", more, end);
+            to += sprintf(to, "%s%s%s=%s%s%s%s", space, lines[j][0], space, space, lines[j][1 + i / 48], space, j < 6 ? end : "");
+        }
+        const size_t len = (size_t)(to - file);
+        for (size_t j = 0; j < 5; j++) {
+            size_t found[2] = {9, 9}, first = blamed[j][0], last = blamed[j][1];
+            CHECK(peltzivar_settings_lines(file, len, j, found, 2) == 1 + (size_t)(first < last));
+            CHECK(found[0] == (more ? 2 * first + 1 : first) && (first == last || found[1] == (more ? 2 * last + 1 : last)));
+        }
+        CHECK(!peltzivar_settings_lines(file, len, 5, NULL, 0) && peltzivar_read_settings(file, len, NULL) == 3);
+    }
 }
 
 /* A null pointer with a length of 0 is accepted as an empty array, and a null pointer to output is not written to. Input
@@ -697,7 +745,7 @@ static void test_misuse(void) {
 static void *test_all(void *unused) {
     for (int i = 0; i < 5; i++) {
         test_constants(), test_setters(), test_words(), test_syntaxes(), test_errors(), test_groups(), test_values(), test_columns();
-        test_writing(), test_styles(), test_choice(), test_languages(), test_forms(), test_tokens(), test_null(), test_misuse();
+        test_writing(), test_styles(), test_choice(), test_languages(), test_forms(), test_tokens(), test_null(), test_misuse(), test_messages(), test_lines();
     }
     return unused;
 }

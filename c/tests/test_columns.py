@@ -58,7 +58,7 @@ class Columns(unittest.TestCase):
             self.assertEqual((caught.exception.column.missing, str(caught.exception.column.wrong[1])), (missing, "unexpected character '\u00e9'"))
         values, wrong, _ = Language.TOML.column(["1", "1.5", "inf", "99999999999999999999", None], int, errors="coerce", fill=-1)
         self.assertEqual((values.tolist(), [str(it)[:5] for it in wrong]), ([1, -1, -1, -1, -1], ["a flo", "NaN o", "above"]))
-        self.assertRaisesRegex(TypeError, "^cell 1 is a str, not float$", Language.CSV_DE.column, ["1,5", 1.5])
+        self.assertRaisesRegex(TypeError, "^cell 1 must be a str, not float$", Language.CSV_DE.column, ["1,5", 1.5])
         offsets = array("q", [0, 3, 1, 2])
         self.assertEqual([(it.index, it.text) for it in Language.JSON.column((b"12", offsets), errors="coerce").wrong], [(0, b"12"), (1, b"")])
 

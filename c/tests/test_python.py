@@ -4,6 +4,7 @@ import concurrent.futures
 import contextlib
 import copy
 import doctest
+import inspect
 import itertools
 import locale
 import math
@@ -14,6 +15,7 @@ import pydoc
 import re
 import runpy
 import shutil
+import struct
 import subprocess
 import sys
 import tempfile
@@ -30,6 +32,11 @@ sys.path.insert(0, str(TESTS.parent))
 import peltzivar
 from peltzivar import Edit, Error, Format, FormatError, FormatView, Forms, Kind, Language, LiteralError, OptionsError, Part, ReadErrorKind
 from peltzivar import Role, Rule, Setter, SettingsError, Special, Specials, Spelling, Suffixes, Syntax, Tokens, languages, notes_of
+
+try:
+    import numpy
+except ImportError:
+    numpy = None
 
 PAGE = (TOP / "docs/FORMAT.md").read_text()
 EXPLANATIONS = (TOP / "docs/EXPLANATIONS.md").read_text()
@@ -354,7 +361,7 @@ class Literals(unittest.TestCase):
                         self.assertEqual(stated, wanted)
 
     def test_rules_of_tokens_are_those_of_the_list(self):
-        words = Suffixes("u uu %", "f", kinds={"f": Kind(single=True)}, stops=[("f", "-", "-")], either_case=True)
+        words = Suffixes("u uu", "f", kinds={"f": Kind(single=True)}, stops=[("f", "-", "-")], either_case=True)
         point = Syntax.of("required_integer_digits=true")
         for rules, rows in (
             (Tokens(following="is"), {"1uU": "1|uU", "1.F": "1.|F", "1..F": "1.|", "1uis": "1|u", "1.5f-": "1.5|f", "1%": "1|"}),
@@ -367,8 +374,9 @@ class Literals(unittest.TestCase):
         self.assertRaisesRegex(LiteralError, "the number cannot end here", forms.token, "1.5f--")
         self.assertRaisesRegex(ValueError, "no tokens", Forms({"": point}).token, "1")
         self.assertRaisesRegex(ValueError, "no form", Forms, {"": point}, suffixes={"x": words})
-        many = Forms({"": point}, suffixes={"": Suffixes(" ".join(f"a{it}" for it in range(257)))}, tokens=Tokens())
-        self.assertRaisesRegex(ValueError, "the forms are", many.token, "1")
+        for most in (256, 257):
+            with contextlib.nullcontext() if most == 256 else self.assertRaisesRegex(ValueError, "more than 256 words, kinds of suffixes, or stops"):
+                self.assertEqual(Forms({"": point}, suffixes={"": Suffixes("a " * most)}, tokens=Tokens()).token("1a").suffix, "a")
 
     def test_forms_write_what_they_read_as_the_same_number(self):
         hexadecimal = Syntax.of("radix=16", "exponent=none", "point=none")
@@ -555,44 +563,50 @@ BYTE = "one ASCII character or a number from 0 to 255"
 SUGGESTION = "unknown setting `digit_seperator`; did you mean `digit_separator`?"
 ONE_OPTION = "only one of the exponent character and the decimal point is absent: for numbers without an exponent, keep both, and set no_exponent_notation"
 WRONG = [
-    ("Format(-1)", ValueError, "a format word is a number of at most 128 bits: -0x1"),
-    ("Format.of(no_special=1)", TypeError, "no_special is a bool, not int"),
-    ("FormatView.of(mantissa_radix='8')", TypeError, "mantissa_radix is a number from 0 to 255, not str"),
-    ("Format().edit(mantissa_radix=None)", TypeError, "mantissa_radix is a number from 0 to 255, not NoneType"),
-    ("Format.of(base_prefix='\u00e9')", ValueError, f"base_prefix is {BYTE}: '\u00e9'"),
+    ("Format(-1)", ValueError, "a format word must be a number of at most 128 bits, not -1"),
+    ("Format.of(no_special=1)", TypeError, "no_special must be a bool, not int"),
+    ("FormatView.of(mantissa_radix='8')", TypeError, "mantissa_radix must be a number from 0 to 255, not str"),
+    ("Format().edit(mantissa_radix=None)", TypeError, "mantissa_radix must be a number from 0 to 255, not NoneType"),
+    ("Format.of(base_prefix='\u00e9')", ValueError, f"base_prefix must be {BYTE}, not '\u00e9'"),
     ("Format().edit(colour=7)", TypeError, "edit() got an unexpected keyword argument 'colour': unknown setting `colour`"),
     ("Format.of(thousands=',')", TypeError, "of() got an unexpected keyword argument 'thousands': unknown setting `thousands`; did you mean `digit_separator`?"),
     ("Syntax.of(digit_seperator='_')", TypeError, "of() got an unexpected keyword argument 'digit_seperator': unknown setting `digit_seperator`; did you mean `digit_separator`?"),
     ("Syntax.of(exponnt='_')", TypeError, "of() got an unexpected keyword argument 'exponnt': unknown setting `exponnt`; did you mean `exponent`?"),
     ("Format.of(exponent='p')", TypeError, "of() got an unexpected keyword argument 'exponent': unknown setting `exponent`"),
-    ("Syntax.of(required_base_prefix=1)", TypeError, "required_base_prefix is a bool, not int"),
-    ("Syntax(Format()).format_number('1')", TypeError, "value is a number or a Literal, not str"),
-    ("Syntax(Format()).format_number(True)", TypeError, "value is a number or a Literal, not bool"),
+    ("Syntax.of(required_base_prefix=1)", TypeError, "required_base_prefix must be a bool, not int"),
+    ("Syntax(Format()).format_number('1')", TypeError, "value must be a number or a Literal, not str"),
+    ("Syntax(Format()).format_number(True)", TypeError, "value must be a number or a Literal, not bool"),
     ("peltzivar.Literal('1')", TypeError, "`read` of a Syntax or a Language makes a Literal"),
-    ("Syntax.of(point='')", ValueError, f"point is {BYTE}: ''"),
+    ("Syntax.of(point='')", ValueError, f"point must be {BYTE}, not ''"),
     ("Edit.of('digit_seperator', '_')", ValueError, f"setter 'digit_seperator': {SUGGESTION}"),
     ("Format.of(\"digit_seperator='_'\")", ValueError, f"digit_seperator='_': {SUGGESTION}"),
     ("Edit(' colour\\t=7')", ValueError, " colour\t=7: unknown setting `colour`"),
     ("Edit(\"radix='x'\")", ValueError, "radix='x': radix takes a number, 2 to 36 in a lawful format"),
     ("Syntax(Format(), exponent=None)", ValueError, ONE_OPTION),
-    ("Format().check_options('e', b'')", ValueError, f"point is {BYTE}: b''"),
+    ("Format().check_options('e', b'')", ValueError, f"point must be {BYTE}, not b''"),
     ("Syntax.of('radix=16\\nradix=2')", ValueError, "a setting is one line: 'radix=16\\nradix=2'"),
-    ("Language.JSON.column('12')", TypeError, "cells is a sequence of texts, not str"),
-    ("Language.JSON.column([1])", TypeError, "cell 0 is a str, not int"),
-    ("Language.JSON.column([], complex)", TypeError, "type is float, int or one of the formats d, f, q and Q, which is that of out: <class 'complex'>, ''"),
-    ("Language.JSON.column(['1'], out=bytearray(8))", TypeError, "type is float, int or one of the formats d, f, q and Q, which is that of out: <class 'float'>, 'B'"),
+    ("Language.JSON.column('12')", TypeError, "cells must be a sequence of texts, not str"),
+    ("Language.JSON.column([1])", TypeError, "cell 0 must be a str, not int"),
+    ("Language.JSON.column([], complex)", TypeError, "type must be float, int, or one of the formats d, f, q and Q, not <class 'complex'>"),
+    ("Language.JSON.column(['1'], out=bytearray(8))", TypeError, "out must have the format d or f, not 'B'"),
     ("Language.JSON.column(['1'], out=array('d'))", ValueError, "out has the shape (0,), and there are 1 cells"),
-    ("Language.JSON.column(['1'], errors='ignore')", ValueError, "errors is 'raise' or 'coerce', not 'ignore'"),
+    ("Language.JSON.column(['1'], errors='ignore')", ValueError, "errors must be 'raise' or 'coerce', not 'ignore'"),
     ("Language.JSON.column([None], int)", ValueError, "integers have no NaN: pass `fill`, the value of cells that are missing or wrong"),
     ("Language.JSON.column((b'12', array('q', [0, 3])))", ValueError, "offsets are not within the data, which has 2 bytes"),
     ("Language.JSON.column((b'12', array('q', [-1, 1])))", ValueError, "offsets are not within the data, which has 2 bytes"),
     ("Forms([])", ValueError, "there are 1 to 64 forms, no two with the same name: []"),
     ("Forms([('a', Syntax(Format())), ('a', Syntax(Format()))])", ValueError, "there are 1 to 64 forms, no two with the same name: ['a', 'a']"),
     ("Forms({str(it): Syntax(Format()) for it in range(65)})", ValueError, "there are 1 to 64 forms, no two with the same name: ['0', '1', '2', '3', '4', '5', ...]"),
-    ("Forms({'a': Format()})", TypeError, "a form is a Syntax, not Format"),
-    ("Forms({1: Syntax(Format())})", TypeError, "a name is a str, not int"),
+    ("Forms({'a': Format()})", TypeError, "a form must be a Syntax, not Format"),
+    ("Forms({1: Syntax(Format())})", TypeError, "a name must be a str, not int"),
     ("Forms({'a': Syntax(Format())}, nan='a\\0')", ValueError, "a spelling has a null character: Specials(nan='a\\x00', inf=None, infinity=None)"),
-    ("Language.JSON.parse('1', bool)", TypeError, "type is float or int, not <class 'bool'>"),
+    ("Language.JSON.parse('1', bool)", TypeError, "type must be float or int, not <class 'bool'>"),
+    ("Syntax(Format()).format_number(1, decimals=-1)", ValueError, "decimals must be a number from 0 to 255, not -1"),
+    ("Syntax(Format()).format_number(1, decimals=300)", ValueError, "decimals must be a number from 0 to 255, not 300"),
+    ("Language.JSON.column(['1'], 'float64')", TypeError, "type must be float, int, or one of the formats d, f, q and Q, not 'float64'"),
+    ("Suffixes('a\\0b')", ValueError, "a string has a null character: 'a\\x00b'"),
+    ("Suffixes(stops=[('', '\\0', '')])", ValueError, "a string has a null character: '\\x00'"),
+    ("Suffixes('u a-b')", ValueError, "a suffix has letters, digits, `_` and characters that are not ASCII: 'a-b'"),
     ("Specials('a\\0').read(Syntax(Format()), '')", ValueError, "a spelling has a null character: Specials(nan='a\\x00', inf=None, infinity=None)"),
 ]
 
@@ -610,9 +624,9 @@ class Wrong(unittest.TestCase):
             "a format word": [FormatView, Format, Format.parse],
             "a setting|=|unknown|takes": [Edit, Format().edit, Syntax.of, Syntax.notes_of],
             "a text|here$|expected": [syntax.read, syntax.read_prefix, Language.JSON.read],
-            "part is": [view.separators, syntax.read("1").digits],
-            "format is": [Syntax, Syntax.integers],
-            "base_prefix is": [lambda it: notes_of(base_prefix=it), lambda it: Format.of(base_prefix=it)],
+            "part must be": [view.separators, syntax.read("1").digits],
+            "format must be": [Syntax, Syntax.integers],
+            "base_prefix must be": [lambda it: notes_of(base_prefix=it), lambda it: Format.of(base_prefix=it)],
             "setter|radix": [lambda it: Edit.of(it, 8), lambda it: Edit.of("radix", it)],
             "exponent|point": [lambda it: Syntax(Format(), it), lambda it: Format().check_options("e", it)],
             "spelling|a text": [lambda it: Specials(it).read(syntax, ""), lambda it: Specials().read(syntax, it)],
@@ -662,6 +676,191 @@ Syntax(Format()).format_number("1")
         self.assertEqual(re.findall(r"^ +\|  (_[a-z]\w*)", text, re.M), [])
         self.assertNotRegex(text, r"builtins\.int|ctypes|Ellipsis|libpeltzivar|'_[A-Z][a-z]")
         self.assertRegex(text, r"(?s)DESCRIPTION\n.*?\.read\(.*?\.value.*?Syntax\.of\(.*?Error.*?128-bit")
+
+
+BITS = 1, 8, 32, 64
+KINDS = [Kind(), *(Kind(at_most=it) for it in BITS), *(Kind(wraps=it, modulo=by) for it in BITS for by in (False, True))]
+LIMITS = {sign * (2**it + more) for it in (*BITS, 7, 31, 63, 127, 128) for more in (-1, 0, 1) for sign in (1, -1)}
+# Values of each argument of format_number.
+WISHES = {"group": (3, 0, 254), "fraction_group": (2, 0), "min_digits": (9, 255), "decimals": (0, 1, 255)}
+WISHES |= {"exponent": ("never", "always", 0, 3, 4, 300, 2**32 - 1)}
+WISHES |= {it: (True,) for it in ("without_base", "lowercase", "keep_leading_zeros", "point", "nearest")}
+SYNTAX = Syntax.of(base_prefix="x", base_suffix="h", digit_separator="_", internal_digit_separator=True, exponent="^")
+# For each parameter, arguments with which an object is another one than with those of FIRST.
+FIRST = {Forms: {"forms": {"a": SYNTAX}}, Syntax: {"format": SYNTAX.format}}
+CHANGES = {
+    Kind: {"at_most": {"at_most": 8}, "wraps": {"wraps": 8}, "modulo": {"wraps": 8, "modulo": True}, "single": {"single": True}},
+    Specials: {it: {it: "x"} for it in ("nan", "inf", "infinity")},
+    Suffixes: {it: {it: "x"} for it in ("integers", "floats", "any")} | {"kinds": {"kinds": {"x": Kind(8)}}}
+    | {"stops": {"stops": [("", "x", "")]}, "either_case": {"either_case": True}},
+    Tokens: {"forms": {"forms": Forms({"": SYNTAX})}, "following": {"following": "x"}}
+    | {"gives_points_back": {"gives_points_back": True}},
+    Forms: {it: {it: "x"} for it in ("nan", "inf", "infinity")} | {"forms": {"forms": {"b": SYNTAX}}}
+    | {"kinds": {"kinds": {"a": Kind(8)}}, "suffixes": {"suffixes": {"a": Suffixes("u")}}, "tokens": {"tokens": Tokens()}},
+    Syntax: {"format": {"format": Format()}, "exponent": {"exponent": "^"}, "point": {"point": ","}}
+    | {it: {"integer_group_size": 4, it: 3 if "size" in it else True} for it in peltzivar._CONDITIONS},
+}
+
+
+def digits(number, radix):
+    """Returns an integer in a radix."""
+    rest, text = abs(number), ""
+    while rest or not text:
+        rest, text = rest // radix, "0123456789ABCDEFGHIJKLMNOPQRSTUVWXYZ"[rest % radix] + text
+    return "-" * (number < 0) + text
+
+
+def valued(kind, number):
+    """Returns the value of an integer of a kind, or None if it is too large."""
+    bits = kind.at_most or kind.wraps or 10**6
+    if abs(number) >> bits and not kind.modulo:
+        return None
+    return (number + (1 << bits - 1)) % (1 << bits) - (1 << bits - 1) if kind.wraps else number
+
+
+def outcome(call, *arguments):
+    """Returns what a call returns, or None if it raises a ValueError."""
+    with contextlib.suppress(ValueError):
+        return call(*arguments)
+
+
+def written(wishes, zeros, number, exponent):
+    """Returns how a literal of SYNTAX is written: digits behind zeros, maybe with a fraction and an exponent."""
+    style, places, size = wishes.get("exponent"), wishes.get("decimals"), wishes.get("group") or 999
+    if places is not None:
+        zeros, number, exponent = "", f"{float(f'{number}e{exponent or 0}'):.{places}f}", None
+    elif exponent is not None and (style == "never" or isinstance(style, int) and abs(exponent) < style):
+        zeros, number, exponent = "", f"{Decimal(f'{number}e{exponent}'):f}", None
+    elif exponent is None and style == "always":
+        exponent = 0
+    integer, point, fraction = number.partition(".")
+    integer = (zeros * ("keep_leading_zeros" in wishes) + integer).rjust(wishes.get("min_digits", 0), "0")
+    integer = re.sub(rf"(?<=\w)(?=(\w{{{size}}})+$)", "_", integer)
+    fraction = "_".join(re.findall(rf"\w{{1,{wishes.get('fraction_group') or 999}}}", fraction))
+    text = integer + point + fraction + ("" if exponent is None else f"^{exponent}")
+    text = text.lower() if "lowercase" in wishes else text
+    return text if "without_base" in wishes else f"0x{text}h"
+
+
+class Lists(unittest.TestCase):
+    """Loops over what the module lists. Their models are integers of Python and the definitions of docs/FORMAT.md."""
+
+    def test_integers_have_the_values_of_their_kinds_in_each_radix_however_they_are_asked_for(self):
+        for radix, base, kind in itertools.product(range(2, 37), (None, 3), KINDS):
+            floats = {"exponent": "^"} if base else {"exponent": None, "point": None}
+            syntax, has_floats = Syntax.of(radix=radix, exponent_base=base, **floats), not base and radix in (2, 4, 8, 10, 16, 32)
+            forms, texts = Forms({"": syntax}, kinds={"": kind}, tokens=Tokens()), [digits(it, radix) for it in LIMITS]
+            read, wanted = [*map(forms.read, texts)], [valued(kind, it) for it in LIMITS]
+            calls = [int, lambda it: it.value, lambda it: forms.parse(it.text, int), lambda it: forms.token(it.text).literal.value]
+            for call in calls:
+                self.assertEqual([outcome(call, it) for it in read], wanted, (syntax, kind))
+            reals = [float(it) if has_floats and it is not None else None for it in wanted]
+            self.assertEqual([outcome(float, it) for it in read], reals, (syntax, kind))
+            for code, least, most in (("q", -(2**63), 2**63 - 1), ("Q", 0, 2**64 - 1)):
+                values, wrong, _ = forms.column(texts, code, errors="coerce", fill=7)
+                found, no_value = [*values], {it.index for it in wrong}
+                fits = [it if it is not None and least <= it <= most else None for it in wanted]
+                self.assertEqual([None if at in no_value else it for at, it in enumerate(found)], fits, (syntax, kind))
+
+    def test_offsets_of_other_formats_are_refused(self):
+        given = [memoryview(struct.pack(f"3{it}", 0, 1, 2)).cast("B").cast(it) for it in "bBhHiIlLqQnNfd?"]
+        given += [array(it, [0, 1, 2]) for it in "bBhHiIlLqQfd"] + [bytearray(3), memoryview(b"\0\1\2").cast("c")]
+        kinds = "<i2 >i2 <u2 <i4 >i4 <u4 >u4 <i8 >i8 <u8 >u8 f2 f4 f8 >f8 c8 S1 U1 O" if numpy else ""
+        for offsets in [*given, *(numpy.array([0, 1, 2], it) for it in kinds.split())]:
+            for data, errors in itertools.product((b"12", bytearray(b"12")), ("raise", "coerce")):
+                call = lambda: [*Language.CSV_DE.column((data, offsets), errors=errors).values]
+                if memoryview(offsets).format in [*"iIlLqQ"]:
+                    self.assertEqual(call(), [1, 2])
+                else:
+                    self.assertRaisesRegex(TypeError, "^offsets must have one of the formats", call)
+            self.assertRaises((TypeError, ValueError), Language.CSV_DE.column, [b"12", offsets], errors="coerce")
+
+    def test_special_values_are_written_by_each_list_that_reads_them(self):
+        base36 = Forms({"": Syntax.of(radix=36, exponent=None, point=None)}, nan="nan", inf="inf", infinity="\u221e")
+        kinds = [numpy.float16, numpy.float32, numpy.float64, numpy.longdouble] if numpy else []
+        own = [base36, Forms({"": SYNTAX}, nan="inf", inf="inf", infinity="Infinity")]
+        for forms, sign, text in itertools.product((*Language, *own), ("", "-"), ("nan", "inf", "infinity")):
+            special = Special(sign, Spelling[text.upper()])
+            for it in (special, special.decimal(), special.value, *(it(special.value) for it in kinds)):
+                shown, names = sign * (isinstance(it, (Special, Decimal)) or text != "nan"), ["inf", "infinity"]
+                spelled = [getattr(forms.specials, name) for name in (["nan"] if text == "nan" else names)]
+                read = {shown + it: outcome(forms.read, shown + it) for it in spelled if it}
+                fit = [it for it, of in read.items() if isinstance(of, Special) and str(of.value) == str(special.value)]
+                self.assertEqual(outcome(forms.format_number, it), fit[0] if fit else None, (forms, it))
+
+    def test_each_wish_alone_and_with_each_other_for_each_kind_of_number(self):
+        self.assertEqual({*WISHES}, {*inspect.signature(Syntax.format_number).parameters} - {"self", "value"})
+        other = lambda name, number: type("Other", (), {name: lambda self: number})()
+        hexadecimal = Syntax(SYNTAX.format.edit(radix=16), "^")
+        whole, part, comma = 1234567, 1234567.25, Syntax(Format(), "e", ",")
+        wholes = [whole, Decimal(whole), Fraction(whole), other("__index__", whole), FormatView(whole)]
+        reals = [part, other("__float__", part)]
+        if numpy:
+            wholes += [numpy.int32(whole), numpy.uint64(whole)]
+            reals += [numpy.float32(part), numpy.float64(part), numpy.longdouble(part)]
+        rows = [(SYNTAX, "", "1234567", None, [*wholes, hexadecimal.read("12_d687h")], [])]
+        rows.append((SYNTAX, "", str(part), None, [Decimal(str(part)), Fraction(part)], reals))
+        for it in ("1234567", "1234567.25", "1.50"):
+            literals = SYNTAX.read(f"0x00{it}h"), comma.read(f"00{it}".replace(".", ","))
+            rows.append((SYNTAX, "00", it, None, [*literals], []))
+        for it, power in itertools.product(("12.5", "12"), (3, -4)):
+            rows.append((SYNTAX, "0", it, power, [SYNTAX.read(f"0{it}^{power}")], []))
+        for it in ("ABCDEF12", "AB.CDE"):
+            rows.append((hexadecimal, "0", it, None, [hexadecimal.read(f"0{it}".lower())], []))
+        rows.append((hexadecimal, "", "ABCDEF12", None, [0xABCDEF12, SYNTAX.read(str(0xABCDEF12))], []))
+        each = [{name: value} for name, values in WISHES.items() for value in values]
+        for one, more, (syntax, *literal, given, floats) in itertools.product(each, each, rows):
+            wishes = one | more
+            for by in (syntax, Forms({"": syntax})):
+                # Only floats are rounded in radix 16, and only they have one digit before the point with an exponent.
+                if "decimals" not in wishes or syntax is SYNTAX and "exponent" not in wishes:
+                    for it in given + floats * ("exponent" not in wishes):
+                        self.assertEqual(by.format_number(it, **wishes), written(wishes, *literal), (it, wishes))
+                for it in floats:
+                    self.assertEqual(by.format_number(it, **wishes), text := by.format_number(part, **wishes), (it, wishes))
+                    self.assertTrue("decimals" in wishes or by.read(text).value == part, (text, wishes))
+
+    def test_each_argument_changes_what_is_equal_and_its_hash(self):
+        for kind, changes in CHANGES.items():
+            self.assertEqual({*changes}, {*inspect.signature(kind).parameters})
+            made, again = ([kind(**FIRST.get(kind, {}) | it) for it in ({}, *changes.values())] for _ in range(2))
+            for (at, one), (to, other) in itertools.product(enumerate(made), enumerate(again)):
+                self.assertEqual((one == other, one != other, hash(one) == hash(other)), (at == to, at != to, at == to))
+            for it in made:
+                for same in (pickle.loads(pickle.dumps(it)), copy.deepcopy(it), eval(repr(it))):
+                    self.assertEqual((same, hash(same), repr(same)), (it, hash(it), repr(it)))
+
+    def test_suffixes_spans_and_kinds_of_texts_beyond_ascii(self):
+        words = ["\u00e9", "\u00e9\u00e9", "k", "k\u00e9", "\u00e9k", "\u65e5\u672c", "_\U0001F600", "u8", "U8", "Qq"]
+        kinds = {it: Kind(at_most=at, single=at % 2 == 0) for at, it in enumerate(words, 1)}
+        suffixes = [Suffixes(" ".join(words), " ".join(words), kinds=kinds, either_case=it) for it in (False, True)]
+        rests = ("", ";", " \u00e9", "-\U0001F600;")
+        for own, number, rest, encode in itertools.product(suffixes, ("7", "12.5"), rests, (str, str.encode)):
+            forms = Forms({"a": SYNTAX}, suffixes={"a": own}, tokens=Tokens(following="if"))
+            for word in {*words, *(it.swapcase() for it in words if own.either_case and it.isascii())}:
+                token = forms.token(encode(number + word + rest))
+                self.assertEqual([token.literal.text, token.suffix, token.rest], [*map(encode, (number, word, rest))])
+                first = next(it for it in words if it == word or own.either_case and it.lower() == word.lower())
+                for it in (token, pickle.loads(pickle.dumps(token))):
+                    self.assertEqual((it, it.literal.kind, it.literal.form), (token, kinds[first], "a"), word)
+                with self.assertRaises(LiteralError) as caught:
+                    forms.token(encode(number + word + "x" + rest))
+                error, span = caught.exception, (len(number), len(encode(number + word + "x")))
+                self.assertEqual((error.span, error.valid_up_to, error.kind), (span, len(number), ReadErrorKind.SUFFIX))
+
+    def test_each_suffix_of_a_language_gives_the_values_of_its_kind(self):
+        lists = [(of, it) for of in Language for it in (of.forms, of.forms.tokens and of.forms.tokens.forms) if it]
+        rows = [(of, it[name], name, own) for of, it in lists for name, own in it.suffixes.items()]
+        for (language, syntax, name, own), number in itertools.product(rows, {0.1, *LIMITS}):
+            text = outcome(syntax.format_number, number) if number < 2**65 else None
+            for word in {*own.integers.split(), *own.floats.split(), *(it for it, _ in own.kinds)}:
+                token = outcome(language.token, text + word) if text else None
+                if token and (token.suffix, token.literal.form) == (word, name):
+                    kind, exact = token.literal.kind, token.literal.fraction()
+                    code, wanted = "f" if kind.single else "d", valued(kind, int(exact))
+                    if token.literal.is_float:
+                        (wanted,) = struct.unpack(code, struct.pack(code, exact))
+                    self.assertEqual(outcome(lambda: token.literal.value), wanted, (language, token))
 
 
 class Loading(unittest.TestCase):

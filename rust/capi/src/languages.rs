@@ -220,7 +220,7 @@ pub unsafe fn by<R>(forms: *const Forms, then: impl FnOnce(Given<'_>) -> R) -> R
 }
 
 /// Why forms are refused.
-const REFUSED: &str = "the forms are null, not 1 to 64, or have an unknown kind or reserved members";
+const REFUSED: &str = "the forms are null, not 1 to 64, or have an unknown kind, reserved members or too many words";
 
 /// Returns what `then` returns for the forms with their suffixes and rules for tokens.
 ///
