@@ -41,8 +41,8 @@ class InFolder(unittest.TestCase):
 
 
 class Install(InFolder):
-    def make(self, *arguments, **options):
-        return self.run_in("make", "-s", "-C", C, *arguments, **options)
+    def make(self, *arguments, folder=C, **options):
+        return self.run_in("make", "-s", "-C", folder, *arguments, **options)
 
     @unittest.skipUnless(shutil.which("pkg-config"), "pkg-config")
     def test_a_program_is_built_by_the_lines_of_the_pages(self):
@@ -144,6 +144,20 @@ endforeach()
         library.touch()
         os.utime(library, (0, 0))
         self.assertRaisesRegex(AssertionError, "no-cargo is not found: install Rust", self.make, *install)
+
+    def test_a_newer_source_of_any_folder_is_built_before_it_is_installed(self):
+        others = ".git", "crates", "target", "compare", "explorer", "bench", "*.so*"
+        shutil.copytree(C.parent, top := self.folder / "copy", ignore=shutil.ignore_patterns(*others))
+        cargo, built = self.folder / "cargo", self.folder / "build/release"
+        cargo.write_text(f"#!/bin/sh\nfor it in a so; do echo >> '{built}/libpeltzivar_c.'$it; done\n")
+        cargo.chmod(0o755), built.mkdir(parents=True)
+        sources = [it for folder in ("rust/src", "rust/capi/src") for it in top.joinpath(folder).rglob("*.rs")]
+        sources = [*{it.parent: it for it in sources}.values(), *(it for it in top.glob("rust/capi/*.*") if it.is_file())]
+        for builds, source in enumerate([None, None, top / "Cargo.toml", top / "rust/Cargo.toml", *sources]):
+            _ = source and source.touch()
+            self.make("install", f"PREFIX={self.prefix}", f"BUILD={built.parent}", f"CARGO={cargo}", "PYTHON=", folder=top / "c")
+            installed = [it.stat().st_size for it in self.prefix.glob("lib/libpeltzivar_c.[as]*")]
+            self.assertEqual({*installed}, {builds or 1}, source)
 
     def test_a_prefix_that_is_relative_or_needs_quotes_is_refused(self):
         for prefix in ("relative", *(f"/a{it}b" for it in ("'", '"', "`", "\\", "#", "$$"))):
