@@ -70,7 +70,8 @@ def constants():
     yield f"STANDARD = 0x{high:>016}{low:>016}"
     flags, others = re.fullmatch(r"\{UINT64_C\((\w+)\), (.*)\}", defined("NEW_FIELDS_INIT")).groups()
     yield f"_NEW_FIELDS = ({flags}, {others})"
-    yield from (f"_{name} = {defined(name)}" for name in ("FIELD_COUNT", "FORMS_MAX", "WORDS_MAX", "SOURCE_SIZE", "TEXT_SIZE", "NO_PART"))
+    names = "FIELD_COUNT FORMS_MAX WORDS_MAX SOURCE_SIZE TEXT_SIZE NO_PART".split()
+    yield from (f"_{name} = {defined(name)}" for name in names)
     yield f"_NO_DIGIT = {2**32 - 1}"
     yield "_REFUSED = " + re.search(r"PELTZIVAR_VALUE_REFUSED = (\d+)", HEADER)[1]
     yield "_WRITE_SPECIAL = " + re.search(r"PELTZIVAR_WRITE_SPECIAL = (\d+)", HEADER)[1]

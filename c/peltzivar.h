@@ -376,8 +376,9 @@ typedef struct {
 
 /* The suffixes of a form, which only peltzivar_forms_token reads: words directly behind integers and behind floats, in this
  * case or, with either_case, in either one. A string of words has spaces between them, as in "u8 u16". Words have letters,
- * digits, `_` and bytes from 128 up, and others are never found, nor is one that begins with a digit of its form. Any word that begins with a byte of the string `any` is a
- * suffix, too, as in `1_km`. A string may be null. Initialise the reserved bytes with 0. */
+ * digits, `_` and bytes from 128 up, and others are never found, nor is one that begins with a digit of its form. Any
+ * word that begins with a byte of the string `any` is a suffix, too, as in `1_km`. A string may be null. Initialise the
+ * reserved bytes with 0. */
 typedef struct {
     const char *integers, *floats, *any;
     const peltzivar_suffix_kind *kinds;

@@ -26,8 +26,8 @@ Numbers have a sign in CSS, CSV_DE, CSV_EN, FORTRAN, JSON, RUBY, SQL, SWIFT, TOM
 other languages, `-` is an operator: they refuse `-5`, so read what is behind it.
 
 A form reads an optional sign, `.5` and `1.` beside `1.5`, and exponents with `e` or `E`, unless its row says otherwise:
-*integers* have neither a point nor an exponent, and a prefix is required. Values are those of the numbers, unless a form
-has a [kind](FORMAT.md#kinds).
+*integers* have neither a point nor an exponent, and a prefix is required. Values are those of the numbers, unless a
+form has a [kind](FORMAT.md#kinds).
 
 [languages.py](languages.py) writes this page from the [constants](../rust/src/literal/language/tables.rs). Each language
 of which Debian has a tool is [compared with it](../compare/README.md#languages-and-their-tools).

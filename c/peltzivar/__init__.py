@@ -1642,11 +1642,10 @@ class _Reader:
             >>> languages.PYTHON.format_number(languages.C.read("0x1.8p1"))
             '3'
 
-        Takes an int, a float, a Decimal, a `Literal`, a `Special`, or an object with `__index__` or `__float__`, as those
-        of numpy, but no bool. Without `decimals`, a float has the fewest digits that are read as it, the nearest of these
-        or, where `repr` has the even one of two, the upper one, and a Fraction is exact. A `Literal`
-        keeps its exponent, and a Decimal has one from 1E+401 on and below 1E-400. Where no exponent is allowed, the
-        point moves, and the text has at most 800 bytes.
+        Takes an int, a float, a Decimal, a `Literal`, a `Special`, or an object with `__index__` or `__float__`, as numpy
+        has, but no bool. Without `decimals`, the digits of a float are those of `repr` or, if two texts are as near to it,
+        those of the upper one, and a Fraction is exact. A `Literal` keeps its exponent, and a Decimal has one from 1E+401
+        on and below 1E-400. Where no exponent is allowed, the point moves, and the text has at most 800 bytes.
 
         The other arguments are wishes: what the syntax forbids is not done, and what it requires is. `group` and
         `fraction_group` are the numbers of digits in a group of the integer, counted from the right, and of the
@@ -1669,11 +1668,11 @@ class _Reader:
         the error is that of the first. An int that no form of integers can have is written as a float that is nearest to
         it: `languages.JAVA.format_number(3000000000)` is 0xB2D05E00p0.
 
-        Raises ValueError for NaN and infinity without a spelling that is read as them, for a Fraction that no decimal number is equal to, for
-        a sign `-` if no literal has one, for a number that is not whole if literals are integers, for an int if each
-        literal has an exponent, for an int of more than 4300 digits in radix 10, as `str` does, for another mantissa
-        radix than that of the syntax, which is 10 for a float and a Decimal, if the number is not whole or has more than
-        128 bits, and, of a float, for another exponent base.
+        Raises ValueError for NaN and infinity without a spelling that is read as them, for a Fraction that no decimal
+        number is equal to, for a sign `-` if no literal has one, for a number that is not whole if literals are
+        integers, for an int if each literal has an exponent, for an int of more than 4300 digits in radix 10, as `str`
+        does, for another mantissa radix than that of the syntax, which is 10 for a float and a Decimal, if the number
+        is not whole or has more than 128 bits, and, of a float, for another exponent base.
         """
         sizes = ((group, "group"), (fraction_group, "fraction_group"))
         groups = (0 if size is None else _number(name, size, 255, "a number from 0 to 254") or 255 for size, name in sizes)
@@ -1778,10 +1777,10 @@ def _format(type: Any, out: Any) -> str:
 def _texts_of(cells: Any) -> Tuple[bytes, Any, Tuple[int, ...], Callable[[int], Any]]:
     """Returns cells as bytes with offsets, the indexes of missing cells, and what returns the text with an index."""
     given = None
-    if type(cells) is tuple and len(cells) == 2 and not isinstance(cells[1], bytes):
+    if type(cells) is tuple and len(cells) == 2 and not isinstance(cells[1], (str, bytes)):
         with contextlib.suppress(TypeError):
             given = memoryview(cells[1])
-    if given is not None:
+    if given is not None and given.ndim:
         if given.format not in _OFFSETS:
             raise TypeError(f"offsets must have one of the formats {', '.join(_OFFSETS)}, not {given.format!r}")
         data, offsets = bytes(memoryview(cells[0])), array("q", bytes(8 * (len(given) or 1)))
@@ -2160,17 +2159,13 @@ def _writing(value: Any, radix: int) -> Tuple[str, Any, Optional[Literal[Any]]]:
 
 
 def _special_of(value: Any) -> Optional[Special]:
-    """Returns NaN or infinity as a special value, with a sign if it is shown with one, or None for another number."""
-    if isinstance(value, Special) or not hasattr(type(value), "__float__") or hasattr(type(value), "__index__"):
+    """Returns NaN or infinity as a special value, and None for another number."""
+    kind = type(value)
+    if issubclass(kind, (Special, Literal, Fraction)) or hasattr(kind, "__index__") or not hasattr(kind, "__float__"):
         return value if isinstance(value, Special) else None
-    if isinstance(value, (Literal, Fraction)) or isinstance(value, Decimal) and value.is_finite():
-        return None
-    if isinstance(value, Decimal):
-        return Special("-" if value.is_signed() else "", Spelling.NAN if value.is_nan() else Spelling.INF)
-    number = float(value)
-    if math.isfinite(number):
-        return None
-    return Special("-" if number < 0 else "", Spelling.NAN if math.isnan(number) else Spelling.INF)
+    text = str(value if isinstance(value, Decimal) else float(value)).lower()
+    spelling = Spelling.NAN if "nan" in text else Spelling.INF
+    return Special("-" if text.startswith("-") else "", spelling) if "n" in text else None
 
 
 def _rounded(value: Any, places: int) -> Any:
@@ -2422,11 +2417,11 @@ class Kind:
 @dataclass(frozen=True)
 class Suffixes:
     """The suffixes of a form, which only `token` reads: words directly behind `integers` and `floats`, with spaces between
-    them, in this case or in either one. Words have letters, digits, `_` and characters that are not ASCII, or a ValueError is
-    raised. One that begins with a digit of a form, such as `5k`, is never found behind its numbers. Any word that
-    begins with a character of `any` is a suffix, too, as in `1_km`. `kinds` has the kinds of numbers by their suffixes, a dict
-    or pairs. A number is not a token if it is at one of the `stops`: if it ends in a character of the first string, one of the
-    second follows, and then one of the third. An empty string asks for nothing.
+    them, in this case or in either one. Words have letters, digits, `_` and characters that are not ASCII. One that begins
+    with a digit of the form, such as `5k`, is never found. Any word that begins with a character of `any` is a suffix, too,
+    as in `1_km`. `kinds` has the kinds of numbers by their suffixes, a dict or pairs. A number is not a token if it is at one
+    of the `stops`: if it ends in a character of the first string, one of the second follows, and then one of the third. An
+    empty string asks for nothing. Raises ValueError for another character in a word, and for a null character.
 
         >>> words = Suffixes("u8 i8", "f32", kinds={"f32": Kind(single=True)}, stops=[("", ".", "0123456789")])
         >>> forms = Forms([("number", Syntax(Format()))], suffixes={"number": words}, tokens=Tokens())
@@ -2448,8 +2443,8 @@ class Suffixes:
         object.__setattr__(self, "stops", tuple(tuple(_typed("a stop", it, str) for it in stop) for stop in self.stops))
         if any(len(stop) != 3 for stop in self.stops):
             raise ValueError(f"a stop has three strings: {self.stops}")
+        [_string(it) for it in (self.integers, self.floats, self.any, *(it for stop in self.stops for it in stop))]
         words = [*self.integers.split(" "), *self.floats.split(" "), *(it for it, _ in self.kinds)]
-        [_string(it) for it in (*words, self.any, *(it for stop in self.stops for it in stop))]
         if wrong := [it for it in words if any(it.isascii() and not it.isalnum() and it != "_" for it in it)]:
             raise ValueError(f"a suffix has letters, digits, `_` and characters that are not ASCII: {wrong[0]!r}")
 
@@ -2532,8 +2527,7 @@ class Forms(_Several, Mapping[str, Syntax]):
             self._kept += [behind, rules]
         self._kept += made
         self._forms = c_void_p(addressof(self._made))
-        _library.forms_token(self._forms, b"", 0, None, stopped := _ReadError())
-        if self.tokens is not None and not _library.explain(stopped, None):
+        if self.tokens is not None and not isinstance(self._token_refusal(b""), LiteralError):
             raise ValueError(f"the forms have more than {_WORDS_MAX} words, kinds of suffixes, or stops")
 
     def _by_form(self, what: str, given: Optional[Mapping[str, Any]], kind: Type[Typed]) -> Dict[str, Typed]:

@@ -108,10 +108,26 @@ static void test_words(void) {
     CHECK(found[1].setter == 104 && found[1].value == 16 && found[2].setter == '#');
     CHECK(!peltzivar_parse_word("0xaBc]", 5, &word, &index) && index == 7 && is_word(word, 0, 0xABC));
     CHECK(peltzivar_parse_word("0x12 4", 6, &word, &index) == PELTZIVAR_INVALID_DIGIT && index == 4 && is_word(word, 0, 0xABC));
+    CHECK(peltzivar_parse_word("0x0000000000000000000000000000000g", 34, NULL, &index) == PELTZIVAR_INVALID_DIGIT && index == 33);
     CHECK(WRITES("lexical parse error: 'numeric overflow occurred' at index 7",
                  peltzivar_error_text(PELTZIVAR_OVERFLOW, 7, text, sizeof text)));
+    for (peltzivar_error code = 1; *peltzivar_description(code); code++) {
+        snprintf(source, sizeof source, "lexical %s error: %s%s", code < 20 ? "parse" : code < 37 ? "number format" : "options",
+            peltzivar_description(code), code < 20 ? " at index 7" : "");
+        CHECK(WRITES(source, peltzivar_error_text(code, 7, text, sizeof text)));
+    }
     CHECK(WRITES("", peltzivar_error_text(UINT32_MAX, 0, text, sizeof text)) && !*peltzivar_description(49));
     CHECK(!*peltzivar_description(UINT32_MAX) && !*peltzivar_rule_condition(UINT32_MAX) && !*peltzivar_part_name(255));
+    /* The standard word with another bit, which may be reserved, or that of a separator without a flag. */
+    for (int bit = 0; bit < 128; bit++) {
+        const peltzivar_word changed = {12 ^ (bit < 64 ? 1ull << bit : 0), 0x00000A0000000000 ^ (bit < 64 ? 0 : 1ull << (bit - 64))};
+        const peltzivar_word normal = peltzivar_normal_form(changed), filled = {12, 0x0A0A0A0000000000};
+        const bool is_field = bit < 18 || (32 <= bit && bit < 45) || bit >= 88;
+        CHECK(peltzivar_same_format(changed, PELTZIVAR_STANDARD) == is_word(filled, normal.high, normal.low));
+        CHECK(peltzivar_is_built(changed) == is_field && peltzivar_same_format(normal, changed));
+        CHECK(peltzivar_migrate(changed, &word) == peltzivar_check(normal) && (peltzivar_check(normal) || is_word(word, normal.high, normal.low)));
+    }
+    word = ZERO;
     /* The longest source: all flags differ from their defaults, radixes have three digits, and other bytes are '!'. */
     CHECK(peltzivar_source(longest, source, sizeof source) == strlen(source) && strlen(source) < sizeof source - 1);
     CHECK(peltzivar_parse_byte("'p'", 3, &byte) && byte == 'p' && !peltzivar_parse_byte("256", 3, &byte) && byte == 'p');
@@ -159,7 +175,7 @@ static void test_syntaxes(void) {
 
 /* Each cause has a sentence of its own. The flags 0 to 17 and 32 to 43, and then the other settings, refuse the texts. */
 static void test_errors(void) {
-    static const char *const refused[] = {".5", "1.", "1e", ".", "+1", "1", "1e5", "1e+5", "1e5", "1e5", NULL, NULL, "01", "01.5", "1", "1E5",
+    static const char *const refused[] = {".5", "1.", "1e+", ".", "+1", "1", "1e5", "1e+5", "1e5", "1e5", NULL, NULL, "01", "01.5", "1", "1E5",
         "0X1", "1H", "1_1", "1.5_5", "1e5_5", "_1", "1._5", "1e_5", "1_.5", "1.5_e5", "1e5_h", "1__1", "1.5__5", "1e5__5",
         "1h", "0x1", "-1", "1_1", "1.1_1", "17", ".5", "", "1._", "1e_", "1x"};
     static const char *const others[] = {"required_base_prefix=true", "required_base_suffix=true", "no_negative_mantissa_sign=true",
@@ -167,6 +183,7 @@ static void test_errors(void) {
     static const uint64_t conditions[] = {PELTZIVAR_CONDITION_REQUIRED_BASE_PREFIX, PELTZIVAR_CONDITION_REQUIRED_BASE_SUFFIX,
         PELTZIVAR_CONDITION_NO_NEGATIVE_MANTISSA_SIGN, PELTZIVAR_CONDITION_INTEGER_GROUP_SIZE, PELTZIVAR_CONDITION_FRACTION_GROUP_SIZE,
         PELTZIVAR_CONDITION_REQUIRED_LEADING_ZERO, PELTZIVAR_CONDITION_DECIMAL_FIRST_DIGIT};
+    static const peltzivar_error codes[] = {7, 8, 6, 5, 9, 10, 11, 12, 13, 14, 0, 0, 15, 15, 16};
     char sentences[41][PELTZIVAR_TEXT_SIZE] = {""};
     peltzivar_syntax syntax;
     peltzivar_read_error error, copied;
@@ -181,6 +198,9 @@ static void test_errors(void) {
         CHECK(make_syntax(text, &syntax) && !peltzivar_read(&syntax, refused[i], strlen(refused[i]), NULL, &error));
         CHECK(peltzivar_explain(&error, &why) && why.kind == kind && why.number == flag && !why.mask.low == (i >= 30));
         CHECK(why.conditions == (30 <= i && i < 37 ? conditions[i - 30] : 0));
+        const int other = i == 32 ? PELTZIVAR_INVALID_NEGATIVE_SIGN : i == 37 ? PELTZIVAR_EMPTY : PELTZIVAR_INVALID_DIGIT;
+        CHECK(why.code == (i < 15 ? codes[i] : (peltzivar_error)other));
+        CHECK(why.index == (i == 2 ? error.valid_up_to : why.span.start));
         CHECK(why.part == (kind == PELTZIVAR_KIND_SEPARATOR ? i % 3 : kind == PELTZIVAR_KIND_MISSING ? i - 37 : PELTZIVAR_NO_PART));
         CHECK(peltzivar_read_error_full_text(&error, sentences[i], sizeof sentences[i]) < sizeof sentences[i]);
         const size_t len = peltzivar_read_error_text(&error, text, sizeof text);
@@ -614,39 +634,24 @@ static void test_forms(void) {
     CHECK(language("JAVA")->forms[0].integer_kind == PELTZIVAR_INTEGERS_AT_MOST && language("JAVA")->forms[0].integer_bits == 31);
 }
 
-/* Each error has a message, with an index if it is one of parsing, in a buffer of any size. */
-static void test_messages(void) {
-    char wanted[PELTZIVAR_TEXT_SIZE];
-    for (peltzivar_error code = 1; *peltzivar_description(code); code++) {
-        const char *const kind = code < 20 ? "parse" : code < 37 ? "number format" : "options", *const index = code < 20 ? " at index 7" : "";
-        snprintf(wanted, sizeof wanted, "lexical %s error: %s%s", kind, peltzivar_description(code), index);
-        for (size_t size = strlen(wanted) + 3; size-- > 0;) {
-            const size_t shown = !size ? 0 : size <= strlen(wanted) ? size - 1 : strlen(wanted);
-            memset(text, '#', sizeof text);
-            CHECK(peltzivar_error_text(code, 7, text, size) == strlen(wanted) && text[size] == '#' && !strncmp(text, wanted, shown) && text[shown] == (size ? 0 : '#'));
-        }
-    }
-}
-
 /* The lines to blame for a problem or a note are the same in each way to write a file. */
 static void test_lines(void) {
     static const char *const lines[][3] = {{"radix", "16", "0x10"}, {"colour", "7", "7"}, {"base_prefix", "'b'", "0x62"},
         {"digit_separator", "'_'", "95"}, {"no_special", "1", "no"}, {"radix", "18", "18"}, {"point", "','", "44"}};
-    static const char *const ends[] = {"\n", "\r\n"}, *const spaces[] = {"", " ", "\t "}, *const marks[] = {"", "\xEF\xBB\xBF"},
+    static const char *const ends[] = {"\n", "\r\n"}, *const spaces[] = {"", " ", " \t"}, *const marks[] = {"", "\xEF\xBB\xBF"},
         *const skipped[] = {NULL, "", "# radix=9", " \t"};
     static const size_t blamed[][2] = {{1, 1}, {4, 4}, {2, 5}, {0, 5}, {3, 3}};
     for (int i = 0; i < 2 * 3 * 2 * 4 * 2; i++) {
         const char *const end = ends[i % 2], *const space = spaces[i / 2 % 3], *const more = skipped[i / 12 % 4];
         char file[512], *to = file + sprintf(file, "%s", marks[i / 6 % 2]);
-        for (int j = 0; j < 7; j++) {
-            if (more) to += sprintf(to, "%s%s", more, end);
-            to += sprintf(to, "%s%s%s=%s%s%s%s", space, lines[j][0], space, space, lines[j][1 + i / 48], space, j < 6 ? end : "");
-        }
-        const size_t len = (size_t)(to - file);
+        for (int j = 0; j < 7; j++)
+            to += sprintf(to, "%s%s%s%s%s=%s%s%s%s", more ? more : "", more ? end : "", space, lines[j][0], space, space, lines[j][1 + i / 48], space, end);
+        const size_t len = (size_t)(to - file) - strlen(end), each = more ? 2 : 1;
         for (size_t j = 0; j < 5; j++) {
-            size_t found[2] = {9, 9}, first = blamed[j][0], last = blamed[j][1];
-            CHECK(peltzivar_settings_lines(file, len, j, found, 2) == 1 + (size_t)(first < last));
-            CHECK(found[0] == (more ? 2 * first + 1 : first) && (first == last || found[1] == (more ? 2 * last + 1 : last)));
+            size_t found[2] = {9, 9};
+            const size_t count = peltzivar_settings_lines(file, len, j, found, 2);
+            for (size_t k = 0; k < count; k++) CHECK(found[k] == each * (blamed[j][k] + 1) - 1);
+            CHECK(count == (blamed[j][0] == blamed[j][1] ? 1 : 2));
         }
         CHECK(!peltzivar_settings_lines(file, len, 5, NULL, 0) && peltzivar_read_settings(file, len, NULL) == 3);
     }
@@ -745,7 +750,7 @@ static void test_misuse(void) {
 static void *test_all(void *unused) {
     for (int i = 0; i < 5; i++) {
         test_constants(), test_setters(), test_words(), test_syntaxes(), test_errors(), test_groups(), test_values(), test_columns();
-        test_writing(), test_styles(), test_choice(), test_languages(), test_forms(), test_tokens(), test_null(), test_misuse(), test_messages(), test_lines();
+        test_writing(), test_styles(), test_choice(), test_languages(), test_forms(), test_tokens(), test_null(), test_misuse(), test_lines();
     }
     return unused;
 }

@@ -4,6 +4,7 @@ import concurrent.futures
 import contextlib
 import copy
 import doctest
+import importlib.util
 import inspect
 import itertools
 import locale
@@ -33,10 +34,7 @@ import peltzivar
 from peltzivar import Edit, Error, Format, FormatError, FormatView, Forms, Kind, Language, LiteralError, OptionsError, Part, ReadErrorKind
 from peltzivar import Role, Rule, Setter, SettingsError, Special, Specials, Spelling, Suffixes, Syntax, Tokens, languages, notes_of
 
-try:
-    import numpy
-except ImportError:
-    numpy = None
+numpy = importlib.import_module("numpy") if importlib.util.find_spec("numpy") else None
 
 PAGE = (TOP / "docs/FORMAT.md").read_text()
 EXPLANATIONS = (TOP / "docs/EXPLANATIONS.md").read_text()
@@ -231,6 +229,7 @@ class Literals(unittest.TestCase):
         self.assertEqual(Syntax(Format()).read("1"), Syntax.integers(Format()).read("1"))
         self.assertNotEqual(Syntax(Format()).read("1"), Syntax(Format.of(no_special=True)).read("1"))
         self.assertNotEqual(Syntax(Format()).read("1.5"), Syntax(Format(), "e", ",").read("1,5"))
+        self.assertNotEqual(Syntax(Format()).read("1.5"), Syntax(Format(), ".", ",").read("1.5"))
 
     def test_each_radix(self):
         for radix in range(2, 37):
@@ -681,24 +680,23 @@ Syntax(Format()).format_number("1")
 BITS = 1, 8, 32, 64
 KINDS = [Kind(), *(Kind(at_most=it) for it in BITS), *(Kind(wraps=it, modulo=by) for it in BITS for by in (False, True))]
 LIMITS = {sign * (2**it + more) for it in (*BITS, 7, 31, 63, 127, 128) for more in (-1, 0, 1) for sign in (1, -1)}
-# Values of each argument of format_number.
-WISHES = {"group": (3, 0, 254), "fraction_group": (2, 0), "min_digits": (9, 255), "decimals": (0, 1, 255)}
+# These are values of each argument of format_number.
+WISHES = {"group": (3, 0, 254), "fraction_group": (2, 0), "min_digits": (8, 255), "decimals": (0, 1, 255)}
 WISHES |= {"exponent": ("never", "always", 0, 3, 4, 300, 2**32 - 1)}
 WISHES |= {it: (True,) for it in ("without_base", "lowercase", "keep_leading_zeros", "point", "nearest")}
 SYNTAX = Syntax.of(base_prefix="x", base_suffix="h", digit_separator="_", internal_digit_separator=True, exponent="^")
-# For each parameter, arguments with which an object is another one than with those of FIRST.
+# With a value in CHANGES, and with those in NEEDS, an object is another one than with those in FIRST alone.
 FIRST = {Forms: {"forms": {"a": SYNTAX}}, Syntax: {"format": SYNTAX.format}}
+NEEDS = {"modulo": {"wraps": 8}, "higher_group_size": {"integer_group_size": 4}}
+SPELLED = dict.fromkeys(("nan", "inf", "infinity"), "x")
+WORDS = dict.fromkeys(("integers", "floats", "any"), "x")
 CHANGES = {
-    Kind: {"at_most": {"at_most": 8}, "wraps": {"wraps": 8}, "modulo": {"wraps": 8, "modulo": True}, "single": {"single": True}},
-    Specials: {it: {it: "x"} for it in ("nan", "inf", "infinity")},
-    Suffixes: {it: {it: "x"} for it in ("integers", "floats", "any")} | {"kinds": {"kinds": {"x": Kind(8)}}}
-    | {"stops": {"stops": [("", "x", "")]}, "either_case": {"either_case": True}},
-    Tokens: {"forms": {"forms": Forms({"": SYNTAX})}, "following": {"following": "x"}}
-    | {"gives_points_back": {"gives_points_back": True}},
-    Forms: {it: {it: "x"} for it in ("nan", "inf", "infinity")} | {"forms": {"forms": {"b": SYNTAX}}}
-    | {"kinds": {"kinds": {"a": Kind(8)}}, "suffixes": {"suffixes": {"a": Suffixes("u")}}, "tokens": {"tokens": Tokens()}},
-    Syntax: {"format": {"format": Format()}, "exponent": {"exponent": "^"}, "point": {"point": ","}}
-    | {it: {"integer_group_size": 4, it: 3 if "size" in it else True} for it in peltzivar._CONDITIONS},
+    Kind: {"at_most": 8, "wraps": 8, "modulo": True, "single": True},
+    Specials: SPELLED,
+    Suffixes: {**WORDS, "kinds": {"x": Kind(8)}, "stops": [("", "x", "")], "either_case": True},
+    Tokens: {"forms": Forms({"": SYNTAX}), "following": "x", "gives_points_back": True},
+    Forms: {**SPELLED, "forms": {"b": SYNTAX}, "kinds": {"a": Kind(8)}, "suffixes": {"a": Suffixes("u")}, "tokens": Tokens()},
+    Syntax: {"format": Format(), "exponent": "^", "point": ",", **{it: "size" not in it or 3 for it in peltzivar._CONDITIONS}},
 }
 
 
@@ -728,7 +726,8 @@ def written(wishes, zeros, number, exponent):
     """Returns how a literal of SYNTAX is written: digits behind zeros, maybe with a fraction and an exponent."""
     style, places, size = wishes.get("exponent"), wishes.get("decimals"), wishes.get("group") or 999
     if places is not None:
-        zeros, number, exponent = "", f"{float(f'{number}e{exponent or 0}'):.{places}f}", None
+        exact = Decimal(number) if number.isdigit() and exponent is None else float(f"{number}e{exponent or 0}")
+        zeros, number, exponent = "", f"{exact:.{places}f}", None
     elif exponent is not None and (style == "never" or isinstance(style, int) and abs(exponent) < style):
         zeros, number, exponent = "", f"{Decimal(f'{number}e{exponent}'):f}", None
     elif exponent is None and style == "always":
@@ -748,19 +747,24 @@ class Lists(unittest.TestCase):
     def test_integers_have_the_values_of_their_kinds_in_each_radix_however_they_are_asked_for(self):
         for radix, base, kind in itertools.product(range(2, 37), (None, 3), KINDS):
             floats = {"exponent": "^"} if base else {"exponent": None, "point": None}
-            syntax, has_floats = Syntax.of(radix=radix, exponent_base=base, **floats), not base and radix in (2, 4, 8, 10, 16, 32)
-            forms, texts = Forms({"": syntax}, kinds={"": kind}, tokens=Tokens()), [digits(it, radix) for it in LIMITS]
+            syntax, texts = Syntax.of(radix=radix, exponent_base=base, **floats), [digits(it, radix) for it in LIMITS]
+            forms, has_floats = Forms({"": syntax}, kinds={"": kind}, tokens=Tokens()), not base and radix in (2, 4, 8, 10, 16, 32)
             read, wanted = [*map(forms.read, texts)], [valued(kind, it) for it in LIMITS]
-            calls = [int, lambda it: it.value, lambda it: forms.parse(it.text, int), lambda it: forms.token(it.text).literal.value]
-            for call in calls:
+            token_of = lambda it: forms.token(it.text).literal.value
+            for call in (int, lambda it: it.value, lambda it: forms.parse(it.text, int), token_of):
                 self.assertEqual([outcome(call, it) for it in read], wanted, (syntax, kind))
             reals = [float(it) if has_floats and it is not None else None for it in wanted]
             self.assertEqual([outcome(float, it) for it in read], reals, (syntax, kind))
             for code, least, most in (("q", -(2**63), 2**63 - 1), ("Q", 0, 2**64 - 1)):
+                fits = [it if it is not None and least <= it <= most else 7 for it in wanted]
                 values, wrong, _ = forms.column(texts, code, errors="coerce", fill=7)
-                found, no_value = [*values], {it.index for it in wrong}
-                fits = [it if it is not None and least <= it <= most else None for it in wanted]
-                self.assertEqual([None if at in no_value else it for at, it in enumerate(found)], fits, (syntax, kind))
+                self.assertEqual(([*values], len(wrong)), (fits, fits.count(7)), (syntax, kind))
+
+    def test_pages_and_help_name_the_languages_whose_numbers_have_a_sign(self):
+        names = [it.name for it in Language if not all(form.no_negative_mantissa_sign for form in it.forms.values())]
+        sentence = f"Numbers have a sign in {', '.join(names[:-1])} and {names[-1]}. In the other languages, `-` is an operator"
+        for text in (Language.__doc__, *((TOP / it).read_text() for it in ("c/peltzivar.h", "docs/C-AND-PYTHON.md", "docs/LANGUAGES.md"))):
+            self.assertIn(sentence, " ".join(re.sub(r"^ \*", "", text, flags=re.M).split()))
 
     def test_offsets_of_other_formats_are_refused(self):
         given = [memoryview(struct.pack(f"3{it}", 0, 1, 2)).cast("B").cast(it) for it in "bBhHiIlLqQnNfd?"]
@@ -774,6 +778,9 @@ class Lists(unittest.TestCase):
                 else:
                     self.assertRaisesRegex(TypeError, "^offsets must have one of the formats", call)
             self.assertRaises((TypeError, ValueError), Language.CSV_DE.column, [b"12", offsets], errors="coerce")
+        for cells in [("1", "2"), (b"1", b"2"), *([(numpy.str_("1"), numpy.str_("2")), numpy.array([b"1", b"2"])] if numpy else [])]:
+            self.assertEqual([*Language.CSV_DE.column(cells).values], [1, 2])
+        self.assertEqual(Language.CSV_DE.column((b"1", numpy.float64("nan") if numpy else math.nan)).missing, (1,))
 
     def test_special_values_are_written_by_each_list_that_reads_them(self):
         base36 = Forms({"": Syntax.of(radix=36, exponent=None, point=None)}, nan="nan", inf="inf", infinity="\u221e")
@@ -791,39 +798,46 @@ class Lists(unittest.TestCase):
     def test_each_wish_alone_and_with_each_other_for_each_kind_of_number(self):
         self.assertEqual({*WISHES}, {*inspect.signature(Syntax.format_number).parameters} - {"self", "value"})
         other = lambda name, number: type("Other", (), {name: lambda self: number})()
-        hexadecimal = Syntax(SYNTAX.format.edit(radix=16), "^")
-        whole, part, comma = 1234567, 1234567.25, Syntax(Format(), "e", ",")
+        hexadecimal = Syntax(SYNTAX.format.edit(mantissa_radix=16, exponent_base=2, exponent_radix=10), "^")
+        sized = Syntax(SYNTAX.format, "^", integer_group_size=4, fraction_group_size=3)
+        whole, part = 2**53 + 1, 1234567.25
         wholes = [whole, Decimal(whole), Fraction(whole), other("__index__", whole), FormatView(whole)]
-        reals = [part, other("__float__", part)]
+        parts, reals = [Decimal(str(part)), Fraction(part)], [part, other("__float__", part)]
         if numpy:
-            wholes += [numpy.int32(whole), numpy.uint64(whole)]
+            wholes += [numpy.int64(whole), numpy.uint64(whole)]
             reals += [numpy.float32(part), numpy.float64(part), numpy.longdouble(part)]
-        rows = [(SYNTAX, "", "1234567", None, [*wholes, hexadecimal.read("12_d687h")], [])]
-        rows.append((SYNTAX, "", str(part), None, [Decimal(str(part)), Fraction(part)], reals))
-        for it in ("1234567", "1234567.25", "1.50"):
-            literals = SYNTAX.read(f"0x00{it}h"), comma.read(f"00{it}".replace(".", ","))
-            rows.append((SYNTAX, "00", it, None, [*literals], []))
-        for it, power in itertools.product(("12.5", "12"), (3, -4)):
-            rows.append((SYNTAX, "0", it, power, [SYNTAX.read(f"0{it}^{power}")], []))
-        for it in ("ABCDEF12", "AB.CDE"):
-            rows.append((hexadecimal, "0", it, None, [hexadecimal.read(f"0{it}".lower())], []))
-        rows.append((hexadecimal, "", "ABCDEF12", None, [0xABCDEF12, SYNTAX.read(str(0xABCDEF12))], []))
+        rows = [(hexadecimal, "", "ABCDEF12", None, [0xABCDEF12, SYNTAX.read(str(0xABCDEF12))], [])]
+        for by in (SYNTAX, sized):
+            rows += [(by, "", str(whole), None, [*wholes, hexadecimal.read(f"{whole:x}")], []), (by, "", str(part), None, parts, reals)]
+        for by, numbers in ((SYNTAX, "1234567 1234567.25 1.50 12.5^3 12.5^-4 12^280"), (sized, "1234567.12345"), (hexadecimal, "ABCDE AB.CDE")):
+            for number, mark, power in (it.partition("^") for it in numbers.split()):
+                literals = [*map(by.read, (f"00{number}{mark}{power}", f"00{number}{mark}{power}".encode()))]
+                rows.append((by, "00", number, int(power) if mark else None, literals, []))
         each = [{name: value} for name, values in WISHES.items() for value in values]
-        for one, more, (syntax, *literal, given, floats) in itertools.product(each, each, rows):
-            wishes = one | more
-            for by in (syntax, Forms({"": syntax})):
+        pairs = [one | more for one, more in itertools.combinations_with_replacement(each, 2)]
+        for wishes, (syntax, *literal, given, floats) in itertools.product(pairs, rows):
+            sizes = {"group": syntax.integer_group_size, "fraction_group": syntax.fraction_group_size}
+            own = {name: size for name, size in sizes.items() if size and wishes.get(name) != 0}
+            # A list may drop the wish for an exponent, since a float is not 2^53 + 1.
+            is_float = "exponent" not in wishes or literal[1] != str(whole)
+            for by in (syntax, *[Forms({"": syntax})] * is_float):
                 # Only floats are rounded in radix 16, and only they have one digit before the point with an exponent.
-                if "decimals" not in wishes or syntax is SYNTAX and "exponent" not in wishes:
+                if "decimals" not in wishes or syntax is not hexadecimal and "exponent" not in wishes:
+                    text = written(wishes | own, *literal)
                     for it in given + floats * ("exponent" not in wishes):
-                        self.assertEqual(by.format_number(it, **wishes), written(wishes, *literal), (it, wishes))
+                        self.assertEqual(by.format_number(it, **wishes), text, (it, wishes))
                 for it in floats:
-                    self.assertEqual(by.format_number(it, **wishes), text := by.format_number(part, **wishes), (it, wishes))
-                    self.assertTrue("decimals" in wishes or by.read(text).value == part, (text, wishes))
+                    shown, is_kept = by.format_number(it, **wishes), "decimals" not in wishes
+                    self.assertEqual(shown, by.format_number(part, **wishes), (it, wishes))
+                    self.assertTrue(not is_kept or by.read(shown).value == part, (it, wishes))
+                    if "point" in wishes and is_kept:
+                        self.assertRegex(by.format_number(1e16, **wishes), r"\.0", wishes)
 
     def test_each_argument_changes_what_is_equal_and_its_hash(self):
         for kind, changes in CHANGES.items():
             self.assertEqual({*changes}, {*inspect.signature(kind).parameters})
-            made, again = ([kind(**FIRST.get(kind, {}) | it) for it in ({}, *changes.values())] for _ in range(2))
+            given = [{}, *(NEEDS.get(name, {}) | {name: it} for name, it in changes.items())]
+            made, again = ([kind(**FIRST.get(kind, {}) | it) for it in given] for _ in range(2))
             for (at, one), (to, other) in itertools.product(enumerate(made), enumerate(again)):
                 self.assertEqual((one == other, one != other, hash(one) == hash(other)), (at == to, at != to, at == to))
             for it in made:
@@ -843,10 +857,17 @@ class Lists(unittest.TestCase):
                 first = next(it for it in words if it == word or own.either_case and it.lower() == word.lower())
                 for it in (token, pickle.loads(pickle.dumps(token))):
                     self.assertEqual((it, it.literal.kind, it.literal.form), (token, kinds[first], "a"), word)
+                literal, left = forms.read_prefix(encode(number + rest))
+                self.assertEqual((literal.text, left), (encode(number), encode(rest)))
                 with self.assertRaises(LiteralError) as caught:
                     forms.token(encode(number + word + "x" + rest))
                 error, span = caught.exception, (len(number), len(encode(number + word + "x")))
                 self.assertEqual((error.span, error.valid_up_to, error.kind), (span, len(number), ReadErrorKind.SUFFIX))
+
+        forms = Forms({"": Syntax.of("required_mantissa_digits=false")}, tokens=Tokens(gives_points_back=True))
+        with self.assertRaisesRegex(LiteralError, "^the decimal point belongs to what follows$") as caught:
+            forms.token("..\u00e9")
+        self.assertEqual((caught.exception.kind, caught.exception.span), (ReadErrorKind.POINT, (1, 1)))
 
     def test_each_suffix_of_a_language_gives_the_values_of_its_kind(self):
         lists = [(of, it) for of in Language for it in (of.forms, of.forms.tokens and of.forms.tokens.forms) if it]
@@ -861,6 +882,7 @@ class Lists(unittest.TestCase):
                     if token.literal.is_float:
                         (wanted,) = struct.unpack(code, struct.pack(code, exact))
                     self.assertEqual(outcome(lambda: token.literal.value), wanted, (language, token))
+                    self.assertEqual(eval(repr(token.literal)), token.literal)
 
 
 class Loading(unittest.TestCase):
