@@ -1,3 +1,5 @@
+/* Prefixes of other languages, such as `$` and `16#`: a mark alone stands before a letter, or digits and a letter. */
+const PREFIXED = /^[+-]?(?:(?:[#&][hox]|\d+#|\d\dr|\d*'s?[hdob]|x')[\da-f]|[#\p{Sc}]\d*[a-f])[\da-f_]*['#]?(?:e[+-]?\d+)?$/iu;
 /* What a text must lose before it is read: a pattern, what is told of it, and the text that takes its place. */
 const UNREADABLE = [
     [/[\u2018\u2019\u02bc]/g, "is an apostrophe that no format has: replace it by `'`", "'"],
@@ -9,8 +11,11 @@ const UNREADABLE = [
         "can be a suffix, which `read_prefix` leaves: remove it", ""],
 ];
 
-/* Returns what a text must lose before it is read, in words, and the text then. */
+/* Returns what a text must lose before it is read, in words, and the text then. Of a prefix, returns what FORMAT tells, which
+ * is the first row of what no format can express. */
 function adviceFor(text) {
+    const [cannot, , instead] = [...find("limits").querySelectorAll("td")].map((it) => it.textContent);
+    if (PREFIXED.test(text)) return [{ words: `In \`${text}\`: a format cannot ${cannot}. Instead, ${instead}.` }];
     return UNREADABLE.flatMap(([pattern, told, other]) => {
         const [found] = text.match(pattern) ?? [];
         if (!found) return [];

@@ -64,15 +64,16 @@ class Code {
         const spelled = nan ? `\n.with_specials(Specials { nan: ${nan}, inf: ${inf}, infinity: ${infinity} })` : "";
         const all = forms.map((form) => this.rustForm(form)).join("");
         const used = (name) => (all.includes(`${name}::`) ? `${name}, ` : "");
-        const names = `${used("Conditions")}Form, FormError, Forms, Number, ${nan ? "Specials, " : ""}Syntax`;
-        const float = forms.some(({ exponent, point }) => exponent || point) ? "`f64::try_from(number)` or, of an integer, " : "";
+        const [float, kind] = [used("FloatKind"), used("IntegerKind") && "IntegerKind, Kind, "];
+        const names = `${used("Conditions")}${float}Form, FormError, Forms, ${kind}Number, ${nan ? "Specials, " : ""}Syntax`;
+        const ofFloat = forms.some(({ exponent, point }) => exponent || point) ? "`f64::try_from(number)` or, of an integer, " : "";
         return `${used("NonZeroU8") && "use core::num::NonZeroU8;\n"}use peltzivar::literal::{${names}};
 use peltzivar::NumberFormatBuilder;
 
 pub static FORMS: Forms<'static> = Forms::new_or_panic(&[
 ${all}])${spelled};
 
-/// Returns a number, whose value is ${float}\`i128::try_from(number)\`.
+/// Returns a number, whose value is ${ofFloat}\`i128::try_from(number)\`.
 pub fn read(text: &str) -> Result<Number<'_>, FormError> {
     FORMS.read(text)
 }
@@ -91,11 +92,14 @@ ${this.rustTest(tests)}`;
         const format = ["NumberFormatBuilder::new()", ...calls, ".build_format_or_panic()"].join("\n            ");
         const options = [exponent, point].map((it) => `, ${character(it, "b")}`).join("");
         const syntax = exponent || point ? `new_or_panic(\n        ${format}${options}` : `integers(\n        ${format}`;
-        const conditions = changes.filter(({ shift }) => shift !== undefined).map(({ name, isNumber, value }) => {
+        const conditions = changes.filter(({ shift, isKind }) => shift !== undefined && !isKind).map(({ name, isNumber, value }) => {
             return `\n            .${name}(${isNumber ? `Some(${value})` : "true"})`;
         });
         const set = conditions.length ? `\n        .with_conditions_or_panic(Conditions::NONE${conditions.join("")})` : "";
-        return `    // ${wordText(form.word)}\n    Form::new(${literalText(name, rustEscape)}, Syntax::${syntax})${set}),\n`;
+        const [integers, bits, single] = this.kind(form, ["Exact", "AtMost", "Wraps", "WrapsModulo"]);
+        const kinds = `IntegerKind::${integers}${bits && `(${bits})`}, FloatKind::${single ? "Single" : "Nearest"}`;
+        const kind = bits || single ? `\n        .with_kind(Kind::new(${kinds}).unwrap())` : "";
+        return `    // ${wordText(form.word)}\n    Form::new(${literalText(name, rustEscape)}, Syntax::${syntax})${set})${kind},\n`;
     }
 
     rustTest(tests) {
@@ -108,14 +112,15 @@ ${this.rustTest(tests)}`;
     c(forms, specials, tests) {
         const settings = (form) => this.lines(form).map((line) => `\n    ${JSON.stringify(`${line}\n`)}`).join("") || '\n    ""';
         const all = forms.map((form) => `    /* ${wordText(form.word)} */${settings(form)},\n`).join("");
-        const names = forms.map(({ name }) => `{.name = ${literalText(name, cEscape)}}`).join(", ");
+        const names = forms.map((form) => `\n    {.name = ${literalText(form.name, cEscape)}${this.cKind(form)}},`).join("");
         const spelled = specials.length ? `, .specials = {${specials.join(", ")}}` : "";
         return `#include "peltzivar.h"
 #include <string.h>
 
 static const char *const SETTINGS[] = {
 ${all}};
-static peltzivar_form LIST[] = {${names}};
+static peltzivar_form LIST[] = {${names}
+};
 static const peltzivar_forms FORMS = {.forms = LIST, .count = ${forms.length}${spelled}};
 
 /* Writes the syntax of each form, and returns whether the settings are right. Call this once, before a text is read. */
@@ -137,6 +142,13 @@ bool read_number(const char *text, peltzivar_literal *literal, peltzivar_special
 ${this.cTest(tests)}`;
     }
 
+    /* Returns the kind of a form as members of it. */
+    cKind(form) {
+        const [integers, bits, single] = this.kind(form, ["", "AT_MOST", "WRAP", "WRAP_MODULO"]);
+        const ofIntegers = bits && `, .integer_kind = PELTZIVAR_INTEGERS_${integers}, .integer_bits = ${bits}`;
+        return ofIntegers + (single ? ", .float_kind = PELTZIVAR_FLOATS_SINGLE" : "");
+    }
+
     cTest(tests) {
         const texts = tests.map(({ text, isRefused }) => literalText(`${isRefused ? "!" : "="}${text}`, cEscape));
         return tests.length ? `
@@ -156,15 +168,21 @@ bool test_numbers(void) {
     python(forms, specials, tests) {
         const settings = (form) => this.lines(form).map((line) => `\n        ${JSON.stringify(line)},`).join("");
         const one = (form) => `    # ${wordText(form.word)}\n    (${literalText(form.name, pythonEscape)}, Syntax.of(${settings(form)}\n    )),\n`;
+        const ofKind = (form) => {
+            const [integers, bits, single] = this.kind(form, ["", "at_most", "wraps", "modulo=True, wraps"]);
+            const all = [bits && `${integers}=${bits}`, single && "single=True"].filter(Boolean).join(", ");
+            return all && `${literalText(form.name, pythonEscape)}: Kind(${all})`;
+        };
+        const kinds = forms.map(ofKind).filter(Boolean).join(", ");
         const spelled = specials.map((it, index) => (it === '""' ? "" : `, ${["nan", "inf", "infinity"][index]}=${it}`)).join("");
         const [accepted, refused] = tested(tests, pythonEscape);
         const lines = (texts, body) => texts && `    for text in [${texts}]:\n        ${body}\n`;
         const raises = "try:\n            read(text)\n        except LiteralError:\n            continue\n        raise AssertionError(text)";
         const test = `\n\ndef test_numbers():\n${lines(accepted, "read(text)")}${lines(refused, raises)}`;
-        return `from peltzivar import Forms, ${refused && "LiteralError, "}Syntax
+        return `from peltzivar import Forms, ${kinds && "Kind, "}${refused && "LiteralError, "}Syntax
 
 forms = Forms([
-${forms.map(one).join("")}]${spelled})
+${forms.map(one).join("")}]${kinds && `, kinds={${kinds}}`}${spelled})
 
 
 def read(text):
@@ -173,14 +191,22 @@ def read(text):
 ${tests.length ? test : ""}`;
     }
 
-    /* Returns the settings of a form that are not the usual ones. */
+    /* Returns the kind of a form: that of its integers by one of four names, their bits or an empty text, and whether its
+     * floats are single. */
+    kind(form, names) {
+        const numbers = KINDS.map(({ name }) => this.library.value(form, this.library.condition(name)));
+        const place = numbers.slice(0, 3).findIndex(Boolean);
+        return [names[place + 1], numbers[place] ?? "", numbers[3]];
+    }
+
+    /* Returns the settings of the syntax of a form that are not the usual ones. */
     lines(form) {
-        return this.library.differences(form).map(({ text }) => text);
+        return this.library.differences(form).filter(({ isKind }) => !isKind).map(({ text }) => text);
     }
 
     settings(form) {
-        const lines = this.lines(form);
-        const { word } = this.library.read(lines.join("\n"));
+        const lines = this.library.differences(form).map(({ text }) => text);
+        const { word } = this.library.read(`#\n${lines.join("\n")}`);
         const nearest = form.isBuilt ? [] : [`# No builder makes this word. These settings build the nearest one, ${wordText(word)}.`];
         return [`# ${wordText(form.word)}${form.name && ` ${form.name}`}`, ...nearest, ...lines, ""].join("\n");
     }

@@ -83,7 +83,9 @@ class Controls {
 
     makeBytes() {
         find("bytes").append(...[...this.library.bytes, ...OPTIONS].map((field) => this.byteRow(field)));
-        find("conditions").append(...this.library.conditions.map((condition) => this.flagRow(condition)));
+        const { conditions } = this.library;
+        find("conditions").append(...conditions.filter(({ isKind }) => !isKind).map((condition) => this.flagRow(condition)));
+        find("kinds").append(...conditions.filter(({ isKind }) => isKind).map((kind) => this.flagRow(kind)));
     }
 
     byteRow(field) {

@@ -1,10 +1,12 @@
 //! Texts that tell two formats apart: one accepts them and the other refuses them, or both give them other values.
 
+use alloc::string::ToString;
 use alloc::vec::Vec;
+use core::mem::{discriminant, Discriminant};
 use core::num::NonZeroU8;
 
-use peltzivar::literal::ReadError;
-use peltzivar::FormatView;
+use peltzivar::literal::{FormError, IntegerKind, Number, ReadError, ReadErrorKind, Spelling};
+use peltzivar::{FormatView, Role};
 
 use crate::forms::{value_of, List, Value};
 use crate::suggest::State;
@@ -14,7 +16,7 @@ use crate::suggest::State;
 const PARTS: [&[&str]; 6] = [
     &["", "+", "-"],
     &["", "0x", "0X"],
-    &["1", "10", "0", "", "01", "1F", "1_0", "_1", "1_", "1__0", "1_000", "1_0000", "NaN", "nan", "N_aN"],
+    &["1", "10", "0", "", "01", "010", "08", "1F", "1_0", "_1", "1_", "1__0", "1_000", "1_0000"],
     &["", ".1", ".", ".1_0", "._1", ".1_", ".1__0"],
     &["", "e1", "e+1", "e-1", "e", "E1", "e1_0", "e_1", "e1_", "e1__0"],
     &["", "h", "H"],
@@ -59,29 +61,109 @@ fn texts(state: State) -> impl Iterator<Item = Vec<u8>> {
     })
 }
 
-/// Returns the shortest texts that forms accept and others refuse, with their errors: one of each cause with the flags to
-/// blame and of each role that the wrong byte has where the text is accepted.
-pub fn refused(forms: &List, others: &List) -> Vec<(Vec<u8>, ReadError)> {
-    let mut found: Vec<(_, (Vec<u8>, ReadError))> = Vec::new();
-    for text in forms.states.iter().flat_map(|&it| texts(it)) {
-        let (Ok(number), Err(refusal)) = (forms.forms().read(&text), others.forms().read(&text)) else { continue };
-        let (error, syntax) = (refusal.error, forms.forms()[number.form().unwrap_or(0)].syntax());
-        let shown = (error.kind(), error.mask(), error.byte().and_then(|byte| syntax.role_of(byte)));
-        match found.iter_mut().find(|it| it.0 == shown) {
-            Some((_, old)) if text.len() < old.0.len() => *old = (text, error),
-            Some(_) => {}
-            None => found.push((shown, (text, error))),
-        }
+/// Calls `each` with the texts that are tried for two lists, in the bytes of their forms.
+fn try_texts(forms: &List, others: &List, each: &mut dyn FnMut(Vec<u8>)) {
+    let states = || forms.states.iter().chain(&others.states).copied();
+    for state in states() {
+        texts(state).for_each(&mut *each);
+        states().for_each(|it| try_integers(state, it.kind.integers(), each));
     }
-    found.sort_by(|(_, (text, _)), (_, (other, _))| (text.len(), text).cmp(&(other.len(), other)));
-    found.into_iter().map(|it| it.1).collect()
+    try_specials(forms.states[0], each);
+    try_specials(State { specials: others.states[0].specials, ..forms.states[0] }, each);
 }
 
-/// Returns the first text to which forms and others give different values, with both values.
-pub fn other_value(forms: &List, others: &List) -> Option<(Vec<u8>, [Value; 2])> {
-    forms.states.iter().flat_map(|&it| texts(it)).find_map(|text| {
-        let number = forms.forms().read(&text).ok()?;
-        let values = [value_of(number), value_of(others.forms().read(&text).ok()?)];
-        (values[0] != values[1]).then_some((text, values))
-    })
+/// Calls `each` with an integer that has another value by its kind, in the radix of a state, with its prefix, its suffix, or
+/// a zero.
+fn try_integers(state: State, kind: IntegerKind, each: &mut dyn FnMut(Vec<u8>)) {
+    let mut number: u128 = match kind {
+        IntegerKind::AtMost(bits) => 1 << bits,
+        IntegerKind::Wraps(bits) | IntegerKind::WrapsModulo(bits) => (1 << bits) - 1,
+        _ => return,
+    };
+    let radix = FormatView::new(state.word).mantissa_radix();
+    let mut digits = if radix == 10 { number.to_string().into_bytes() } else { Vec::new() };
+    while radix.is_power_of_two() && number > 0 {
+        digits.extend(char::from_digit(number as u32 & (radix - 1), radix).map(|it| it as u8));
+        number >>= radix.trailing_zeros();
+    }
+    if radix != 10 {
+        digits.reverse();
+    }
+    for (before, behind) in [("", ""), ("0x", ""), ("", "h"), ("0", "h")] {
+        let end = |part| text_of(state, [part, "", "", "", "", ""]);
+        if let (Some(before), Some(behind)) = (end(before), end(behind)) {
+            each([&before[..], &digits, &behind].concat());
+        }
+    }
+}
+
+/// Calls `each` with the special values of a state in three cases, also with a sign or a separator.
+fn try_specials(state: State, each: &mut dyn FnMut(Vec<u8>)) {
+    let mark = text_of(state, ["_", "", "", "", "", ""]).unwrap_or_default();
+    for word in [state.specials.nan, state.specials.inf, state.specials.infinity].into_iter().flatten() {
+        for word in [word.to_vec(), word.to_ascii_lowercase(), word.to_ascii_uppercase()] {
+            let (first, rest) = word.split_at(word.len().min(1));
+            each([first, &mark, rest].concat());
+            for sign in ["", "+", "-"] {
+                each([sign.as_bytes(), &word].concat());
+            }
+        }
+    }
+}
+
+/// A text that tells two lists apart: the error of the one that refuses it, or both values.
+pub struct Example {
+    pub text: Vec<u8>,
+    pub told: Result<[Value; 2], ReadError>,
+    cause: Cause,
+}
+
+/// Why a text is an example, of which one for each cause is enough: the spelling of a special value that is refused; the cause of a
+/// refusal with the flags to blame, and the role that the wrong byte has where the text is accepted; or the forms that read
+/// a text, and the types of the values.
+#[derive(PartialEq)]
+enum Cause {
+    Special(Spelling),
+    Refused(ReadErrorKind, u128, Option<Role>),
+    Values([Option<usize>; 2], [Discriminant<Value>; 2]),
+}
+
+/// Returns the shortest texts that forms accept, and to which others give other values, or refuse them.
+pub fn examples(forms: &List, others: &List) -> Vec<Example> {
+    let mut found: Vec<Example> = Vec::new();
+    try_texts(forms, others, &mut |text| {
+        let Ok(number) = forms.forms().read(&text) else { return };
+        let Some((cause, told)) = told_apart(forms, number, others.forms().read(&text)) else { return };
+        let old = found.iter().position(|it| it.cause == cause);
+        let is_shorter = |it: &Example| (text.len(), &text) < (it.text.len(), &it.text);
+        if old.is_none_or(|place| text.len() < found[place].text.len()) {
+            old.map(|place| found.remove(place));
+            let place = found.iter().position(is_shorter).unwrap_or(found.len());
+            found.insert(place, Example { text, told, cause });
+        }
+    });
+    found
+}
+
+/// Returns what tells a number of forms from what others read, or nothing.
+fn told_apart(
+    forms: &List,
+    number: Number<'_>,
+    other: Result<Number<'_>, FormError>,
+) -> Option<(Cause, Result<[Value; 2], ReadError>)> {
+    match (number, other) {
+        (Number::Special(special), Err(it)) => Some((Cause::Special(special.spelling), Err(it.error))),
+        (Number::Literal { form, .. }, Err(FormError { error, .. })) => {
+            let syntax = forms.forms()[form].syntax();
+            let role = error.byte().and_then(|byte| syntax.role_of(byte));
+            Some((Cause::Refused(error.kind(), error.mask(), role), Err(error)))
+        }
+        (_, Ok(other)) => {
+            let values = [value_of(number), value_of(other)];
+            let types = [discriminant(&values[0]), discriminant(&values[1])];
+            let cause = Cause::Values([number.form(), other.form()], types);
+            let has_value = |it: &Value| !matches!(it, Value::Unknown(_) | Value::Refused(_));
+            (values[0] != values[1] && values.iter().any(has_value)).then_some((cause, Ok(values)))
+        }
+    }
 }

@@ -3,7 +3,9 @@
 use alloc::vec::Vec;
 use core::str::FromStr;
 
-use peltzivar::literal::{Condition, Conditions, Form, Forms, Number, Specials, ValueError};
+use peltzivar::literal::{
+    Condition, Conditions, FloatKind, Form, Forms, IntegerKind, Kind, Number, Specials, ValueError,
+};
 
 use crate::suggest::{lines_of, Line, State};
 
@@ -20,7 +22,8 @@ impl List {
     }
 
     fn of(states: Vec<State>) -> Option<Self> {
-        let forms: Vec<_> = states.iter().map(|it| Some(Form::new("", it.syntax()?))).collect::<Option<_>>()?;
+        let form = |it: &State| Some(Form::new("", it.syntax()?).with_kind(it.kind));
+        let forms: Vec<_> = states.iter().map(form).collect::<Option<_>>()?;
         Forms::new(&forms)?;
         Some(Self { states, forms })
     }
@@ -45,8 +48,8 @@ impl List {
 }
 
 /// Reads the states of a line. Each is its word and, behind a colon, a number of bytes, from the lowest: the exponent
-/// character, the decimal point, and then the number of each condition. The first one has the spellings of special values,
-/// which are behind tabs.
+/// character, the decimal point, the number of each condition, and those of the kind. The first one has the spellings of
+/// special values, which are behind tabs.
 pub fn states_of(line: &'static str) -> impl Iterator<Item = State> {
     let mut parts = line.split('\t');
     let states = parts.next().unwrap_or("").split(' ');
@@ -54,19 +57,51 @@ pub fn states_of(line: &'static str) -> impl Iterator<Item = State> {
     states.enumerate().map(move |(form, state)| {
         let (word, options) = state.split_once(':').unwrap_or((state, ""));
         let [exponent, point, numbers @ ..] = u128::from_str(options).unwrap_or(0).to_le_bytes();
+        let (numbers, kind) = numbers.split_at(Condition::ALL.len());
         let conditions =
-            Condition::ALL.iter().zip(numbers).fold(Conditions::NONE, |all, (&it, number)| all.with(it, number));
+            Condition::ALL.iter().zip(numbers).fold(Conditions::NONE, |all, (&it, &number)| all.with(it, number));
         let specials = if form == 0 { Specials { nan, inf, infinity } } else { Specials::default() };
-        State { word: u128::from_str(word).unwrap_or(0), exponent, point, conditions, specials }
+        State { word: u128::from_str(word).unwrap_or(0), exponent, point, conditions, kind: kind_of(kind), specials }
     })
 }
 
-/// The value of a number: an integer by its sign and size, and a float by its bits.
+/// Returns the state of a form.
+pub fn state_of(form: &Form) -> State {
+    let (syntax, kind) = (form.syntax(), form.kind());
+    let [exponent, point] = [syntax.exponent(), syntax.point()].map(Option::unwrap_or_default);
+    let (word, conditions) = (syntax.format().word(), syntax.conditions());
+    State { word, exponent, point, conditions, kind, specials: Specials::default() }
+}
+
+/// Returns the kind of four numbers: three kinds of integers by their bits, of which the first that is not 0 counts, and
+/// whether floats are single.
+fn kind_of(numbers: &[u8]) -> Kind {
+    let kinds = [IntegerKind::AtMost, IntegerKind::Wraps, IntegerKind::WrapsModulo];
+    let integers =
+        kinds.into_iter().zip(numbers).find(|it| *it.1 > 0).map_or(IntegerKind::Exact, |(kind, &it)| kind(it));
+    let floats = if numbers[kinds.len()] > 0 { FloatKind::Single } else { FloatKind::Nearest };
+    Kind::new(integers, floats).unwrap_or(Kind::EXACT)
+}
+
+/// Returns the numbers of which [`kind_of`] makes the kind.
+pub fn numbers_of(kind: Kind) -> [u8; 4] {
+    let single = u8::from(kind.floats() == FloatKind::Single);
+    match kind.integers() {
+        IntegerKind::AtMost(bits) => [bits, 0, 0, single],
+        IntegerKind::Wraps(bits) => [0, bits, 0, single],
+        IntegerKind::WrapsModulo(bits) => [0, 0, bits, single],
+        _ => [0, 0, 0, single],
+    }
+}
+
+/// The value of a number: an integer by its sign and size, and a float by its bits. A number that is too large for its kind
+/// is refused, and that of others without a value is unknown.
 #[derive(Clone, Copy, PartialEq)]
 pub enum Value {
     Integer(bool, u128),
     Float(u64),
     Unknown(ValueError),
+    Refused(ValueError),
 }
 
 /// Returns the value of a number.
@@ -83,5 +118,6 @@ pub fn value_of(number: Number<'_>) -> Value {
             Err(_) => literal.to_u128().map(|it| Value::Integer(false, it)),
         },
     };
-    value.unwrap_or_else(Value::Unknown)
+    let is_exact = literal.is_float() || literal.kind().integers() == IntegerKind::Exact;
+    value.unwrap_or_else(if is_exact { Value::Unknown } else { Value::Refused })
 }

@@ -11,15 +11,25 @@ const OPTIONS = [
     { name: "point", isByte: true, title: "decimal point", meaning: "an option of the parser, such as the `.` in `1.5`" },
 ];
 const STANDARD_OPTIONS = { exponent: 101, point: 46, conditions: 0n };
+/* The kind of a form, as numbers behind those of the conditions. Of those of integers, one is set. */
+const KINDS = [
+    { name: "at_most", meaning: "Bits that an integer has at most", limits: [1, 64] },
+    { name: "wraps", meaning: "Bits that an integer has at most, the highest of which makes it negative", limits: [1, 64] },
+    { name: "wraps_modulo", meaning: "Lowest bits of an integer, which count, the highest of which makes it negative", limits: [1, 64] },
+    { name: "single", meaning: "Floats have 32 bits" },
+];
 /* The usual spellings of special values. */
 const SPECIALS = ["NaN", "inf", "infinity"];
 
 class Library {
     constructor(calls, { flags, groups, bytes, conditions }) {
         this.calls = calls;
-        /* The conditions are the bytes of a number. */
-        this.conditions = conditions.map((condition, index) => {
-            return { ...condition, part: "option", mask: 255n << BigInt(8 * index), shift: BigInt(8 * index) };
+        /* The conditions are the bytes of a number. Those of integers of a kind exclude each other. */
+        const kinds = KINDS.map((it) => ({ ...it, isKind: true, isNumber: Boolean(it.limits) }));
+        const ofIntegers = 0xffffffn << BigInt(8 * conditions.length);
+        this.conditions = [...conditions, ...kinds].map((it, index) => {
+            const [shift, mask] = [BigInt(8 * index), 255n << BigInt(8 * index)];
+            return { ...it, part: "option", mask, shift, clears: mask & ofIntegers ? ofIntegers : mask };
         });
         this.flags = flags.map((flag) => ({ ...flag, mask: 1n << BigInt(flag.bit) }));
         this.bytes = bytes.map((byte) => ({ ...byte, isByte: true, mask: 255n << BigInt(byte.bit) }));
@@ -60,7 +70,7 @@ class Library {
         const shorts = told.map(({ about }) => /^(\S+?)'s /.exec(about)?.[1]);
         return this.call("languages", "").map(({ name, specials, forms }, index) => {
             const short = (shorts.indexOf(shorts[index]) === index && shorts[index]) || name;
-            return { ...told[index], short, specials, forms: forms.map((form) => this.form(form)) };
+            return { ...told[index], short, specials, forms: forms.map(numbered) };
         });
     }
 
@@ -74,7 +84,8 @@ class Library {
     explain(form) {
         const answer = this.call("explain", passed({ forms: [form] }));
         const named = ({ text, mask }) => {
-            const all = [...OPTIONS, ...this.conditions].filter(({ name, title = name }) => text.includes(title));
+            const named = [...OPTIONS, ...this.conditions].filter(({ isKind }) => !isKind);
+            const all = named.filter(({ name, title = name }) => text.includes(title));
             return { text, fields: [...all.map(({ name }) => name), ...this.namesOf(BigInt(mask))] };
         };
         const [reasons, options, conditions, notes] = ["reasons", "options", "conditions", "notes"].map((it) => answer[it].map(named));
@@ -93,18 +104,22 @@ class Library {
         return fields.map(first).filter(Boolean).sort((a, b) => problems(a).length - problems(b).length);
     }
 
+    condition(name) {
+        return this.conditions.find((it) => it.name === name);
+    }
+
     /* Returns a state with another value of a field, an option or a condition. */
     with(state, name, value) {
-        const condition = this.conditions.find((it) => it.name === name);
+        const condition = this.condition(name);
         if (name === "reserved") return { ...state, word: state.word & this.known };
         if (name in STANDARD_OPTIONS) return { ...state, [name]: value };
         if (!condition) return { ...state, word: this.put(state.word, name, value) };
-        return { ...state, conditions: (state.conditions & ~condition.mask) | (BigInt(value) << condition.shift) };
+        const others = state.conditions & ~(value ? condition.clears : condition.mask);
+        return { ...state, conditions: others | (BigInt(value) << condition.shift) };
     }
 
     /* Returns an object for each line of a text, as `numbers` of library.rs describes: none if a word is not lawful. */
     numbers(list, text) {
-        const numbered = (it) => ({ ...it, word: BigInt(it.word), conditions: BigInt(it.conditions) });
         const answers = this.call("numbers", `${passed(list)}\n${text}`);
         return answers.map((answer) => ({ ...answer, offers: answer.offers.map(numbered) }));
     }
@@ -140,9 +155,10 @@ class Library {
     withConditions(conditions, text, lost = []) {
         return text.split(/[\s,;]+/).filter(Boolean).reduce((all, setting) => {
             const [name, value] = setting.split("=");
-            const { mask, shift, limits: [least, most] = [1, 1] } = this.conditions.find((it) => it.name === name) ?? {};
+            const { mask, limits: [least, most] = [1, 1] } = this.condition(name) ?? {};
             const number = { true: 1, false: 0, none: 0 }[value] ?? Number(value);
-            if (mask && (number === 0 || (number >= least && number <= most))) return (all & ~mask) | (BigInt(number) << shift);
+            const isRight = mask && Number.isInteger(number) && (number === 0 || (number >= least && number <= most));
+            if (isRight) return this.with({ conditions: all }, name, number).conditions;
             lost.push(setting);
             return all;
         }, conditions);
@@ -224,9 +240,11 @@ class Library {
         if (lost.length) return { error: `${lost[0]}: the condition does not take this value.` };
         const isNumber = /^0x[0-9a-f]{1,32}$|^[0-9]{1,39}$/i.test(word) && !settings.length;
         if (isNumber && BigInt(word) < 1n << 128n) return { word: BigInt(word), options };
-        if (word || !(settings.length || Object.keys(options).length)) return { error: "This is neither a word nor a list of settings." };
+        const isEmpty = !text.includes("#") && !settings.length && !Object.keys(options).length;
+        if (word || isEmpty) return { error: "This is neither a word nor a list of settings." };
         const { error, index, ...built } = this.build(settings);
-        return error ? { error: `${settings[index]}: ${error}${error.endsWith("?") ? "" : "."}` } : { ...built, options };
+        const whole = { ...STANDARD_OPTIONS, ...options };
+        return error ? { error: `${settings[index]}: ${error}${error.endsWith("?") ? "" : "."}` } : { ...built, options: whole };
     }
 }
 
@@ -234,6 +252,11 @@ class Library {
 function passed({ forms, specials = SPECIALS }) {
     const options = ({ exponent, point, conditions }) => BigInt(exponent | (point << 8)) | (conditions << 16n);
     return [forms.map((form) => `${form.word}:${options(form)}`).join(" "), ...specials].join("\t");
+}
+
+/* Returns a form that the library returned, with numbers. */
+function numbered(form) {
+    return { ...form, word: BigInt(form.word), conditions: BigInt(form.conditions) };
 }
 
 /* Returns a form without its name. */
@@ -248,8 +271,8 @@ function isSame(forms, others) {
 }
 
 /* Returns the value of a number, which the library computed, as text, or why it has none. */
-function valueText({ integer, float, unknown }) {
-    if (float === undefined) return integer ?? unknown;
+function valueText({ integer, float, unknown, refused }) {
+    if (float === undefined) return integer ?? unknown ?? refused;
     const [value] = new Float64Array(BigUint64Array.of(BigInt(float)).buffer);
     return Object.is(value, -0) ? "-0" : String(value);
 }

@@ -10,8 +10,8 @@ use core::alloc::{GlobalAlloc, Layout};
 use core::fmt::Display;
 use core::ops::Range;
 
-use examples::{other_value, refused};
-use forms::{states_of, value_of, List, Value};
+use examples::{examples, Example};
+use forms::{numbers_of, state_of, states_of, value_of, List, Value};
 use peltzivar::edits::{apply, is_built, normal_form};
 use peltzivar::literal::{Condition, Conditions, FormError, Forms, Language, Number, Specials};
 use peltzivar::{Edit, FormatView, NumberFormatBuilder};
@@ -117,23 +117,30 @@ pub extern "C" fn explain(length: usize) -> u64 {
     ))
 }
 
-/// Returns an object for each language: its name, the spellings of its special values, and the syntax and name of each form.
+/// Returns an object for each language: its name, the spellings of its special values, and the name and the parts of
+/// each form.
 #[unsafe(no_mangle)]
 pub extern "C" fn languages(_: usize) -> u64 {
     answer(list(Language::ALL.iter().map(|language| {
         let Specials { nan, inf, infinity } = language.forms().specials();
         let specials = list([nan, inf, infinity].map(|it| quoted(utf8(it.unwrap_or_default()))).into_iter());
-        let forms = language.forms().as_slice().iter().map(|it| quoted(format!("{}:{}", it.syntax(), it.name())));
+        let forms = language.forms().as_slice().iter();
+        let forms = forms.map(|it| format!(r#"{{{},"name":{}}}"#, parts_of(state_of(it)), quoted(it.name())));
         format!(r#"{{"name":"{language}","specials":{specials},"forms":{}}}"#, list(forms))
     })))
 }
 
 /// Returns an array for each line but the first: an object for each language that reads its text, with the index of the
-/// language, the form unless it is a special value, the value, and whether it reads each line as it must.
+/// language, the form unless it is a special value, the value, and whether it reads each line as it must, and refuses no
+/// value.
 #[unsafe(no_mangle)]
 pub extern "C" fn readers(length: usize) -> u64 {
     let lines = text_of(length).1;
-    let has_all = |it: &Language| lines_of(lines).all(|line| it.read(line.text).is_err() == line.is_refused);
+    let is_expected = |it: &Language, line: Line<'_>| match it.read(line.text) {
+        Ok(number) => !line.is_refused && !matches!(value_of(number), Value::Refused(_)),
+        Err(_) => line.is_refused,
+    };
+    let has_all = |it: &Language| lines_of(lines).all(|line| is_expected(it, line));
     let languages: Vec<_> = Language::ALL.iter().map(|it| (it, has_all(it))).collect();
     answer(list(lines_of(lines).map(|line| {
         list(languages.iter().enumerate().filter_map(|(index, (language, has_all))| {
@@ -145,8 +152,9 @@ pub extern "C" fn readers(length: usize) -> u64 {
 }
 
 /// Returns the parts of an object with a state.
-fn parts_of(State { word: format, exponent, point, conditions, .. }: State) -> String {
-    let numbers = Condition::ALL.iter().rev().fold(0, |all, &it| all << 8 | u128::from(conditions.number(it)));
+fn parts_of(State { word: format, exponent, point, conditions, kind, .. }: State) -> String {
+    let kind = u128::from(u32::from_le_bytes(numbers_of(kind)));
+    let numbers = Condition::ALL.iter().rev().fold(kind, |all, &it| all << 8 | u128::from(conditions.number(it)));
     let (format, conditions) = (word(format), word(numbers));
     format!(r#""word":{format},"exponent":{exponent},"point":{point},"conditions":{conditions}"#)
 }
@@ -203,22 +211,23 @@ fn reading(forms: Forms<'_>, text: &[u8]) -> String {
 }
 
 /// Returns texts that tell the forms of two lines apart: those that the second ones refuse, those that the first ones refuse,
-/// and one to which they give different values. If a word is not lawful, returns an empty array.
+/// and those to which they give different values. If a word is not lawful, returns an empty array.
 #[unsafe(no_mangle)]
 pub extern "C" fn differ(length: usize) -> u64 {
     let (first, second) = text_of(length);
     let (Some(first), Some(second)) = (List::new(first), List::new(utf8(second))) else {
         return answer("[]".to_string());
     };
-    let one_way = |first, second| {
-        let texts = refused(first, second).into_iter();
-        let texts = texts.map(|(text, error)| (quoted(utf8(&text)), quoted(error.full_text().as_str())));
-        list(texts.map(|(text, error)| format!(r#"{{"text":{text},"error":{error}}}"#)))
+    let line = |Example { text, told, .. }: &Example| {
+        let text = quoted(utf8(text));
+        match told.map(|values| values.map(value)) {
+            Err(error) => format!(r#"{{"text":{text},"error":{}}}"#, quoted(error.full_text().as_str())),
+            Ok([here, there]) => format!(r#"{{"text":{text},"here":{{{here}}},"there":{{{there}}}}}"#),
+        }
     };
-    let others = list(other_value(&first, &second).into_iter().map(|(text, [here, there])| {
-        format!(r#"{{"text":{},"here":{{{}}},"there":{{{}}}}}"#, quoted(utf8(&text)), value(here), value(there))
-    }));
-    answer(list([one_way(&first, &second), one_way(&second, &first), others].into_iter()))
+    let part = |all: &[Example], is_refused| list(all.iter().filter(|it| it.told.is_err() == is_refused).map(line));
+    let [here, there] = [examples(&first, &second), examples(&second, &first)];
+    answer(list([part(&here, true), part(&there, true), part(&here, false)].into_iter()))
 }
 
 /// Returns an integer as digits, a float as the number of its bits, or why a number has no value, as a part of an object.
@@ -227,6 +236,7 @@ fn value(value: Value) -> String {
         Value::Integer(is_negative, size) => format!(r#""integer":"{}{size}""#, if is_negative { "-" } else { "" }),
         Value::Float(bits) => format!(r#""float":"{bits}""#),
         Value::Unknown(error) => format!(r#""unknown":{}"#, quoted(error)),
+        Value::Refused(error) => format!(r#""refused":{}"#, quoted(error)),
     }
 }
 

@@ -21,8 +21,9 @@ const LEGEND = [["sign", "sign"], ["prefix, suffix", "base"], ["digits", "digits
 const [MOST_ROWS, MOST_LINES, MOST_CHARACTERS] = [8, 100, 200];
 
 class Trial {
-    constructor(library, languages, { change, put, add, start }) {
-        Object.assign(this, { library, languages, change, put, add, start, isOpen: matchMedia("(min-width: 561px)").matches });
+    constructor(library, languages, calls) {
+        const isOpen = matchMedia("(min-width: 561px)").matches;
+        const { change } = Object.assign(this, { library, languages, ...calls, isOpen });
         find("literal").addEventListener("input", ({ target }) => change({ numbers: target.value }, "literal"));
         find("literal").addEventListener("focus", ({ target }) => target.value === EXAMPLE && target.select());
         find("legend").append(...LEGEND.map(([name, part]) => element("span", { class: part }, name)));
@@ -61,7 +62,8 @@ class Trial {
         if (focused.startsWith("refuse-")) find(focused)?.focus();
         const expected = this.answers.filter(({ isExpected }) => isExpected).length;
         const count = this.answers.length ? `${expected} of ${this.answers.length} as expected` : "";
-        const values = this.answers.filter(({ error }) => !error).map((it) => `${it.text} = ${valueText(it)}`).slice(0, MOST_ROWS);
+        const value = (it) => `${it.text}${it.refused ?? it.unknown ? ":" : " ="} ${valueText(it)}`;
+        const values = this.answers.filter(({ error }) => !error).map(value).slice(0, MOST_ROWS);
         const told = first ? `${first.text} ${this.told(first)}` : values.join(" \u00b7 ");
         return { count: [count, left ? unread : ""].filter(Boolean).join("; "), isGood: !first && !left, first: told };
     }
@@ -91,6 +93,8 @@ class Trial {
         const { text, place, isRefused, isExpected, mask = 0, form } = answer;
         const offers = answer.offers.map((offer) => this.offer(answer, offer));
         const advice = isExpected || isRefused ? [] : adviceFor(text).map((it) => this.advice(place, it));
+        const operator = answer.error && text.startsWith("-") && this.operator();
+        if (!isExpected && operator) advice.push(element("li", {}, element("span", {}, withCode(operator))));
         const nothing = isRefused ? "No flag alone refuses it." : "No change of a few fields was found that accepts it.";
         if (!isExpected && !offers.length && !advice.length) advice.push(element("li", {}, nothing));
         const attributes = { change: () => this.turn(place), id: `refuse-${place}`, "aria-label": `${text} must be refused` };
@@ -117,12 +121,14 @@ class Trial {
         const lines = this.answers.filter(({ text }) => text.length <= MOST_CHARACTERS);
         const found = this.library.readers(lines.map(({ text, isRefused }) => (isRefused ? "!" : "") + text).join("\n"));
         chosen.forEach((answer, index) => {
-            const readers = (found[lines.indexOf(answer)] ?? []).toSorted((a, b) => Number(b.hasAll) - Number(a.hasAll));
+            const all = (found[lines.indexOf(answer)] ?? []).toSorted((a, b) => Number(b.hasAll) - Number(a.hasAll));
+            const [readers, others] = [false, true].map((isRefused) => all.filter(({ refused }) => Boolean(refused) === isRefused));
             const name = (it) => languages[it.language].forms[it.form]?.name ?? "special value";
-            const groups = Map.groupBy(readers, (it) => `${valueText(it)}, ${name(it)}:`);
+            const title = (it) => `${it.refused ? "refused, " : ""}${valueText(it)}, ${name(it)}:`;
+            const groups = Map.groupBy([...readers, ...others], title);
             const parts = [...groups].flatMap(([title, group]) => [element("span", {}, title), ...group.map((it) => this.reader(it))]);
-            const all = readers.filter(({ hasAll }) => hasAll).length;
-            const marks = all ? `; ${all} with a star read all` : "";
+            const stars = readers.filter(({ hasAll }) => hasAll).length;
+            const marks = stars ? `; ${stars} with a star read all` : "";
             const summary = element("summary", {}, `Read by ${readers.length || "none"} of ${languages.length} languages${marks}`);
             nodes[index].open = this.isOpen;
             nodes[index].addEventListener("toggle", () => (this.isOpen = nodes[index].open));
@@ -183,17 +189,28 @@ class Trial {
         return element("li", {}, button("use", label, use, attributes), then, isOther ? button("use", "or add this form", add) : "");
     }
 
-    /* Returns what must be replaced in a number, with a button that does. */
+    /* Returns what must be replaced in a number, with a button that does, or a button to what no format can express. */
     advice(place, { words, text }) {
-        return element("li", {}, element("span", {}, withCode(words)), button("use", `try ${text}`, () => this.replace(place, text)));
+        const limits = () => (find("limits").open = true, find("limits").firstElementChild.focus());
+        const replace = () => this.replace(place, text);
+        const made = text === undefined ? button("link", "What a format cannot express", limits) : button("use", `try ${text}`, replace);
+        return element("li", {}, element("span", {}, withCode(words)), made);
+    }
+
+    /* Returns why no form of a language has a number with `-`, if none has. */
+    operator() {
+        const language = this.languageOf(this.state);
+        const isUnsigned = (form) => this.library.value(form, this.library.condition("no_negative_mantissa_sign"));
+        return language?.forms.every(isUnsigned) && `In ${language.short}, \`-\` is an operator, so that numbers have no sign.`;
     }
 
     /* Returns what a number is: its kind and its value. */
     reading(answer) {
-        const { parts, unknown } = answer;
+        const { parts, unknown, refused } = answer;
         if (parts.some(({ kind }) => kind === "special")) return `special value = ${valueText(answer)}`;
         const isFloat = parts.some(({ kind }) => kind === "point" || kind === "exponent_character");
-        return `${isFloat ? "float" : "integer"}${unknown ? `: ${unknown}` : ` = ${valueText(answer)}`}`;
+        const value = unknown ? `: ${unknown}` : ` = ${valueText(answer)}`;
+        return `${isFloat ? "float" : "integer"}${refused ? `, but its value is refused: ${refused}` : value}`;
     }
 
     /* Makes an accepted number of a line one that must be refused, or the other way round. */

@@ -22,7 +22,7 @@ class Page {
         const bound = (...names) => Object.fromEntries(names.map((name) => [name, this[name].bind(this)]));
         this.controls = new Controls(library, bound("edit").edit);
         this.report = new Report(library, languages, bound("use", "edit", "saveLater"));
-        this.trial = new Trial(library, languages, bound("change", "put", "add", "start"));
+        this.trial = new Trial(library, languages, bound("change", "put", "add", "start", "languageOf"));
         this.code = new Code(library);
         setText(find("version"), data.version);
         for (const listen of [this.listen, this.listenToWord, this.listenToForms, this.makeTabs]) listen.call(this);
@@ -114,8 +114,9 @@ class Page {
         box.addEventListener("change", () => this.take(box.value));
         box.addEventListener("paste", (event) => {
             const text = event.clipboardData.getData("text");
-            if (text.includes("\n")) (event.preventDefault(), (box.value = text.replace(/(#.*)?\s+/g, " ").trim()));
-            setTimeout(() => this.take(box.value));
+            if (!text.includes("\n")) return setTimeout(() => this.take(box.value));
+            event.preventDefault();
+            this.take(text);
         });
         box.addEventListener("keydown", ({ key }) => key === "Escape" && this.showWord());
     }

@@ -8,7 +8,7 @@ use peltzivar::format::{
     EXPONENT_RADIX, FLAG_MASK, MANTISSA_RADIX, SPECIAL_DIGIT_SEPARATOR,
 };
 use peltzivar::literal::{
-    Condition, Conditions, ConditionsError, ConditionsErrorKind, ReadError, ReadErrorKind, Specials, Syntax,
+    Condition, Conditions, ConditionsError, ConditionsErrorKind, Kind, ReadError, ReadErrorKind, Specials, Syntax,
 };
 use peltzivar::{Format, FormatView, Rule};
 
@@ -27,14 +27,15 @@ const RESERVED: u128 = Rule::ReservedBitsAreZero.mask();
 /// The usual size of groups of digits.
 const USUAL_SIZE: u8 = 3;
 
-/// A form of numbers: a format word, the options of a parser, the conditions, and the spellings of special values, which the
-/// first form of a list has. If both options are 0, numbers are integers alone.
+/// A form of numbers: a format word, the options of a parser, the conditions, the kind, and the spellings of special values,
+/// which the first form of a list has. If both options are 0, numbers are integers alone.
 #[derive(Clone, Copy, Debug, PartialEq, Eq)]
 pub struct State {
     pub word: u128,
     pub exponent: u8,
     pub point: u8,
     pub conditions: Conditions,
+    pub kind: Kind,
     pub specials: Specials<'static>,
 }
 

@@ -6,6 +6,7 @@
 `build --check` compares index.html with its sources. In Chromium, the code that the page shows builds its word, and one
 walk through the page takes the steps of a user. A test is skipped by name if the machine lacks its programs.
 """
+import ctypes
 import itertools
 import os
 import pathlib
@@ -27,6 +28,7 @@ try:
     from selenium import webdriver
     from selenium.webdriver.chrome.options import Options
     from selenium.webdriver.chrome.service import Service
+    from selenium.webdriver.common.action_chains import ActionChains
     from selenium.webdriver.common.by import By
     from selenium.webdriver.common.keys import Keys
     from selenium.webdriver.support.ui import Select, WebDriverWait
@@ -45,14 +47,17 @@ STATES = [(STANDARD, "e", "."), (STANDARD, "\\", "'"), (STANDARD, "\0", "\0"), (
 TEXTS = r"""1 1\5 1'5 1"5 -0 12 1F inf nan 9007199254740993 12345678901234567 12345678901234567890 -9223372036854775809 123456789.12345678
 0.30000000000000004 1.2345678901234567890 170141183460469231731687303715884105727 170141183460469231731687303715884105728
 340282366920938463463374607431768211455 340282366920938463463374607431768211456 -170141183460469231731687303715884105729
-1e400 -1e-400 1,5 0x1_0,8p+1h 0x1_000h 0x1_00h 0x1 1h -0x1h NaN +nan -inf INFINITY Infinity .nan .NaN -.INF""".split()
+1e400 -1e-400 1,5 0x1_0,8p+1h 0x1_000h 0x1_00h 0x1 1h -0x1h NaN +nan -inf INFINITY Infinity .nan .NaN -.INF 010 08 0.1 1.1 -5
+2147483647 2147483648 -2147483648 4611686018427387904 9223372036854775808 18446744073709551615 18446744073709551616 0xffffffff 0x100000000
+0x4000000000000000 0x8000000000000000 0xffffffffffffffff 0x10000000000000001 0ffffffffffffffffh 0b11111111111111111111111111111111""".split()
 # Returns all texts that are tried and, for STATES, the last one with each condition that fits and with all, and each form of
 # a language: its link, that of the page, its normal form, the code in three languages, and what is told of each text.
 SHOWN = """const [shown, tried] = arguments;
     const { library, trial, data } = page;
     const states = shown.map(([word, exponent, point]) => [[{ word: BigInt(word), exponent, point, conditions: 0n, name: "" }], ""]);
-    const each = library.conditions.map(({ isNumber, shift }) => (isNumber ? 3n : 1n) << shift);
-    const all = [...each, each.reduce((all, it) => all | it)].map((conditions) => [[{ ...states.at(-1)[0][0], conditions }], ""])
+    const set = (form, { name, isNumber }) => library.with(form, name, isNumber ? 3 : 1);
+    const [[last]] = states.at(-1);
+    const all = [...library.conditions.map((it) => set(last, it)), library.conditions.reduce(set, last)].map((form) => [[form], ""])
         .filter(([[form]]) => !library.explain(form).problems.length);
     const named = states.map(([[form]], index) => ({ ...form, name: ['"', "\\\\", "*/?", "\\u05d0'", "%s:{}", ""].at(index % 6) }))
         .filter((form) => !library.explain(form).problems.length);
@@ -178,9 +183,19 @@ FAINT = """const canvas = document.createElement("canvas").getContext("2d", { wi
         return Math.max(ground / text, text / ground);
     };
     const hasText = (node) => node.value || [...node.childNodes].some((it) => it.nodeType === 3 && it.data.trim());
-    return [...document.querySelectorAll("body *")]
-        .filter((it) => it.checkVisibility({ visibilityProperty: true }) && !it.disabled && hasText(it) && contrast(it) < 4.5)
-        .map((it) => `${it.textContent.slice(0, 40)} ${contrast(it)}`);"""
+    const beside = (node, colour) => {
+        const ground = grounds(node.parentElement);
+        const [one, other] = [ground, [...ground, colour]].map((it) => luminance(it) + 0.05);
+        return Math.max(one / other, other / one);
+    };
+    const lines = (node, style = getComputedStyle(node)) => [
+        ...["Top", "Right", "Bottom", "Left"].filter((it) => !node.matches(rules) && parseFloat(style[`border${it}Width`])).map((it) => style[`border${it}Color`]),
+        ...(parseFloat(style.outlineWidth) && style.outlineStyle !== "none" ? [style.outlineColor] : []),
+        ...(node.matches(".dot") ? [style.backgroundColor] : []), ...(style.boxShadow === "none" ? [] : [/^\\w+\\(.*?\\)/.exec(style.boxShadow)[0]])];
+    const rules = ".panel, header, .bar, #trial, fieldset, th, td, input[type=checkbox]";
+    const shown = [...document.querySelectorAll("body *")].filter((it) => it.checkVisibility({ visibilityProperty: true }) && !it.disabled);
+    return [...shown.filter((it) => hasText(it) && contrast(it) < 4.5).map((it) => `${it.textContent.slice(0, 40)} ${contrast(it)}`),
+        ...shown.filter((it) => lines(it).some((colour) => beside(it, colour) < 3)).map((it) => `${it.outerHTML.slice(0, 80)} ${lines(it)}`)];"""
 # Returns the controls that have the focus without an outline.
 BARE = """return [...document.querySelectorAll("button, input, select, textarea, summary, pre[tabindex]")].filter((it) => {
         it.focus();
@@ -207,8 +222,11 @@ def is_same(told, printed):
     value = told.partition(" = ")[2].partition(",")[0]
     if not value or printed in ("none", "refused"):
         return not value and told.startswith("accepted") == (printed != "refused")
-    is_whole = re.fullmatch(r"-?\d+ (-?\d+|0x\w+)", f"{value} {printed}")
-    return (int(value) - int(printed, 0)) % 2**128 == 0 if is_whole else repr(float(value)) == repr(float(printed))
+    if re.fullmatch(r"-?\d+ (-?\d+|0x\w+)", f"{value} {printed}"):
+        return (int(value) - int(printed, 0)) % 2**128 == 0
+    # C has no integers from 2^127 on, which are floats then, or singles by their kind.
+    floats = [float(value), *([ctypes.c_float(float(value)).value] if value.isdigit() and int(value) >= 2**127 else [])]
+    return repr(float(printed)) in map(repr, floats)
 
 
 class Sources(unittest.TestCase):
@@ -223,11 +241,12 @@ class Walk(unittest.TestCase):
     @classmethod
     def setUpClass(cls):
         options = Options()
-        for option in ("--headless=new", "--no-sandbox", "--disable-gpu", "--hide-scrollbars", "--disable-dev-shm-usage"):
+        for option in ("--headless=new", "--no-sandbox", "--disable-gpu", "--hide-scrollbars", "--disable-dev-shm-usage", "--disable-ipc-flooding-protection"):
             options.add_argument(option)
         options.set_capability("goog:loggingPrefs", {"browser": "ALL"})
         cls.driver = webdriver.Chrome(service=Service("chromedriver"), options=options)
         cls.driver.set_window_size(1280, 1500)
+        cls.driver.set_script_timeout(600)
         cls.addClassCleanup(cls.driver.quit)
 
     def setUp(self):
@@ -251,7 +270,7 @@ class Walk(unittest.TestCase):
             yield link
 
     def wait(self, condition):
-        WebDriverWait(self.driver, 8, 0.02).until(lambda _: condition())
+        WebDriverWait(self.driver, 60, 0.02).until(lambda _: condition())
 
     def run_script(self, script, *arguments):
         return self.driver.execute_script(script, *arguments)
@@ -312,6 +331,8 @@ class Walk(unittest.TestCase):
         parts = [re.sub(names, rf"\1_{index}", code) for index, code in enumerate(codes)]
         show = [("show(make_forms_{0}, &FORMS_{0}, read_number_{0}, test_numbers_{0});" if "make" in it else "print(WORD_{0}.low, WORD_{0}.high); puts(\"\");") for it in codes]
         calls = " ".join(call.format(index) for index, call in enumerate(show))
+        names = set(re.findall(r"\bpeltzivar_\w+", "".join(codes)))
+        self.assertLessEqual(names, set(re.findall(r"\bpeltzivar_\w+", (TOP / "c/peltzivar.h").read_text())))
         (folder / "main.c").write_text("".join([*parts, C, f"int main(void) {{ {calls} }}\n"]))
         run("cc", "-Wall", "-Wextra", "-Werror", "-I", TOP / "c", "-o", folder / "main", folder / "main.c", BUILD / "release/libpeltzivar_c.a")
         return run(folder / "main", cwd=folder)
@@ -365,8 +386,9 @@ class Walk(unittest.TestCase):
             self.assertEqual(self.value(), "0x0000100078000000000000000000000C")
         self.type("#point", "9" + Keys.TAB)
         self.assertEqual(self.value("#point"), "TAB")
-        self.type("#point", "lf" + Keys.TAB)
-        self.assertEqual(self.run_script("return page.form.point"), 10)
+        for byte, name in {9: "TAB", 10: "LF", 11: "VT", 12: "FF", 13: "CR", 32: "SPACE"}.items():
+            self.type("#point", name.lower() + Keys.TAB)
+            self.assertEqual((self.run_script("return page.form.point"), self.value("#point")), (byte, name))
         self.load("#word=0x0A0A0A000000002C000000000000000C&point=44&numbers=1,5")
         self.assertEqual((self.text("#verdict"), self.text("#count")), ("Valid format", "1 of 1 as expected"))
         self.assertIn("Numbers are read, since no flag allows the separator, but is_valid_options_punctuation refuses this", self.text("#notes"))
@@ -467,7 +489,7 @@ class Walk(unittest.TestCase):
         self.assertEqual(self.text("#count"), "3 of 4 as expected")
         self.click("#no_special")
         self.assertEqual((self.value("#language"), self.text("#count")), ("", "3 of 4 as expected"))
-        self.assertIn("The format is not that of Rust any more", self.text("#told"))
+        self.assertEqual(self.text("#told"), "The format is not that of Rust any more. Undo brings it back.")
         self.click("#undo")
         self.assertEqual((self.value("#language"), self.text("#told")), ("RUST", ""))
 
@@ -492,12 +514,16 @@ class Walk(unittest.TestCase):
                     if (button.textContent.startsWith("try")) return [];
                     const [then, counted] = button.parentElement.childNodes[1].textContent.replace(/^then /, "").split("; ");
                     const isAdded = button.previousSibling;
+                    const label = (isAdded ? button.parentElement.firstChild : button).textContent;
+                    const from = forms[page.trial.answers[0].form];
                     button.click();
+                    const changes = page.library.differences(page.form, from).map((it) => it.text);
+                    const isNamed = label === `set ${changes.toSorted((a, b) => label.indexOf(a) - label.indexOf(b)).join(", ")}${forms.length > 1 ? ` in ${from.name}` : ""}`;
                     const kept = forms.filter((form, at) => isSame([form], [page.state.forms[at]])).length;
                     const isAsTold = isAdded || (find("count").textContent === counted && find("read").querySelector("p").textContent === then);
                     const isRight = kept === forms.length - !isAdded && page.state.forms.length === forms.length + Boolean(isAdded);
                     const isShown = !forms[page.state.at] || !isSame([forms[page.state.at]], [page.form]);
-                    return isAsTold && isRight && isShown && page.trial.answers[0].isExpected ? [] : [[name, text, button.textContent, then, kept]];
+                    return isNamed && isAsTold && isRight && isShown && page.trial.answers[0].isExpected ? [] : [[name, text, label, then, kept]];
                 });
             }));""")
         self.assertEqual(wrong, [])
@@ -635,7 +661,7 @@ class Walk(unittest.TestCase):
                 page.jump({ forms: [form], at: 0, language: "", numbers: numbers.join("\\n") });
                 return [...find("read").querySelectorAll(".use")].map((it) => it.textContent);
             };
-            return library.conditions.filter((it) => it.isNumber).flatMap(({ name, limits: [least, most] }) => {
+            return library.conditions.filter((it) => it.isNumber && !it.isKind).flatMap(({ name, limits: [least, most] }) => {
                 const [kind, text] = Object.entries(texts).find(([it]) => name.startsWith(it));
                 const [others, last] = kind === "higher" ? ["integer_group_size=3", 3] : ["", 0];
                 const sizes = Array.from({ length: most - least + 1 }, (_, it) => it + least).filter((it) => it !== last);
@@ -661,6 +687,7 @@ class Walk(unittest.TestCase):
         self.click("#verdict")
         self.assertEqual(self.focused(), "report-title")
         self.assertEqual(self.texts(".reason strong"), ["the base prefix 'b' is a digit in radix 16"])
+        self.assertEqual(self.texts(".reason .key"), ["To blame", "Ends it"])
         self.click(".reason .link", "base_prefix")
         self.assertEqual(self.focused(), "base_prefix")
         self.assertEqual(self.texts(".reason .use"), ["base_prefix=none", "mantissa_radix=10"])
@@ -743,6 +770,9 @@ class Walk(unittest.TestCase):
         self.type("#base_prefix", "xyz")
         self.click("#copy-link")
         self.assertEqual(self.run_script(place), before)
+        self.wait(lambda: self.text("#told"))
+        self.assertTrue(self.run_script("""const { left, top, width, height } = find("told").getBoundingClientRect();
+            return document.elementFromPoint(left + width / 2, top + height / 2) === find("told");"""))
 
     def test_languages_bring_options_and_numbers_as_expected(self):
         for name in self.run_script("return page.data.languages.map(({ name }) => name)"):
@@ -793,6 +823,13 @@ class Walk(unittest.TestCase):
                 return find(name).value !== value;
             }).map((it) => it.value));""")
         self.assertEqual(lost, [])
+        names = self.run_script("return page.data.languages.map(({ name, about, forms }) => [name, about, forms.map((it) => it.name)])")
+        wanted = [value for name, _, forms in names for value in [name, *([f"{name}:{it}" for it in forms] if len(forms) > 1 else [])]]
+        for select, own in (("language", [""]), ("compare", ["", "standard"]), ("add", ["", "copy", "standard"])):
+            options = dict(self.run_script("return [...find(arguments[0]).options].map((it) => [it.value, it.textContent])", select))
+            self.assertEqual([*options], own + [it for it in wanted if select != "language" or ":" not in it])
+            self.assertEqual([it for it in wanted if ":" in it and options.get(it, it.replace(":", ": ")) != it.replace(":", ": ")], [])
+            self.assertEqual([name for name, about, _ in names if not (len(options[name]) > 3 and about.startswith(options[name]))], [])
 
     def test_what_a_link_has_in_vain_is_told(self):
         wrong = ["word=nonsense", "exponent=300", "point=", "language=NONE", "compare=NONE", "tab=none", "conditions=no_such=1",
@@ -840,12 +877,20 @@ class Walk(unittest.TestCase):
     def test_what_has_the_focus_has_an_outline(self):
         self.find("body").send_keys(Keys.TAB)
         self.assertEqual(self.run_script(BARE), [])
+        self.load("#language=C&numbers=1%0A08")
+        self.run_script("window.seen = new Set(); document.addEventListener('focusin', ({ target }) => seen.add(target))")
+        controls = """return [...document.querySelectorAll("button, input, select, textarea, summary, pre")]
+            .filter((it) => it.checkVisibility() && !it.disabled && it.getAttribute("aria-selected") !== "false")"""
+        ActionChains(self.driver, 0).send_keys(Keys.TAB * (len(self.run_script(controls)) + 9)).perform()
+        self.assertEqual(self.run_script(f"{controls}.filter((it) => !seen.has(it)).map((it) => it.outerHTML)"), [])
 
     def test_numbers_are_tried(self):
         self.load("#word=0x00000A000000005F000000020000000C")
         self.type("#literal", "-0.1_2e-5\n-1_000\n1\u00e95\n!1\n!.x")
         self.assertEqual(self.texts("#read > li:first-child .written span"), ["-", "0", ".", "1", "_", "2", "e", "-", "5"])
         self.assertEqual(self.find("#read .separator").get_attribute("data-field"), "digit_separator")
+        self.assertEqual(self.run_script("return [...document.querySelectorAll('#read > li:first-child .written span')].map((it) => it.title).join()"),
+            "sign,integer,point,fraction,digit separator,fraction,exponent character,exponent sign,exponent")
         self.assertEqual(self.texts("#read > li:nth-child(2) .written"), ["-1_000"])
         self.assertEqual(self.texts("#read > li:nth-child(2) .written span"), ["-", "1"])
         self.assertEqual(self.texts("#read mark"), ["_", "\u00e9", "x"])
@@ -913,9 +958,11 @@ class Walk(unittest.TestCase):
     def test_what_differs_is_marked_and_the_code_stays_beside_the_settings(self):
         for link in self.links():
             wrong = self.run_script("""const names = page.library.differences(page.form).map(({ name }) => name);
-                return [...document.querySelectorAll("#controls .control")].filter((it) => it.matches(".changed") !== names.includes(it.dataset.field))
-                    .map((it) => it.dataset.field);""")
-            self.assertEqual(wrong, [], link)
+                const blamed = page.shown.problems.flatMap(({ fields }) => fields);
+                return [...document.querySelectorAll("#controls .control")].filter(({ dataset: { field }, classList }) => {
+                    return classList.contains("changed") !== names.includes(field) || classList.contains("blamed") !== blamed.includes(field);
+                }).map((it) => it.dataset.field);""")
+            self.assertEqual((wrong, self.texts(".reason strong")[:1] or [self.text("#first-error")]), ([], [self.text("#first-error")]), link)
         self.emulate(1280, 720, False)
         self.load(f"#word={MIXED}")
         top = self.run_script("find('conditions').scrollIntoView(); return find('code').getBoundingClientRect().top")
@@ -944,21 +991,21 @@ class Walk(unittest.TestCase):
 
     def test_languages_are_those_that_read_a_number(self):
         wrong = self.run_script("""const { library, data: { languages } } = page;
-            const texts = [...new Set(languages.flatMap((it) => it.numbers.replaceAll("!", "").split("\\n")))];
+            const texts = [...new Set([...arguments[0], ...languages.flatMap((it) => it.numbers.replaceAll("!", "").split("\\n"))])];
             const found = library.readers(texts.join("\\n"));
             return languages.flatMap((list, language) => library.numbers(list, texts.join("\\n")).map((answer, index) => {
                 const reader = found[index].find((it) => it.language === language);
                 const told = (it) => (it ? `${it.form} ${valueText(it)}` : "refused");
                 const there = told(answer.error ? undefined : answer);
                 return told(reader) === there ? [] : [list.name, texts[index], told(reader), there];
-            }).filter((it) => it.length));""")
-        # Forms that can be changed have no kind: their values are the numbers as they are written.
-        kinds = ["FORTRAN", "JAVA", "JULIA", "LUA", "NASM", "OCAML"]
-        same = [it for it in wrong if it[0] in kinds and it[2].split()[0] == it[3].split()[0]]
-        self.assertEqual([it for it in wrong if "undefined" not in it[2] and it not in same], [])
+            }).filter((it) => it.length));""", TEXTS)
+        self.assertEqual([it for it in wrong if "undefined" not in it[2]], [])
 
     def test_languages_are_shown_below_each_number(self):
         self.load("#numbers=0x1F%0A1_0%0A!010")
+        self.wait(lambda: [it[:7] for it in self.texts(".readers > summary")] == 3 * ["Read by"])
+        self.assertEqual(self.run_script("page.change({ numbers: ['1'.repeat(200), '1'.repeat(201)].join('\\n') }); return document.querySelectorAll('.readers').length"), 1)
+        self.click("#undo")
         self.wait(lambda: [it[:7] for it in self.texts(".readers > summary")] == 3 * ["Read by"])
         for row in self.driver.find_elements(By.CSS_SELECTOR, ".readers"):
             stars = ["all" in it.get_attribute("class") for it in row.find_elements(By.CSS_SELECTOR, "button")]
@@ -971,7 +1018,8 @@ class Walk(unittest.TestCase):
     def test_each_language_is_below_what_it_reads(self):
         """Each is behind its value and its form, and leads to that form. Those with a star read all, and are counted."""
         wrong = self.run_script("""const { languages } = page.data;
-            const numbers = ["010", "0x1F", "1_0", "NaN", "1e5"];
+            return ["010", "0x1F", "1_0", "NaN", "1e5", "-5", "2147483648", "0xffffffff", "9223372036854775808"].flatMap((first) => {
+            const numbers = ["1", first];
             page.change({ numbers: numbers.join("\\n") });
             const nodes = [...document.querySelectorAll(".readers")];
             page.trial.showReaders(nodes);
@@ -984,19 +1032,28 @@ class Walk(unittest.TestCase):
                 const reads = (list, text) => page.library.numbers(list, text)[0];
                 const told = languages.map((list) => [list, reads(list, numbers[index])]).filter(([, it]) => !it.error).map(([list, it]) => {
                     const form = it.parts.some(({ kind }) => kind === "special") ? "special value" : list.forms[it.form].name;
-                    return `${valueText(it)}, ${form}: ${list.short} ${numbers.every((text) => !reads(list, text).error)}`;
+                    const hasAll = numbers.map((text) => reads(list, text)).every(({ error, refused }) => !error && !refused);
+                    return `${it.refused ? "refused, " : ""}${valueText(it)}, ${form}: ${list.short} ${hasAll}`;
                 });
-                const count = `Read by ${told.length || "none"} of ${languages.length} languages`;
+                const [readers, stars] = [/^(?!refused)/, /true$/].map((it) => told.filter((line) => it.test(line)).length);
+                const marks = stars ? `; ${stars} with a star read all` : "";
+                const count = `Read by ${readers || "none"} of ${languages.length} languages${marks}`;
                 return [...shown.filter((it) => !told.includes(it)), ...told.filter((it) => !shown.includes(it)),
-                    ...(node.firstChild.textContent.startsWith(count) ? [] : [count])];
-            });""")
+                    ...(node.firstChild.textContent === count ? [] : [count])];
+            }); });""")
         self.assertEqual(wrong, [])
 
     def test_what_no_format_has_is_replaced(self):
-        rows = {"1\u2019000": "1'000", "1\u00a0000": "1 000", "1\u202f000": "1 000", "\u22125": "-5", "12 %": "12", "\u20ac5": "5",
-                "1u8": "1", "0x1Fu8": "0x1F", "3kg": "3", "10L": "10", "1.5f": "1.5"}
+        rows = {"1\u2019000": "1'000", "1\u02bc000": "1'000", "1\u00a0000": "1 000", "1\u202f000": "1 000", "\u22125": "-5", "\u20135": "-5",
+                "12 %": "12", "\u20ac5": "5", "$12": "12", "5 \u00a3": "5", "1u8": "1", "0x1Fu8": "0x1F", "3kg": "3", "10L": "10", "1.5f": "1.5"}
+        told = {"[\u2019\u02bc]": "an apostrophe that no format has: replace it by '", "[\u00a0\u202f]": "a space that no format has: replace it by the space of ASCII",
+                "[\u2013\u2212]": "a minus sign that no format has: replace it by -", "%": "a percent sign: divide the value by 100, and remove it",
+                "[\u20ac$\u00a3]": "a currency sign: remove it", "[a-zL]\\d*$": "can be a suffix, which read_prefix leaves: remove it"}
         for text, wanted in rows.items():
             self.run_script("page.jump({ ...page.library.usual, numbers: arguments[0] })", text)
+            words = next(words for pattern, words in told.items() if re.search(pattern, text))
+            shown = self.run_script("return [...find('read').querySelectorAll('li li')].at(-1).firstChild.textContent")
+            self.assertRegex(shown, rf"^\S+ (is )?{re.escape(words)} before the number is read\.$")
             self.click("#read .use", f"try {wanted}")
             self.assertEqual(self.value("#literal"), wanted)
         for text in ("0x1F", "0x1.8p3", "FF", "Infinity", "nAn", "1D3", "0o17", "1_000", "1,5"):
@@ -1020,7 +1077,13 @@ class Walk(unittest.TestCase):
                 page.jump({ forms, at: 0, language: name, numbers: "" });
                 const expression = new RegExp(`^(?:${code("regex")})$`);
                 const answers = page.library.numbers({ forms, specials: ["", "", ""] }, texts.join("\\n"));
-                const lost = forms.filter((form) => !code("grammar").includes(page.library.explain(form).grammar));
+                const isNamed = (form) => forms.length === 1 || code("grammar").includes(`/* ${form.name} */\\n${page.library.explain(form).grammar}`);
+                const isTold = (form, at) => {
+                    page.jump({ at });
+                    const sentence = page.library.explain(form).sentence.replaceAll("`", "");
+                    return find("sentence").textContent === `Numbers${forms.length > 1 ? " of this form" : ""} are ${sentence}.`;
+                };
+                const lost = forms.filter((form, at) => !isNamed(form) || !isTold(form, at) || !code("grammar").includes(page.library.explain(form).grammar));
                 const others = texts.filter((text, index) => expression.test(text) === Boolean(answers[index].error));
                 return [...lost.map((it) => it.name), ...others].map((it) => `${name} ${it}`);
             });""")
@@ -1033,6 +1096,9 @@ class Walk(unittest.TestCase):
         self.assertEqual(wrong, [])
 
     def test_parts_differ_by_more_than_colour(self):
+        legend = {"sign": "sign", "prefix, suffix": "base", "digits": "digits", "separator": "separator", "point": "option",
+                  "exponent": "exponent", "NaN, infinity": "special"}
+        self.assertEqual(dict(self.run_script("return [...document.querySelectorAll('#legend span')].map((it) => [it.textContent, it.className])")), legend)
         for style in ("[it.textDecorationStyle, it.textDecorationLine].join()", "it.color"):
             styles = self.run_script(f"return [...document.querySelectorAll('#legend span')].map((it) => getComputedStyle(it)).map((it) => {style})")
             self.assertEqual(len(set(styles)), len(styles))
@@ -1060,6 +1126,232 @@ class Walk(unittest.TestCase):
         self.assertEqual(self.run_script(requests), [])
         policy = self.find("meta[http-equiv=Content-Security-Policy]").get_attribute("content")
         self.assertTrue(policy.startswith("default-src 'none'; script-src 'sha256-"), policy)
+
+    def test_comparisons_find_what_tells_two_languages_apart(self):
+        """Each pair of languages is told apart by texts like those that do: of each spelling of special values, and of octal.
+
+        The texts that are told are those that one of the languages reads, and the other refuses or gives another value."""
+        wrong = self.run_script("""const { library, data: { languages } } = page;
+            const tried = [...new Set([...arguments[0], ...languages.flatMap((it) => [...it.specials, ...it.numbers.replaceAll("!", "").split("\\n")])])];
+            const readings = (texts) => library.readers(texts.join("\\n")).map((all) => new Map(all.map((it) => [it.language, valueText(it)])));
+            const pairs = languages.flatMap((here, first) => languages.slice(first + 1).map((there, next) => [first, first + next + 1]));
+            const listed = pairs.map(([here, there]) => library.differ(languages[here], languages[there]));
+            const texts = [...new Set([...tried.filter(Boolean), ...listed.flat(2).map(({ text }) => text)])];
+            const read = new Map(readings(texts).map((all, index) => [texts[index], all]));
+            return pairs.flatMap((pair, index) => listed[index].flatMap((list, part) => {
+                const [here, there] = part === 1 ? pair.toReversed() : pair;
+                const values = (text) => [here, there].map((it) => read.get(text).get(it));
+                const differs = (text) => {
+                    const [one, other] = values(text);
+                    const isRefused = [one, other].every((it) => it?.includes(" its form") ?? true);
+                    return one !== undefined && (part < 2 ? other === undefined : other !== undefined && one !== other && !isRefused);
+                };
+                const told = list.map(({ text }) => text);
+                const isTold = (text) => told.some((it) => it.replace(/^[+-]/, "").toLowerCase() === text.toLowerCase());
+                const needed = part < 2 ? languages[here].specials : ["010"];
+                const isKnown = (it) => (part < 2 ? it.error : valueText(it.here) === values(it.text)[0] && valueText(it.there) === values(it.text)[1]);
+                return [...told.filter((it) => !differs(it)), ...list.filter((it) => !isKnown(it)).map(({ text }) => text),
+                    ...needed.filter((it) => it && differs(it) && !isTold(it)), ...(list.length ? [] : texts.filter(differs).slice(0, 1))]
+                    .map((text) => `${languages[here].name} ${languages[there].name} ${part} ${text} ${values(text)}`);
+            }));""", TEXTS)
+        self.assertEqual(wrong, [])
+
+    def test_prefixes_of_other_languages_are_told_as_format_tells_them(self):
+        cannot, texts, instead = [it.strip() for it in re.search(r"^\| (have a prefix.*) \|$", (TOP / "docs/FORMAT.md").read_text(), re.M)[1].split(" | ")]
+        for text in [*re.findall("`([^`]*)`", texts), "-$FF", "$1F", "$dead_beef"]:
+            self.run_script("page.jump({ ...page.library.usual, numbers: arguments[0] })", text)
+            told = f"In {text}: a format cannot {cannot.replace('`', '')}. Instead, {instead}.\nWhat a format cannot express"
+            self.assertEqual((self.texts("#read li li"), self.find("#limits").get_property("open")), ([told], False))
+            self.click("#read li li button")
+            self.assertEqual((self.value("#literal"), self.run_script("return document.activeElement.textContent")), (text, "What a format cannot express"))
+            self.assertIn(instead, self.text("#limits"))
+            self.run_script("find('limits').open = false")
+
+    def test_a_minus_that_is_an_operator_is_told(self):
+        """No number of a language that refuses `-5` has a sign."""
+        for language, short, is_read in self.run_script("""return page.library.readers("-5").flatMap((all) => page.data.languages
+                .map(({ name, short }, index) => [name, short, all.some((it) => it.language === index)]));"""):
+            for text in ("-5", "5"):
+                self.run_script("page.jump({ numbers: '' }); page.start(arguments[0]); page.change({ numbers: arguments[1] })", language, text)
+                told = [it for it in self.texts("#read li li") if "operator" in it]
+                self.assertEqual(told, [f"In {short}, - is an operator, so that numbers have no sign."] if text == "-5" and not is_read else [])
+
+    def test_each_tab_shows_its_code(self):
+        """By its button and by keys, in both directions. The link has it, and the code is that of the tab."""
+        heads = {"rust": "use peltzivar::", "c": '#include "peltzivar.h"', "python": "from peltzivar import", "settings": f"# {MIXED}",
+                 "grammar": "Literal  ::=", "regex": "[+-]?"}
+        self.load(f"#word={MIXED}&exponent=112&point=44")
+        self.assertEqual(self.texts("[role=tab]"), ["Rust", "C", "Python", "Settings", "Grammar", "Regex"])
+        for step in (lambda name: self.click(f"#tab-{name}"), lambda _: self.find("[aria-selected=true]").send_keys(Keys.ARROW_RIGHT)):
+            for name in [*heads][1:] + [*heads][:1]:
+                step(name)
+                shown = self.run_script("return [page.tab, find('code').getAttribute('aria-labelledby'), new URLSearchParams(page.fragment()).get('tab') ?? 'rust']")
+                self.assertEqual((shown, self.text("[aria-selected=true]")), ([name, f"tab-{name}", name], self.text(f"#tab-{name}")))
+                self.assertIn(heads[name], self.text("#code"))
+                self.assertEqual(self.run_script("return [...document.querySelectorAll('[role=tab]')].filter((it) => it.tabIndex === 0).map((it) => it.id)"), [f"tab-{name}"])
+                for button, copied in (("#copy-code", self.run_script("return find('code').textContent")), ("#copy-word", MIXED)):
+                    self.run_script("navigator.clipboard.writeText = async (text) => { window.copied = text; }")
+                    self.click(button)
+                    self.assertEqual(self.run_script("return window.copied"), copied)
+        for name in [*heads][::-1] + [*heads][-1:]:
+            self.find("[aria-selected=true]").send_keys(Keys.ARROW_LEFT)
+            self.assertEqual(self.run_script("return [page.tab, document.activeElement.id]"), [name, f"tab-{name}"])
+
+    def test_each_choice_lands_in_the_state_the_link_and_the_code(self):
+        """Each value of each control that the library takes can be chosen, and no other one. It changes nothing else."""
+        wrong = self.run_script("""const { library } = page;
+            const settings = ["digit_separator_flags=true", "digit_separator='_'", "base_prefix='x'", "base_suffix='h'", "radix=16"];
+            const word = library.build(settings.slice(0, -1)).word;
+            const state = () => JSON.stringify([page.form, page.state.forms.length], (_, it) => (typeof it === "bigint" ? String(it) : it));
+            const code = (tab) => (page.chooseTab(tab), find("code").textContent);
+            const kinds = { at_most: ["AtMost", "AT_MOST", "at_most"], wraps: ["Wraps", "WRAP", "wraps"], wraps_modulo: ["WrapsModulo", "WRAP_MODULO", "modulo=True, wraps"] };
+            const inCode = (field, value, text) => (field.isKind && field.isNumber ? [`::${kinds[field.name][0]}(${value})`,
+                `_${kinds[field.name][1]}, .integer_bits = ${value}}`, `(${kinds[field.name][2]}=${value})`] : field.isKind ? ["::Single", "FLOATS_SINGLE", "single=True"]
+                : [OPTIONS.includes(field) ? `'${String.fromCharCode(value)}'` : `.${field.name}(`, `"${text}`, `"${text}"`]);
+            const start = (name) => page.jump({ forms: [{ ...library.usual, word, conditions: library.withConditions(0n, name === "higher_group_size" ? "integer_group_size=3" : "") }], at: 0, language: "", numbers: "" });
+            return [...library.fields, ...OPTIONS, ...library.conditions].flatMap((field) => {
+                start(field.name);
+                const [form, control] = [page.form, find(field.name)];
+                const isTaken = (it) => !library.explain(library.with(form, field.name, it)).problems.some(({ fields }) => fields.includes(field.name));
+                const numbers = Array.from({ length: 99 }, (_, it) => it);
+                const [usual, isTyped] = [library.value(form, field), control.matches("input:not([type])")];
+                const wanted = field.isKind && field.isNumber ? numbers.slice(0, 65) : numbers.filter((it) => it === 0 || isTaken(it));
+                const shown = [...(control.options ?? [])].map(({ value }) => Number(value));
+                const values = isTyped ? (field.isNumber ? [2, 4, 8, 16, 32, 36] : [33, 59, 126]) : control.options ? wanted : [1 - usual, usual];
+                const lost = control.options && String(shown) !== String(wanted) ? [`${field.name}: ${shown}`] : [];
+                return [...lost, ...values.flatMap((value) => {
+                    start(field.name);
+                    control.focus();
+                    if (isTyped) control.value = field.isNumber ? value : String.fromCharCode(value);
+                    else if (control.options) control.value = value;
+                    if (isTyped || control.options) control.dispatchEvent(new Event(isTyped ? "input" : "change"));
+                    else for (let times = value === usual ? 2 : 1; times; times -= 1) control.click();
+                    const before = state();
+                    const [text, changed] = [library.setting(field, value), library.differences(page.form, form).map((it) => it.text)];
+                    const wrong = String(changed) === (value === usual ? "" : text) ? [] : [changed];
+                    history.replaceState(null, "", page.fragment());
+                    page.read();
+                    const isUsual = value === library.value(library.usual, field);
+                    const told = ["settings", "rust", "c", "python"].map(code);
+                    const codes = [`\\n${text}\\n`, ...(page.shown.problems.length || isUsual ? [] : inCode(field, value, text))];
+                    const missing = codes.filter((it, index) => told[index].includes(it) !== !isUsual);
+                    return [...wrong, ...(state() === before ? [] : ["link"]), ...missing].map((it) => `${text}: ${it}`);
+                })];
+            });""")
+        self.assertEqual(wrong, [])
+
+    def test_settings_are_those_of_the_form(self):
+        """What the tab of settings shows makes the same form, in place of the usual one and of one in which all differs."""
+        wrong = self.run_script("""const { library, data: { languages } } = page;
+            const usual = library.usual;
+            const shown = arguments[0].map(([word, exponent, point]) => ({ ...usual, word: BigInt(word), exponent, point }));
+            const each = library.conditions.flatMap((it) => (it.limits ?? [1]).map((value) => library.with(shown.at(-1), it.name, value)));
+            const other = { ...shown.at(-1), conditions: library.withConditions(0n, "integer_group_size=3 required_base_prefix=true wraps=8 single=true") };
+            const text = ({ word, exponent, point, conditions }) => `${word} ${exponent} ${point} ${conditions}`;
+            return [usual, ...shown, ...each, ...languages.flatMap(({ forms }) => forms)].flatMap((form) => [usual, other].flatMap((before) => {
+                page.jump({ forms: [form], at: 0, language: "", numbers: "" });
+                page.chooseTab("settings");
+                const settings = find("code").textContent;
+                const nearest = /nearest one, (0x\\w+)/.exec(settings)?.[1] ?? form.word;
+                page.jump({ forms: [before] });
+                const clipboardData = new DataTransfer();
+                clipboardData.setData("text", settings);
+                find("word").dispatchEvent(new ClipboardEvent("paste", { clipboardData, cancelable: true }));
+                return text(page.form) === text({ ...form, word: BigInt(nearest) }) ? [] : [settings];
+            }));""", [(word, ord(exponent), ord(point)) for word, exponent, point in STATES])
+        self.assertEqual(wrong, [])
+
+    def test_the_code_can_be_scrolled_to_its_end(self):
+        """With a wheel, at the sizes of a laptop and of a phone, the end of each line and the last line come into view."""
+        end = """const range = document.createRange();
+            range.selectNodeContents(find("code"));
+            const [text, box] = [range.getBoundingClientRect(), find("code").getBoundingClientRect()];
+            const at = document.elementFromPoint(box.left + 9, text.bottom - 3);
+            return text.bottom <= innerHeight && text.right <= Math.min(box.right, innerWidth) && at === find("code");"""
+        for width, height in ((1280, 720), (360, 700)):
+            self.emulate(width, height, width < 1000)
+            for tab in ("rust", "c", "python", "settings", "grammar", "regex"):
+                self.load(f"#language=NASM&tab={tab}&numbers=")
+                self.run_script("find('code').scrollIntoView({ block: 'start' })")
+                for _ in range(6):
+                    if is_seen := self.run_script(end):
+                        break
+                    x, y = self.run_script("const { left, top } = find('code').getBoundingClientRect(); return [left + 20, top + 9]")
+                    place = {"x": x, "y": min(max(y, 60), height - 60), "xDistance": -20000, "yDistance": -20000, "speed": 900000}
+                    self.driver.execute_cdp_cmd("Input.synthesizeScrollGesture", {**place, "gestureSourceType": "mouse"})
+                self.assertTrue(is_seen, (width, tab))
+
+    def test_nothing_is_cut_off(self):
+        """What is beyond a box can be scrolled to: the box scrolls, or nothing is beyond it. What stays in view fits the screen."""
+        cut = """const clips = (it) => ["hidden", "clip"].includes(getComputedStyle(it).overflowY) || (getComputedStyle(it).contain !== "none" && getComputedStyle(it).overflowY === "visible");
+            const all = [...document.querySelectorAll("body *")].filter((it) => it.checkVisibility() && !it.closest("option, .skips"));
+            const inside = (it) => (it.parentElement ? [it.parentElement, ...inside(it.parentElement)] : []);
+            const beyond = (it, box) => it.getBoundingClientRect().bottom > box.getBoundingClientRect().bottom + 1;
+            const stays = all.filter((it) => ["sticky", "fixed"].includes(getComputedStyle(it).position) && it.getBoundingClientRect().height > innerHeight);
+            return [...stays, ...all.filter((it) => {
+                const scrolls = inside(it).findIndex((box) => ["auto", "scroll"].includes(getComputedStyle(box).overflowY));
+                return inside(it).slice(0, scrolls < 0 ? undefined : scrolls).some((box) => clips(box) && beyond(it, box));
+            })].map((it) => it.outerHTML.slice(0, 99));"""
+        for width, height in ((1280, 720), (360, 700)):
+            self.emulate(width, height, width < 1000)
+            for link in self.links():
+                self.assertEqual(self.run_script(cut), [], (width, link))
+
+    def test_the_page_shows_what_the_sources_document(self):
+        """Each language with what LANGUAGES tells and the numbers of the tests, each flag with the texts of FORMAT, and its limits."""
+        pages = {name: (TOP / f"docs/{name}.md").read_text().replace("`", "") for name in ("LANGUAGES", "FORMAT")}
+        rows = [it.split() for it in (TOP / "rust/tests/literals.txt").read_text().splitlines() if it[:1].isalpha()]
+        for name in re.findall(r"^## (\w+)$", pages["LANGUAGES"], re.M):
+            self.run_script("page.jump({ numbers: '' }); page.start(arguments[0])", name)
+            about, forms = re.search(rf"^## {name}\n\n(.*?)\n\n(?:Compared.*?)?\|[^\n]*\n[^\n]*\n(.*?)(?:\n\n|\Z)", pages["LANGUAGES"], re.M | re.S).groups()
+            self.assertEqual(self.run_script("return find('about').textContent"), " ".join(about.split()))
+            numbers = [("!" if mark == "-" else "") + text for language, mark, text, *_ in rows if language == name and mark in "+-"]
+            short = re.match(r"(\S+?)'s |", about)[1]
+            first = short and re.search(rf"^## (\w+)\n\n{re.escape(short)}'s ", pages["LANGUAGES"], re.M)[1]
+            self.assertEqual(self.run_script("return page.data.languages.find((it) => it.name === arguments[0]).short", name), short if first == name else name)
+            for tab, reader in (("rust", f"Language::{name}."), ("c", f" peltzivar_language_{name.lower()}()."), ("python", f"languages.{name}.")):
+                self.assertIn(reader, self.run_script("page.chooseTab(arguments[0]); return find('code').textContent", tab))
+            shown = self.run_script("return page.state.forms.map(({ name }) => name)")
+            self.assertEqual((self.value("#literal").split("\n"), shown), (numbers, re.findall(r"^\| ([^|]*) \|(?!.*required \|$)", forms, re.M)))
+        told = "const it = find(arguments[0]); const box = it.closest('td, th, .control'); return `${it.ariaLabel} ${box.textContent}`.replaceAll('`', '')"
+        flags = re.findall(r"^\| (\d+) \| (\w+) \| \w+ \|[^|]*\|[^|]*\| ([^|]*) \| ([^|]*) \|$", pages["FORMAT"], re.M)
+        self.assertEqual(len({bit for bit, *_ in flags}), self.run_script("return page.library.flags.length"))
+        for bit, name, accepted, refused in flags:
+            self.assertEqual(self.run_script("return String(page.library.named.get(arguments[0]).mask)", name), str(1 << int(bit)))
+            accepted, refused = (", ".join(it.split()) for it in (accepted, refused))
+            self.assertEqual(self.run_script("return find(arguments[0]).closest('td')?.textContent ?? arguments[1]", name, accepted.split(", ")[0]), accepted.split(", ")[0])
+            self.assertIn(f"accepts {accepted}" if "separator" in name else f"refuses {refused}, accepts {accepted}", self.run_script(told, name))
+        for name, meaning in re.findall(r"^\| \d+ to \d+ \| (\w+) \| \d+ \| (.*) \|$", pages["FORMAT"], re.M):
+            self.assertIn(meaning, self.run_script(told, name))
+        sources = " ".join(" ".join((TOP / f"rust/src/{it}.rs").read_text().replace("///", "").split()) for it in ("format_builder/setters", "literal/conditions"))
+        for name, meaning, refused in self.run_script("const { flags, groups, conditions } = page.library; return [...flags, ...groups, ...conditions]"
+                ".filter((it) => !it.isKind).map((it) => [it.name, it.meaning, it.part === 'option' ? it.refuses : []])"):
+            self.assertTrue(meaning[1:] in sources and meaning.replace("`", "") in self.run_script(told, name), (name, meaning))
+            self.assertEqual([it for it in refused if f"`{it}`" not in sources or it not in self.run_script(told, name)], [])
+        version = re.search('PELTZIVAR_VERSION "(.*)"', (TOP / "c/peltzivar.h").read_text())[1]
+        self.assertIn(f"Peltzivar {version}.", self.text("footer"))
+        limits = re.search(r"## What a format cannot express\n\n(.*?)\n\n", pages["FORMAT"] + "\n\n", re.S)[1]
+        cells = [re.sub(r"\[([^\]]*)\]\([^)]*\)", r"\1", it.strip()) for line in limits.splitlines() for it in line.strip("|").split(" | ") if "---" not in line]
+        self.assertEqual(self.run_script("return [...find('limits').querySelectorAll('th, td')].map((it) => it.textContent)"), cells)
+
+    def test_controls_are_called_by_what_they_do(self):
+        names = {"language": "Language", "compare": "Compare with", "standard": "Standard format", "undo": "Undo", "redo": "Redo",
+                 "copy-link": "Copy link", "form-name": "Name", "earlier": "Move the form before the one on its left", "remove": "Remove",
+                 "later": "Move the form behind the one on its right", "add": "Add a form", "literal": "Numbers, one a line", "clear": "Clear",
+                 "copy-code": "Copy the code", "word": "As one number, the format word", "copy-word": "Copy the word",
+                 "to-numbers": "To the numbers", "to-code": "To the code", "to-controls": "To the settings"}
+        self.load("#language=C")
+        self.assertEqual({it: self.find(f"#{it}").accessible_name for it in names}, names)
+        wrong = self.run_script("""const wrong = [...page.library.fields, ...page.library.groups, ...page.library.conditions].filter(({ name, isByte }) => {
+                const [box, title] = [find(name), name.replace("_", " ")];
+                return isByte ? box.labels[0].textContent !== title : !box.ariaLabel.endsWith(`(${name})`) || !box.closest(`[data-field=${name}]`);
+            });
+            const cells = [...document.querySelectorAll("#separators td input")].filter((it) => {
+                const [row, column] = [it.closest("tr").cells[0], find("separators").rows[0].cells[it.closest("td").cellIndex]];
+                return it.id !== `${row.textContent}_${column.textContent}_digit_separator`;
+            });
+            return [...wrong.map(({ name }) => name), ...cells.map(({ id }) => id)];""")
+        self.assertEqual(wrong, [])
 
 
 if __name__ == "__main__":

@@ -6,7 +6,7 @@ extern crate alloc;
 mod suggest;
 
 use peltzivar::format::DIGIT_SEPARATOR_FLAG_MASK;
-use peltzivar::literal::{Conditions, Language, Specials};
+use peltzivar::literal::{Conditions, Kind, Language, Specials};
 use peltzivar::{Edit, NumberFormatBuilder};
 use suggest::{lines_of, offers, Line, State};
 
@@ -18,7 +18,7 @@ fn state(settings: &str, exponent: u8, point: u8) -> State {
     let edits = settings.replace("hexadecimal", HEXADECIMAL);
     let builder: Result<NumberFormatBuilder, _> = edits.split_whitespace().map(str::parse::<Edit>).collect();
     let word = builder.expect(settings).build_unchecked();
-    State { word, exponent, point, conditions: Conditions::NONE, specials: SPECIALS }
+    State { word, exponent, point, conditions: Conditions::NONE, kind: Kind::EXACT, specials: SPECIALS }
 }
 
 /// Returns what is offered for the first of the lines.
