@@ -508,7 +508,7 @@ PELTZIVAR_MUST_USE bool peltzivar_forms_token(const peltzivar_forms *forms, cons
     peltzivar_token *token, peltzivar_read_error *error);
 
 /* Writes why peltzivar_forms_token refuses a text, as peltzivar_read_error_text does, and behind "unknown suffix" up to six
- * of the suffixes that the form has: "unknown suffix; a suffix is one of f32, f64". Writes an empty string if it returns a
+ * of the suffixes that the form has: "unknown suffix; known are f32, f64". Writes an empty string if it returns a
  * token. The buffer `to` has to_len bytes. */
 size_t peltzivar_token_error_text(
     const peltzivar_forms *forms, const char *text, size_t len, char *to, size_t to_len);

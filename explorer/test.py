@@ -189,7 +189,8 @@ FAINT = """const canvas = document.createElement("canvas").getContext("2d", { wi
         return Math.max(one / other, other / one);
     };
     const lines = (node, style = getComputedStyle(node)) => [
-        ...["Top", "Right", "Bottom", "Left"].filter((it) => !node.matches(rules) && parseFloat(style[`border${it}Width`])).map((it) => style[`border${it}Color`]),
+        ...["Top", "Right", "Bottom", "Left"].filter((it) => !node.matches(rules) && parseFloat(style[`border${it}Width`]))
+            .map((it) => style[`border${it}Color`]),
         ...(parseFloat(style.outlineWidth) && style.outlineStyle !== "none" ? [style.outlineColor] : []),
         ...(node.matches(".dot") ? [style.backgroundColor] : []), ...(style.boxShadow === "none" ? [] : [/^\\w+\\(.*?\\)/.exec(style.boxShadow)[0]])];
     const rules = ".panel, header, .bar, #trial, fieldset, th, td, input[type=checkbox]";
@@ -518,7 +519,8 @@ class Walk(unittest.TestCase):
                     const from = forms[page.trial.answers[0].form];
                     button.click();
                     const changes = page.library.differences(page.form, from).map((it) => it.text);
-                    const isNamed = label === `set ${changes.toSorted((a, b) => label.indexOf(a) - label.indexOf(b)).join(", ")}${forms.length > 1 ? ` in ${from.name}` : ""}`;
+                    const inOrder = changes.toSorted((a, b) => label.indexOf(a) - label.indexOf(b)).join(", ");
+                    const isNamed = label === `set ${inOrder}${forms.length > 1 ? ` in ${from.name}` : ""}`;
                     const kept = forms.filter((form, at) => isSame([form], [page.state.forms[at]])).length;
                     const isAsTold = isAdded || (find("count").textContent === counted && find("read").querySelector("p").textContent === then);
                     const isRight = kept === forms.length - !isAdded && page.state.forms.length === forms.length + Boolean(isAdded);
@@ -925,6 +927,7 @@ class Walk(unittest.TestCase):
         for _ in range(4):
             self.find("#read .use").send_keys(Keys.ENTER)
         self.assertEqual((self.focused(), self.text("#count")), ("literal", "4 of 4 as expected"))
+        self.assertEqual(self.text("#first-error"), "0x1F = 31 \u00b7 0x1_0.8p3 = 132 \u00b7 0x1h = 1")
         self.assertEqual([it.split(":")[-1] for it in self.texts("#read .good")], [
             " integer = 31", " float = 132", " expected a digit of the integer, which required_integer_digits requires", " integer = 1"])
         self.assertEqual(self.value(), "0x0A0210687800005F000000010000000D")
@@ -1004,7 +1007,8 @@ class Walk(unittest.TestCase):
     def test_languages_are_shown_below_each_number(self):
         self.load("#numbers=0x1F%0A1_0%0A!010")
         self.wait(lambda: [it[:7] for it in self.texts(".readers > summary")] == 3 * ["Read by"])
-        self.assertEqual(self.run_script("page.change({ numbers: ['1'.repeat(200), '1'.repeat(201)].join('\\n') }); return document.querySelectorAll('.readers').length"), 1)
+        self.run_script("page.change({ numbers: ['1'.repeat(200), '1'.repeat(201)].join('\\n') })")
+        self.assertEqual(self.run_script("return document.querySelectorAll('.readers').length"), 1)
         self.click("#undo")
         self.wait(lambda: [it[:7] for it in self.texts(".readers > summary")] == 3 * ["Read by"])
         for row in self.driver.find_elements(By.CSS_SELECTOR, ".readers"):
@@ -1157,13 +1161,15 @@ class Walk(unittest.TestCase):
         self.assertEqual(wrong, [])
 
     def test_prefixes_of_other_languages_are_told_as_format_tells_them(self):
-        cannot, texts, instead = [it.strip() for it in re.search(r"^\| (have a prefix.*) \|$", (TOP / "docs/FORMAT.md").read_text(), re.M)[1].split(" | ")]
+        row = re.search(r"^\| (have a prefix.*) \|$", (TOP / "docs/FORMAT.md").read_text(), re.M)[1]
+        cannot, texts, instead = row.split(" | ")
         for text in [*re.findall("`([^`]*)`", texts), "-$FF", "$1F", "$dead_beef"]:
             self.run_script("page.jump({ ...page.library.usual, numbers: arguments[0] })", text)
             told = f"In {text}: a format cannot {cannot.replace('`', '')}. Instead, {instead}.\nWhat a format cannot express"
             self.assertEqual((self.texts("#read li li"), self.find("#limits").get_property("open")), ([told], False))
             self.click("#read li li button")
-            self.assertEqual((self.value("#literal"), self.run_script("return document.activeElement.textContent")), (text, "What a format cannot express"))
+            focused = self.run_script("return document.activeElement.textContent")
+            self.assertEqual((self.value("#literal"), focused), (text, "What a format cannot express"))
             self.assertIn(instead, self.text("#limits"))
             self.run_script("find('limits').open = false")
 
@@ -1185,12 +1191,12 @@ class Walk(unittest.TestCase):
         for step in (lambda name: self.click(f"#tab-{name}"), lambda _: self.find("[aria-selected=true]").send_keys(Keys.ARROW_RIGHT)):
             for name in [*heads][1:] + [*heads][:1]:
                 step(name)
-                shown = self.run_script("return [page.tab, find('code').getAttribute('aria-labelledby'), new URLSearchParams(page.fragment()).get('tab') ?? 'rust']")
-                self.assertEqual((shown, self.text("[aria-selected=true]")), ([name, f"tab-{name}", name], self.text(f"#tab-{name}")))
+                shown = self.run_script("""navigator.clipboard.writeText = async (text) => { window.copied = text; };
+                    const stops = [...document.querySelectorAll("[role=tab]")].filter((it) => it.tabIndex === 0).map((it) => it.id);
+                    return [page.tab, find("code").getAttribute("aria-labelledby"), new URLSearchParams(page.fragment()).get("tab") ?? "rust", ...stops];""")
+                self.assertEqual((shown, self.text("[aria-selected=true]")), ([name, f"tab-{name}", name, f"tab-{name}"], self.text(f"#tab-{name}")))
                 self.assertIn(heads[name], self.text("#code"))
-                self.assertEqual(self.run_script("return [...document.querySelectorAll('[role=tab]')].filter((it) => it.tabIndex === 0).map((it) => it.id)"), [f"tab-{name}"])
                 for button, copied in (("#copy-code", self.run_script("return find('code').textContent")), ("#copy-word", MIXED)):
-                    self.run_script("navigator.clipboard.writeText = async (text) => { window.copied = text; }")
                     self.click(button)
                     self.assertEqual(self.run_script("return window.copied"), copied)
         for name in [*heads][::-1] + [*heads][-1:]:
@@ -1200,42 +1206,50 @@ class Walk(unittest.TestCase):
     def test_each_choice_lands_in_the_state_the_link_and_the_code(self):
         """Each value of each control that the library takes can be chosen, and no other one. It changes nothing else."""
         wrong = self.run_script("""const { library } = page;
-            const settings = ["digit_separator_flags=true", "digit_separator='_'", "base_prefix='x'", "base_suffix='h'", "radix=16"];
-            const word = library.build(settings.slice(0, -1)).word;
-            const state = () => JSON.stringify([page.form, page.state.forms.length], (_, it) => (typeof it === "bigint" ? String(it) : it));
+            const { word } = library.build(["digit_separator_flags=true", "digit_separator='_'", "base_prefix='x'", "base_suffix='h'"]);
+            const json = () => JSON.stringify(page.state.forms, (_, it) => (typeof it === "bigint" ? String(it) : it));
             const code = (tab) => (page.chooseTab(tab), find("code").textContent);
-            const kinds = { at_most: ["AtMost", "AT_MOST", "at_most"], wraps: ["Wraps", "WRAP", "wraps"], wraps_modulo: ["WrapsModulo", "WRAP_MODULO", "modulo=True, wraps"] };
-            const inCode = (field, value, text) => (field.isKind && field.isNumber ? [`::${kinds[field.name][0]}(${value})`,
-                `_${kinds[field.name][1]}, .integer_bits = ${value}}`, `(${kinds[field.name][2]}=${value})`] : field.isKind ? ["::Single", "FLOATS_SINGLE", "single=True"]
-                : [OPTIONS.includes(field) ? `'${String.fromCharCode(value)}'` : `.${field.name}(`, `"${text}`, `"${text}"`]);
-            const start = (name) => page.jump({ forms: [{ ...library.usual, word, conditions: library.withConditions(0n, name === "higher_group_size" ? "integer_group_size=3" : "") }], at: 0, language: "", numbers: "" });
+            const kinds = {
+                at_most: ["::AtMost(%)", "_AT_MOST, .integer_bits = %}", "(at_most=%)"],
+                wraps: ["::Wraps(%)", "_WRAP, .integer_bits = %}", "(wraps=%)"],
+                wraps_modulo: ["::WrapsModulo(%)", "_WRAP_MODULO, .integer_bits = %}", "(modulo=True, wraps=%)"],
+                single: ["::Single", "_FLOATS_SINGLE", "(single=True)"],
+            };
+            const start = (name) => {
+                const conditions = library.withConditions(0n, name === "higher_group_size" ? "integer_group_size=3" : "");
+                page.jump({ forms: [{ ...library.usual, word, conditions }], at: 0, language: "", numbers: "" });
+                return page.form;
+            };
+            const choose = (control, value, isOther) => {
+                control.focus();
+                if (control.type === "checkbox") return isOther ? control.click() : (control.click(), control.click());
+                control.value = value;
+                control.dispatchEvent(new Event(control.options ? "change" : "input"));
+            };
             return [...library.fields, ...OPTIONS, ...library.conditions].flatMap((field) => {
-                start(field.name);
-                const [form, control] = [page.form, find(field.name)];
-                const isTaken = (it) => !library.explain(library.with(form, field.name, it)).problems.some(({ fields }) => fields.includes(field.name));
-                const numbers = Array.from({ length: 99 }, (_, it) => it);
-                const [usual, isTyped] = [library.value(form, field), control.matches("input:not([type])")];
-                const wanted = field.isKind && field.isNumber ? numbers.slice(0, 65) : numbers.filter((it) => it === 0 || isTaken(it));
-                const shown = [...(control.options ?? [])].map(({ value }) => Number(value));
-                const values = isTyped ? (field.isNumber ? [2, 4, 8, 16, 32, 36] : [33, 59, 126]) : control.options ? wanted : [1 - usual, usual];
-                const lost = control.options && String(shown) !== String(wanted) ? [`${field.name}: ${shown}`] : [];
+                const { name, isKind, isNumber } = field;
+                const [form, control] = [start(name), find(name)];
+                const usual = library.value(form, field);
+                const isTaken = (it) => !library.explain(library.with(form, name, it)).problems.some(({ fields }) => fields.includes(name));
+                const numbers = Array.from({ length: 99 }, (_, it) => it).filter((it) => it === 0 || (isKind ? it <= 64 : isTaken(it)));
+                const typed = isNumber ? [2, 4, 8, 16, 32, 36] : [33, 59, 126];
+                const values = control.type === "checkbox" ? [1 - usual, usual] : control.options ? numbers : typed;
+                const options = control.options ? [...control.options].map(({ value }) => Number(value)) : values;
+                const lost = String(options) === String(values) ? [] : [`${name}: ${options}`];
                 return [...lost, ...values.flatMap((value) => {
-                    start(field.name);
-                    control.focus();
-                    if (isTyped) control.value = field.isNumber ? value : String.fromCharCode(value);
-                    else if (control.options) control.value = value;
-                    if (isTyped || control.options) control.dispatchEvent(new Event(isTyped ? "input" : "change"));
-                    else for (let times = value === usual ? 2 : 1; times; times -= 1) control.click();
-                    const before = state();
-                    const [text, changed] = [library.setting(field, value), library.differences(page.form, form).map((it) => it.text)];
-                    const wrong = String(changed) === (value === usual ? "" : text) ? [] : [changed];
+                    start(name);
+                    choose(control, isNumber ? value : String.fromCharCode(value), value !== usual);
+                    const [chosen, text] = [json(), library.setting(field, value)];
+                    const changed = library.differences(page.form, form).map((it) => it.text).join();
                     history.replaceState(null, "", page.fragment());
                     page.read();
                     const isUsual = value === library.value(library.usual, field);
-                    const told = ["settings", "rust", "c", "python"].map(code);
-                    const codes = [`\\n${text}\\n`, ...(page.shown.problems.length || isUsual ? [] : inCode(field, value, text))];
-                    const missing = codes.filter((it, index) => told[index].includes(it) !== !isUsual);
-                    return [...wrong, ...(state() === before ? [] : ["link"]), ...missing].map((it) => `${text}: ${it}`);
+                    const setter = OPTIONS.includes(field) ? `'${String.fromCharCode(value)}'` : `.${name}(`;
+                    const codes = kinds[name]?.map((it) => it.replace("%", value)) ?? [setter, `"${text}`, `"${text}"`];
+                    const wanted = { settings: `\\n${text}\\n`, ...(page.shown.problems.length ? {} : { rust: codes[0], c: codes[1], python: codes[2] }) };
+                    const missing = isUsual ? [] : Object.entries(wanted).filter(([tab, it]) => !code(tab).includes(it));
+                    const isAlone = changed === (value === usual ? "" : text) && code("settings").includes(wanted.settings) === !isUsual;
+                    return isAlone && json() === chosen && !missing.length ? [] : [`${text}: ${changed} ${missing}`];
                 })];
             });""")
         self.assertEqual(wrong, [])
@@ -1283,55 +1297,70 @@ class Walk(unittest.TestCase):
 
     def test_nothing_is_cut_off(self):
         """What is beyond a box can be scrolled to: the box scrolls, or nothing is beyond it. What stays in view fits the screen."""
-        cut = """const clips = (it) => ["hidden", "clip"].includes(getComputedStyle(it).overflowY) || (getComputedStyle(it).contain !== "none" && getComputedStyle(it).overflowY === "visible");
+        cut = """const hides = ({ overflowY, contain }) => ["hidden", "clip"].includes(overflowY) || (contain !== "none" && overflowY === "visible");
             const all = [...document.querySelectorAll("body *")].filter((it) => it.checkVisibility() && !it.closest("option, .skips"));
             const inside = (it) => (it.parentElement ? [it.parentElement, ...inside(it.parentElement)] : []);
             const beyond = (it, box) => it.getBoundingClientRect().bottom > box.getBoundingClientRect().bottom + 1;
-            const stays = all.filter((it) => ["sticky", "fixed"].includes(getComputedStyle(it).position) && it.getBoundingClientRect().height > innerHeight);
+            const isKept = (it) => ["sticky", "fixed"].includes(getComputedStyle(it).position);
+            const stays = all.filter((it) => isKept(it) && it.getBoundingClientRect().height > innerHeight);
             return [...stays, ...all.filter((it) => {
                 const scrolls = inside(it).findIndex((box) => ["auto", "scroll"].includes(getComputedStyle(box).overflowY));
-                return inside(it).slice(0, scrolls < 0 ? undefined : scrolls).some((box) => clips(box) && beyond(it, box));
+                return inside(it).slice(0, scrolls < 0 ? undefined : scrolls).some((box) => hides(getComputedStyle(box)) && beyond(it, box));
             })].map((it) => it.outerHTML.slice(0, 99));"""
         for width, height in ((1280, 720), (360, 700)):
             self.emulate(width, height, width < 1000)
             for link in self.links():
                 self.assertEqual(self.run_script(cut), [], (width, link))
 
-    def test_the_page_shows_what_the_sources_document(self):
-        """Each language with what LANGUAGES tells and the numbers of the tests, each flag with the texts of FORMAT, and its limits."""
-        pages = {name: (TOP / f"docs/{name}.md").read_text().replace("`", "") for name in ("LANGUAGES", "FORMAT")}
+    def test_languages_are_shown_as_they_are_documented(self):
+        """Each with what LANGUAGES tells of it and of its forms, the numbers of the tests, and its name in the code."""
+        page = (TOP / "docs/LANGUAGES.md").read_text().replace("`", "")
         rows = [it.split() for it in (TOP / "rust/tests/literals.txt").read_text().splitlines() if it[:1].isalpha()]
-        for name in re.findall(r"^## (\w+)$", pages["LANGUAGES"], re.M):
+        for name in re.findall(r"^## (\w+)$", page, re.M):
             self.run_script("page.jump({ numbers: '' }); page.start(arguments[0])", name)
-            about, forms = re.search(rf"^## {name}\n\n(.*?)\n\n(?:Compared.*?)?\|[^\n]*\n[^\n]*\n(.*?)(?:\n\n|\Z)", pages["LANGUAGES"], re.M | re.S).groups()
-            self.assertEqual(self.run_script("return find('about').textContent"), " ".join(about.split()))
-            numbers = [("!" if mark == "-" else "") + text for language, mark, text, *_ in rows if language == name and mark in "+-"]
+            section = re.search(rf"^## {name}\n\n(.*?)(?=\n## |\Z)", page, re.M | re.S)[1]
+            about = re.split(r"\n\n(?:Compared|\|)", section)[0]
             short = re.match(r"(\S+?)'s |", about)[1]
-            first = short and re.search(rf"^## (\w+)\n\n{re.escape(short)}'s ", pages["LANGUAGES"], re.M)[1]
-            self.assertEqual(self.run_script("return page.data.languages.find((it) => it.name === arguments[0]).short", name), short if first == name else name)
+            first = short and re.search(rf"^## (\w+)\n\n{re.escape(short)}'s ", page, re.M)[1]
+            # The first two lines of a table are its head. A form with a suffix that is required is one of tokens alone.
+            forms = [it.split(" | ")[0][2:] for it in re.findall(r"^\|.*$", section, re.M)[2:] if not it.endswith("required |")]
+            shown = self.run_script("""return [find("about").textContent, page.state.forms.map(({ name }) => name), find("literal").value.split("\\n"),
+                page.data.languages.find(({ name }) => name === arguments[0]).short]""", name)
+            numbers = [("!" if mark == "-" else "") + text for language, mark, text, *_ in rows if language == name and mark in "+-"]
+            self.assertEqual(shown, [" ".join(about.split()), forms, numbers, short if first == name else name])
             for tab, reader in (("rust", f"Language::{name}."), ("c", f" peltzivar_language_{name.lower()}()."), ("python", f"languages.{name}.")):
                 self.assertIn(reader, self.run_script("page.chooseTab(arguments[0]); return find('code').textContent", tab))
-            shown = self.run_script("return page.state.forms.map(({ name }) => name)")
-            self.assertEqual((self.value("#literal").split("\n"), shown), (numbers, re.findall(r"^\| ([^|]*) \|(?!.*required \|$)", forms, re.M)))
-        told = "const it = find(arguments[0]); const box = it.closest('td, th, .control'); return `${it.ariaLabel} ${box.textContent}`.replaceAll('`', '')"
-        flags = re.findall(r"^\| (\d+) \| (\w+) \| \w+ \|[^|]*\|[^|]*\| ([^|]*) \| ([^|]*) \|$", pages["FORMAT"], re.M)
-        self.assertEqual(len({bit for bit, *_ in flags}), self.run_script("return page.library.flags.length"))
-        for bit, name, accepted, refused in flags:
-            self.assertEqual(self.run_script("return String(page.library.named.get(arguments[0]).mask)", name), str(1 << int(bit)))
-            accepted, refused = (", ".join(it.split()) for it in (accepted, refused))
-            self.assertEqual(self.run_script("return find(arguments[0]).closest('td')?.textContent ?? arguments[1]", name, accepted.split(", ")[0]), accepted.split(", ")[0])
-            self.assertIn(f"accepts {accepted}" if "separator" in name else f"refuses {refused}, accepts {accepted}", self.run_script(told, name))
-        for name, meaning in re.findall(r"^\| \d+ to \d+ \| (\w+) \| \d+ \| (.*) \|$", pages["FORMAT"], re.M):
-            self.assertIn(meaning, self.run_script(told, name))
-        sources = " ".join(" ".join((TOP / f"rust/src/{it}.rs").read_text().replace("///", "").split()) for it in ("format_builder/setters", "literal/conditions"))
-        for name, meaning, refused in self.run_script("const { flags, groups, conditions } = page.library; return [...flags, ...groups, ...conditions]"
-                ".filter((it) => !it.isKind).map((it) => [it.name, it.meaning, it.part === 'option' ? it.refuses : []])"):
-            self.assertTrue(meaning[1:] in sources and meaning.replace("`", "") in self.run_script(told, name), (name, meaning))
-            self.assertEqual([it for it in refused if f"`{it}`" not in sources or it not in self.run_script(told, name)], [])
+
+    def test_fields_are_shown_as_they_are_documented(self):
+        """Each flag and byte with what FORMAT and the setters tell of it, and what no format can express."""
+        page = (TOP / "docs/FORMAT.md").read_text().replace("`", "")
+
+        def shown(name):
+            return self.run_script("""const [it, box] = [find(arguments[0]), find(arguments[0]).closest("td, th, .control")];
+                return `${it.ariaLabel} ${box.textContent}`.replaceAll("`", "")""", name)
+
+        flags = re.findall(r"^\| (\d+) \| (\w+) \| \w+ \|[^|]*\|[^|]*\| ([^|]*) \| ([^|]*) \|$", page, re.M)
+        masks = "return page.library.flags.map(({ name, mask }) => [name, String(mask)])"
+        self.assertEqual(dict(self.run_script(masks)), {name: str(1 << int(bit)) for bit, name, *_ in flags})
+        for _, name, accepted, refused in flags:
+            accepted, refused = (it.split() for it in (accepted, refused))
+            cell = self.run_script("return find(arguments[0]).closest('td')?.textContent ?? arguments[1]", name, accepted[0])
+            told = f"accepts {', '.join(accepted)}" if "separator" in name else f"refuses {', '.join(refused)}, accepts {', '.join(accepted)}"
+            self.assertEqual((cell, told in shown(name)), (accepted[0], True), name)
+        for name, meaning in re.findall(r"^\| \d+ to \d+ \| (\w+) \| \d+ \| (.*) \|$", page, re.M):
+            self.assertIn(meaning, shown(name))
+        sources = "".join((TOP / f"rust/src/{it}.rs").read_text() for it in ("format_builder/setters", "literal/conditions"))
+        sources = " ".join(sources.replace("///", "").split())
+        for name, meaning, refused in self.run_script("""const { flags, groups, conditions } = page.library;
+                const all = [...flags, ...groups, ...conditions.filter(({ isKind }) => !isKind)];
+                return all.map(({ name, meaning, part, refuses }) => [name, meaning, part === "option" ? refuses : []]);"""):
+            self.assertTrue(meaning[1:] in sources and meaning.replace("`", "") in shown(name), (name, meaning))
+            self.assertEqual([it for it in refused if f"`{it}`" not in sources or it not in shown(name)], [])
         version = re.search('PELTZIVAR_VERSION "(.*)"', (TOP / "c/peltzivar.h").read_text())[1]
         self.assertIn(f"Peltzivar {version}.", self.text("footer"))
-        limits = re.search(r"## What a format cannot express\n\n(.*?)\n\n", pages["FORMAT"] + "\n\n", re.S)[1]
-        cells = [re.sub(r"\[([^\]]*)\]\([^)]*\)", r"\1", it.strip()) for line in limits.splitlines() for it in line.strip("|").split(" | ") if "---" not in line]
+        limits = re.search(r"## What a format cannot express\n\n(.*?)(?:\n\n|\Z)", page, re.S)[1].splitlines()
+        texts = re.sub(r"\[([^\]]*)\]\([^)]*\)", r"\1", "\n".join(limits[:1] + limits[2:]))
+        cells = [it.strip() for line in texts.splitlines() for it in line.strip("|").split(" | ")]
         self.assertEqual(self.run_script("return [...find('limits').querySelectorAll('th, td')].map((it) => it.textContent)"), cells)
 
     def test_controls_are_called_by_what_they_do(self):

@@ -558,7 +558,7 @@ static void test_tokens(void) {
     CHECK(!peltzivar_forms_token(&forms, "1u8-", 4, NULL, &error) && peltzivar_explain(&error, &why) && why.kind == PELTZIVAR_KIND_STOP);
     CHECK(why.span.start == 3 && why.span.end == 4 && WRITES("the number cannot end here", peltzivar_read_error_text(&error, text, sizeof text)));
     CHECK(WRITES("the number cannot end here", peltzivar_token_error_text(&forms, "1u8-", 4, text, sizeof text)));
-    CHECK(WRITES("unknown suffix; a suffix is one of u, u8", peltzivar_token_error_text(&forms, "1abc", 4, text, sizeof text)));
+    CHECK(WRITES("unknown suffix; known are u, u8", peltzivar_token_error_text(&forms, "1abc", 4, text, sizeof text)));
     CHECK(WRITES("unexpected character 'x'", peltzivar_token_error_text(&forms, "x", 1, text, sizeof text)));
     CHECK(WRITES("", peltzivar_token_error_text(&forms, "1", 1, text, sizeof text)) && peltzivar_token_error_text(NULL, "1", 1, text, sizeof text));
     CHECK(peltzivar_forms_token(language("JAVA"), "08f+", 4, &token, NULL) && token.literal.form == 5 && token.size == 3);

@@ -208,9 +208,9 @@ fn errors_are_those_of_the_page() {
 #[test]
 fn an_unknown_suffix_lists_those_that_are_known() {
     let printed = |language: Language, text| language.token(text).unwrap_err().to_string();
-    let six = "unknown suffix; a suffix is one of u8, u16, u32, u64, u128, usize, ..";
+    let six = "unknown suffix; known are u8, u16, u32, u64, u128, usize, ..";
     assert_eq!(printed(Language::RUST, "1u9"), six);
-    assert_eq!(printed(Language::RUST, "1.5u8"), "unknown suffix; a suffix is one of f32, f64");
+    assert_eq!(printed(Language::RUST, "1.5u8"), "unknown suffix; known are f32, f64");
     assert_eq!(printed(Language::SWIFT, "1x"), "unknown suffix");
     for language in Language::ALL {
         for text in ["1zz", "1.5zz", "0x1zz", "0b1zz", "0o1zz"] {

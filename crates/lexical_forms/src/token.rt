@@ -58,7 +58,7 @@ pub struct Token<'a> {
 /// let text = "10ux;";
 /// let error = Language::C.token(text).unwrap_err();
 /// assert_eq!(&text[error.span()], "ux");
-/// assert_eq!(error.to_string(), "unknown suffix; a suffix is one of u, U, l, L, ll, LL, ..");
+/// assert_eq!(error.to_string(), "unknown suffix; known are u, U, l, L, ll, LL, ..");
 /// ```
 #[derive(Debug, Clone, Copy, PartialEq, Eq, Hash)]
 pub enum TokenError {

@@ -68,7 +68,7 @@ impl TokenError {
 /// Returns the sentence with up to six of the suffixes that a form has.
 fn unknown(suffixes: &[&[u8]]) -> ShortText {
     let mut text = ShortText::of("unknown suffix");
-    let mut before = "; a suffix is one of ";
+    let mut before = "; known are ";
     for suffix in suffixes.iter().take(6) {
         text = text.and(before).and(str::from_utf8(suffix).unwrap_or("\u{FFFD}"));
         before = ", ";
@@ -79,7 +79,7 @@ fn unknown(suffixes: &[&[u8]]) -> ShortText {
     text
 }
 
-/// Prints why, as in `unknown suffix; a suffix is one of f32, f64` or `expected a digit after the exponent character`.
+/// Prints why, as in `unknown suffix; known are f32, f64` or `expected a digit after the exponent character`.
 impl fmt::Display for TokenError {
     fn fmt(&self, f: &mut fmt::Formatter<'_>) -> fmt::Result {
         match self {
