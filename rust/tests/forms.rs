@@ -142,6 +142,7 @@ fn languages_are_found_by_name() {
         assert_eq!(language.name().to_lowercase().parse(), Ok(*language));
     }
     assert_eq!((C_SHARP, Language::from_name("C_SHAR")), (Language::C_SHARP, None));
+    assert!(["", " C", "C ", "C\n"].iter().all(|it| Language::from_name(it).is_none()));
     let error = |name: &str| name.parse::<Language>().unwrap_err().to_string();
     assert_eq!(error("javascrip"), "unknown language; did you mean `JAVASCRIPT`?");
     assert_eq!(error("D"), "unknown language");
