@@ -398,7 +398,9 @@ static peltzivar_style style_of(const char *wishes) {
     if (least) style.min_digits = (uint8_t)(least[11] - '0');
     style.without_base = strstr(wishes, "without_base=true") != NULL, style.lowercase = strstr(wishes, "lowercase=true") != NULL;
     style.keep_leading_zeros = strstr(wishes, "keep_leading_zeros=true") != NULL;
-    style.nearest = strstr(wishes, "nearest=true") != NULL;
+    style.nearest = strstr(wishes, "nearest=true") != NULL, style.point = strstr(wishes, "point=true") != NULL;
+    style.has_decimals = strstr(wishes, "decimals=") != NULL;
+    if (style.has_decimals) style.decimals = (uint8_t)(strstr(wishes, "decimals=")[9] - '0');
     if (power) style.exponent = power[9] == 'n' ? PELTZIVAR_STYLE_NEVER : power[9] == 'a' ? PELTZIVAR_STYLE_ALWAYS : PELTZIVAR_STYLE_FROM;
     if (style.exponent == PELTZIVAR_STYLE_FROM) style.exponent_from = (uint32_t)(power[9] - '0');
     return style;
