@@ -468,6 +468,10 @@ static void test_choice(void) {
     CHECK(peltzivar_forms_format_literal(&forms, &literal, NULL, text, sizeof text, NULL) == PELTZIVAR_WRITE_READ_BACK);
     CHECK(peltzivar_forms_format_i64(c, -1, NULL, text, sizeof text, NULL) == PELTZIVAR_WRITE_NEGATIVE);
     CHECK(peltzivar_forms_format_f64(c, HUGE_VAL, NULL, text, sizeof text, NULL) == PELTZIVAR_WRITE_SPECIAL);
+    /* The first spelling is a hexadecimal number. */
+    peltzivar_forms special = forms;
+    special.specials.inf = "ff", special.specials.infinity = "oo";
+    CHECK(!peltzivar_forms_format_f64(&special, -HUGE_VAL, NULL, text, sizeof text, NULL) && !strcmp(text, "-oo"));
     CHECK(peltzivar_forms_format_i64(NULL, 1, NULL, text, sizeof text, NULL) == PELTZIVAR_WRITE_ARGUMENT);
     memset(&literal, 0, sizeof literal);
     CHECK(peltzivar_forms_format_literal(c, &literal, NULL, text, sizeof text, NULL) == PELTZIVAR_WRITE_ARGUMENT);

@@ -127,6 +127,8 @@ class Words(unittest.TestCase):
 
     def test_other_calls(self):
         self.assertEqual(int(Format().normal_form()), 0x0A0A0A0000000000000000000000000C)
+        self.assertNotEqual(Format().normal_form(), Format())
+        self.assertEqual([format(Format(), it) for it in "bdoxX"], [format(int(Format()), it) for it in "bdoxX"])
         source = "NumberFormatBuilder::new().no_special(true).mantissa_radix(16).build_or_panic()"
         self.assertEqual(FormatView(0x0000100000000000000000000000040C).source(), source)
         self.assertRegex(FormatView((1 << 128) - 1).source(), r"^NumberFormatBuilder::new\(\).{900,}\.build_unchecked\(\)$")
@@ -142,6 +144,8 @@ class Words(unittest.TestCase):
         sentence = "the exponent character 'e' is a digit in radix 16"
         (reason,) = FormatView.of(radix=16, exponent_radix=2).options_reasons("e", ".")
         self.assertEqual((str(reason), reason.mask, reason.rules), (sentence, 0xFF << 104, ()))
+        masks = [it.mask for it in FormatView.of(radix=16, base_prefix="x").options_reasons("x", "a")]
+        self.assertEqual(masks, [0xFF << 120 | 0xFF << 104, 0xFF << 88])
         with self.assertRaisesRegex(OptionsError, f"^{sentence}; the decimal point '1' is") as caught:
             Format.of(radix=16).check_options("e", "1")
         self.assertEqual([it.options for it in pickle.loads(pickle.dumps(caught.exception)).reasons], [(Role.EXPONENT,), (Role.POINT,)])
@@ -204,6 +208,8 @@ class Literals(unittest.TestCase):
         rows = [
             (Language.TOML, "-9_223_372_036_854_775_809", -(2**63) - 1, "-9223372036854775809", -(2**63) - 1),
             (Language.JSON, "-0", 0, "-0", 0),
+            (Language.C, "1" + 14 * "'000", 10**42, str(10**42), 10**42),
+            *((Language.JSON, it, float(it), str(Decimal(it)), Fraction(it)) for it in (f"1.{10**500}e3", f"-{10**500}.5E-2")),
             (Language.JSON, "1.50e-1", 0.15, "0.150", Fraction(3, 20)),
             (Language.JSON, "1e400", math.inf, "1E+400", 10**400),
             (Language.CSV_EN, "1,234.50", 1234.5, "1234.50", Fraction(2469, 2)),

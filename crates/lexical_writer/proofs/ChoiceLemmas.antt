@@ -4,9 +4,9 @@ use Rattle.std.specs.Float.{Float, Format, binary64}
 use Rattle.lexical_literal.specs.Read.{Read, exact}
 use Rattle.lexical_value.proofs.KindLemmas.{exact_float}
 use Rattle.lexical_value.specs.Float.{nearest}
-use Rattle.lexical_value.specs.Kind.{IsWorth, float_worth}
+use Rattle.lexical_value.specs.Kind.{float_worth}
 use Rattle.lexical_literal.specs.Literal.{is_float}
-use Rattle.lexical_writer.specs.Choice.{IsAmount, IsInStyle, IsReal, IsSameInteger, IsWhole, IsWrittenNumber, IsWrittenReal, exact_read, has_float}
+use Rattle.lexical_writer.specs.Choice.{IsAmount, IsInStyle, IsReal, IsWhole, IsWrittenNumber, IsWrittenReal, has_float}
 use Rattle.lexical_writer.specs.Conversion.{IsNear, SameFraction}
 use Rattle.lexical_writer.specs.Layout.{HasValue}
 use Rattle.lexical_writer.specs.Rounded.{IsRounded, decimals_in}
@@ -79,14 +79,12 @@ plain_number a style g b own kind word whole has = go style.nearest style.decima
     go true (Some n) wish places = elim (has.rounded n places) [
       | inl same ↦ fraction same
       | inr float ↦ inr (
+        wish,
+        subst (λ o. is_some o ≡ true) (sym places) refl,
         g,
         b.literal,
         has,
-        inr (
-          wish,
-          subst (λ o. is_some o ≡ true) (sym places) refl,
-          inr (kind, subst (λ w. nearest binary64 (raw g.word).byte b.literal ≡ nearest binary64 (raw w).byte b.literal) (sym word) refl),
-        ),
+        inr (kind, subst (λ w. nearest binary64 (raw g.word).byte b.literal ≡ nearest binary64 (raw w).byte b.literal) (sym word) refl),
       )
     ]
 
@@ -94,29 +92,12 @@ plain_number a style g b own kind word whole has = go style.nearest style.decima
 pub rounded_number : (a : Read) (style : Style) (g : Grammar) (own read : Read) → style.nearest ≡ true → is_some style.decimals ≡ true → own.kind ≡ exact
     → own.format ≡ g.word → IsWrittenNumber a style g own.literal → (y : Float) → IsReal binary64 y own → IsReal binary64 y read → IsInStyle a style read
 rounded_number a style g own read wish some kind word has y same real = inr (
+  wish,
+  some,
   g,
   own.literal,
   has,
-  inr (
-    wish,
-    some,
-    subst (λ z. IsReal binary64 z read) (subst (λ w. y ≡ nearest binary64 (raw w).byte own.literal) word (nearest_is binary64 y own kind same)) real,
-  ),
-)
-
--- An integer of many digits is read as what is written for it is.
-pub long_integer : (a : Read) (style : Style) (g : Grammar) (own read : Read) → own.kind ≡ exact → own.format ≡ g.word → IsWrittenNumber a style g own.literal
-    → IsSameInteger own read → IsInStyle a style read
-long_integer a style g own read kind word has same = inr (
-  g,
-  own.literal,
-  has,
-  inl (
-    same.0,
-    subst (λ w. IsWorth exact.integers (raw w).byte own.literal same.0) word
-        (subst (λ k. IsWorth k.integers (raw own.format).byte own.literal same.0) kind same.1),
-    same.2,
-  ),
+  subst (λ z. IsReal binary64 z read) (subst (λ w. y ≡ nearest binary64 (raw w).byte own.literal) word (nearest_is binary64 y own kind same)) real,
 )
 
 -- If a literal of the exact kind is written for an integer, and is worth no float, it is this integer.

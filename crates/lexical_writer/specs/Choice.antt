@@ -25,10 +25,6 @@ abbrev pub turn : ℕ → Grammar → ℕ
 turn radix g =
     if (raw g.word).byte layout.mantissa_radix == radix then 0 else (if (raw g.word).byte layout.mantissa_radix == 10 then 1 else 2)
 
--- `exact_read word l` is the literal `l` of the format `word`, of the exact kind.
-abbrev pub exact_read : ℕ → Literal → Read
-exact_read word l = record { format = word; literal = l; kind = exact }
-
 -- `has_float read` is true if `read` has a decimal point or an exponent, and is worth a float.
 abbrev pub has_float : Read → Bool
 has_float read = is_float read.literal && (is_decimal (bytes_of read.format) || is_binary (bytes_of read.format))
@@ -79,16 +75,11 @@ pub record IsWrittenNumber (read : Read) (style : Style) (g : Grammar) (l : Lite
       ⊎ IsRounded (nearest binary64 (bytes_of read.format) read.literal) (raw g.word) l (decimals_in g n)
   pub exact : style.nearest ≡ false → SameFraction (raw read.format) read.literal (raw g.word) l
 
--- `IsSameInteger a b` holds if `a` and `b` have neither a decimal point nor an exponent, and are worth the same integer by their kinds.
-abbrev pub IsSameInteger : Read → Read → Type 0
-IsSameInteger a b = (z : ℤ) × IsWorth a.kind.integers (bytes_of a.format) a.literal z × IsWorth b.kind.integers (bytes_of b.format) b.literal z
-
--- `IsInStyle a style b` holds if `a` and `b` are the same number, or if `b` is worth the same integer as a literal that is written for
--- `a` or, if the style wishes for the nearest float and for decimals, the `f64` that is nearest to such a literal.
+-- `IsInStyle a style b` holds if `a` and `b` are the same number or, if the style wishes for the nearest float and for decimals, if `b`
+-- is worth the `f64` that is nearest to a literal that is written for `a`.
 abbrev pub IsInStyle : Read → Style → Read → Type 0
-IsInStyle a style b = IsSameNumber style.nearest a b ⊎ ((g : Grammar) × (l : Literal) × IsWrittenNumber a style g l
-    × (IsSameInteger (exact_read g.word l) b
-    ⊎ ((style.nearest ≡ true) × (is_some style.decimals ≡ true) × IsReal binary64 (nearest binary64 (bytes_of g.word) l) b)))
+IsInStyle a style b = IsSameNumber style.nearest a b ⊎ ((style.nearest ≡ true) × (is_some style.decimals ≡ true) × (g : Grammar) × (l : Literal)
+    × IsWrittenNumber a style g l × IsReal binary64 (nearest binary64 (bytes_of g.word) l) b)
 
 -- `IsStyleOf integer style it` holds if `it` is `style` or, for an integer, `style` without the wish for an exponent.
 abbrev pub IsStyleOf : Bool → Style → Style → Type 0

@@ -1,6 +1,6 @@
 //! A list of forms writes numbers: in the first form whose text the list reads as the number.
 
-ghost use Rattle.std.specs.Prelude.{◌≡◌, ◌≤◌, ◌<◌, Bool, true, IfOk, IfSome, IsFalse, Ok, Some, from_bits, length, take};
+ghost use Rattle.std.specs.Prelude.{◌≡◌, ◌≤◌, ◌<◌, Bool, true, IfOk, IfSome, IsFalse, Ok, Some, from_bits, length, take, ℤ};
 ghost use Rattle.std.specs.Float.{Float as Value};
 ghost use Rattle.lexical_util.specs.Record.{bytes_of};
 ghost use Rattle.lexical_literal.specs.Read.{exact};
@@ -12,7 +12,7 @@ ghost use Rattle.lexical_literal.specs.declared.syntax.Grammar.{Grammar};
 ghost use Rattle.lexical_number.specs.Numeral.{magnitude_size, with_sign};
 ghost use Rattle.lexical_value.specs.Kind.{float_worth, integer_worth};
 ghost use Rattle.lexical_writer.specs.Buffer.{IsTaken};
-ghost use Rattle.lexical_writer.specs.Choice.{IsReadBack, IsReal, IsSameInteger, IsStyleOf, IsWhole, has_float, turn};
+ghost use Rattle.lexical_writer.specs.Choice.{IsReadBack, IsReal, IsStyleOf, IsWhole, has_float, turn};
 ghost use Rattle.lexical_writer.specs.declared.layout.Style.{Style as Wishes};
 
 use crate::checked::is_integer;
@@ -21,8 +21,9 @@ use crate::float_digits::FloatDigits;
 use crate::layout::{ExponentStyle, Style, WriteError};
 use crate::literal::write_number;
 use crate::near::format_near;
-use lexical_forms::list::{Forms, Number};
+use lexical_forms::list::{Form, Forms, Number};
 use lexical_literal::kind::{FloatKind, IntegerKind, Kind};
+use lexical_literal::laws::literal_facts;
 use lexical_literal::literal::Literal;
 use lexical_literal::syntax::{Condition, Syntax};
 use lexical_number::float::Float;
@@ -216,7 +217,7 @@ impl Writable for Literal<'_> {
         if let Some((negative, size)) = whole_worth(self) {
             return is_worth(literal, negative, size);
         }
-        if is_exact(self.kind()) && is_same_integer(own, literal) {
+        if is_same_integer(self, literal) {
             return true;
         }
         if is_exact(self.kind()) && style.nearest && style.decimals.is_some() {
@@ -228,7 +229,7 @@ impl Writable for Literal<'_> {
 
 // Returns whether two literals are worth the same integer, by the same digits.
 fn is_same_integer(own: &Literal, literal: &Literal) -> bool
-    ensures { result ≡ true → IsSameInteger own.now literal.now }
+    ensures { result ≡ true → (z : ℤ) × IsWhole z own.now × IsWhole z literal.now }
 {
     match (own_numeral(own), own_numeral(literal)) {
         (Ok(own), Ok(numeral)) => own.negative == numeral.negative
@@ -239,7 +240,7 @@ fn is_same_integer(own: &Literal, literal: &Literal) -> bool
 
 // Returns whether two numbers have the same digits.
 fn is_same_size(own: Magnitude, magnitude: Magnitude) -> bool
-    ensures { result ≡ true → magnitude_size own ≡ magnitude_size magnitude }
+    ensures { result ≡ true → magnitude_size own.entry ≡ magnitude_size magnitude.entry }
 {
     match (own, magnitude) {
         (Magnitude::Digits(bytes, radix), Magnitude::Digits(digits, base)) => radix == base
@@ -400,20 +401,39 @@ fn write_by<N: Writable>(
         return Err(WriteError::Buffer(size));
     }
     let text = &buffer[..size];
-    let Ok(own) = syntax.read(text) else {
-        return Err(WriteError::ReadBack);
-    };
+    literal_facts();
     match forms.read(text) {
         Ok(Number::Literal { literal, form }) => {
-            let plain = is_exact(it.kind()) && form == index && number.is_plain(&literal);
-            if plain || number.is_read_as(style, &own, &literal) {
-                Ok(size)
-            } else if !literal.is_float() && own_numeral(&literal).is_err() {
-                Err(WriteError::TooLarge)
-            } else {
-                Err(WriteError::ReadBack)
+            if form == index && is_exact(it.kind()) && number.is_plain(&literal) {
+                return Ok(size);
             }
+            let Some(own) = own_literal(&syntax, text) else {
+                return Err(WriteError::ReadBack);
+            };
+            if number.is_read_as(style, &own, &literal) {
+                return Ok(size);
+            }
+            let large = !literal.is_float() && own_numeral(&literal).is_err();
+            Err(if large {
+                WriteError::TooLarge
+            } else {
+                WriteError::ReadBack
+            })
         }
         _ => Err(WriteError::ReadBack),
+    }
+}
+
+// Returns the literal of a syntax that a text is, by the calls that lists share.
+fn own_literal<'a>(syntax: &Syntax, text: &'a [u8]) -> Option<Literal<'a>>
+    ensures { IfSome result (λ own. (own.kind ≡ exact) × (own.format ≡ syntax.now.word) × Reads (notation_of syntax.now) own.literal text.now) }
+{
+    let alone = [Form::new("", *syntax)];
+    let Some(list) = Forms::new(&alone) else {
+        return None;
+    };
+    match list.read(text) {
+        Ok(Number::Literal { literal, .. }) => Some(literal),
+        _ => None,
     }
 }

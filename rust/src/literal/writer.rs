@@ -6,7 +6,7 @@ use core::str;
 use crate::literal::value::number::float::Float;
 use crate::literal::value::number::integer::Integer;
 use crate::literal::value::Other;
-use crate::literal::{Forms, Literal, Sign, Special, Specials, Spelling, Syntax};
+use crate::literal::{Forms, Literal, Number, Sign, Special, Specials, Spelling, Syntax};
 
 #[allow(clippy::question_mark, reason = "as it is proved")]
 mod checked;
@@ -402,12 +402,15 @@ impl<'a> Forms<'a> {
     #[cold]
     pub fn format_special(&self, special: Special) -> Result<Written<'a>, WriteError> {
         let (syntax, specials) = (self[0].syntax(), self.specials());
-        let spelled = [Specials { infinity: None, ..specials }, Specials { inf: None, ..specials }];
-        let mut written = spelled.iter().filter_map(|spellings| spellings.format(&syntax, special).ok());
-        let is_read = |it: &Written| {
-            it.write_into(&mut [0; LONGEST]).is_ok_and(|text| self.read(text).is_ok_and(|it| it.form().is_none()))
-        };
-        written.find(is_read).ok_or(WriteError::Special)
+        for spellings in [Specials { infinity: None, ..specials }, Specials { inf: None, ..specials }] {
+            let Ok(written) = spellings.format(&syntax, special) else { continue };
+            let buffer = &mut [0; LONGEST];
+            let length = written.text.write(buffer);
+            if buffer.get(..length).is_some_and(|text| matches!(self.read_bytes(text), Ok(Number::Special(_)))) {
+                return Ok(written);
+            }
+        }
+        Err(WriteError::Special)
     }
 
     /// Returns the syntax of the form that writes a number, and the style in which it does.

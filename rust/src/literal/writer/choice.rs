@@ -3,7 +3,7 @@
 //! A list of forms writes numbers: in the first form whose text the list reads as the number.
 
 use crate::literal::kind::{FloatKind, IntegerKind, Kind};
-use crate::literal::list::{Forms, Number};
+use crate::literal::list::{Form, Forms, Number};
 use crate::literal::literal::Literal;
 use crate::literal::syntax::{Condition, Syntax};
 use crate::literal::value::float::{supports_floats, to_float};
@@ -151,7 +151,7 @@ impl Writable for Literal<'_> {
         if let Some((negative, size)) = whole_worth(self) {
             return is_worth(literal, negative, size);
         }
-        if is_exact(self.kind()) && is_same_integer(own, literal) {
+        if is_same_integer(self, literal) {
             return true;
         }
         if is_exact(self.kind()) && style.nearest && style.decimals.is_some() {
@@ -300,20 +300,32 @@ fn write_by<N: Writable + ?Sized>(
         return Err(WriteError::Buffer(size));
     }
     let text = &buffer[..size];
-    let Ok(own) = syntax.read(text) else {
-        return Err(WriteError::ReadBack);
-    };
     match forms.read(text) {
         Ok(Number::Literal { literal, form }) => {
-            let plain = is_exact(it.kind()) && form == index && number.is_plain(&literal);
-            if plain || number.is_read_as(style, &own, &literal) {
-                Ok(size)
-            } else if !literal.is_float() && own_numeral(&literal).is_err() {
-                Err(WriteError::TooLarge)
-            } else {
-                Err(WriteError::ReadBack)
+            if form == index && is_exact(it.kind()) && number.is_plain(&literal) {
+                return Ok(size);
             }
+            let Some(own) = own_literal(&syntax, text) else {
+                return Err(WriteError::ReadBack);
+            };
+            if number.is_read_as(style, &own, &literal) {
+                return Ok(size);
+            }
+            let large = !literal.is_float() && own_numeral(&literal).is_err();
+            Err(if large { WriteError::TooLarge } else { WriteError::ReadBack })
         }
         _ => Err(WriteError::ReadBack),
+    }
+}
+
+// Returns the literal of a syntax that a text is, by the calls that lists share.
+fn own_literal<'a>(syntax: &Syntax, text: &'a [u8]) -> Option<Literal<'a>> {
+    let alone = [Form::new("", *syntax)];
+    let Some(list) = Forms::new(&alone) else {
+        return None;
+    };
+    match list.read(text) {
+        Ok(Number::Literal { literal, .. }) => Some(literal),
+        _ => None,
     }
 }

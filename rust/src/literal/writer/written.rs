@@ -63,7 +63,7 @@ impl Text<'_> {
     }
 
     /// Writes the text to the beginning of a buffer, and returns its length.
-    fn write(&self, buffer: &mut [u8]) -> usize {
+    pub(super) fn write(&self, buffer: &mut [u8]) -> usize {
         match self {
             Text::Number(layout) => layout.write(buffer),
             Text::Float(FloatText { text, length, .. }) if *length <= text.len().min(buffer.len()) => {

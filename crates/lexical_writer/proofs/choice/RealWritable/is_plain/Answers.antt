@@ -5,4 +5,4 @@ use Rattle.lexical_writer.proofs.choice.RealWritable.is_plain.Goals as goal
 
 pub returns : goal.returns
 returns g c equal kind grammar style word has =
-    plain_real (format_of g.F.Float.DOUBLE) (g.F.Float.value c.args.self.now.value) style.decimals grammar c.args.literal.now kind word has
+    plain_real (format_of g.F.Float.DOUBLE) (g.F.Float.value c.args.self.now.value) style.decimals grammar _ kind word has
