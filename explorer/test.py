@@ -387,6 +387,14 @@ class Walk(unittest.TestCase):
             self.assertEqual(self.value(), "0x0000100078000000000000000000000C")
         self.type("#point", "9" + Keys.TAB)
         self.assertEqual(self.value("#point"), "TAB")
+        for field in self.run_script("return [...page.library.bytes, ...OPTIONS].map(({ name }) => name)"):
+            before = self.run_script("return page.fragment()")
+            self.type(f"#{field}", "xyz")
+            title = "the " + self.run_script("return find(arguments[0]).labels[0].textContent", field)
+            self.assertTrue(title in self.text(f"#{field}-problem"), title)
+            self.assertEqual((self.run_script("return page.fragment()"), self.find(f"#{field}").get_attribute("aria-invalid")), (before, "true"))
+            self.find(f"#{field}").send_keys(Keys.ESCAPE)
+            self.assertEqual((self.text(f"#{field}-problem"), self.find(f"#{field}").get_attribute("aria-invalid")), ("", None))
         for byte, name in {9: "TAB", 10: "LF", 11: "VT", 12: "FF", 13: "CR", 32: "SPACE"}.items():
             self.type("#point", name.lower() + Keys.TAB)
             self.assertEqual((self.run_script("return page.form.point"), self.value("#point")), (byte, name))
@@ -695,6 +703,8 @@ class Walk(unittest.TestCase):
         self.assertEqual(self.texts(".reason .use"), ["base_prefix=none", "mantissa_radix=10"])
         self.click(".reason .use", "base_prefix=none")
         self.assertEqual((self.focused(), self.text("#verdict")), ("verdict", "Valid format"))
+        self.load("#word=0x000010006200005F00000000000000CC&exponent=98&point=98")
+        self.assertEqual((len(self.texts(".reason strong")) > 1, self.texts(".reason strong")[0]), (True, self.text("#first-error")))
 
     def test_repairs_end_all_reasons(self):
         left = self.run_script("""const { library } = page;
@@ -868,6 +878,13 @@ class Walk(unittest.TestCase):
             fields = [it.accessible_name for it in controls if it.is_displayed() and it.tag_name in ("input", "select", "textarea")]
             same = [it for it in fields if fields.count(it) > 1]
             self.assertEqual((unnamed, same, self.driver.execute_async_script(IDLE, link)), ([], [], []), link)
+        lost = self.run_script("""return ["aria-describedby", "aria-labelledby", "aria-controls", "aria-errormessage", "for"].flatMap((name) => {
+                return [...document.querySelectorAll(`[${name}]`)].map((it) => it.getAttribute(name)).filter((it) => !find(it));
+            });""")
+        self.assertEqual(lost, [])
+        for skip, place in (("to-numbers", "literal"), ("to-code", "code"), ("to-controls", "digit_separator")):
+            self.find(f"#{skip}").send_keys(Keys.ENTER)
+            self.assertEqual(self.focused(), place)
 
     def test_texts_can_be_read_in_light_and_dark(self):
         self.addCleanup(self.driver.execute_cdp_cmd, "Emulation.setEmulatedMedia", {"features": []})
@@ -1015,6 +1032,7 @@ class Walk(unittest.TestCase):
             stars = ["all" in it.get_attribute("class") for it in row.find_elements(By.CSS_SELECTOR, "button")]
             self.assertEqual(stars, sorted(stars, reverse=True))
         self.assertIn("31, hexadecimal:", self.text(".readers"))
+        self.assertEqual(self.run_script("return getComputedStyle(document.querySelector('.readers .all'), '::before').content"), '"\u2605"')
         self.click(".readers button", self.texts(".readers .all")[0])
         self.assertEqual((self.text("#count"), self.value("#literal")), ("3 of 3 as expected", "0x1F\n1_0\n!010"))
         self.assertEqual(self.text("#forms [aria-pressed=true]"), "hexadecimal")
@@ -1134,7 +1152,8 @@ class Walk(unittest.TestCase):
     def test_comparisons_find_what_tells_two_languages_apart(self):
         """Each pair of languages is told apart by texts like those that do: of each spelling of special values, and of octal.
 
-        The texts that are told are those that one of the languages reads, and the other refuses or gives another value."""
+        The texts that are told are those that one of the languages reads, and the other refuses or gives another value. Of
+        what flags refuse, each cause is told."""
         wrong = self.run_script("""const { library, data: { languages } } = page;
             const tried = [...new Set([...arguments[0], ...languages.flatMap((it) => [...it.specials, ...it.numbers.replaceAll("!", "").split("\\n")])])];
             const readings = (texts) => library.readers(texts.join("\\n")).map((all) => new Map(all.map((it) => [it.language, valueText(it)])));
@@ -1142,6 +1161,8 @@ class Walk(unittest.TestCase):
             const listed = pairs.map(([here, there]) => library.differ(languages[here], languages[there]));
             const texts = [...new Set([...tried.filter(Boolean), ...listed.flat(2).map(({ text }) => text)])];
             const read = new Map(readings(texts).map((all, index) => [texts[index], all]));
+            const errors = languages.map((list) => new Map(library.numbers(list, texts.join("\\n")).map(({ error }, index) => [texts[index], error])));
+            const cause = (it) => it?.split(", which ")[1];
             return pairs.flatMap((pair, index) => listed[index].flatMap((list, part) => {
                 const [here, there] = part === 1 ? pair.toReversed() : pair;
                 const values = (text) => [here, there].map((it) => read.get(text).get(it));
@@ -1153,9 +1174,12 @@ class Walk(unittest.TestCase):
                 const told = list.map(({ text }) => text);
                 const isTold = (text) => told.some((it) => it.replace(/^[+-]/, "").toLowerCase() === text.toLowerCase());
                 const needed = part < 2 ? languages[here].specials : ["010"];
+                const causes = list.map(({ error }) => cause(error));
+                const isCaused = (it) => !cause(errors[there].get(it)) || causes.includes(cause(errors[there].get(it)));
                 const isKnown = (it) => (part < 2 ? it.error : valueText(it.here) === values(it.text)[0] && valueText(it.there) === values(it.text)[1]);
                 return [...told.filter((it) => !differs(it)), ...list.filter((it) => !isKnown(it)).map(({ text }) => text),
-                    ...needed.filter((it) => it && differs(it) && !isTold(it)), ...(list.length ? [] : texts.filter(differs).slice(0, 1))]
+                    ...needed.filter((it) => it && differs(it) && !isTold(it)), 
+                    ...texts.filter((it) => differs(it) && (part < 2 ? !isCaused(it) || !list.length : !list.length)).slice(0, 1)]
                     .map((text) => `${languages[here].name} ${languages[there].name} ${part} ${text} ${values(text)}`);
             }));""", TEXTS)
         self.assertEqual(wrong, [])
