@@ -660,7 +660,7 @@ fn chosen<'a>(
     let Some(list) = Forms::new(&forms) else {
         return Err(WriteError::Special);
     };
-    let (_, length) = choose(&list, &literal, PLAIN, buffer)?;
+    let (_, length, _) = choose(&list, &literal, PLAIN, buffer)?;
     buffer.get(..length).ok_or(WriteError::Buffer(length))
 }
 

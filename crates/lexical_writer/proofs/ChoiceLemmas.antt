@@ -1,5 +1,5 @@
 -- What a list reads is the number that a form has written.
-use Rattle.lexical_writer.proofs.Common.{ℕ, ℤ, ◌≡◌, ◌∙◌, Bool, Grammar, Literal, None, Ok, Option, Some, Style, false, false≢true, inl, inr, is_some, not, raw, refl, subst, sym, true, ◌⊎◌}
+use Rattle.lexical_writer.proofs.Common.{ℕ, ℤ, ◌≡◌, Bool, Grammar, Literal, None, Ok, Option, Some, Style, false, false≢true, inl, inr, is_some, not, raw, refl, subst, sym, true, ◌⊎◌}
 use Rattle.std.specs.Float.{Float, Format, binary64}
 use Rattle.lexical_literal.specs.Read.{Read, exact}
 use Rattle.lexical_value.proofs.KindLemmas.{exact_float}
@@ -7,7 +7,7 @@ use Rattle.lexical_value.specs.Float.{nearest}
 use Rattle.lexical_value.specs.Kind.{float_worth}
 use Rattle.lexical_literal.specs.Literal.{is_float}
 use Rattle.lexical_writer.specs.Choice.{IsAmount, IsInStyle, IsReal, IsWhole, IsWrittenNumber, IsWrittenReal, has_float}
-use Rattle.lexical_writer.specs.Conversion.{IsNear, SameFraction}
+use Rattle.lexical_writer.specs.Conversion.{SameFraction}
 use Rattle.lexical_writer.specs.Layout.{HasValue}
 use Rattle.lexical_writer.specs.Rounded.{IsRounded, decimals_in}
 

@@ -14,6 +14,7 @@ mod checked;
     clippy::exhaustive_structs,
     clippy::manual_map,
     clippy::needless_lifetimes,
+    clippy::question_mark,
     reason = "as it is proved, and for the library for C alone"
 )]
 mod choice;

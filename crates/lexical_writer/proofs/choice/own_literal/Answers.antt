@@ -2,7 +2,6 @@
 use Rattle.lexical_writer.proofs.Common.{ℕ, ◌≡◌, ◌∙◌, Grammar, IfOk, IsSomeAnd, List, Reads, [], ◌∷◌, ap, notation_of, slice_get, zero, suc, subst}
 use Rattle.lexical_forms.specs.FormList.{FormList}
 use Rattle.lexical_forms.specs.Forms.{IsNumber, ReadsForm}
-use Rattle.lexical_literal.specs.Read.{Read}
 use Rattle.lexical_forms.specs.declared.list.Form.{Form}
 use Rattle.lexical_writer.proofs.choice.own_literal.Goals as goal
 
