@@ -79,7 +79,7 @@ class Programs(unittest.TestCase):
         self.assertEqual(run("nm", "-gD", "--defined-only", library), ("", 0))
 
     def test_the_library_is_small_and_a_program_has_the_language_that_it_names(self):
-        self.assertLessEqual(SHARED.stat().st_size, 307_000)
+        self.assertLessEqual(SHARED.stat().st_size, 310_000)
         sizes = []
         for forms in ("language_c()", 'language("C", 1)'):
             code = f'double it; return peltzivar_parse_f64(peltzivar_{forms}, "0x1.8p3", 7, &it, NULL) || it != 12;'

@@ -163,15 +163,26 @@ impl<F: Float> Writable for Real<F> {
     }
 }
 
-// Returns the bits of what a literal is worth as a float, if it is one. Programs have one copy of this for a type.
+// Returns what a literal is worth as a float, if it is one. Programs have one copy of this for a type.
 #[inline(never)]
+fn float_of<F: Float>(literal: &Literal) -> Option<F>
+    ensures { IfSome result (λ value. float_worth literal.now.kind (format_of F.DOUBLE) (bytes_of literal.now.format) literal.now.literal
+        ≡ Ok (F.value value)) }
+{
+    match to_float::<F>(literal) {
+        Ok(value) => Some(value),
+        Err(_) => None,
+    }
+}
+
+// Returns the bits of what a literal is worth as a float, if it is one.
 fn bits_in<F: Float>(literal: &Literal) -> Option<u64>
     ensures { IfSome result (λ bits. float_worth literal.now.kind (format_of F.DOUBLE) (bytes_of literal.now.format) literal.now.literal
         ≡ Ok (from_bits (format_of F.DOUBLE) bits)) }
 {
-    match to_float::<F>(literal) {
-        Ok(value) => value.bits(),
-        Err(_) => None,
+    match float_of::<F>(literal) {
+        Some(value) => value.bits(),
+        None => None,
     }
 }
 
@@ -262,9 +273,9 @@ fn is_worth(literal: &Literal, negative: bool, size: u128) -> bool
     ensures { result ≡ true → IsWhole (with_sign negative size) literal.now }
 {
     if literal.is_float() {
-        return match to_float::<f64>(literal) {
-            Ok(value) => is_integer(value, negative, size),
-            Err(_) => false,
+        return match float_of::<f64>(literal) {
+            Some(value) => is_integer(value, negative, size),
+            None => false,
         };
     }
     match whole_worth(literal) {

@@ -112,12 +112,20 @@ impl<F: Float> Writable for Real<F> {
     }
 }
 
-// Returns the bits of what a literal is worth as a float, if it is one. Programs have one copy of this for a type.
+// Returns what a literal is worth as a float, if it is one. Programs have one copy of this for a type.
 #[inline(never)]
-fn bits_in<F: Float>(literal: &Literal) -> Option<u64> {
+fn float_of<F: Float>(literal: &Literal) -> Option<F> {
     match to_float::<F>(literal) {
-        Ok(value) => value.bits(),
+        Ok(value) => Some(value),
         Err(_) => None,
+    }
+}
+
+// Returns the bits of what a literal is worth as a float, if it is one.
+fn bits_in<F: Float>(literal: &Literal) -> Option<u64> {
+    match float_of::<F>(literal) {
+        Some(value) => value.bits(),
+        None => None,
     }
 }
 
@@ -186,9 +194,9 @@ fn has_float(literal: &Literal) -> bool {
 #[inline(never)]
 fn is_worth(literal: &Literal, negative: bool, size: u128) -> bool {
     if literal.is_float() {
-        return match to_float::<f64>(literal) {
-            Ok(value) => is_integer(value, negative, size),
-            Err(_) => false,
+        return match float_of::<f64>(literal) {
+            Some(value) => is_integer(value, negative, size),
+            None => false,
         };
     }
     match whole_worth(literal) {
