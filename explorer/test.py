@@ -1199,12 +1199,14 @@ class Walk(unittest.TestCase):
 
     def test_a_minus_that_is_an_operator_is_told(self):
         """No number of a language that refuses `-5` has a sign."""
-        for language, short, is_read in self.run_script("""return page.library.readers("-5").flatMap((all) => page.data.languages
-                .map(({ name, short }, index) => [name, short, all.some((it) => it.language === index)]));"""):
-            for text in ("-5", "5"):
-                self.run_script("page.jump({ numbers: '' }); page.start(arguments[0]); page.change({ numbers: arguments[1] })", language, text)
-                told = [it for it in self.texts("#read li li") if "operator" in it]
-                self.assertEqual(told, [f"In {short}, - is an operator, so that numbers have no sign."] if text == "-5" and not is_read else [])
+        shown = self.run_script("""const [readers] = page.library.readers("-5");
+            return page.data.languages.flatMap(({ name, short, forms }, index) => ["-5", "5"].map((numbers) => {
+                page.jump({ forms, at: 0, language: name, numbers });
+                const told = [...find("read").querySelectorAll("li li")].map((it) => it.textContent).filter((it) => it.includes("operator"));
+                return [short, numbers === "5" || readers.some((it) => it.language === index), told];
+            }));""")
+        for short, is_read, told in shown:
+            self.assertEqual(told, [] if is_read else [f"In {short}, - is an operator, so that numbers have no sign."])
 
     def test_each_tab_shows_its_code(self):
         """By its button and by keys, in both directions. The link has it, and the code is that of the tab."""
@@ -1340,20 +1342,27 @@ class Walk(unittest.TestCase):
         """Each with what LANGUAGES tells of it and of its forms, the numbers of the tests, and its name in the code."""
         page = (TOP / "docs/LANGUAGES.md").read_text().replace("`", "")
         rows = [it.split() for it in (TOP / "rust/tests/literals.txt").read_text().splitlines() if it[:1].isalpha()]
-        for name in re.findall(r"^## (\w+)$", page, re.M):
-            self.run_script("page.jump({ numbers: '' }); page.start(arguments[0])", name)
+        all_shown = dict(self.run_script("""return page.data.languages.map(({ name, short }) => {
+                page.jump({ numbers: "" });
+                page.start(name);
+                const codes = ["rust", "c", "python"].map((tab) => (page.chooseTab(tab), find("code").textContent));
+                const forms = page.state.forms.map((it) => it.name);
+                return [name, [codes, find("about").textContent, forms, find("literal").value.split("\\n"), short]];
+            });"""))
+        names = re.findall(r"^## (\w+)$", page, re.M)
+        self.assertEqual([*all_shown], names)
+        for name in names:
             section = re.search(rf"^## {name}\n\n(.*?)(?=\n## |\Z)", page, re.M | re.S)[1]
             about = re.split(r"\n\n(?:Compared|\|)", section)[0]
             short = re.match(r"(\S+?)'s |", about)[1]
             first = short and re.search(rf"^## (\w+)\n\n{re.escape(short)}'s ", page, re.M)[1]
             # The first two lines of a table are its head. A form with a suffix that is required is one of tokens alone.
             forms = [it.split(" | ")[0][2:] for it in re.findall(r"^\|.*$", section, re.M)[2:] if not it.endswith("required |")]
-            shown = self.run_script("""return [find("about").textContent, page.state.forms.map(({ name }) => name), find("literal").value.split("\\n"),
-                page.data.languages.find(({ name }) => name === arguments[0]).short]""", name)
             numbers = [("!" if mark == "-" else "") + text for language, mark, text, *_ in rows if language == name and mark in "+-"]
+            codes, *shown = all_shown[name]
             self.assertEqual(shown, [" ".join(about.split()), forms, numbers, short if first == name else name])
-            for tab, reader in (("rust", f"Language::{name}."), ("c", f" peltzivar_language_{name.lower()}()."), ("python", f"languages.{name}.")):
-                self.assertIn(reader, self.run_script("page.chooseTab(arguments[0]); return find('code').textContent", tab))
+            for code, reader in zip(codes, (f"Language::{name}.", f" peltzivar_language_{name.lower()}().", f"languages.{name}.")):
+                self.assertIn(reader, code)
 
     def test_fields_are_shown_as_they_are_documented(self):
         """Each flag and byte with what FORMAT and the setters tell of it, and what no format can express."""
