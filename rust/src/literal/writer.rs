@@ -13,6 +13,7 @@ mod checked;
 #[allow(
     clippy::exhaustive_structs,
     clippy::manual_map,
+    clippy::manual_ok_err,
     clippy::needless_lifetimes,
     clippy::question_mark,
     reason = "as it is proved, and for the library for C alone"
