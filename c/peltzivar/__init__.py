@@ -903,6 +903,9 @@ class LiteralError(ValueError):
         index = self.valid_up_to
         calls = _library.read_error_text, _library.read_error_full_text
         self.sentence, self.full_sentence = (_text(it, stopped) for it in calls)
+        if is_token and why.kind == ReadErrorKind.SUFFIX.value:
+            data = _bytes_of(text)
+            self.sentence = self.full_sentence = _text(_library.token_error_text, owner._forms, data, len(data))
         if not (isinstance(text, bytes) or text[index : index + 1].isascii()) and why.kind == ReadErrorKind.BYTE.value:
             self.sentence = self.full_sentence = f"unexpected character {text[index]!r}"
         self.part = Part(why.part) if why.part != _NO_PART else None
@@ -2338,7 +2341,7 @@ class _Several(_Reader):
             ('..2', 'L', 1)
             >>> languages.JAVA.token("1.5u99")
             Traceback (most recent call last):
-            peltzivar.LiteralError: unknown suffix
+            peltzivar.LiteralError: unknown suffix; known are f, d
         """
         found, data = _Token(), _bytes_of(text)
         if not _library.forms_token(self._forms, data, len(data), found, None):

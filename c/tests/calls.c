@@ -467,6 +467,11 @@ static void test_choice(void) {
     CHECK(peltzivar_forms_read(python, "340282366920938463463374607431768211456", 39, &literal, NULL));
     CHECK(peltzivar_forms_format_literal(&forms, &literal, NULL, text, sizeof text, NULL) == PELTZIVAR_WRITE_READ_BACK);
     CHECK(peltzivar_forms_format_i64(c, -1, NULL, text, sizeof text, NULL) == PELTZIVAR_WRITE_NEGATIVE);
+    /* A list writes at most 4096 bytes. */
+    static char digits[4097], room[5000];
+    memset(digits, '1', sizeof digits);
+    for (size_t len = 4096; len <= sizeof digits; len++) CHECK(peltzivar_forms_read(c, digits, len, &literal, NULL)
+        && peltzivar_forms_format_literal(c, &literal, NULL, room, sizeof room, NULL) == (len > 4096 ? PELTZIVAR_WRITE_LONG : 0));
     CHECK(peltzivar_forms_format_f64(c, HUGE_VAL, NULL, text, sizeof text, NULL) == PELTZIVAR_WRITE_SPECIAL);
     /* The first spelling is a hexadecimal number. */
     peltzivar_forms special = forms;

@@ -59,8 +59,10 @@ class Columns(unittest.TestCase):
         values, wrong, _ = Language.TOML.column(["1", "1.5", "inf", "99999999999999999999", None], int, errors="coerce", fill=-1)
         self.assertEqual((values.tolist(), [str(it)[:5] for it in wrong]), ([1, -1, -1, -1, -1], ["a flo", "NaN o", "above"]))
         self.assertRaisesRegex(TypeError, "^cell 1 must be a str, not float$", Language.CSV_DE.column, ["1,5", 1.5])
-        offsets = array("q", [0, 3, 1, 2])
-        self.assertEqual([(it.index, it.text) for it in Language.JSON.column((b"12", offsets), errors="coerce").wrong], [(0, b"12"), (1, b"")])
+        for offsets in itertools.product(range(5), repeat=4):
+            wrong = Language.JSON.column((b"1111", array("q", offsets)), errors="coerce").wrong
+            outside = [not offsets[0] <= start < end <= offsets[-1] for start, end in zip(offsets, offsets[1:])]
+            self.assertEqual([it.index for it in wrong], [index for index, it in enumerate(outside) if it], offsets)
 
     def test_one_text(self):
         rows = [("1.5", float, 1.5), (b"15", int, 15), ("-inf", float, -math.inf)]

@@ -362,7 +362,10 @@ class Literals(unittest.TestCase):
                             self.assertEqual(pickle.loads(pickle.dumps(token.literal)), token.literal)
                             self.assertEqual(forms.token(text).rest.encode(), token.rest)
                         except LiteralError as error:
-                            stated = f"{error.span[0]}..{error.span[1]} {error}"
+                            # Known suffixes are behind a semicolon.
+                            stated = f"{error.span[0]}..{error.span[1]} {str(error).split(';')[0]}"
+                            if error.kind in (ReadErrorKind.SUFFIX, ReadErrorKind.POINT, ReadErrorKind.STOP):
+                                self.assertEqual(error.valid_up_to, error.span[0])
                         self.assertEqual(stated, wanted)
 
     def test_rules_of_tokens_are_those_of_the_list(self):
