@@ -19,7 +19,7 @@ TOP = HERE.parent
 PAGE = HERE / "index.html"
 FORMAT = (TOP / "docs/FORMAT.md").read_text()
 SCRIPTS = ("library", "element", "controls", "code", "report", "advice", "literal", "page")
-MOST_BYTES = 240_000
+MOST_BYTES = 241_000
 TARGET = "wasm32-unknown-unknown"
 OPTIONS = [f"--target={TARGET}", "-Ctarget-feature=+bulk-memory", "-Copt-level=s", "-Cpanic=abort", "--cap-lints=allow"]
 NO_COMPILER = f"no compiler has the target {TARGET}: `rustup target add {TARGET}`, or `apt-get install rustc-web rust-web-src lld`"
