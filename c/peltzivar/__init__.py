@@ -1668,8 +1668,8 @@ class _Reader:
 
         Of several forms, as those of a Language, that is taken whose text all of them read as the same integer, or the same
         float. Forms of the radix of a `Literal` are asked first, then decimal ones, and then the others. If there is none,
-        the error is that of the first. An int that no form of integers can have is written as a float that is equal to
-        it: `languages.JAVA.format_number(3000000000)` is 0xB2D05E00p0.
+        the error is that of the first or, of a float, of the first with a point. An int that no form of integers can have
+        is written as a float that is equal to it: `languages.JAVA.format_number(3000000000)` is 0xB2D05E00p0.
 
         Raises ValueError for NaN and infinity without a spelling that is read as them, for a Fraction that no decimal
         number is equal to, for a sign `-` if no literal has one, for a number that is not whole if literals are
