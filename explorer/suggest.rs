@@ -322,7 +322,7 @@ fn suffixes(state: State, text: &[u8], at: usize) -> [Option<State>; 3] {
         return [None; 3];
     }
     let shown = match last.to_ascii_lowercase() {
-        b'b' => Some(2),
+        b'b' | b'y' => Some(2),
         b'o' | b'q' => Some(8),
         b'h' => Some(16),
         _ => None,

@@ -59,7 +59,7 @@ SHOWN = """const [shown, tried] = arguments;
     const [[last]] = states.at(-1);
     const all = [...library.conditions.map((it) => set(last, it)), library.conditions.reduce(set, last)].map((form) => [[form], ""])
         .filter(([[form]]) => !library.explain(form).problems.length);
-    const named = states.map(([[form]], index) => ({ ...form, name: ['"', "\\\\", "*/?", "\\u05d0'", "%s:{}", ""].at(index % 6) }))
+    const named = states.map(([[form]], index) => ({ ...form, name: ['"', "\\\\", "*/?", "\\u05d0'", "%s:{}", "??=??/??'??(??)??!??<??>??-", ""].at(index % 7) }))
         .filter((form) => !library.explain(form).problems.length);
     const forms = data.languages.flatMap(({ name, forms }) => [[forms, name], [forms, ""], ...forms.map((form) => [[form], name])]);
     const json = ({ forms, at }) => JSON.stringify([forms, at], (_, it) => (typeof it === "bigint" ? String(it) : it));
@@ -432,6 +432,13 @@ class Walk(unittest.TestCase):
         Select(self.find("#language")).select_by_value("JSON")
         self.driver.back()
         self.wait(lambda: state() == both)
+        self.load(f"#word={STANDARD}")
+        before = self.run_script("return page.fragment()")
+        for name in self.run_script("return [...page.library.bytes, ...OPTIONS].map(({ name }) => name)"):
+            for _ in range(2):
+                self.type(f"#{name}", "7")
+                self.find(f"#{name}").send_keys(Keys.CONTROL, "z")
+                self.assertEqual(self.run_script("return page.fragment()"), before, name)
 
     def test_a_change_leaves_nothing_to_be_done_again(self):
         for step in (lambda: self.click("#no_special"), lambda: self.click("#read .use"), lambda: self.click("#standard"),
@@ -457,6 +464,15 @@ class Walk(unittest.TestCase):
         self.assertEqual((shown(), self.value("#exponent")), (("Same format.", []), "e"))
         Select(self.find("#add")).select_by_value("copy")
         self.assertEqual(shown(), ("None of the texts that were tried tells them apart.", []))
+
+    def test_kinds_are_told_apart(self):
+        alike = self.run_script("""const { library } = page;
+            const usual = { forms: [library.usual] };
+            return library.conditions.filter(({ isKind }) => isKind).flatMap(({ name, limits: [least, most] = [1, 1] }) => {
+                return Array.from({ length: most - least + 1 }, (_, it) => ({ forms: [library.with(library.usual, name, least + it)] }))
+                    .filter((other) => !library.differ(usual, other).flat().length || !library.differ(other, usual).flat().length);
+            }).map(({ forms: [form] }) => library.differences(form).map((it) => it.text).join());""")
+        self.assertEqual(alike, [])
 
     def test_texts_tell_two_languages_apart(self):
         Select(self.find("#language")).select_by_value("JSON")
@@ -612,6 +628,13 @@ class Walk(unittest.TestCase):
                 return [first, second, ...document.querySelectorAll("#read .separator")].map((it) => it.textContent ?? it).join("|");
             })).filter((it) => it.split("|").slice(0, 2).join() !== it.split("|").slice(2).join());""")
         self.assertEqual(wrong, [])
+        wrong = self.run_script("""const word = page.library.build(["digit_separator_flags=true", "digit_separator='_'"]).word;
+            const flags = page.library.flags.filter(({ name, part }) => part === "separator" && !name.startsWith("special"));
+            return flags.flatMap(({ accepts }) => accepts).filter((text) => {
+                page.jump({ forms: [{ ...page.library.usual, word }], at: 0, language: "", numbers: text });
+                return [...document.querySelectorAll("#read .separator")].map((it) => it.textContent).join("") !== text.replace(/[^_]/g, "");
+            });""")
+        self.assertEqual(wrong, [])
 
     def test_links_show_the_form_of_their_word(self):
         """In each order of lines, the one without a syntax is shown, and those that cannot be read are told and left out."""
@@ -715,6 +738,13 @@ class Walk(unittest.TestCase):
                 for (let step = 0; problems().length && step < 40; step += 1) state = library.repairs(state, problems()[0])[0];
                 return problems().length;
             }).map(wordText);""")
+        self.assertEqual(left, [])
+        left = self.run_script("""const { library } = page;
+            return Array.from({ length: 35 }, (_, it) => it + 2).filter((radix) => {
+                const form = library.with(library.usual, "mantissa_radix", radix);
+                const isKept = (it) => library.get(it.word, "mantissa_radix") === radix && !library.explain(it).problems.length;
+                return library.explain(form).problems.some((it) => !library.repairs(form, it).some(isKept));
+            });""")
         self.assertEqual(left, [])
 
     def test_words_are_typed_and_refused(self):
@@ -1397,13 +1427,7 @@ class Walk(unittest.TestCase):
         self.assertEqual(self.run_script("return [...find('limits').querySelectorAll('th, td')].map((it) => it.textContent)"), cells)
 
     def test_controls_are_called_by_what_they_do(self):
-        names = {"language": "Language", "compare": "Compare with", "standard": "Standard format", "undo": "Undo", "redo": "Redo",
-                 "copy-link": "Copy link", "form-name": "Name", "earlier": "Move the form before the one on its left", "remove": "Remove",
-                 "later": "Move the form behind the one on its right", "add": "Add a form", "literal": "Numbers, one a line", "clear": "Clear",
-                 "copy-code": "Copy the code", "word": "As one number, the format word", "copy-word": "Copy the word",
-                 "to-numbers": "To the numbers", "to-code": "To the code", "to-controls": "To the settings"}
         self.load("#language=C")
-        self.assertEqual({it: self.find(f"#{it}").accessible_name for it in names}, names)
         wrong = self.run_script("""const wrong = [...page.library.fields, ...page.library.groups, ...page.library.conditions].filter(({ name, isByte }) => {
                 const [box, title] = [find(name), name.replace("_", " ")];
                 return isByte ? box.labels[0].textContent !== title : !box.ariaLabel.endsWith(`(${name})`) || !box.closest(`[data-field=${name}]`);
