@@ -35,6 +35,10 @@ const INTEGERS: &[(Language, &str, Option<i128>)] = &[
     (Language::OCAML, "0xffffffffl", Some(-1)),
     (Language::OCAML, "0xffffffffL", Some(4294967295)),
     (Language::OCAML, "2147483647l", Some(2147483647)),
+    (Language::OCAML, "9223372036854775807L", Some(9223372036854775807)),
+    (Language::OCAML, "0xffffffffffffffffL", Some(-1)),
+    (Language::OCAML, "9223372036854775807n", Some(9223372036854775807)),
+    (Language::OCAML, "0xffffffffffffffffn", Some(-1)),
     (Language::NASM, "0ffffffffffffffffh", Some(-1)),
     (Language::NASM, "18446744073709551616", Some(0)),
     (Language::NASM, "0x10000000000000001", Some(1)),
@@ -130,6 +134,9 @@ fn each_number_of_bits_has_its_limits() {
                     let literal = HEXADECIMAL.read(&text).unwrap().with_kind(of(kind));
                     assert_eq!(literal.to_i128().ok(), wanted, "{kind:?}: {text}");
                     assert_eq!(literal.to_i64().ok(), wanted.and_then(|it| it.try_into().ok()), "{kind:?}: {text}");
+                    assert_eq!((literal.to_i64(), literal.to_u64()), (literal.try_into(), literal.try_into()));
+                    assert_eq!((literal.to_i128(), literal.to_u128()), (literal.try_into(), literal.try_into()));
+                    assert_eq!((literal.to_f64(), literal.to_f32()), (literal.try_into(), literal.try_into()));
                     assert_eq!(literal.to_f64().ok(), wanted.map(|it| it as f64), "{kind:?}: {text}");
                     assert_eq!(literal.binary_to_f32().ok(), wanted.map(|it| it as f32), "{kind:?}: {text}");
                 }

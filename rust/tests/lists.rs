@@ -121,6 +121,11 @@ fn settings_are_found_in_their_lines() {
         let error = Settings::read(&lines).unwrap_err();
         let (index, sentence) = (error.index(), error.to_string());
         assert!(index == 4 && sentence.starts_with(&format!("{name} takes ")) && sentence.contains(", not `?`"));
+        // What is refused is forgotten where a later line sets the same.
+        let mut after = Settings::new();
+        assert!(after.add(&lines[4]).is_err() && after.add(&set).is_ok());
+        let found = |it: &Settings| Vec::from_iter(it.reasons().chain(it.notes()).map(|it| it.to_string()));
+        assert_eq!(found(&after), found(&plain), "{name}");
     }
     // One note blames at most a digit separator and all flags that allow one. The first 32 notes on settings are kept.
     let flags = FlagSetter::FLAGS.iter().filter(|it| it.name().ends_with("digit_separator"));
@@ -164,6 +169,18 @@ fn integers_at_limits_are_read_by_std() {
     }
 }
 
+/// A type without limits.
+#[derive(Debug)]
+struct Unlimited;
+
+impl FromLiteral for Unlimited {
+    const TARGET: Target = Target::new("unlimited");
+
+    fn from_literal(literal: Literal<'_>) -> Result<Self, ValueErrorKind> {
+        literal.to_i128().map(|_| Unlimited).map_err(|it| it.kind())
+    }
+}
+
 /// Of two limits, the sentence names that which has fewer numbers, and of equals that of the type.
 #[test]
 #[allow(clippy::unnecessary_cast, reason = "it is for each type")]
@@ -171,6 +188,10 @@ fn sentences_name_the_nearer_limit() {
     for (bits, of) in (1..=64).flat_map(|it| [IntegerKind::AtMost(it), IntegerKind::Wraps(it)].map(|of| (it, of))) {
         let forms = [Form::new("", integers(10)).with_kind(Kind::new(of, FloatKind::Nearest).unwrap())];
         let (forms, most) = (Forms::new_or_panic(&forms), (1_u128 << bits) - 1);
+        for (sign, limit) in [("", format!("above {most}, the largest")), ("-", format!("below -{most}, the least"))] {
+            let error = forms.parse::<Unlimited>(format!("{sign}{}", most + 1)).unwrap_err();
+            assert_eq!(error.to_string(), limit + " number of its form");
+        }
         each_type!(Type => {
             let (name, largest, least) = (std::any::type_name::<Type>(), Type::MAX as u128, Type::MIN as i128);
             let above = if most < largest { (most, "number of its form") } else { (largest, name) };
@@ -199,6 +220,51 @@ fn errors_of_lists_are_those_of_their_forms() {
             assert_eq!((error.form(), error.name), (error.form, form.name()), "{language}: {text}");
             assert_eq!(Err(error.error), form.syntax().read(&text), "{language}: {text}");
             assert_eq!((error.span(), error.valid_up_to()), (error.error.span(), error.error.valid_up_to()));
+        }
+    }
+}
+
+/// A float has a plain text if its three radixes are 10, and an integer always has one.
+#[test]
+fn plain_texts_are_decimal() {
+    let some = [2, 10, 36];
+    for three in some.into_iter().flat_map(|one| some.into_iter().flat_map(move |two| some.map(|it| [one, two, it]))) {
+        let [base, exponent] = [three[1], three[2]].map(std::num::NonZeroU8::new);
+        let fields = NumberFormatBuilder::new().mantissa_radix(three[0]).exponent_base(base).exponent_radix(exponent);
+        let syntax = Syntax::new_or_panic(fields.build_format_or_panic(), b'^', b'.');
+        for text in ["1", "1.1", "1^1", "1.1^-1"] {
+            let is_plain = syntax.read(text).unwrap().plain().is_some();
+            assert_eq!(is_plain, text == "1" || three == [10; 3], "{three:?} {text}");
+        }
+    }
+}
+
+/// A condition is set once in the text of a syntax, whichever of its values it has.
+#[test]
+fn a_condition_is_set_once() {
+    for it in Condition::ALL {
+        let values = if it.limits().1 > 1 { ["2", "none"] } else { ["true", "false"] };
+        for (one, two) in values.iter().flat_map(|one| values.map(|two| (one, two))) {
+            let text = format!("0x0A0A0A6878000000000000070000000C {0}={one} {0}={two}", it.name());
+            assert_eq!(text.parse::<Syntax>().unwrap_err().to_string(), format!("{} is set twice", it.name()));
+        }
+    }
+}
+
+/// A condition blames the lines that set the field which the format lacks, and no other line.
+#[test]
+fn conditions_blame_the_field_that_is_lacking() {
+    for (condition, lacking) in [
+        ("required_base_prefix=true", format::BASE_PREFIX),
+        ("required_base_suffix=true", format::BASE_SUFFIX),
+        ("integer_group_size=3", format::INTEGER_INTERNAL_DIGIT_SEPARATOR),
+        ("fraction_group_size=3", format::FRACTION_INTERNAL_DIGIT_SEPARATOR),
+    ] {
+        for setter in Setter::ALL {
+            let absent = ["false", "none", "10"].into_iter().find(|it| setter.parse(it).is_ok()).unwrap();
+            let found = Settings::read([&format!("{}={absent}", setter.name()), condition]).unwrap();
+            let wanted: &[usize] = if setter.mask() & lacking == 0 { &[1] } else { &[0, 1] };
+            assert_eq!(found.reasons().next().unwrap().indexes(), wanted, "{condition}: {}", setter.name());
         }
     }
 }

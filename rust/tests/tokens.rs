@@ -218,6 +218,7 @@ fn an_unknown_suffix_lists_those_that_are_known() {
             let float = language.forms()[form].syntax().read(&text[..start]).unwrap().is_float();
             let known = language.forms()[form].suffixes().map(|it| if float { it.floats() } else { it.integers() });
             assert_eq!(suffixes, known.unwrap_or(&[]), "{language}: {text}");
+            assert_eq!(printed(*language, text).ends_with(", .."), suffixes.len() > 6, "{language}: {text}");
         }
     }
 }
