@@ -16,6 +16,9 @@ import subprocess
 import sys
 import tempfile
 import unittest
+from unittest import mock
+
+import build
 
 HERE = pathlib.Path(__file__).resolve().parent
 TOP = HERE.parent
@@ -233,6 +236,12 @@ def is_same(told, printed):
 class Sources(unittest.TestCase):
     def test_index_is_up_to_date(self):
         run(sys.executable, HERE / "build.py", "--check")
+
+    def test_each_source_counts(self):
+        read, text_of = set(), pathlib.Path.read_text
+        with mock.patch.object(pathlib.Path, "read_text", lambda path, *rest: (read.add(path), text_of(path, *rest))[1]):
+            build.hash_of("")
+        self.assertLessEqual({*HERE.rglob("*.rs"), *(TOP / "rust/src").rglob("*.rs")}, read)
 
 
 @unittest.skipUnless(webdriver and has("chromium", "chromedriver"), "no chromium, chromium-driver or python3-selenium")
@@ -464,6 +473,33 @@ class Walk(unittest.TestCase):
         self.assertEqual((shown(), self.value("#exponent")), (("Same format.", []), "e"))
         Select(self.find("#add")).select_by_value("copy")
         self.assertEqual(shown(), ("None of the texts that were tried tells them apart.", []))
+
+    def test_spellings_in_one_case_are_told_apart(self):
+        alike = self.run_script("""const { library, data: { languages } } = page;
+            const words = languages.flatMap(({ specials }) => specials).flatMap((it) => [it, it.toLowerCase(), it.toUpperCase()]);
+            const forms = [library.with(library.usual, "case_sensitive_special", 1)];
+            return [...new Set(words)].filter((it) => /[a-z]/i.test(it)).filter((it) => {
+                const specials = /n.?a/i.test(it) ? [it, "", ""] : ["", it, ""];
+                return !library.differ({ forms: [library.usual], specials }, { forms, specials }).flat().length;
+            });""")
+        self.assertEqual(alike, [])
+
+    def test_numbers_beyond_the_limits_of_a_condition_are_told(self):
+        taken = self.run_script("""const { library } = page;
+            const beyond = ([least, most]) => [least - 1, most + 1, -1, 1.5, "x"].filter((it) => it !== 0);
+            return library.conditions.flatMap(({ name, limits = [1, 1] }) => beyond(limits).map((it) => `${name}=${it}`)).filter((it) => {
+                const lost = [];
+                return library.withConditions(0n, it, lost) || !lost.length;
+            });""")
+        self.assertEqual(taken, [])
+
+    def test_numbers_are_shown_as_they_are_typed_and_with_the_reason_for_no_value(self):
+        shown = """page.jump({ forms: [page.library.usual], at: 0, language: "", numbers: arguments[0] });
+            return [find("read").querySelector(".written").innerText, ...[...find("read").querySelectorAll("p")].map((it) => it.textContent)]"""
+        for text in (" 1", "1 ", "1  0", "  "):
+            self.assertEqual(self.run_script(shown, text)[0], text)
+        for number, why in ((-(2**127) - 1, f"below {-(2**127)}, the least i128"), (2**128, f"above {2**128 - 1}, the largest u128")):
+            self.assertEqual(self.run_script(shown, str(number)), [str(number), f"accepted: integer: {why}"])
 
     def test_kinds_are_told_apart(self):
         alike = self.run_script("""const { library } = page;
@@ -1412,6 +1448,11 @@ class Walk(unittest.TestCase):
             self.assertEqual((cell, told in shown(name)), (accepted[0], True), name)
         for name, meaning in re.findall(r"^\| \d+ to \d+ \| (\w+) \| \d+ \| (.*) \|$", page, re.M):
             self.assertIn(meaning, shown(name))
+        self.assertEqual([it for it in self.run_script("""const { library } = page;
+            return library.bytes.filter(({ name }) => {
+                const means = library.effective(library.usual.word, name) !== library.get(library.usual.word, name);
+                return find(`${name}-meaning`).textContent.includes("0 means the mantissa radix") !== means;
+            }).map((it) => it.name);""")], [])
         sources = "".join((TOP / f"rust/src/{it}.rs").read_text() for it in ("format_builder/setters", "literal/conditions"))
         sources = " ".join(sources.replace("///", "").split())
         for name, meaning, refused in self.run_script("""const { flags, groups, conditions } = page.library;

@@ -27,6 +27,13 @@ fn offered(state: State, lines: &str) -> Vec<State> {
     offers(state, &lines, lines[0]).into_iter().map(|(state, _)| state).collect()
 }
 
+/// Returns a text with each letter in the other case.
+fn swapped(text: &str) -> String {
+    text.chars()
+        .map(|it| if it.is_ascii_lowercase() { it.to_ascii_uppercase() } else { it.to_ascii_lowercase() })
+        .collect()
+}
+
 #[test]
 fn numbers_of_many_forms_lead_to_their_formats() {
     #[rustfmt::skip]
@@ -61,6 +68,15 @@ fn numbers_of_many_forms_lead_to_their_formats() {
         let found = offered(state("", b'e', b'.'), lines);
         assert_eq!(found.first(), Some(&state(settings, exponent, point)), "{lines}");
         assert!(found.len() <= 3, "{lines}");
+    }
+    // With each letter in the other case, so are the bytes that are found.
+    for (lines, settings, exponent, point) in rows {
+        let bytes = settings
+            .split(' ')
+            .map(|it| it.split_once('\'').map_or(it.into(), |it| format!("{}'{}", it.0, swapped(it.1))));
+        let exponent = if exponent == b'D' { b'd' } else { exponent };
+        let wanted = state(&bytes.collect::<Vec<_>>().join(" "), exponent, point);
+        assert_eq!(offered(state("", b'e', b'.'), &swapped(lines)).first(), Some(&wanted), "{lines}");
     }
     for text in ["16#FF#", "#FF", "0xFF_u8", "0x"] {
         assert_eq!(offered(state("", b'e', b'.'), text), [], "{text}");
