@@ -58,6 +58,8 @@ const FLOATS: &[(Language, &str, f64)] = &[
     (Language::JAVA, "0.1d", 0.1),
     (Language::JAVA, "0.1f", 0.1_f32 as f64),
     (Language::JAVA, "16777217f", 16777216.0),
+    (Language::JAVA, "3000000000d", 3e9),
+    (Language::JAVA, "9223372036854775809f", 9223372036854775808.0),
     (Language::JAVA, "16777217d", 16777217.0),
     (Language::JAVA, "08f", 8.0),
     (Language::KOTLIN, "016777217f", 16777216.0),

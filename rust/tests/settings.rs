@@ -162,8 +162,10 @@ fn reading_ends_at_the_first_error() {
 /// An option shares no bit with a field, so none overrides the other.
 #[test]
 fn options_and_fields_are_apart() {
-    for name in Edit::NAMES {
-        let value = if name.parse::<FlagSetter>().is_ok() { "true" } else { "33" };
+    let fields = Edit::NAMES.iter().map(|it| (*it, if it.parse::<FlagSetter>().is_ok() { "true" } else { "33" }));
+    let conditions =
+        peltzivar::literal::Condition::ALL.iter().map(|it| (it.name(), if it.limits().1 == 1 { "true" } else { "3" }));
+    for (name, value) in fields.chain(conditions) {
         let field = format!("{name}={value}");
         let settings = Settings::read(["exponent='p'", "point=','", &field, "exponent='x'", "point='.'"]).unwrap();
         let overridden = settings.notes().filter(|it| matches!(it.kind(), FindingKind::Overridden(_)));

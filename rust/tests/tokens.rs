@@ -212,6 +212,14 @@ fn an_unknown_suffix_lists_those_that_are_known() {
     assert_eq!(printed(Language::RUST, "1u9"), six);
     assert_eq!(printed(Language::RUST, "1.5u8"), "unknown suffix; known are f32, f64");
     assert_eq!(printed(Language::SWIFT, "1x"), "unknown suffix");
+    const WORDS: [&[u8]; 8] = [b"a", b"b", b"c", b"d", b"f", b"g", b"h", b"i"];
+    for count in 0..=WORDS.len() {
+        let suffixes = Box::leak(Box::new(Suffixes::new(WORDS[..count].to_vec().leak(), &[], &[])));
+        let forms = [Form::new("", Syntax::default()).with_suffixes(suffixes)];
+        let error =
+            Forms::new(&forms).unwrap().with_tokens(&Tokens::new(&[], &[])).token("1z").unwrap_err().to_string();
+        assert_eq!((error.matches(", ").count(), error.ends_with(", ..")), (count.saturating_sub(1).min(6), count > 6));
+    }
     for language in Language::ALL {
         for text in ["1zz", "1.5zz", "0x1zz", "0b1zz", "0o1zz"] {
             let Err(TokenError::UnknownSuffix { form, start, suffixes, .. }) = language.token(text) else { continue };
