@@ -61,6 +61,7 @@ const FLOATS: &[(Language, &str, f64)] = &[
     (Language::JAVA, "3000000000d", 3e9),
     (Language::JAVA, "9223372036854775809f", 9223372036854775808.0),
     (Language::JAVA, "16777217d", 16777217.0),
+    (Language::JAVA, "9223372036854775809d", 9223372036854775808.0),
     (Language::JAVA, "08f", 8.0),
     (Language::KOTLIN, "016777217f", 16777216.0),
     // Rounded to a double first, it would be between two singles, and then the lower one.
@@ -187,5 +188,12 @@ fn values_are_written() {
     for (source, text, target, wanted) in rows {
         let written = target.forms()[0].syntax().format_literal(&literal(source, text), Style::PLAIN);
         assert_eq!(written.map(|it| it.to_string()), wanted.map(str::to_string), "{source}: {text}");
+    }
+    let json = Language::JSON.forms();
+    for (source, text, wanted) in FLOATS.iter().filter(|it| it.2.is_finite()) {
+        let (literal, style) = (literal(*source, text), Style::PLAIN.nearest());
+        for written in [json[0].syntax().format_literal(&literal, style), json.format_literal(&literal, style)] {
+            assert_eq!(json.parse(written.unwrap().to_string()), Ok(*wanted), "{source}: {text}");
+        }
     }
 }

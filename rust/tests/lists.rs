@@ -42,6 +42,7 @@ fn paddings_are_those_of_std() {
         Special special; Number toml.read("nan").unwrap(); Written json.format_literal(&long, plain).unwrap();
         Written json.format_integer(-15, plain).unwrap(); Written json.format_float(0.1, plain).unwrap();
         Written json.format_float(1e38, plain.decimals(9)).unwrap();
+        Written json.format_float(-0.0, plain).unwrap(); Written json.format_float(-0.0_f32, plain).unwrap();
         Written spelled.format_float(f64::NEG_INFINITY, plain).unwrap();
     };
     let listed = include_str!("surface.rs").lines().filter_map(|line| line.strip_suffix(": Display {} };"));
@@ -126,6 +127,13 @@ fn settings_are_found_in_their_lines() {
         assert!(after.add(&lines[4]).is_err() && after.add(&set).is_ok());
         let found = |it: &Settings| Vec::from_iter(it.reasons().chain(it.notes()).map(|it| it.to_string()));
         assert_eq!(found(&after), found(&plain), "{name}");
+    }
+    // A reason of the mantissa radix is left out only where what sets the mantissa radix is refused.
+    for setter in Setter::ALL {
+        let mut settings = Settings::read(["mantissa_radix=40"]).unwrap();
+        assert!(settings.add(format!("{}=?", setter.name())).is_err());
+        let is_found = settings.reasons().next().is_some();
+        assert_eq!(is_found, setter.mask() & format::MANTISSA_RADIX == 0, "{}", setter.name());
     }
     // One note blames at most a digit separator and all flags that allow one. The first 32 notes on settings are kept.
     let flags = FlagSetter::FLAGS.iter().filter(|it| it.name().ends_with("digit_separator"));
@@ -336,4 +344,32 @@ fn names_and_sentences_are_known() {
     let found = written.map(|it| (format!("{it:?}"), it.to_string())).into_iter().chain(tokens);
     let rows = include_str!("errors.txt").lines().filter(|row| !row.starts_with('#'));
     assert!(rows.eq(found.map(|(name, sentence)| format!("{name} | {sentence}"))));
+}
+
+/// Regular expressions and grammars have each byte as their notations write it, and sentences the size of each group.
+#[test]
+fn notations_show_each_byte_and_size() {
+    let builder = NumberFormatBuilder::new().internal_digit_separator(true);
+    for byte in 1..=127 {
+        let Ok(format) = builder.digit_separator(byte.try_into().ok()).build_format() else { continue };
+        let (syntax, it) = (Syntax::integers(format), char::from(byte));
+        let [in_set, quoted] = match it {
+            '\t'..='\r' => [format!("\\{}", ["t", "n", "v", "f", "r"][usize::from(byte - 9)]), format!("#x{byte:X}")],
+            '[' | '\\' | ']' | '^' => [format!("\\{it}"), format!("\"{it}\"")],
+            '"' => [it.to_string(), "'\"'".into()],
+            _ => [it.to_string(), format!("\"{it}\"")],
+        };
+        assert_eq!(syntax.regex().to_string(), format!("[+-]?[0-9]+(?:[{in_set}][0-9]+)*"));
+        assert!(syntax.grammar().to_string().contains(&format!("({quoted} Digit+)*")), "{}", syntax.grammar());
+    }
+    let syntax =
+        Syntax::new_or_panic(builder.digit_separator(b'_'.try_into().ok()).build_format_or_panic(), b'e', b'.');
+    for (size, name) in (2..=8).zip(["two", "three", "four", "five", "six", "seven", "eight"]) {
+        for (last, higher) in [(size, 0), (2, size), (size, 2)] {
+            let sizes = Conditions::NONE.integer_group_size(Some(last)).fraction_group_size(Some(size));
+            let sentence =
+                syntax.with_conditions(sizes.higher_group_size(Some(higher))).unwrap().sentence().to_string();
+            assert!(sentence.contains(name) && sentence.contains(&format!("of {name} in the fraction")), "{sentence}");
+        }
+    }
 }

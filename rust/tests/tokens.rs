@@ -105,6 +105,20 @@ fn each_form_suffix_and_keyword_has_a_row() {
     assert!(missing.iter().eq(["RUBY if", "RUBY in"]), "no rows of these, but for `if` and `in` of RUBY: {missing:#?}");
 }
 
+/// Behind an integer, a suffix of floats makes a float of any size.
+#[test]
+fn a_suffix_of_floats_has_no_limit() {
+    for language in Language::ALL {
+        for suffixes in language.forms().into_iter().filter_map(|it| it.suffixes()) {
+            for word in suffixes.integers().iter().filter(|it| suffixes.floats().contains(it)) {
+                let text = ["1".repeat(39).as_bytes(), word].concat();
+                let token = language.token(&text).unwrap();
+                assert!(token.literal.to_f64().is_ok(), "{language}: {}", text.escape_ascii());
+            }
+        }
+    }
+}
+
 /// Lengths of tokens by the scanners of the languages' own tools, as `compare/languages/tokens` records them.
 #[test]
 fn tokens_end_where_scanners_end_them() {
