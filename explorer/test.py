@@ -407,9 +407,12 @@ class Walk(unittest.TestCase):
         for byte, name in {9: "TAB", 10: "LF", 11: "VT", 12: "FF", 13: "CR", 32: "SPACE"}.items():
             self.type("#point", name.lower() + Keys.TAB)
             self.assertEqual((self.run_script("return page.form.point"), self.value("#point")), (byte, name))
+            self.assertEqual(self.texts(".byte-row .other")[-1], f"{name} {byte} 0x{byte:02X}")
         self.load("#word=0x0A0A0A000000002C000000000000000C&point=44&numbers=1,5")
         self.assertEqual((self.text("#verdict"), self.text("#count")), ("Valid format", "1 of 1 as expected"))
         self.assertIn("Numbers are read, since no flag allows the separator, but is_valid_options_punctuation refuses this", self.text("#notes"))
+        self.load("#word=0x0A0A0A000000002C000000000000000C&point=44&conditions=required_base_prefix%3Dtrue")
+        self.assertEqual(self.text("#verdict"), "Not valid: 1 reason")
 
     def test_changes_are_undone_and_done_again(self):
         def state():
@@ -448,6 +451,10 @@ class Walk(unittest.TestCase):
                 self.type(f"#{name}", "7")
                 self.find(f"#{name}").send_keys(Keys.CONTROL, "z")
                 self.assertEqual(self.run_script("return page.fragment()"), before, name)
+        for key in (Keys.CONTROL, Keys.META):
+            self.click("#no_special")
+            self.find("#no_special").send_keys(key, "z")
+            self.assertEqual(self.run_script("return page.fragment()"), before)
 
     def test_a_change_leaves_nothing_to_be_done_again(self):
         for step in (lambda: self.click("#no_special"), lambda: self.click("#read .use"), lambda: self.click("#standard"),
@@ -473,6 +480,10 @@ class Walk(unittest.TestCase):
         self.assertEqual((shown(), self.value("#exponent")), (("Same format.", []), "e"))
         Select(self.find("#add")).select_by_value("copy")
         self.assertEqual(shown(), ("None of the texts that were tried tells them apart.", []))
+        self.assertEqual(self.run_script("""return Array.from({ length: 12 }, (_, it) => it).filter((count) => {
+            const texts = Array.from({ length: count }, (_, it) => ({ text: String(it), error: "" }));
+            return page.report.texts([texts]).some((it) => it.tagName === "UL" && Boolean(it.querySelector("summary")) !== (count > MOST_TEXTS));
+        });"""), [])
 
     def test_spellings_in_one_case_are_told_apart(self):
         alike = self.run_script("""const { library, data: { languages } } = page;
@@ -680,6 +691,12 @@ class Walk(unittest.TestCase):
                 names = [it.split(":")[1] for it in kept if it != "bad:x"] + ([] if ":shown" in kept else ["hexadecimal"])
                 self.assertEqual((self.texts("#forms button") or names, self.value()), (names, MIXED))
                 self.assertEqual("forms=bad:x" in self.text("#told"), "bad:x" in kept)
+
+    def test_a_change_that_loses_as_many_numbers_is_offered_as_a_form(self):
+        self.run_script("""const { library } = page;
+            const form = { ...library.usual, word: library.build(["digit_separator_flags=true", "digit_separator='_'"]).word };
+            page.jump({ forms: [form], at: 0, language: "", numbers: "1_0\\n1'0" });""")
+        self.assertEqual(self.texts("#read .use"), ["set digit_separator='''", "or add this form"])
 
     def test_forms_are_added(self):
         """Each choice adds the forms that it names behind the last one."""
