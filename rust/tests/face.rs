@@ -69,7 +69,6 @@ fn stopped<T>(call: impl FnOnce() -> T + panic::UnwindSafe) -> Result<T, String>
 /// the reason alone. A reason may print any byte.
 #[test]
 fn an_unlawful_constant_stops_with_its_reason() {
-    panic::set_hook(Box::new(|_| {}));
     let twice = (0..=255).map(|byte| STANDARD | byte << BASE_PREFIX_SHIFT | byte << BASE_SUFFIX_SHIFT);
     for word in words().step_by(7).chain(twice) {
         let builder = NumberFormatBuilder::from_word(word);
@@ -187,7 +186,6 @@ fn setters_of_flags_are_parsed() {
 
 #[test]
 fn a_syntax_is_written_as_its_normal_form_and_its_options() {
-    panic::set_hook(Box::new(|_| {}));
     for format in words().filter_map(|word| Format::new(word).ok()) {
         let (normal, integers) = (format.normal_form(), Syntax::integers(format));
         assert_eq!((integers.to_string(), normal.to_string().parse()), (normal.to_string(), Ok(integers)));

@@ -355,6 +355,7 @@ fn regular_expressions_match_what_is_read() {
     }
     let python = Command::new("python3").args(["-c", PROGRAM]).stdin(Stdio::piped()).spawn();
     let Ok(mut python) = python else { return eprintln!("skipped: python3 is not installed") };
-    python.stdin.take().unwrap().write_all(rows.as_bytes()).unwrap();
-    assert!(python.wait().unwrap().success());
+    // A row that differs ends the program, which prints it.
+    let written = python.stdin.take().unwrap().write_all(rows.as_bytes());
+    assert!(python.wait().unwrap().success() && written.is_ok());
 }
