@@ -181,7 +181,7 @@ impl Stopped {
         if has_sizes(grammar) {
             match group_after(grammar, text, self.size) {
                 Some(group) => group,
-                None => unreachable!(),
+                None => FIRST,
             }
         } else {
             FIRST
