@@ -1,4 +1,4 @@
-//! The calls of `c/peltzivar.h` as a static and a shared library without `std`.
+//! The calls of `c/peltzivar.h` and `c/peltzivar_words.h` as a static and a shared library without `std`.
 //!
 //! Build with `--release`: the libraries of a dev build can be neither linked nor loaded, since they need a symbol that
 //! only `std` has.
@@ -35,7 +35,7 @@ mod values;
 mod words;
 mod writing;
 
-/// Ends the program. No call panics, so this function is never called.
+/// Ends the program. Only a syntax with sizes of groups that `peltzivar_check_syntax` refuses leads here.
 #[cfg(not(test))]
 #[panic_handler]
 fn stop(_: &core::panic::PanicInfo<'_>) -> ! {
