@@ -545,8 +545,8 @@ typedef uint32_t peltzivar_error;
  * peltzivar_check_options returns for the normal form, the error of the first condition that the format contradicts,
  * which FORMAT.md names (PELTZIVAR_INVALID_FLAGS if leading zeros are forbidden), or PELTZIVAR_INVALID_FLAGS for a
  * reserved byte or a null pointer. Calls that take a syntax do not repeat this check, which takes longer than reading a
- * text. By a syntax that it refuses, they read and write nothing, or something that no rule describes, or call abort if
- * it has sizes of groups, but use no other memory. */
+ * text. By a syntax that it refuses, they read and write nothing, or something that no rule describes, but all of
+ * them are safe. */
 peltzivar_error peltzivar_check_syntax(const peltzivar_syntax *syntax);
 
 /* Writes why peltzivar_check_syntax refuses a syntax as a sentence, such as "the exponent character 'e' is a digit in

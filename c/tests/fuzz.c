@@ -214,8 +214,6 @@ static void test_list(const peltzivar_forms *forms, const char *from, size_t len
 static void test_literals(peltzivar_word word) {
     peltzivar_syntax syntax;
     const bool is_lawful = draw_syntax(word, &syntax);
-    /* By a refused syntax with sizes of groups, a call may abort. */
-    if (!is_lawful) syntax.integer_group_size = syntax.higher_group_size = syntax.fraction_group_size = 0;
     const peltzivar_fields own = peltzivar_fields_of(syntax.format);
     const uint8_t sign = draw() % 2 ? '+' : '-', separator = own.digit_separator;
     const uint8_t bytes[] = {sign, '0', own.base_prefix, separator, '0', '1', separator, '1', syntax.decimal_point, '0', separator,

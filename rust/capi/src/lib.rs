@@ -35,7 +35,7 @@ mod values;
 mod words;
 mod writing;
 
-/// Ends the program. Only a syntax with sizes of groups that `peltzivar_check_syntax` refuses leads here.
+/// Ends the program. No call panics, so this function is never called.
 #[cfg(not(test))]
 #[panic_handler]
 fn stop(_: &core::panic::PanicInfo<'_>) -> ! {
