@@ -152,6 +152,13 @@ fn kind_of(cause: Cause) -> usize {
     }
 }
 
+/// Returns the limits of the number of each condition.
+#[unsafe(no_mangle)]
+pub extern "C" fn limits(_: usize) -> u64 {
+    let limits = |it: &Condition| format!("[{},{}]", it.limits().0, it.limits().1);
+    answer(list(Condition::ALL.iter().map(limits)))
+}
+
 /// Returns an object for each language: its name, the spellings of its special values, and the name and the parts of
 /// each form.
 #[unsafe(no_mangle)]
@@ -221,11 +228,18 @@ pub extern "C" fn offered(length: usize) -> u64 {
     });
     let languages = || Language::ALL.iter().enumerate();
     let readers = languages().filter(|it| it.1.read(line.text).is_ok()).map(|it| it.0.to_string());
-    let tokens = languages().filter_map(|(index, it)| {
-        let token = it.token(line.text).ok().filter(|it| it.rest.is_empty() && !it.suffix.is_empty())?;
-        Some(format!(r#"{{"language":{index},"suffix":{}}}"#, quoted(utf8(token.suffix))))
-    });
+    let tokens = languages().filter_map(|(index, it)| Some((index, suffix_of(it, line.text)?)));
+    let tokens = tokens.map(|(index, suffix)| format!(r#"{{"language":{index},"suffix":{}}}"#, quoted(suffix)));
     answer(format!(r#"{{"offers":{},"readers":{},"tokens":{}}}"#, list(offers), list(readers), list(tokens)))
+}
+
+/// Returns the suffix of a text that is a literal of a language and one of the suffixes of its form.
+fn suffix_of<'a>(language: &Language, text: &'a [u8]) -> Option<&'a str> {
+    let (number, suffix) = language.read_prefix(text).ok().filter(|it| !it.1.is_empty())?;
+    let known = language.forms()[number.form()?].suffixes()?;
+    let words = if number.literal()?.is_float() { known.floats() } else { known.integers() };
+    let is_word = |it: &&[u8]| *it == suffix || known.is_either_case() && it.eq_ignore_ascii_case(suffix);
+    words.iter().any(is_word).then(|| utf8(suffix))
 }
 
 /// Returns an object for each form that reads lines, and for special values: what its numbers are in words, how many they

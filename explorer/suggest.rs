@@ -4,7 +4,8 @@ use alloc::vec::Vec;
 use core::cmp::Reverse;
 
 use peltzivar::format::{
-    BASE_PREFIX, BASE_SUFFIX, CONSECUTIVE_DIGIT_SEPARATOR, DIGIT_SEPARATOR, DIGIT_SEPARATOR_FLAG_MASK, EXPONENT_BASE,
+    BASE_PREFIX, BASE_SUFFIX, CASE_SENSITIVE_BASE_PREFIX, CASE_SENSITIVE_BASE_SUFFIX, CASE_SENSITIVE_EXPONENT,
+    CASE_SENSITIVE_SPECIAL, CONSECUTIVE_DIGIT_SEPARATOR, DIGIT_SEPARATOR, DIGIT_SEPARATOR_FLAG_MASK, EXPONENT_BASE,
     EXPONENT_RADIX, FLAG_MASK, MANTISSA_RADIX, REQUIRED_DIGITS, REQUIRED_EXPONENT_NOTATION, REQUIRED_EXPONENT_SIGN,
     REQUIRED_MANTISSA_SIGN, SPECIAL_DIGIT_SEPARATOR,
 };
@@ -25,6 +26,10 @@ const SEPARATORS: u128 = DIGIT_SEPARATOR_FLAG_MASK & !SPECIAL_DIGIT_SEPARATOR;
 /// The flags that require something of all numbers, which few formats do.
 const REQUIREMENTS: u128 =
     REQUIRED_DIGITS | REQUIRED_MANTISSA_SIGN | REQUIRED_EXPONENT_SIGN | REQUIRED_EXPONENT_NOTATION;
+
+/// The flags of letters in one case, which refuse the fewest texts, and count as no change.
+const CASES: u128 =
+    CASE_SENSITIVE_EXPONENT | CASE_SENSITIVE_BASE_PREFIX | CASE_SENSITIVE_BASE_SUFFIX | CASE_SENSITIVE_SPECIAL;
 
 /// The bits of no field.
 const RESERVED: u128 = Rule::ReservedBitsAreZero.mask();
@@ -89,11 +94,14 @@ impl State {
     }
 
     /// Returns the state with another mantissa radix. If the exponent character is a digit in it, hexadecimal floats are
-    /// as in C: `p` and a power of two in decimal.
+    /// as in C: `p` and a power of two in decimal. If `p` is one, too, numbers are integers alone.
     fn with_radix(self, radix: u8) -> Self {
         let state = self.with(MANTISSA_RADIX, radix);
-        let digit = value(self.exponent).filter(|&digit| digit < radix);
-        digit.map_or(state, |_| state.with_exponent(b'p'))
+        match value(self.exponent).filter(|&digit| digit < radix) {
+            None => state,
+            Some(_) if value(b'p') < Some(radix) => Self { exponent: 0, point: 0, ..state },
+            Some(_) => state.with_exponent(b'p'),
+        }
     }
 
     fn with_exponent(self, exponent: u8) -> Self {
@@ -119,14 +127,22 @@ impl State {
         }
     }
 
-    /// Returns how many fields and conditions differ, and before that how many of them are requirements that are set.
-    fn changes(self, other: Self) -> (u32, usize) {
-        let set = (self.word & !other.word & REQUIREMENTS).count_ones();
-        let numbers = |it: &&Condition| self.conditions.number(**it) != other.conditions.number(**it);
+    /// Returns how many requirements are set that another state does not have, and then how many fields and conditions differ.
+    fn changes(self, other: Self) -> (usize, usize) {
         let bytes = [DIGIT_SEPARATOR, BASE_PREFIX, BASE_SUFFIX, MANTISSA_RADIX, EXPONENT_BASE, EXPONENT_RADIX];
-        let changed = self.word ^ other.word;
-        let fields = (changed & FLAG_MASK).count_ones() as usize + bytes.iter().filter(|&it| changed & it != 0).count();
-        (set, fields + Condition::ALL.iter().filter(numbers).count())
+        let flags = (self.word ^ other.word) & FLAG_MASK;
+        let fields = bytes.iter().filter(|&it| (self.word ^ other.word) & it != 0).count();
+        let conditions = Condition::ALL.iter().filter(|&&it| self.conditions.number(it) != other.conditions.number(it));
+        let required = conditions.clone().filter(|it| it.limits().1 == 1 && **it != Condition::NegativeSign);
+        let set = (self.word & flags & REQUIREMENTS).count_ones() as usize + required.count();
+        let weight = if self.has_free_groups() { MOST } else { 1 };
+        let count = (flags & !CASES).count_ones() as usize + fields + weight * conditions.count();
+        (set, count)
+    }
+
+    /// Returns whether groups have any size, as in languages, and not an equal one, as in texts for people.
+    fn has_free_groups(self) -> bool {
+        FormatView::new(self.word).digit_separator().is_some_and(|it| matches!(it.get(), b'_' | b'\''))
     }
 
     /// Returns the first of some states with which the most lines are as expected.
@@ -242,11 +258,9 @@ fn accepting(state: State, text: &[u8], lines: &[Line<'_>], roles: usize, found:
             let accepts = |it: &State| it.read(text).is_ok();
             found.extend(numbered.filter_map(|&it| State::first_best(state.with_numbers(it).filter(accepts), lines)));
             let grouped = grouped(settled, text).filter(accepts);
-            // Languages have groups of any size, and texts for people equal ones.
-            match FormatView::new(settled.word).digit_separator().is_some_and(|it| matches!(it.get(), b'_' | b'\'')) {
-                true => found.extend([settled].into_iter().chain(grouped)),
-                false => found.extend(grouped.into_iter().chain([settled])),
-            }
+            // The state that has no sizes of groups is the likelier one if these are free.
+            let (first, second) = if settled.has_free_groups() { (None, grouped) } else { (grouped, None) };
+            found.extend(first.into_iter().chain([settled]).chain(second.filter(|_| !text.contains(&b'_'))));
         }
         Err(_) if roles == 0 => {}
         Err(at) => {

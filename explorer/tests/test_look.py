@@ -1,0 +1,120 @@
+"""Tests of the page: look."""
+from test_base import Walk, ActionChains, By, Keys, MIXED, SCRIPTS, has
+
+
+class Look(Walk):
+    def test_each_control_has_a_name_and_each_button_does_something(self):
+        for link in self.links():
+            controls = self.driver.find_elements(By.CSS_SELECTOR, "button, input, select, textarea, summary, pre[tabindex]")
+            unnamed = [it.get_attribute("outerHTML") for it in controls if it.is_displayed() and not it.accessible_name]
+            fields = [it.accessible_name for it in controls if it.is_displayed() and it.tag_name in ("input", "select", "textarea")]
+            same = [it for it in fields if fields.count(it) > 1]
+            self.assertEqual((unnamed, same, self.driver.execute_async_script(f"{SCRIPTS}; idle(...arguments);", link)), ([], [], []), link)
+        lost = self.call("eachControlHasANameAndEachButtonDoesSomething")
+        self.assertEqual(lost, [])
+        for skip, place in (("to-numbers", "literal"), ("to-code", "code"), ("to-controls", "digit_separator")):
+            self.find(f"#{skip}").send_keys(Keys.ENTER)
+            self.assertEqual(self.focused(), place)
+
+    def test_texts_can_be_read_in_light_and_dark(self):
+        self.addCleanup(self.driver.execute_cdp_cmd, "Emulation.setEmulatedMedia", {"features": []})
+        for mode in ("light", "dark"):
+            self.driver.execute_cdp_cmd("Emulation.setEmulatedMedia", {"features": [{"name": "prefers-color-scheme", "value": mode}]})
+            for link in self.links():
+                self.assertEqual(self.call("faint") + self.call("misleading"), [], (mode, link))
+
+    def test_what_has_the_focus_has_an_outline(self):
+        self.find("body").send_keys(Keys.TAB)
+        self.assertEqual(self.call("bare"), [])
+        self.load("#language=C&numbers=1%0A08")
+        self.run_script("window.seen = new Set(); document.addEventListener('focusin', ({ target }) => seen.add(target))")
+        controls = """return [...document.querySelectorAll("button, input, select, textarea, summary, pre")]
+            .filter((it) => it.checkVisibility() && !it.disabled && it.getAttribute("aria-selected") !== "false")"""
+        ActionChains(self.driver, 0).send_keys(Keys.TAB * (len(self.run_script(controls)) + 9)).perform()
+        self.assertEqual(self.run_script(f"{controls}.filter((it) => !seen.has(it)).map((it) => it.outerHTML)"), [])
+
+    def test_texts_fit_a_phone(self):
+        shown = "return [...document.querySelectorAll('button, input, select')].filter((it) => it.id && it.checkVisibility()).map((it) => it.id);"
+        wide = [self.run_script(shown) for _ in self.links()]
+        for width in (360, 320):
+            self.emulate(width, 700, True)
+            for controls, link in zip(wide, self.links()):
+                self.assertEqual(self.run_script(shown), controls)
+                whole = self.run_script("return document.documentElement.scrollWidth")
+                self.assertEqual((self.call("beyond"), self.call("narrow"), whole), ([], [], width), link)
+        self.load(f"#word={MIXED}")
+        self.assertTrue(self.run_script("""const tops = ["#literal", "#read", "#code"].map((it) => find(it.slice(1)).getBoundingClientRect().top);
+            return tops.every((it, index) => !index || tops[index - 1] < it);"""))
+        place = "return document.querySelector('#base_prefix').getBoundingClientRect().top"
+        self.find("#base_prefix").send_keys(Keys.CONTROL, "a")
+        before = self.run_script(place)
+        self.find("#base_prefix").send_keys("5")
+        self.assertEqual(self.text("#verdict"), "Not valid: 2 reasons")
+        self.assertAlmostEqual(self.run_script(place), before, delta=2)
+        self.assertEqual(self.run_script("return document.querySelector('.bar').getBoundingClientRect().top"), 0)
+
+    def test_what_differs_is_marked_and_the_code_stays_beside_the_settings(self):
+        for link in self.links():
+            wrong = self.call("whatDiffersIsMarkedAndTheCodeStaysBesideTheSettings")
+            self.assertEqual((wrong, self.texts(".reason strong")[:1] or [self.text("#first-error")]), ([], [self.text("#first-error")]), link)
+        self.emulate(1280, 720, False)
+        self.load(f"#word={MIXED}")
+        top = self.run_script("find('conditions').scrollIntoView(); return find('code').getBoundingClientRect().top")
+        self.assertTrue(0 < top < 720, top)
+
+    def test_the_answer_is_in_view(self):
+        lines = ["", "#numbers=0x1F%0A-0x1_000.8p3%0A!1F%0A0x1h", "#numbers=1,234.5%0A1.234,5%0A!1,5%0A12h"]
+        for width, height in ((1280, 720), (1366, 657), (1000, 700)):
+            self.emulate(width, height, False)
+            for link in lines:
+                self.load(link)
+                self.wait(lambda: [it[:7] for it in self.texts(".readers > summary")] == 4 * ["Read by"])
+                bottom, code = self.run_script("return ['read', 'code'].map((it) => find(it).getBoundingClientRect()).map((it, index) => index ? it.top : it.bottom)")
+                self.assertTrue(bottom < height and bottom < code, (width, link, bottom, code))
+        self.click("#no_special")
+        self.assertTrue(self.find("#count").is_displayed() and self.run_script("return find('count').getBoundingClientRect().top") >= 0)
+
+    def test_controls_are_large_and_tell_their_errors(self):
+        small = """return [...document.querySelectorAll("button, select, summary, label:has(input), label[for], textarea")]
+            .filter((it) => it.checkVisibility() && !it.closest(".skips, h2") && it.getBoundingClientRect().height < 24).map((it) => it.outerHTML);"""
+        wordless = """return [...document.querySelectorAll("[aria-invalid=true]:not([type=checkbox])")].filter((it) => {
+            const message = find(it.getAttribute("aria-errormessage"));
+            return !message?.textContent || !message.closest("[role=status], [role=alert]"); }).map((it) => it.outerHTML);"""
+        for link in self.links():
+            self.type("#base_prefix", "xyz")
+            self.type("#word", "nonsense" + Keys.ENTER)
+            self.assertEqual(self.run_script(small) + self.run_script(wordless), [], link)
+
+    def test_nothing_is_requested_and_the_policy_allows_the_page_alone(self):
+        requests = "return performance.getEntriesByType('resource').map((it) => it.name)"
+        self.assertEqual(self.run_script(requests), [])
+        policy = self.find("meta[http-equiv=Content-Security-Policy]").get_attribute("content")
+        self.assertTrue(policy.startswith("default-src 'none'; script-src 'sha256-"), policy)
+
+    def test_nothing_is_cut_off(self):
+        """What is beyond a box can be scrolled to: the box scrolls, or nothing is beyond it. What stays in view fits the screen."""
+        cut = """const hides = ({ overflowY, contain }) => ["hidden", "clip"].includes(overflowY) || (contain !== "none" && overflowY === "visible");
+            const all = [...document.querySelectorAll("body *")].filter((it) => it.checkVisibility() && !it.closest("option, .skips"));
+            const inside = (it) => (it.parentElement ? [it.parentElement, ...inside(it.parentElement)] : []);
+            const beyond = (it, box) => it.getBoundingClientRect().bottom > box.getBoundingClientRect().bottom + 1;
+            const isKept = (it) => ["sticky", "fixed"].includes(getComputedStyle(it).position);
+            const stays = all.filter((it) => isKept(it) && it.getBoundingClientRect().height > innerHeight);
+            return [...stays, ...all.filter((it) => {
+                const scrolls = inside(it).findIndex((box) => ["auto", "scroll"].includes(getComputedStyle(box).overflowY));
+                return inside(it).slice(0, scrolls < 0 ? undefined : scrolls).some((box) => hides(getComputedStyle(box)) && beyond(it, box));
+            })].map((it) => it.outerHTML.slice(0, 99));"""
+        for width, height in ((1280, 720), (360, 700)):
+            self.emulate(width, height, width < 1000)
+            for link in self.links():
+                self.assertEqual(self.run_script(cut), [], (width, link))
+
+    def test_a_message_moves_nothing(self):
+        place = """return ["#read", "#base_suffix", "#no_special"].map(
+            (it) => document.querySelector(it).getBoundingClientRect().top + scrollY)"""
+        before = self.run_script(place)
+        self.type("#base_prefix", "xyz")
+        self.click("#copy-link")
+        self.assertEqual(self.run_script(place), before)
+        self.wait(lambda: self.text("#told"))
+        self.assertTrue(self.run_script("""const { left, top, width, height } = find("told").getBoundingClientRect();
+            return document.elementFromPoint(left + width / 2, top + height / 2) === find("told");"""))
