@@ -43,6 +43,7 @@ class Trial {
         this.answers = this.read(lines);
         const [first] = this.answers.filter(({ isExpected }) => !isExpected);
         box.setAttribute("aria-invalid", String(Boolean(first)));
+        box.className = all.length > MOST_LINES ? "many" : "";
         const left = all.length - lines.length;
         const unread = left === 1 ? "1 line is not read" : `${left} lines are not read`;
         const isBad = lines.length > 0 && !this.answers.length;
@@ -165,7 +166,7 @@ class Trial {
         const mark = String.fromCharCode(this.library.get(this.forms[form].word, "digit_separator"));
         if (all.some(([kind, it]) => it.includes(mark) && kind !== "point")) all.push(["digit_separator", mark]);
         if (all.length < 2) return "";
-        return element("p", { class: "legend" }, all.map(([kind, it]) => {
+        return element("div", { class: "legend" }, all.map(([kind, it]) => {
             return element("span", {}, element("span", { class: PARTS[kind][0] }, it), ` ${kind.replace("_", " ")}`);
         }));
     }

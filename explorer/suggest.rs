@@ -54,7 +54,9 @@ impl State {
         self.exponent == 0 && self.point == 0
     }
 
-    /// Returns the syntax if the word is lawful, and the options and the conditions fit.
+    /// Returns the syntax if the word is lawful, and the options and the conditions fit. If it were inlined, the page would
+    /// be larger.
+    #[inline(never)]
     pub fn syntax(self) -> Option<Syntax> {
         let format = Format::new(self.word).ok()?;
         let syntax = match self.is_integers() {
@@ -119,6 +121,7 @@ impl State {
     }
 
     /// Returns why a text is neither a number nor a special value, or no error if this is not a syntax.
+    #[inline(never)]
     pub fn read(self, text: &[u8]) -> Result<(), Option<ReadError>> {
         let syntax = self.syntax().ok_or(None)?;
         match syntax.read(text) {

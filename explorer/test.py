@@ -14,12 +14,6 @@ sys.dont_write_bytecode = True
 HERE = pathlib.Path(__file__).resolve().parent
 sys.path[:0] = [str(HERE), str(HERE / "tests")]
 
-
-def load_tests(loader, *_):
-    """Returns the tests of all files."""
-    return loader.discover(HERE / "tests")
-
-
 for path in sorted((HERE / "tests").glob("test_*.py")):
     found = vars(__import__(path.stem)).values()
     globals().update({it.__name__: it for it in found if isinstance(it, type) and it.__module__ == path.stem})

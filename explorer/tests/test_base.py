@@ -39,10 +39,10 @@ TEXTS = r"""1 1\5 1'5 1"5 -0 12 1F inf nan 9007199254740993 12345678901234567 12
 2147483647 2147483648 -2147483648 4611686018427387904 9223372036854775808 18446744073709551615 18446744073709551616 0xffffffff 0x100000000
 0x4000000000000000 0x8000000000000000 0xffffffffffffffff 0x10000000000000001 0ffffffffffffffffh 0b11111111111111111111111111111111""".split()
 # Links with all parts of a number, several forms, reasons, notes, offers, and a condition that does not fit.
-LINKS = [f"#word={MIXED}&exponent=112&point=44&numbers=-0x1_0%2C8p%2B1h%0A!0x1h%0A1k&compare=JSON&tab=settings",
+LINKS = [f"#word={MIXED}&exponent=112&point=44&numbers=-0x1_0%2C8p%2B1h%0A!0x1h%0A1k&compare=JSON",
          f"#language=C&numbers={60 * '1'}%0A0xg%0A0b1.5&compare=standard",
-         "#word=0x000010006200005F00000000000000CC&exponent=112&compare=standard&tab=regex",
-         f"#word={STANDARD}&conditions=integer_group_size%3D3&numbers=-inf%0A1_0%0A0x1F&compare=standard&tab=python"]
+         "#word=0x000010006200005F00000000000000CC&exponent=112&compare=standard",
+         f"#word={STANDARD}&conditions=integer_group_size%3D3&numbers=-inf%0A1_0%0A0x1F&compare=standard"]
 # The functions of the scripts here, which run in the page.
 SCRIPTS = "".join(it.read_text() for it in sorted(HERE.glob("*.js")))
 
@@ -99,12 +99,12 @@ class Walk(unittest.TestCase):
         self.run_script("history.replaceState(null, '', arguments[0]); page.read();", fragment)
 
     def links(self):
-        """Loads each of LINKS in each tab, opens all that is closed, and returns the link."""
+        """Loads each of LINKS, shows each tab, opens all that is closed, and returns the link."""
         for link in LINKS:
+            self.load(link)
+            self.assertEqual(self.text("#told"), "")
             for tab in ("languages", "rust", "compare", "edit", "words"):
-                self.load(f"{link}&tab={tab}")
-                self.assertEqual(self.text("#told"), "")
-                self.run_script("document.querySelectorAll('details').forEach((it) => { it.open = true; })")
+                self.run_script("page.chooseTab(arguments[0]); document.querySelectorAll('details').forEach((it) => { it.open = true; })", tab)
                 yield f"{link}&tab={tab}"
 
     def wait(self, condition):

@@ -4,13 +4,13 @@
 function eachTabShowsItsCode() {
     navigator.clipboard.writeText = async (text) => { window.copied = text; };
     const stops = [...document.querySelectorAll("[role=tab]")].filter((it) => it.tabIndex === 0).map((it) => it.id);
-    return [page.tab, find("code").getAttribute("aria-labelledby"), new URLSearchParams(page.fragment()).get("tab") ?? "rust", ...stops];
+    return [page.tab, find("code").getAttribute("aria-labelledby"), new URLSearchParams(page.fragment()).get("tab"), ...stops];
 }
 
 function theGrammarAndTheExpressionAreThoseOfAllForms() {
     const { languages } = page.data;
     const texts = [...new Set(languages.flatMap((it) => it.numbers.replaceAll("!", "").split("\n")))];
-    const code = (tab) => (page.chooseTab(tab), find("code").textContent);
+    const code = (tab) => (page.chooseTab("words"), find(tab).textContent);
     return languages.flatMap(({ name, forms }) => {
         page.jump({ forms, at: 0, language: name, numbers: "" });
         const expression = new RegExp(`^(?:${code("regex")})$`);
@@ -19,7 +19,7 @@ function theGrammarAndTheExpressionAreThoseOfAllForms() {
         const isTold = (form, at) => {
             page.jump({ at });
             const sentence = page.library.explain(form).sentence.replaceAll("`", "");
-            return find("sentence").textContent === `Numbers${forms.length > 1 ? " of this form" : ""} are ${sentence}.`;
+            return find("sentence").textContent === `Numbers${forms.length > 1 ? ` of the form ${form.name}` : ""} are ${sentence}.`;
         };
         const lost = forms.filter((form, at) => !isNamed(form) || !isTold(form, at) || !code("grammar").includes(page.library.explain(form).grammar));
         const others = texts.filter((text, index) => expression.test(text) === Boolean(answers[index].error));

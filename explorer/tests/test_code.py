@@ -8,7 +8,7 @@ import sys
 import tempfile
 import unittest
 
-from test_base import Walk, By, Keys, TOP, MIXED, STATES, TEXTS, has, run
+from test_base import Walk, Keys, TOP, MIXED, STATES, TEXTS, has, run
 
 
 # Programs that print what the code reads: of each text its value, `none` if it has none, or `refused`.
@@ -85,17 +85,17 @@ class Code(Walk):
     def test_settings_are_pasted_from_the_code(self):
         word = "0x00000A00270000200000000100000400"
         self.load(f"#word={word}")
-        self.click("#tab-settings")
+        self.code("settings")
         self.assertIn("digit_separator=32\nbase_prefix='''", self.text("#code"))
         self.click("#copy-code")
         self.wait(lambda: self.text("#copy-code") == "copied")
         text = self.text("#code")
-        self.click("#standard")
+        self.select("#language", "")
         self.type("#word", Keys.CONTROL + "v")
         self.wait(lambda: self.value("#digit_separator") == "SPACE")
         self.find("#word").send_keys(Keys.TAB)
         self.assertEqual(self.value(), word)
-        self.click("#standard")
+        self.select("#language", "")
         self.call("settingsArePastedFromTheCode", text.replace("\n", "\r\n"))
         self.assertEqual(self.value(), word)
 
@@ -107,11 +107,8 @@ class Code(Walk):
     def test_notations_are_those_of_the_library(self):
         self.select("#language", "JSON")
         self.assertIn("no `+`".replace("`", ""), self.text("#sentence"))
-        self.click("#tab-regex")
-        self.assertEqual(self.text("#code"), "[-]?(?:[1-9][0-9]*|[0])(?:[.][0-9]+)?(?:[Ee][+-]?[0-9]+)?")
-        self.find("#tab-regex").send_keys(Keys.ARROW_LEFT)
-        self.assertEqual(self.focused(), "tab-grammar")
-        self.assertIn('Integer  ::= [1-9] Digit* | "0"', self.text("#code"))
+        self.assertEqual(self.text("#regex"), "[-]?(?:[1-9][0-9]*|[0])(?:[.][0-9]+)?(?:[Ee][+-]?[0-9]+)?")
+        self.assertIn('Integer  ::= [1-9] Digit* | "0"', self.text("#grammar"))
 
     def test_the_grammar_and_the_expression_are_those_of_all_forms(self):
         wrong = self.call("theGrammarAndTheExpressionAreThoseOfAllForms")
@@ -119,22 +116,34 @@ class Code(Walk):
 
     def test_each_tab_shows_its_code(self):
         """By its button and by keys, in both directions. The link has it, and the code is that of the tab."""
-        heads = {"rust": "use peltzivar::", "c": '#include "peltzivar.h"', "python": "from peltzivar import", "settings": f"# {MIXED}",
-                 "grammar": "Literal  ::=", "regex": "[+-]?"}
-        self.load(f"#word={MIXED}&exponent=112&point=44")
-        self.assertEqual(self.texts("[role=tab]"), ["Rust", "C", "Python", "Settings", "Grammar", "Regex"])
-        for step in (lambda name: self.click(f"#tab-{name}"), lambda _: self.find("[aria-selected=true]").send_keys(Keys.ARROW_RIGHT)):
+        heads = {"rust": "use peltzivar::", "c": '#include "peltzivar.h"', "python": "from peltzivar import", "settings": f"# {MIXED}"}
+        self.load(f"#word={MIXED}&exponent=112&point=44&tab=rust")
+        self.assertEqual(self.texts("[role=tab]"), ["Languages", "Code", "Compare", "Settings", "In words", "Rust", "C", "Python", "As text"])
+        for step in (lambda name: self.click(f"#tab-{name}"), lambda _: self.find("#tabs [aria-selected=true]").send_keys(Keys.ARROW_RIGHT)):
             for name in [*heads][1:] + [*heads][:1]:
                 step(name)
-                shown = self.call("eachTabShowsItsCode")
-                self.assertEqual((shown, self.text("[aria-selected=true]")), ([name, f"tab-{name}", name, f"tab-{name}"], self.text(f"#tab-{name}")))
+                self.assertEqual(self.call("eachTabShowsItsCode"), [name, f"tab-{name}", name, "tab-code", f"tab-{name}"])
                 self.assertIn(heads[name], self.text("#code"))
-                for button, copied in (("#copy-code", self.run_script("return find('code').textContent")), ("#copy-word", MIXED)):
-                    self.click(button)
-                    self.assertEqual(self.run_script("return window.copied"), copied)
         for name in [*heads][::-1] + [*heads][-1:]:
-            self.find("[aria-selected=true]").send_keys(Keys.ARROW_LEFT)
+            self.find("#tabs [aria-selected=true]").send_keys(Keys.ARROW_LEFT)
             self.assertEqual(self.run_script("return [page.tab, document.activeElement.id]"), [name, f"tab-{name}"])
+        for name in ("code", "word", "grammar", "regex"):
+            self.click(f"#copy-{name}")
+            self.assertEqual(*self.run_script("const it = find(arguments[0]); return [window.copied, it.value ?? it.textContent]", name))
+
+    def test_each_tab_shows_its_pane(self):
+        """By its button and by keys. The link has it, and so does the one that the page makes."""
+        panes = ["languages", "code", "compare", "edit", "words"]
+        self.find("#tab-languages").send_keys(Keys.ARROW_LEFT)
+        for name in panes:
+            self.find("#panes [aria-selected=true]").send_keys(Keys.ARROW_RIGHT)
+            shown = [it for it in panes if self.find(f"#pane-{it}").is_displayed()]
+            self.assertEqual((shown, self.focused()), ([name], f"tab-{name}"))
+            link = self.run_script("return page.fragment()")
+            self.click(f"#tab-{panes[panes.index(name) - 1]}")
+            self.follow(link)
+            self.assertTrue(self.find(f"#pane-{name}").is_displayed())
+            self.find(f"#tab-{name}").click()
 
     def test_the_code_can_be_scrolled_to_its_end(self):
         """With a wheel, at the sizes of a laptop and of a phone, the end of each line and the last line come into view."""
@@ -145,7 +154,7 @@ class Code(Walk):
             return text.bottom <= innerHeight && text.right <= Math.min(box.right, innerWidth) && at === find("code");"""
         for width, height in ((1280, 720), (360, 700)):
             self.emulate(width, height, width < 1000)
-            for tab in ("rust", "c", "python", "settings", "grammar", "regex"):
+            for tab in ("rust", "c", "python", "settings"):
                 self.load(f"#language=NASM&tab={tab}&numbers=")
                 self.run_script("find('code').scrollIntoView({ block: 'start' })")
                 for _ in range(6):

@@ -17,6 +17,7 @@ class Forms(Walk):
             for step, to in (("#earlier", at - 1), ("#later", at + 1), ("#remove", None)):
                 shows(name)
                 names = [it for it in words if it != name]
+                self.open(step)
                 if to in (-1, 3):
                     self.assertFalse(self.find(step).is_enabled())
                     continue
@@ -44,7 +45,7 @@ class Forms(Walk):
         """In each order of lines, the one without a syntax is shown, and those that cannot be read are told and left out."""
         for lines in itertools.permutations([":shown", "bad:x", f"{STANDARD} 101 46 :a", f"{STANDARD} 101 44 :b"]):
             for kept in (lines, lines[1:]):
-                self.run_script("history.replaceState(null, '', arguments[0]); page.read();", f"#word={MIXED}&forms=" + "%0A".join(kept))
+                self.follow(f"#word={MIXED}&forms=" + "%0A".join(kept))
                 names = [it.split(":")[1] for it in kept if it != "bad:x"] + ([] if ":shown" in kept else ["hexadecimal"])
                 self.assertEqual((self.texts("#forms button") or names, self.value()), (names, MIXED))
                 self.assertEqual("forms=bad:x" in self.text("#told"), "bad:x" in kept)
@@ -67,13 +68,12 @@ class Forms(Walk):
         self.assertEqual((self.value("#exponent"), self.value("#point")), ("", ""))
         self.assertEqual(self.text("#count"), "3 of 4 as expected")
         self.click("#no_special")
-        self.assertEqual((self.value("#language"), self.text("#count")), ("", "3 of 4 as expected"))
+        self.assertEqual((self.value("#language"), self.text("#count")), ("own", "3 of 4 as expected"))
         self.assertEqual(self.text("#told"), "The format is not that of Rust any more. Undo brings it back.")
         self.click("#undo")
         self.assertEqual((self.value("#language"), self.text("#told")), ("RUST", ""))
 
     def shown_forms(self):
         """Returns the names of the forms, that of the shown one, its word, and the names in the code of Python."""
-        self.click("#tab-python")
-        names = re.findall(r'\("(.*)", Syntax', self.text("#code"))
+        names = re.findall(r'\("(.*)", Syntax', self.code("python"))
         return self.texts("#forms button"), self.text("#forms [aria-pressed=true]"), self.value(), names

@@ -50,40 +50,37 @@ function twoFormatsAreCompared() {
 }
 
 function languagesAreShownAsTheyAreDocumented() {
-    return page.data.languages.map(({ name, short }) => {
+    return page.data.languages.map(({ name, title }) => {
         page.jump({ numbers: "" });
         page.start(name);
         const codes = ["rust", "c", "python"].map((tab) => (page.chooseTab(tab), find("code").textContent));
         const forms = page.state.forms.map((it) => it.name);
-        return [name, [codes, find("about").textContent, forms, find("literal").value.split("\n"), short]];
+        return [name, [codes, find("about").textContent, forms, find("literal").value.split("\n"), title]];
     });
 }
 
 function eachLanguageIsBelowWhatItReads() {
     const { languages } = page.data;
+    page.chooseTab("languages");
+    const reads = (list, text) => page.library.numbers(list, text)[0];
     return ["010", "0x1F", "1_0", "NaN", "1e5", "-5", "2147483648", "0xffffffff", "9223372036854775808"].flatMap((first) => {
-    const numbers = ["1", first];
-    page.change({ numbers: numbers.join("\n") });
-    const nodes = [...document.querySelectorAll(".readers")];
-    page.trial.showReaders(nodes);
-    return nodes.flatMap((node, index) => {
-        let title = "";
-        const shown = [...node.children].slice(1).flatMap((it) => {
-            if (it.tagName === "SPAN") title = it.textContent;
-            return it.tagName === "SPAN" ? [] : [`${title} ${it.textContent} ${it.matches(".all")}`];
-        });
-        const reads = (list, text) => page.library.numbers(list, text)[0];
-        const told = languages.map((list) => [list, reads(list, numbers[index])]).filter(([, it]) => !it.error).map(([list, it]) => {
-            const form = it.parts.some(({ kind }) => kind === "special") ? "special value" : list.forms[it.form].name;
-            const hasAll = numbers.map((text) => reads(list, text)).every(({ error, refused }) => !error && !refused);
-            return `${it.refused ? "refused, " : ""}${valueText(it)}, ${form}: ${list.short} ${hasAll}`;
-        });
-        const [readers, stars] = [/^(?!refused)/, /true$/].map((it) => told.filter((line) => it.test(line)).length);
-        const marks = stars ? `; ${stars} with a star read all` : "";
-        const count = `Read by ${readers || "none"} of ${languages.length} languages${marks}`;
-        return [...shown.filter((it) => !told.includes(it)), ...told.filter((it) => !shown.includes(it)),
-            ...(node.firstChild.textContent === count ? [] : [count])];
-    }); });
+        const numbers = ["1", first];
+        page.change({ numbers: numbers.join("\n") });
+        const lines = [...find("readers").children].map((it) => {
+            const titles = [...it.querySelectorAll("button")].map((button) => button.textContent);
+            return it.tagName === "H3" ? it.textContent : titles.map((title) => `${it.firstChild.textContent} ${title}`);
+        }).flat();
+        const hasAll = (list) => numbers.map((text) => reads(list, text)).every(({ error, refused }) => !error && !refused);
+        const wanted = [...languages.filter(hasAll).map(({ title }) => `All 2, as expected: ${title}`), ...numbers.flatMap((text) => {
+            const told = languages.map((list) => [list, reads(list, text)]).filter(([, it]) => !it.error);
+            const readers = told.filter(([, it]) => !it.refused).length;
+            return [`${text} Read by ${readers || "none"} of ${languages.length} languages`, ...told.map(([list, it]) => {
+                const form = it.parts.some(({ kind }) => kind === "special") ? "special value" : list.forms[it.form].name;
+                return `${it.refused ? "refused, " : ""}${valueText(it)}, ${form}: ${list.title}`;
+            })];
+        })];
+        return [...lines.filter((it) => !wanted.includes(it)), ...wanted.filter((it) => !lines.includes(it))];
+    });
 }
 
 function languagesAreThoseThatReadANumber() {

@@ -1,7 +1,46 @@
 /* Functions of test_look.py, which run in the page. */
 "use strict";
 
-function whatDiffersIsMarkedAndTheCodeStaysBesideTheSettings() {
+const PARTS_OF_PAGE = "header, .bar, #trial, #panes, #pane, footer";
+
+/* Returns what is out of view at once after a choice of each language, and of each to compare with. */
+function outOfView() {
+    const isSeen = (it) => {
+        const { left, right, top, bottom } = it.getBoundingClientRect();
+        return top >= 0 && bottom <= innerHeight && left >= 0 && right <= innerWidth && bottom > top;
+    };
+    const lines = (node) => {
+        const range = document.createRange();
+        const text = document.createTreeWalker(node, NodeFilter.SHOW_TEXT);
+        const ends = [];
+        while (text.nextNode() && ends.length < 10) {
+            const rows = text.currentNode.data.split("\n");
+            let at = 0;
+            for (const row of rows.slice(0, 10)) {
+                range.setStart(text.currentNode, at);
+                range.setEnd(text.currentNode, at + Math.min(row.length, 20));
+                if (row.trim()) ends.push(range.getBoundingClientRect());
+                at += row.length + 1;
+            }
+        }
+        return ends.slice(0, 10);
+    };
+    const isRead = (node) => lines(node).every(({ top, bottom }) => top >= 0 && bottom <= innerHeight && bottom > top);
+    const choose = (id, value) => {
+        find(id).value = value;
+        find(id).dispatchEvent(new Event("change"));
+    };
+    return page.data.languages.flatMap(({ name }) => {
+        choose("language", name);
+        const isCode = isSeen(find("code-title")) && isRead(find("code"));
+        const isFirst = isSeen(find("summary")) && isSeen(find("read").firstChild);
+        choose("compare", name === "TOML" ? "YAML" : "TOML");
+        const isCompared = isSeen(find("compare-title")) && isRead(find("texts"));
+        return isCode && isFirst && isCompared ? [] : [[name, isCode, isFirst, isCompared]];
+    });
+}
+
+function whatDiffersIsMarked() {
     const names = page.library.differences(page.form).map(({ name }) => name);
     const blamed = page.shown.problems.flatMap(({ fields }) => fields);
     return [...document.querySelectorAll("#controls .control")].filter(({ dataset: { field }, classList }) => {
@@ -17,8 +56,8 @@ function eachControlHasANameAndEachButtonDoesSomething() {
 
 /* Returns what is beyond an edge of its panel. */
 function beyond() {
-    return [...document.querySelectorAll(".panel *, header *, .bar *, footer *")].filter((it) => {
-        const [panel, box] = [it.closest(".panel, header, .bar, footer"), it].map((it) => it.getBoundingClientRect());
+    return [...document.querySelectorAll(`:is(${PARTS_OF_PAGE}) *`)].filter((it) => {
+        const [panel, box] = [it.closest(PARTS_OF_PAGE), it].map((it) => it.getBoundingClientRect());
         return box.width && (box.left < panel.left - 1 || box.right > panel.right + 1);
     }).map((it) => it.outerHTML.slice(0, 99));
 }

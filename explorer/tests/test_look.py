@@ -1,5 +1,5 @@
 """Tests of the page: look."""
-from test_base import Walk, ActionChains, By, Keys, MIXED, SCRIPTS, has
+from test_base import Walk, ActionChains, By, Keys, MIXED, SCRIPTS
 
 
 class Look(Walk):
@@ -43,8 +43,9 @@ class Look(Walk):
                 whole = self.run_script("return document.documentElement.scrollWidth")
                 self.assertEqual((self.call("beyond"), self.call("narrow"), whole), ([], [], width), link)
         self.load(f"#word={MIXED}")
-        self.assertTrue(self.run_script("""const tops = ["#literal", "#read", "#code"].map((it) => find(it.slice(1)).getBoundingClientRect().top);
+        self.assertTrue(self.run_script("""const tops = ["literal", "summary", "read", "pane"].map((it) => find(it).getBoundingClientRect().top);
             return tops.every((it, index) => !index || tops[index - 1] < it);"""))
+        self.click("#tab-edit")
         place = "return document.querySelector('#base_prefix').getBoundingClientRect().top"
         self.find("#base_prefix").send_keys(Keys.CONTROL, "a")
         before = self.run_script(place)
@@ -53,26 +54,62 @@ class Look(Walk):
         self.assertAlmostEqual(self.run_script(place), before, delta=2)
         self.assertEqual(self.run_script("return document.querySelector('.bar').getBoundingClientRect().top"), 0)
 
-    def test_what_differs_is_marked_and_the_code_stays_beside_the_settings(self):
+    def test_what_differs_is_marked(self):
         for link in self.links():
-            wrong = self.call("whatDiffersIsMarkedAndTheCodeStaysBesideTheSettings")
-            self.assertEqual((wrong, self.texts(".reason strong")[:1] or [self.text("#first-error")]), ([], [self.text("#first-error")]), link)
-        self.emulate(1280, 720, False)
-        self.load(f"#word={MIXED}")
-        top = self.run_script("find('conditions').scrollIntoView(); return find('code').getBoundingClientRect().top")
-        self.assertTrue(0 < top < 720, top)
+            if link.endswith("edit"):
+                wrong = self.call("whatDiffersIsMarked")
+                self.assertEqual((wrong, self.texts(".reason strong")[:1] or [self.text("#first-error")]), ([], [self.text("#first-error")]), link)
 
     def test_the_answer_is_in_view(self):
-        lines = ["", "#numbers=0x1F%0A-0x1_000.8p3%0A!1F%0A0x1h", "#numbers=1,234.5%0A1.234,5%0A!1,5%0A12h"]
+        """After each choice, the heading of its tab and ten lines are in view, and so are the sentence and the first number."""
         for width, height in ((1280, 720), (1366, 657), (1000, 700)):
             self.emulate(width, height, False)
-            for link in lines:
-                self.load(link)
-                self.wait(lambda: [it[:7] for it in self.texts(".readers > summary")] == 4 * ["Read by"])
-                bottom, code = self.run_script("return ['read', 'code'].map((it) => find(it).getBoundingClientRect()).map((it, index) => index ? it.top : it.bottom)")
-                self.assertTrue(bottom < height and bottom < code, (width, link, bottom, code))
-        self.click("#no_special")
-        self.assertTrue(self.find("#count").is_displayed() and self.run_script("return find('count').getBoundingClientRect().top") >= 0)
+            self.load()
+            self.assertEqual(self.call("outOfView"), [], (width, height))
+
+    def test_a_message_is_in_view(self):
+        for width, height in ((1280, 720), (360, 700)):
+            self.emulate(width, height, width < 1000)
+            self.load("#language=RUST&tab=edit")
+            self.run_script("find('kinds').scrollIntoView()")
+            self.find("#single").click()
+            self.assertEqual(self.run_script("""const { left, top, width, height } = find("told").getBoundingClientRect();
+                return document.elementFromPoint(left + width / 2, top + height / 2).textContent"""),
+                "The format is not that of Rust any more. Undo brings it back.")
+
+    def test_nothing_moves_while_the_page_loads_and_while_one_types(self):
+        """The sum of layout shifts, also of those that follow a key at once, is at most 0.05."""
+        for width, height in ((1280, 720), (360, 700)):
+            self.emulate(width, height, width < 1000)
+            self.load()
+            observe = """window.shift = 0; new PerformanceObserver((list) => list.getEntries().forEach((it) => { window.shift += it.value; }))
+                .observe({ type: "layout-shift", buffered: true });"""
+            self.run_script(observe)
+            self.find("#literal").send_keys("1_000.5e")
+            self.run_script("return new Promise((done) => requestAnimationFrame(() => setTimeout(done, 200)))")
+            self.assertLessEqual(self.run_script("return window.shift"), 0.05)
+
+    def test_the_code_is_few_tab_stops_behind_the_numbers(self):
+        self.load()
+        self.click("#example")
+        self.find("#tab-code").click()
+        self.find("#literal").click()
+        for _ in range(15):
+            if self.focused() == "code":
+                break
+            self.find("body").send_keys("")
+            ActionChains(self.driver, 0).send_keys(Keys.TAB).perform()
+        self.assertEqual(self.focused(), "code")
+
+    def test_numbers_and_code_are_printed_whole(self):
+        self.load("#language=JULIA&tab=rust")
+        self.emulate(780, 1000, False)
+        self.driver.execute_cdp_cmd("Emulation.setEmulatedMedia", {"media": "print"})
+        self.addCleanup(self.driver.execute_cdp_cmd, "Emulation.setEmulatedMedia", {"media": ""})
+        self.assertEqual(self.run_script("""return ["literal", "code"].filter((id) => {
+            const { scrollWidth, clientWidth, scrollHeight, clientHeight } = find(id);
+            return scrollWidth > clientWidth || scrollHeight > clientHeight + 1 || !clientHeight; })"""), [])
+        self.assertEqual(self.run_script("return [...document.querySelectorAll('button, select, #pane-edit')].filter((it) => it.checkVisibility()).length"), 0)
 
     def test_controls_are_large_and_tell_their_errors(self):
         small = """return [...document.querySelectorAll("button, select, summary, label:has(input), label[for], textarea")]
@@ -81,8 +118,9 @@ class Look(Walk):
             const message = find(it.getAttribute("aria-errormessage"));
             return !message?.textContent || !message.closest("[role=status], [role=alert]"); }).map((it) => it.outerHTML);"""
         for link in self.links():
-            self.type("#base_prefix", "xyz")
-            self.type("#word", "nonsense" + Keys.ENTER)
+            if link.endswith("edit"):
+                self.type("#base_prefix", "xyz")
+                self.type("#word", "nonsense" + Keys.ENTER)
             self.assertEqual(self.run_script(small) + self.run_script(wordless), [], link)
 
     def test_nothing_is_requested_and_the_policy_allows_the_page_alone(self):
@@ -111,10 +149,9 @@ class Look(Walk):
     def test_a_message_moves_nothing(self):
         place = """return ["#read", "#base_suffix", "#no_special"].map(
             (it) => document.querySelector(it).getBoundingClientRect().top + scrollY)"""
+        self.open("#base_prefix")
         before = self.run_script(place)
         self.type("#base_prefix", "xyz")
         self.click("#copy-link")
         self.assertEqual(self.run_script(place), before)
         self.wait(lambda: self.text("#told"))
-        self.assertTrue(self.run_script("""const { left, top, width, height } = find("told").getBoundingClientRect();
-            return document.elementFromPoint(left + width / 2, top + height / 2) === find("told");"""))

@@ -1,5 +1,5 @@
 """Tests of the page: numbers."""
-from test_base import Walk, Keys, STANDARD
+from test_base import Walk, Keys, MIXED, STANDARD
 
 
 class Numbers(Walk):
@@ -26,14 +26,13 @@ class Numbers(Walk):
         self.assertEqual(self.text("#count"), "3 of 5 as expected")
         self.click("#no_special")
         self.click("#case_sensitive_special")
-        self.assertEqual(self.texts("#read li"), ["not read, since the format is not valid"])
+        self.assertEqual((self.texts("#read li"), self.text("#summary")), ([], "Nothing is read, since the format is not valid."))
         self.load("#word=0x00000A0000000000000000000000101E")
         self.type("#literal", "001\n+Infinity\n1.")
         self.assertEqual(self.texts("#read mark"), ["001", "+", " "])
         self.assertEqual(self.texts("#read mark span"), ["0"])
-        self.assertEqual(self.texts("#read .use"), [
-            "set no_integer_leading_zeros=false", "set no_positive_mantissa_sign=false", "set required_fraction_digits=false"])
-        self.click("#read .use", "set no_positive_mantissa_sign=false")
+        self.assertEqual(self.texts("#read .use"), ["allow 01", "allow +1", "allow 1."])
+        self.click("#read .use", "allow +1")
         self.assertEqual(self.texts("#read > li:nth-child(2) .written span"), ["+", "Infinity"])
 
     def test_parts_are_those_of_the_form_that_reads(self):
@@ -52,10 +51,12 @@ class Numbers(Walk):
 
     def test_an_example_is_replaced_by_what_is_typed(self):
         self.load()
-        self.assertEqual(len(self.texts("#read > li")), 4)
-        self.find("#literal").click()
-        self.find("#literal").send_keys("7")
-        self.assertEqual(self.value("#literal"), "7")
+        self.assertEqual((self.texts("#read > li"), self.find("#clear").is_displayed()), ([], False))
+        self.click("#example")
+        self.assertEqual((len(self.texts("#read > li")), self.focused()), (4, "literal"))
+        self.select("#language", "JSON")
+        self.assertNotIn("1__0", self.value("#literal"))
+        self.type("#literal", "7")
         self.click("#clear")
         self.assertEqual((self.value("#literal"), self.focused()), ("", "literal"))
 
@@ -64,19 +65,21 @@ class Numbers(Walk):
         self.assertEqual(wrong, [])
 
     def test_parts_differ_by_more_than_colour(self):
-        legend = {"sign": "sign", "prefix, suffix": "base", "digits": "digits", "separator": "separator", "point": "option",
-                  "exponent": "exponent", "NaN, infinity": "special"}
-        self.assertEqual(dict(self.run_script("return [...document.querySelectorAll('#legend span')].map((it) => [it.textContent, it.className])")), legend)
+        self.load(f"#word={MIXED}&exponent=112&point=44&numbers=-0x1_0%2C8p%2B1h%0ANaN")
+        self.assertEqual(" ".join(self.texts(".legend")).replace("\n", " "), "- sign 0x prefix 1_0 integer , point 8 fraction p exponent character "
+            "+ exponent sign 1 exponent h suffix _ digit separator")
+        kinds = ("sign", "base", "digits", "separator", "option", "exponent", "special")
         for style in ("[it.textDecorationStyle, it.textDecorationLine].join()", "it.color"):
-            styles = self.run_script(f"return [...document.querySelectorAll('#legend span')].map((it) => getComputedStyle(it)).map((it) => {style})")
+            styles = [self.run_script(f"const it = getComputedStyle(document.querySelector('.written .{kind}')); return {style}") for kind in kinds]
             self.assertEqual(len(set(styles)), len(styles))
+        self.load()
         self.type("#literal", "12\u05d03")
         before, mark = (self.run_script(f"return document.querySelector('#read {it}').getBoundingClientRect().toJSON()") for it in (".digits", "mark"))
         self.assertAlmostEqual(before["right"], mark["left"], delta=3)
         self.driver.execute_cdp_cmd("Emulation.setEmulatedMedia", {"features": [{"name": "forced-colors", "value": "active"}]})
         self.addCleanup(self.driver.execute_cdp_cmd, "Emulation.setEmulatedMedia", {"features": []})
-        outlines = self.run_script("return [...document.querySelectorAll('[role=tab]')].map((it) => getComputedStyle(it).outlineStyle)")
-        self.assertEqual(outlines, ["solid"] + 5 * ["none"])
+        outlines = self.run_script("return [...document.querySelectorAll('#panes [role=tab]')].map((it) => getComputedStyle(it).outlineStyle)")
+        self.assertEqual(outlines, ["solid"] + 4 * ["none"])
 
     def test_an_unlawful_form_is_told_wherever_it_is(self):
         for shown in (0, 1):
@@ -87,6 +90,6 @@ class Numbers(Walk):
                 self.load(f"#word={words[shown]}&numbers=1&forms=" + "%0A".join(lines))
                 self.assertEqual((self.text("#verdict")[:9], self.texts("#forms .bad")), ("Not valid", ["ab"[at]]))
                 self.assertIn("Nothing can be read", self.text("#code"))
-                self.assertIn("not read", self.text("#read"))
+                self.assertIn("Nothing is read", self.text("#summary"))
                 self.click("#verdict")
                 self.assertEqual((self.text("#forms [aria-pressed=true]"), self.focused()), ("ab"[at], "report-title"))

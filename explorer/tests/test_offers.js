@@ -3,10 +3,10 @@
 
 function aMinusThatIsAnOperatorIsTold() {
     const [readers] = page.library.readers("-5");
-    return page.data.languages.flatMap(({ name, short, forms }, index) => ["-5", "5"].map((numbers) => {
+    return page.data.languages.flatMap(({ name, title, forms }, index) => ["-5", "5"].map((numbers) => {
         page.jump({ forms, at: 0, language: name, numbers });
         const told = [...find("read").querySelectorAll("li li")].map((it) => it.textContent).filter((it) => it.includes("operator"));
-        return [short, numbers === "5" || readers.some((it) => it.language === index), told];
+        return [title, numbers === "5" || readers.some((it) => it.language === index), told];
     }));
 }
 
@@ -18,13 +18,13 @@ function sizesOfGroupsAreOffered() {
     const offered = (settings, ...numbers) => {
         const form = { ...library.usual, word, conditions: library.withConditions(0n, settings) };
         page.jump({ forms: [form], at: 0, language: "", numbers: numbers.join("\n") });
-        return [...find("read").querySelectorAll(".use")].map((it) => it.textContent);
+        return [...find("read").querySelectorAll(".name")].map((it) => it.textContent);
     };
     return library.conditions.filter((it) => it.isNumber && !it.isKind).flatMap(({ name, limits: [least, most] }) => {
         const [kind, text] = Object.entries(texts).find(([it]) => name.startsWith(it));
         const [others, last] = kind === "higher" ? ["integer_group_size=3", 3] : ["", 0];
         const sizes = Array.from({ length: most - least + 1 }, (_, it) => it + least).filter((it) => it !== last);
-        const lost = sizes.filter((it) => offered(others, `!${text(it + 1)}`, `!${text(it - 1)}`, text(it))[0] !== `set ${name}=${it}`);
+        const lost = sizes.filter((it) => offered(others, `!${text(it + 1)}`, `!${text(it - 1)}`, text(it))[0] !== `${name}=${it}`);
         const usual = offered("", `!${text(20)}`, "1", "-1", "1e5").join(" ");
         return [...lost, ...(usual.includes(`${name}=3`) && !/group_size=[^3]/.test(usual) ? [] : [usual])].map((it) => [name, it]);
     });
@@ -44,15 +44,16 @@ function offersLeadToWhatTheyTell() {
         return [...find("read").querySelectorAll(".use")].flatMap((_, index) => {
             start();
             const button = find("read").querySelectorAll(".use")[index];
-            if (button.textContent.startsWith("try")) return [];
-            const [then, counted] = button.parentElement.childNodes[1].textContent.replace(/^then /, "").split("; ");
+            const item = button.closest("li");
+            if (!item.querySelector(".then")) return [];
+            const [then, counted] = item.querySelector(".then").textContent.split("; ");
             const isAdded = button.previousSibling;
-            const label = (isAdded ? button.parentElement.firstChild : button).textContent;
+            const [label, words] = [item.querySelector(".name"), item.firstChild].map((it) => it.textContent);
             const from = forms[page.trial.answers[0].form];
             button.click();
             const changes = page.library.differences(page.form, from).map((it) => it.text);
             const inOrder = changes.toSorted((a, b) => label.indexOf(a) - label.indexOf(b)).join(", ");
-            const isNamed = label === `set ${inOrder}${forms.length > 1 ? ` in ${from.name}` : ""}`;
+            const isNamed = label === inOrder && words.length > 3 && words.endsWith(forms.length > 1 ? ` in ${from.name}` : "");
             const kept = forms.filter((form, at) => isSame([form], [page.state.forms[at]])).length;
             const isAsTold = isAdded || (find("count").textContent === counted && find("read").querySelector("p").textContent === then);
             const isRight = kept === forms.length - !isAdded && page.state.forms.length === forms.length + Boolean(isAdded);

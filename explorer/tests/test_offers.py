@@ -12,9 +12,8 @@ class Offers(Walk):
 
     def test_a_format_is_found_by_its_numbers(self):
         self.type("#literal", "0x1F\n0x1_0.8p3\n!0x.8\n0x1h")
-        self.assertEqual(self.texts("#read ul li")[0],
-            "set base_prefix='x', mantissa_radix=16, exponent_base=2, exponent_radix=10, exponent='p'\n"
-            "then accepted: integer = 31; 1 of 4 as expected\nor add this form")
+        self.assertEqual(self.texts("#read ul li:first-child > *")[:4], ["read 0x as hexadecimal, an exponent behind p", "or as a form of its own",
+            "accepted: integer = 31; 1 of 4 as expected", "base_prefix='x', mantissa_radix=16, exponent_base=2, exponent_radix=10, exponent='p'"])
         for _ in range(4):
             self.find("#read .use").send_keys(Keys.ENTER)
         self.assertEqual((self.focused(), self.text("#count")), ("literal", "4 of 4 as expected"))
@@ -25,11 +24,11 @@ class Offers(Walk):
 
     def test_a_change_that_loses_as_many_numbers_is_offered_as_a_form(self):
         self.call("aChangeThatLosesAsManyNumbersIsOfferedAsAForm")
-        self.assertEqual(self.texts("#read .use"), ["set digit_separator='''", "or add this form"])
+        self.assertEqual(self.texts("#read .use"), ["' separates digits", "or as a form of its own"])
 
     def test_conditions_are_offered_and_fit_the_format(self):
         self.load("#word=0x0A0210007800005F000000010000000C&exponent=112&numbers=!1F%0A0x1F%0A-0x1F")
-        self.click("#read .use", "set required_base_prefix=true")
+        self.click("#read .use", "require the base prefix")
         self.assertEqual(self.text("#count"), "3 of 3 as expected")
         self.assertTrue(self.find("#required_base_prefix").is_selected())
         self.click("#no_negative_mantissa_sign")
@@ -38,17 +37,16 @@ class Offers(Walk):
         self.type("#base_prefix", "")
         self.assertEqual(self.text("#verdict"), "Not valid: 1 reason")
         self.click(".reason .use", "required_base_prefix=false")
-        self.assertEqual((self.text("#verdict"), self.find("#required_base_prefix").is_selected()), ("Valid format", False))
+        self.assertEqual((self.text("#verdict"), self.find("#required_base_prefix").is_selected()), ("", False))
         self.load("#word=0x0A0A0A000000002C000000010000000C&numbers=1,234%0A!12,34")
-        self.click("#read .use", "set integer_group_size=3")
+        self.click("#read .use", "groups of 3 digits")
         self.assertEqual((self.text("#count"), self.value("#integer_group_size")), ("2 of 2 as expected", "3"))
-        self.click("#tab-settings")
-        self.assertIn("integer_group_size=3", self.text("#code"))
+        self.assertIn("integer_group_size=3", self.code("settings"))
         self.load(LINKS[-1])
         self.assertEqual(self.texts(".reason .link"), ["integer_group_size", "integer_internal_digit_separator"])
-        self.assertEqual(self.texts("#read li"), ["not read, since the format is not valid"])
+        self.assertEqual(self.text("#summary"), "Nothing is read, since the format is not valid.")
         self.click(".reason .use", "integer_group_size=none")
-        self.assertEqual(self.text("#verdict"), "Valid format")
+        self.assertEqual(self.text("#verdict"), "")
 
     def test_sizes_of_groups_are_offered(self):
         """Numbers show each size of each kind of groups. If any would do, the usual size is offered."""
@@ -57,15 +55,18 @@ class Offers(Walk):
 
     def test_what_no_format_has_is_replaced(self):
         rows = {"1\u2019000": "1'000", "1\u02bc000": "1'000", "1\u00a0000": "1 000", "1\u202f000": "1 000", "\u22125": "-5", "\u20135": "-5",
-                "12 %": "12", "\u20ac5": "5", "$12": "12", "5 \u00a3": "5", "1u8": "1", "0x1Fu8": "0x1F", "3kg": "3", "10L": "10", "1.5f": "1.5"}
-        told = {"[\u2019\u02bc]": "an apostrophe that no format has: replace it by '", "[\u00a0\u202f]": "a space that no format has: replace it by the space of ASCII",
-                "[\u2013\u2212]": "a minus sign that no format has: replace it by -", "%": "a percent sign: divide the value by 100, and remove it",
-                "[\u20ac$\u00a3]": "a currency sign: remove it", "[a-zL]\\d*$": "can be a suffix, which read_prefix leaves: remove it"}
+                "12 %": "12", "\u20ac5": "5", "$12": "12", "5 \u00a3": "5", "1u8": "1", "0x1Fu8": "0x1F", "3kg": "3", "10L": "10", "1.5f": "1.5",
+                "(5)": "-5", "5-": "-5", "\u0661\u0662": "12", "\uff11\uff12": "12"}
+        told = {"[\u2019\u02bc]": "is an apostrophe that no format has: replace it by '", "[\u00a0\u202f]": "is a space that no format has: replace it by the space of ASCII",
+                "[\u2013\u2212]": "is a minus sign that no format has: replace it by -", "%": "is a percent sign: divide the value by 100, and remove it",
+                "[\u20ac$\u00a3]": "is a currency sign: remove it", "kg$": "can be a suffix, which no format has: token reads it, with your suffixes. Remove it",
+                "\\d(u8|L|f)$": "(u8|L|f) behind a number in .*, and no format does\\.", "^\\(|-$": "is a negative number in a way that no format has: replace it by one with -",
+                "[\u0660-\u0669\uff10-\uff19]": "is a digit that no format has: replace it by one of ASCII"}
         for text, wanted in rows.items():
             self.run_script("page.jump({ ...page.library.usual, numbers: arguments[0] })", text)
             words = next(words for pattern, words in told.items() if re.search(pattern, text))
             shown = self.run_script("return [...find('read').querySelectorAll('li li')].at(-1).firstChild.textContent")
-            self.assertRegex(shown, rf"^\S+ (is )?{re.escape(words)} before the number is read\.$")
+            self.assertRegex(shown, rf"^\S+ {words} before the number is read\.$|^token reads the suffix {words}$")
             self.click("#read .use", f"try {wanted}")
             self.assertEqual(self.value("#literal"), wanted)
         for text in ("0x1F", "0x1.8p3", "FF", "Infinity", "nAn", "1D3", "0o17", "1_000", "1,5"):
@@ -88,8 +89,8 @@ class Offers(Walk):
     def test_a_minus_that_is_an_operator_is_told(self):
         """No number of a language that refuses `-5` has a sign."""
         shown = self.call("aMinusThatIsAnOperatorIsTold")
-        for short, is_read, told in shown:
-            self.assertEqual(told, [] if is_read else [f"In {short}, - is an operator, so that numbers have no sign."])
+        for title, is_read, told in shown:
+            self.assertEqual(told, [] if is_read else [f"In {title}, - is an operator, so that numbers have no sign."])
 
     def test_a_language_is_changed_in_the_form_that_goes_furthest(self):
         self.type("#literal", "\n0x1_000.5")
@@ -97,11 +98,11 @@ class Offers(Walk):
         self.click("#read p .link", "hexadecimal float")
         self.assertEqual(self.focused(), "required_exponent_notation")
         self.assertEqual(self.text("#forms [aria-pressed=true]"), "hexadecimal float")
-        self.click("#read .use", "set required_exponent_notation=false in hexadecimal float")
-        self.assertEqual((self.text("#count"), self.value("#language")), ("1 of 1 as expected", ""))
+        self.click("#read .use", "allow 1 in hexadecimal float")
+        self.assertEqual((self.text("#count"), self.value("#language")), ("1 of 1 as expected", "own"))
 
     def test_a_change_leaves_nothing_to_be_done_again(self):
-        for step in (lambda: self.click("#no_special"), lambda: self.click("#read .use"), lambda: self.click("#standard"),
+        for step in (lambda: self.click("#no_special"), lambda: self.click("#read .use"), lambda: self.select("#language", "JSON"),
                      lambda: self.type("#exponent", "d"), lambda: self.type("#literal", "1"), lambda: self.type("#word", MIXED + Keys.TAB),
                      lambda: self.select("#language", "C"), lambda: self.select("#add", "C")):
             self.load(f"#word={STANDARD}&exponent=112&numbers=0x1F")

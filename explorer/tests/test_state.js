@@ -2,7 +2,7 @@
 "use strict";
 
 function linksHaveEachChoice() {
-    return ["language", "compare"].flatMap((name) => [...find(name).options].filter(({ value }) => {
+    return ["language", "compare"].flatMap((name) => [...find(name).options].filter(({ value }) => value !== "own").filter(({ value }) => {
         history.replaceState(null, "", `#${name}=${encodeURIComponent(value)}`);
         page.read();
         return find(name).value !== value;

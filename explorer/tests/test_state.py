@@ -52,8 +52,7 @@ class State(Walk):
         self.assertEqual(self.value("#base_prefix"), "x")
         self.assertIn("no flag allows the digit separator '_'", self.text("#word-problem"))
         self.load("#word=0x00000A000000005F000000000000000C")
-        self.click("#tab-settings")
-        self.assertIn(f"No builder makes this word. These settings build the nearest one, {STANDARD}.", self.text("#code"))
+        self.assertIn(f"No builder makes this word. These settings build the nearest one, {STANDARD}.", self.code("settings"))
         self.run_script("page.change({ numbers: '1\\n'.repeat(130) })")
         self.assertEqual(self.text("#count"), "100 of 100 as expected; 30 lines are not read")
         self.assertEqual(self.texts("#read li")[-1], "30 lines are not read: the page reads up to 100 lines with 60 kB")
@@ -72,12 +71,12 @@ class State(Walk):
         self.assertEqual((self.value("#exponent"), self.value("#point"), self.value("#literal")), ("p", ",", "+1\n!2 3"))
         self.click("#no_special")
         self.type("#literal", "1_0 %&")
-        wanted = "#word=0x0A0A10006200005F000000070001440C&exponent=112&point=44&numbers=1_0%20%25%26"
+        wanted = "#word=0x0A0A10006200005F000000070001440C&exponent=112&point=44&numbers=1_0%20%25%26&tab=edit"
         self.wait(lambda: self.run_script("return location.hash") == wanted)
         self.load("#exponent=112")
         self.assertEqual((self.value(), self.value("#exponent"), self.text("#told")), (STANDARD, "p", ""))
         self.click("#copy-link")
-        self.wait(lambda: "Copied from # on" in self.text("#told"))
+        self.wait(lambda: "Copied: pasted into the numbers" in self.text("#told"))
         self.load("#language=JSON&amp;tab=c")
         self.assertEqual((self.value("#language"), self.text("#code")[:2], self.text("#told")), ("JSON", "/*", ""))
 
@@ -86,11 +85,12 @@ class State(Walk):
         self.assertEqual(lost, [])
         names = self.run_script("return page.data.languages.map(({ name, about, forms }) => [name, about, forms.map((it) => it.name)])")
         wanted = [value for name, _, forms in names for value in [name, *([f"{name}:{it}" for it in forms] if len(forms) > 1 else [])]]
-        for select, own in (("language", [""]), ("compare", ["", "standard"]), ("add", ["", "copy", "standard"])):
+        for select, own in (("language", ["own", ""]), ("compare", ["", "standard"]), ("add", ["", "copy", "standard"])):
             options = dict(self.run_script("return [...find(arguments[0]).options].map((it) => [it.value, it.textContent])", select))
             self.assertEqual([*options], own + [it for it in wanted if select != "language" or ":" not in it])
-            self.assertEqual([it for it in wanted if ":" in it and options.get(it, it.replace(":", ": ")) != it.replace(":", ": ")], [])
-            self.assertEqual([name for name, about, _ in names if not (len(options[name]) > 3 and about.startswith(options[name]))], [])
+            forms = [it.split(":") for it in options if ":" in it]
+            self.assertEqual([it for it, form in forms if options[f"{it}:{form}"] != f"{options[it]}: {form}"], [])
+            self.assertEqual((len(options), [it for it in options.values() if it.strip(",.:") != it]), (len(set(options.values())), []))
 
     def test_what_a_link_has_in_vain_is_told(self):
         wrong = ["word=nonsense", "exponent=300", "point=", "language=NONE", "compare=NONE", "tab=none", "conditions=no_such=1",
@@ -113,8 +113,8 @@ class State(Walk):
         self.click("#undo")
         self.assertEqual(self.value(), STANDARD)
         self.click("#redo")
-        self.click("#tab-c")
         self.select("#compare", "ADA")
+        self.click("#tab-c")
         self.wait(lambda: self.run_script("return location.hash").endswith("&compare=ADA&tab=c"))
         self.driver.refresh()
         self.wait(lambda: self.run_script("return document.documentElement.dataset.ready"))
