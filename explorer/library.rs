@@ -112,9 +112,9 @@ pub extern "C" fn explain(length: usize) -> u64 {
     };
     let misfit = |it: ConditionsError| {
         let other = if it.kind == ConditionsErrorKind::NoIntegerGroupSize { "integer_group_size " } else { "" };
-        put(&it, it.mask(), &format!("{other}{}", it.condition.name()), 9)
+        put(&it, it.mask(), &format!("{other}{}", it.condition.name()), 0)
     };
-    let reason = |it: Reason| put(&it, it.mask(), &options_of(it.cause()), kind_of(it.cause()));
+    let reason = |it: Reason| put(&it, it.mask(), &options_of(it.cause()), it.rule().map_or(0, |it| it as usize + 1));
     let options = view.options_reasons(state.exponent, state.point).filter(|_| !state.is_integers());
     answer(format!(
         r#"{{"normal":{},"isBuilt":{},"fits":{},"reasons":{},"options":{},"conditions":{},"notes":{}{notation}}}"#,
@@ -136,20 +136,6 @@ fn options_of(cause: Cause) -> String {
         _ => "",
     };
     cause.bytes().into_iter().flatten().map(name).collect()
-}
-
-/// Returns the number of the kind of a cause.
-fn kind_of(cause: Cause) -> usize {
-    match cause {
-        Cause::OutOfRange(_) => 1,
-        Cause::NotText(_) => 2,
-        Cause::IsSign(_) => 3,
-        Cause::IsDigit(..) => 4,
-        Cause::Same(..) => 5,
-        Cause::DifferInCase { .. } => 6,
-        Cause::BothSet(..) => 7,
-        _ => 8,
-    }
 }
 
 /// Returns the limits of the number of each condition.

@@ -54,9 +54,7 @@ impl State {
         self.exponent == 0 && self.point == 0
     }
 
-    /// Returns the syntax if the word is lawful, and the options and the conditions fit. If it were inlined, the page would
-    /// be larger.
-    #[inline(never)]
+    /// Returns the syntax if the word is lawful, and the options and the conditions fit.
     pub fn syntax(self) -> Option<Syntax> {
         let format = Format::new(self.word).ok()?;
         let syntax = match self.is_integers() {
@@ -121,7 +119,6 @@ impl State {
     }
 
     /// Returns why a text is neither a number nor a special value, or no error if this is not a syntax.
-    #[inline(never)]
     pub fn read(self, text: &[u8]) -> Result<(), Option<ReadError>> {
         let syntax = self.syntax().ok_or(None)?;
         match syntax.read(text) {
@@ -180,16 +177,10 @@ fn value(byte: u8) -> Option<u8> {
     char::from(byte).to_digit(36).map(|digit| digit as u8)
 }
 
-/// Returns the least of the usual radixes, at least `least`, that has all letters and digits of a text. It is 36 only if a
-/// letter is the first of them.
+/// Returns the least of the usual radixes, at least `least`, that has all letters and digits of a text.
 fn radix_of(text: &[u8], least: u8) -> Option<u8> {
     let largest = text.iter().filter_map(|&byte| value(byte)).max().unwrap_or(0);
-    let all = [2, 8, 10, 16, 36].into_iter().take(if unsigned(text).first().is_some_and(u8::is_ascii_alphabetic) {
-        5
-    } else {
-        4
-    });
-    all.into_iter().find(|&radix| radix >= least && radix > largest)
+    [2, 8, 10, 16].into_iter().find(|&radix| radix >= least && radix > largest)
 }
 
 /// Returns a text without its sign.
@@ -322,10 +313,12 @@ fn candidates(state: State, text: &[u8], at: usize) -> [Option<State>; 11] {
     let Some((&byte, rest)) = text.get(at..).and_then(<[u8]>::split_first) else { return [None; 11] };
     let before = &text[..at];
     let [shown, same, needed] = suffixes(state, text, at);
+    // A letter that is the last of a fraction is a suffix, and letters in front show a large radix.
     let is_whole = unsigned(text).iter().all(u8::is_ascii_alphanumeric);
-    let radix =
-        radix_of(text, state.radix() + 1).filter(|_| byte.is_ascii_alphanumeric() && (is_whole || !rest.is_empty()));
-    let radix = radix.map(|radix| state.with_radix(radix));
+    let is_word = is_whole && unsigned(text).first().is_some_and(u8::is_ascii_alphabetic);
+    let radix = radix_of(text, state.radix() + 1).or(is_word.then_some(36).filter(|&it| it > state.radix()));
+    let is_digit = byte.is_ascii_alphanumeric() && (is_whole || !rest.is_empty());
+    let radix = radix.filter(|_| is_digit).map(|radix| state.with_radix(radix));
     // In `1,234`, the comma separates groups.
     let is_group =
         rest.len() == usize::from(USUAL_SIZE) && rest.iter().all(u8::is_ascii_digit) && unsigned(before).len() <= 3;

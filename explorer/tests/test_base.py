@@ -122,7 +122,9 @@ class Walk(unittest.TestCase):
 
     def open(self, selector):
         """Shows the tab in which an element is."""
-        self.run_script("""const pane = document.querySelector(arguments[0])?.closest("[id^=pane-]");
+        self.run_script("""const [selector] = arguments;
+            const outer = /^[.](reason|byte)/.test(selector) ? "#report" : selector.split(/[ >]/)[0];
+            const pane = (document.querySelector(selector) ?? document.querySelector(outer))?.closest("[id^=pane-]");
             if (pane?.hidden) page.open(pane.id === "pane-code" ? page.language : pane.id.slice(5));""", selector)
 
     def text(self, selector):
@@ -136,6 +138,10 @@ class Walk(unittest.TestCase):
     def value(self, selector="#word"):
         self.open(selector)
         return self.find(selector).get_property("value")
+
+    def is_checked(self, selector):
+        self.open(selector)
+        return self.find(selector).is_selected()
 
     def code(self, tab):
         """Returns the code of a tab."""

@@ -64,7 +64,7 @@ class Forms(Walk):
         self.assertIn("peltzivar::literal::Language::RUST.", self.text("#code"))
         self.click("#forms button", "hexadecimal")
         self.assertEqual((self.value("#base_prefix"), self.value("#language"), self.focused()), ("x", "RUST", ""))
-        self.assertTrue(self.find("#required_base_prefix").is_selected())
+        self.assertTrue(self.is_checked("#required_base_prefix"))
         self.assertEqual((self.value("#exponent"), self.value("#point")), ("", ""))
         self.assertEqual(self.text("#count"), "3 of 4 as expected")
         self.click("#no_special")

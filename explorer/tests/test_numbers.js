@@ -16,7 +16,7 @@ function partsAreThoseOfTheFormThatReads() {
     return marks.flatMap((first) => marks.map((second) => {
         const forms = [form(first), form(second, "mantissa_radix=16", "exponent_base=16", "exponent_radix=16", "base_prefix='x'")];
         page.jump({ forms, at: 0, language: "", numbers: `1${first}0.5\n0x1${second}F` });
-        return [first, second, ...document.querySelectorAll("#read .separator")].map((it) => it.textContent ?? it).join("|");
+        return [first, second, ...document.querySelectorAll(".written .separator")].map((it) => it.textContent ?? it).join("|");
     })).filter((it) => it.split("|").slice(0, 2).join() !== it.split("|").slice(2).join());
 }
 
@@ -25,6 +25,6 @@ function partsAreThoseOfTheFormThatReads2() {
     const flags = page.library.flags.filter(({ name, part }) => part === "separator" && !name.startsWith("special"));
     return flags.flatMap(({ accepts }) => accepts).filter((text) => {
         page.jump({ forms: [{ ...page.library.usual, word }], at: 0, language: "", numbers: text });
-        return [...document.querySelectorAll("#read .separator")].map((it) => it.textContent).join("") !== text.replace(/[^_]/g, "");
+        return [...document.querySelectorAll(".written .separator")].map((it) => it.textContent).join("") !== text.replace(/[^_]/g, "");
     });
 }

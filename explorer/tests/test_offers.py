@@ -30,14 +30,14 @@ class Offers(Walk):
         self.load("#word=0x0A0210007800005F000000010000000C&exponent=112&numbers=!1F%0A0x1F%0A-0x1F")
         self.click("#read .use", "require the base prefix")
         self.assertEqual(self.text("#count"), "3 of 3 as expected")
-        self.assertTrue(self.find("#required_base_prefix").is_selected())
+        self.assertTrue(self.is_checked("#required_base_prefix"))
         self.click("#no_negative_mantissa_sign")
         self.assertIn("at index 0: unexpected minus sign", self.text("#read .unexpected p"))
         self.wait(lambda: "&conditions=required_base_prefix%3Dtrue%20no_" in self.run_script("return location.hash"))
         self.type("#base_prefix", "")
         self.assertEqual(self.text("#verdict"), "Not valid: 1 reason")
         self.click(".reason .use", "required_base_prefix=false")
-        self.assertEqual((self.text("#verdict"), self.find("#required_base_prefix").is_selected()), ("", False))
+        self.assertEqual((self.text("#verdict"), self.is_checked("#required_base_prefix")), ("", False))
         self.load("#word=0x0A0A0A000000002C000000010000000C&numbers=1,234%0A!12,34")
         self.click("#read .use", "groups of 3 digits")
         self.assertEqual((self.text("#count"), self.value("#integer_group_size")), ("2 of 2 as expected", "3"))
@@ -60,7 +60,7 @@ class Offers(Walk):
         told = {"[\u2019\u02bc]": "is an apostrophe that no format has: replace it by '", "[\u00a0\u202f]": "is a space that no format has: replace it by the space of ASCII",
                 "[\u2013\u2212]": "is a minus sign that no format has: replace it by -", "%": "is a percent sign: divide the value by 100, and remove it",
                 "[\u20ac$\u00a3]": "is a currency sign: remove it", "kg$": "can be a suffix, which no format has: token reads it, with your suffixes. Remove it",
-                "\\d(u8|L|f)$": "(u8|L|f) behind a number in .*, and no format does\\.", "^\\(|-$": "is a negative number in a way that no format has: replace it by one with -",
+                "[\\dF](u8|L|f)$": "(u8|L|f) behind a number in .*, and no format does\\.", "^\\(|-$": "is a negative number in a way that no format has: replace it by one with -",
                 "[\u0660-\u0669\uff10-\uff19]": "is a digit that no format has: replace it by one of ASCII"}
         for text, wanted in rows.items():
             self.run_script("page.jump({ ...page.library.usual, numbers: arguments[0] })", text)
