@@ -166,8 +166,9 @@ class Page {
     /* Shows a tab, and on a narrow screen brings it into view. */
     open(tab) {
         this.chooseTab(tab);
-        const top = find("panes").getBoundingClientRect().bottom;
-        if (getComputedStyle(find("panes")).position === "sticky") scrollBy(0, find("pane").getBoundingClientRect().top - Math.min(top, 90));
+        const [bar, panes] = [document.querySelector(".bar"), find("panes")];
+        const above = bar.offsetHeight + panes.offsetHeight;
+        if (getComputedStyle(panes).position === "sticky") scrollBy(0, find("pane").getBoundingClientRect().top - above);
     }
 
     chooseTab(tab) {
@@ -340,7 +341,8 @@ class Page {
         const parts = new URLSearchParams(/^\w+=/.test(hash) ? hash.replaceAll("+", "%2B") : { word: hash });
         const lost = [...parts].filter(([name]) => !LINK.includes(name)).map(([name]) => name);
         const language = languages.find(({ name }) => name === parts.get("language"));
-        const tab = { grammar: "words", regex: "words" }[parts.get("tab")] ?? (parts.get("tab") || this.usualTab(parts));
+        const usualTab = parts.get("compare") ? "compare" : parts.get("language") ? "rust" : "languages";
+        const tab = { grammar: "words", regex: "words" }[parts.get("tab")] ?? (parts.get("tab") || usualTab);
         const usual = language && !parts.has("word") ? language.forms[0] : library.usual;
         const byte = (name) => (parts.has(name) ? library.byte(parts.get(name)) : usual[name]);
         const word = parts.get("word") ? library.read(parts.get("word")).word : usual.word;
@@ -365,11 +367,6 @@ class Page {
         this.showAnew();
         const told = `The page cannot read this of the link, and shows what is usual in its place: ${lost.join(", ")}.`;
         setText(find("told"), lost.length ? told : "");
-    }
-
-    /* Returns the tab of a link that has none. */
-    usualTab(parts) {
-        return parts.get("compare") ? "compare" : parts.get("language") ? "rust" : "languages";
     }
 
     /* Returns the forms of a link: those of the language, or a line of each, that of the shown one with its name alone. */
@@ -415,8 +412,11 @@ class Page {
 
     /* Shows the pane that is chosen. */
     draw() {
-        const panes = { languages: () => this.trial.showReaders(), compare: () => this.report.compare(), edit: () => this.showSettings(), words: () => this.showWords() };
-        (panes[this.tab] ?? (() => this.showCode()))();
+        if (this.tab in CODES) this.showCode();
+        if (this.tab === "languages") this.trial.showReaders();
+        if (this.tab === "compare") this.report.compare();
+        if (this.tab === "edit") this.showSettings();
+        if (this.tab === "words") this.showWords();
     }
 
     showSettings() {
@@ -469,14 +469,10 @@ async function copy(button, text, node) {
 /* Returns the bytes of a text in base 85, in which five characters are four bytes. */
 function decoded(text) {
     const digits = "0123456789ABCDEFGHIJKLMNOPQRSTUVWXYZabcdefghijklmnopqrstuvwxyz!#$%&()*+-;<=>?@^_`{|}~";
-    const values = new Map([...digits].map((digit, value) => [digit, value]));
-    const padding = (5 - (text.length % 5)) % 5;
-    const whole = text + "~".repeat(padding);
-    const view = new DataView(new ArrayBuffer((whole.length / 5) * 4));
-    for (let at = 0; at < whole.length; at += 5) {
-        view.setUint32((at / 5) * 4, [...whole.slice(at, at + 5)].reduce((number, digit) => number * 85 + values.get(digit), 0));
-    }
-    return new Uint8Array(view.buffer, 0, view.byteLength - padding);
+    return Uint8Array.from(text.match(/.{1,5}/g).flatMap((part) => {
+        const number = [...part.padEnd(5, "~")].reduce((all, digit) => all * 85 + digits.indexOf(digit), 0);
+        return [24, 16, 8, 0].map((shift) => (number >>> shift) & 255).slice(0, part.length - 1);
+    }));
 }
 
 async function main() {

@@ -22,8 +22,9 @@ class Report {
     }
 
     /* Shows why the format is not valid: a reason of the word, or an option or a condition that does not fit. */
-    reason({ text, fields }) {
-        const buttons = this.library.repairs(this.form, { text, fields }).map((form) => {
+    reason(problem) {
+        const { text, fields } = problem;
+        const buttons = this.library.repairs(this.form, problem).map((form) => {
             const changes = this.library.differences(form, this.form);
             const label = changes.map((it) => it.text).join(", ") || "clear the reserved bits";
             return button("use", label, () => this.use(stateOf(form)), { "data-field": changes.map(({ name }) => name).join(" ") });

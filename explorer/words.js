@@ -37,7 +37,7 @@ function changeWords(library, form, changes) {
     const words = {
         digit_separator: ({ value }) => (separators.length ? "" : value ? `\`${byteText(value)}\` separates digits` : "no separator"),
         base_prefix: ({ value }) => (value ? `read \`0${byteText(value)}\` as ${radix}` : "no prefix"),
-        base_suffix: ({ value }) => (value ? `read \`${byteText(value)}\` at the end${hasRadix ? ` as ${radix}` : ""}` : "no suffix"),
+        base_suffix: ({ value }) => (!value ? "no suffix" : `${hasRadix ? "read" : "allow"} \`${byteText(value)}\` at the end${hasRadix ? ` as ${radix}` : ""}`),
         mantissa_radix: () => (prefix?.value || suffix?.value ? "" : `read ${radix} digits`),
         exponent_base: ({ value }) => (hasRadix ? "" : `exponents of ${value || "the radix"}`),
         exponent_radix: ({ value }) => (hasRadix ? "" : `${radixWord(value || library.get(form.word, "mantissa_radix"))} exponents`),

@@ -59,6 +59,7 @@ function eachChoiceLandsInTheStateTheLinkAndTheCode() {
     const start = (name) => {
         const conditions = library.withConditions(0n, name === "higher_group_size" ? "integer_group_size=3" : "");
         page.jump({ forms: [{ ...library.usual, word, conditions }], at: 0, language: "", numbers: "" });
+        page.chooseTab("edit");
         return page.form;
     };
     const choose = (control, value, isOther) => {

@@ -18,8 +18,8 @@ class Settings(Walk):
         self.select("#compare", "standard")
         self.assertEqual(self.texts("#changes code")[:2], ["no_positive_mantissa_sign=true", "no_special=true"])
         self.click("#changes li:first-child button")
-        self.assertEqual(self.value(), "0x00000A0000000000000000000000340C")
         self.assertEqual(self.run_script("return document.activeElement.ariaLabel"), "set no_special=false")
+        self.assertEqual(self.value(), "0x00000A0000000000000000000000340C")
 
     def test_bytes_and_options_are_typed(self):
         self.type("#base_prefix", "x")
