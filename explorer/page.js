@@ -387,13 +387,15 @@ class Page {
         this.tell("", false);
     }
 
-    /* Shows the state. What has the focus stays at its place on the screen. */
+    /* Shows the state. What has the focus stays at its place on the screen, but for the numbers, above which nothing changes. */
     show() {
         const focused = document.activeElement;
+        if ([document.body, find("literal")].includes(focused)) return this.showAll();
         const top = () => focused.getBoundingClientRect().top;
         const before = top();
         this.showAll();
-        if (document.activeElement === focused) scrollBy(0, top() - before);
+        const scroller = getComputedStyle(find("panes")).position === "sticky" ? document.scrollingElement : focused.closest("#trial, #pane");
+        if (document.activeElement === focused) scroller?.scrollBy(0, top() - before);
     }
 
     showAll() {

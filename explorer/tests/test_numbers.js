@@ -28,3 +28,23 @@ function partsAreThoseOfTheFormThatReads2() {
         return [...document.querySelectorAll(".written .separator")].map((it) => it.textContent).join("") !== text.replace(/[^_]/g, "");
     });
 }
+
+/* Returns the clauses on the numbers of languages that tell something else than the numbers have. */
+function theSentenceTellsWhatTheNumbersAre() {
+    const { library, data: { languages } } = page;
+    const names = { prefix: "the prefix", exponent_character: "an exponent behind", suffix: "the suffix", sign: "a sign" };
+    return languages.flatMap(({ name, forms, specials, numbers }) => {
+        const texts = numbers.split("\n").filter((it) => it[0] !== "!");
+        const answers = library.numbers({ forms, specials }, texts.join("\n"));
+        const readers = library.readers(texts.join("\n"));
+        const isSpecial = (it) => it.parts.some(({ kind }) => kind === "special");
+        const groups = [...forms.keys(), "special"].map((form) => texts.flatMap((_, it) => ((isSpecial(answers[it]) ? "special" : answers[it].form) === form ? [it] : [])));
+        const clauses = library.summary({ forms, specials }, numbers);
+        return groups.filter((it) => it.length).flatMap((group, index) => {
+            const { words, count, readers: told } = clauses[index];
+            const all = languages.map((_, language) => language).filter((it) => group.every((line) => readers[line].some((one) => one.language === it && !one.refused)));
+            const isTold = ([kind, it]) => isSpecial(answers[group[0]]) || group.some((line) => answers[line].parts.some((part) => part.kind === kind)) === words.includes(it);
+            return count === group.length && String(told) === String(all) && Object.entries(names).every(isTold) ? [] : [`${name}: ${words}`];
+        });
+    });
+}

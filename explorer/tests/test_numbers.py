@@ -95,3 +95,21 @@ class Numbers(Walk):
                 self.assertIn("Nothing is read", self.text("#summary"))
                 self.click("#verdict")
                 self.assertEqual((self.text("#forms [aria-pressed=true]"), self.focused()), ("ab"[at], "report-title"))
+
+    def test_the_sentence_tells_what_the_numbers_are(self):
+        """A clause for each form: the parts that its numbers have, no others, and the languages that read all of them."""
+        self.load("#language=RUST&numbers=0x1_F%0A0xFF%0A-1%0A!5")
+        self.assertRegex(self.text("#summary"), r"^Hexadecimal integers with the prefix 0x and _ between digits: Rust, C# and \d+ more read them\.\n"
+            r"-1 and 1 more are not as expected: In Rust, - is an operator, so that numbers have no sign\.$")
+        self.assertEqual(self.call("theSentenceTellsWhatTheNumbersAre"), [])
+
+    def test_a_value_that_is_too_large_is_not_as_expected(self):
+        self.load("#language=JAVA&numbers=2147483648%0A1%0A!2147483648")
+        self.assertEqual((self.text("#count"), self.texts("#read > li:first-child .use")), ("1 of 3 as expected", []))
+        self.assertIn("above 2147483647", self.text("#summary"))
+
+    def test_characters_that_cannot_be_seen_have_their_numbers(self):
+        for text in ("1\u061c", "1\u200b2", "1\u00a02"):
+            self.run_script("page.jump({ numbers: arguments[0] })", text)
+            told = self.text("#read p") + self.text("#first-error")
+            self.assertEqual((f"U+{ord(text[1]):04X}" in told, text[1] in told), (True, False))

@@ -4,7 +4,31 @@ import re
 from test_base import Walk, Keys, TOP, STANDARD, MIXED, LINKS, has
 
 
+# What single numbers mean: the value that the first offer gives, or words of the advice.
+SAMPLES = {
+    "1 234,56": 1234.56, "17q": 15, "FFh": 255, "1D5": 100000, "0x1.8p3": 12, "1F": 31, "ZZ": 1295, "0h1F": 31, "0d10": 10, "0y101": 5,
+    "2^10": "not one number", "3+4i": "not one number", "1.5x10^5": "not one number", ".inf": "YAML and YAML 1.1 read it", "1:30": "a ratio", "1/2": "a ratio",
+    "1,234": 1234, "1.234.567": 1234567, "1'000": 1000, "0b101": 5, "0o17": 15, "0X1F": 31, "1.5f": 1.5, "10L": 10, "0xFFul": "reads the suffix ul",
+    "50%": "divide the value by 100", "$5": "a currency sign", "1,5": 1.5, "1 000 000,5": 1000000.5, "12,34,567.89": 1234567.89, "1.234,56": 1234.56,
+    "&HFF": "a prefix", "16#FF#": "a prefix", "#FF": "a prefix", "101b": 5, "1__0": 10, "1_000_": 1000, "6.02D+23": 6.02e23, "(5)": "a negative number",
+    "deadbeef": 3735928559, "1,000.50": 1000.5, "1e": None, "_1": 1}
+
+
 class Offers(Walk):
+    def test_the_first_offers_are_right(self):
+        """And so is the sentence, which tells what no format has."""
+        for text, meant in SAMPLES.items():
+            self.run_script("page.jump({ forms: [page.library.usual], at: 0, language: '', numbers: arguments[0] })", text)
+            offer, words, sentence = self.run_script("""const first = (all) => find("read").querySelector(all)?.textContent;
+                const advice = [...find("read").querySelectorAll("li li")].filter((it) => !it.querySelector(".then")).map((it) => it.textContent);
+                return [first(".then"), advice.join(" "), find("summary").textContent];""")
+            if isinstance(meant, str):
+                self.assertIn(meant, words)
+                self.assertIn(meant, sentence)
+            else:
+                self.assertIsNotNone(offer, text)
+                self.assertEqual(float(offer.partition(" = ")[2] or "nan") if meant else None, meant, text)
+
     def test_offers_lead_to_what_they_tell(self):
         """Each offer for a text that a language refuses changes one form, and what it tells of the text is so then."""
         wrong = self.call("offersLeadToWhatTheyTell")

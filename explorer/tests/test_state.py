@@ -35,7 +35,7 @@ class State(Walk):
         self.select("#language", "JSON")
         self.driver.back()
         self.wait(lambda: state() == both)
-        self.load(f"#word={STANDARD}")
+        self.load(f"#word={STANDARD}&tab=edit")
         before = self.run_script("return page.fragment()")
         for name in self.run_script("return [...page.library.bytes, ...OPTIONS].map(({ name }) => name)"):
             for _ in range(2):
@@ -119,3 +119,22 @@ class State(Walk):
         self.driver.refresh()
         self.wait(lambda: self.run_script("return document.documentElement.dataset.ready"))
         self.assertEqual((self.value("#compare"), self.text("#code")[:8]), ("ADA", "#include"))
+
+    def test_a_copied_link_opens_where_it_is_pasted(self):
+        """Of many numbers, it has the first ones, which is told."""
+        numbers = "\n".join(f"1_{index}" for index in range(2000))
+        self.run_script("""navigator.clipboard.writeText = async (text) => { window.copied = text; };
+            page.start("RUST"); page.change({ numbers: arguments[0] }); find("copy-link").click();""", numbers)
+        self.wait(lambda: self.text("#told"))
+        link = self.run_script("return window.copied")
+        self.assertLess(len(link), 6000)
+        self.load()
+        self.run_script("find('literal').value = arguments[0]; find('literal').dispatchEvent(new Event('input'))", link)
+        kept = self.value("#literal")
+        self.assertEqual((self.value("#language"), self.run_script("return page.state.numbers")), ("RUST", kept))
+        self.assertTrue(numbers.startswith(f"{kept}\n"))
+
+    def test_large_inputs_are_read_at_once(self):
+        """In three times the milliseconds that they may need, since other programs may run."""
+        for name, (took, most) in self.call("largeInputsAreReadAtOnce").items():
+            self.assertLess(took, 3 * most, name)
