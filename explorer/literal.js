@@ -47,10 +47,10 @@ class Trial {
         const left = all.length - lines.length;
         const unread = left === 1 ? "1 line is not read" : `${left} lines are not read`;
         const isBad = lines.length > 0 && !this.answers.length;
+        this.expected = this.answers.filter(({ isExpected }) => isExpected).length;
         this.showRows(left ? `${unread}: the page reads up to ${MOST_LINES} lines with ${MOST_TEXT / 1000} kB` : "");
         this.showSummary(isBad, this.answers.filter(({ isExpected }) => !isExpected));
-        const expected = this.answers.filter(({ isExpected }) => isExpected).length;
-        const count = this.answers.length ? `${expected} of ${this.answers.length} as expected` : "";
+        const count = this.answers.length ? `${this.expected} of ${this.answers.length} as expected` : "";
         const value = (it) => `${it.text}${it.refused ?? it.unknown ? ":" : " ="} ${valueText(it)}`;
         const values = this.answers.filter(({ error }) => !error).map(value).slice(0, MOST_READ);
         const told = first ? `${first.text} ${this.told(first)}` : values.join(" \u00b7 ");
@@ -112,7 +112,7 @@ class Trial {
         const nodes = this.answers.map((answer) => {
             const whole = open.has(answer) ? this.withOffers(answer) : answer;
             const { name, word } = this.forms[answer.form];
-            const texts = [whole, name, this.forms.length, this.library.get(word, "digit_separator"), this.state.language];
+            const texts = [whole, this.expected, name, this.forms.length, this.library.get(word, "digit_separator"), this.state.language];
             const key = JSON.stringify(texts, (_, it) => (typeof it === "bigint" ? String(it) : it));
             this.rows.set(key, old.get(key) ?? (open.has(answer) ? this.row(whole) : this.line(whole)));
             return this.rows.get(key);
@@ -272,7 +272,7 @@ class Trial {
         const click = (change) => () => (change(), (find("read").querySelector(".use") ?? find("literal")).focus());
         const use = click(() => this.put(stateOf(offer), "", answer.form));
         const add = click(() => this.add([{ ...stateOf(offer), name: "" }]));
-        const isBetter = expected > this.answers.filter((it) => it.isExpected).length;
+        const isBetter = expected > this.expected;
         const isOther = !answer.isRefused && (!isBetter || changes.some(({ name }) => name === "mantissa_radix"));
         const attributes = { "data-field": changes.map((it) => it.name).join(" "), title: changes.map((it) => it.meaning).join("; ") };
         const buttons = [button("use", "", use, attributes), ...(isOther ? [button("use", "or as a form of its own", add)] : [])];
