@@ -10,7 +10,8 @@ import unittest
 
 from test_base import Walk, Keys, TOP, MIXED, STATES, TEXTS, has, run
 
-
+# Where the library of C is built.
+BUILD = TOP / "rust/target/make"
 # Programs that print what the code reads: of each text its value, `none` if it has none, or `refused`.
 RUST = """#![deny(warnings)]
 use peltzivar::literal::{FormError, Forms, Number};

@@ -134,7 +134,7 @@ function faint() {
             .map((it) => style[`border${it}Color`]),
         ...(parseFloat(style.outlineWidth) && style.outlineStyle !== "none" ? [style.outlineColor] : []),
         ...(node.matches(".dot") ? [style.backgroundColor] : []), ...(style.boxShadow === "none" ? [] : [/^\w+\(.*?\)/.exec(style.boxShadow)[0]])];
-    const rules = ".panel, header, .bar, #trial, fieldset, th, td, input[type=checkbox]";
+    const rules = "h1, #start, header, .bar, #panes, #pane, fieldset, th, td, input[type=checkbox]";
     const shown = [...document.querySelectorAll("body *")].filter((it) => it.checkVisibility({ visibilityProperty: true }) && !it.disabled);
     return [...shown.filter((it) => hasText(it) && contrast(it) < 4.5).map((it) => `${it.textContent.slice(0, 40)} ${contrast(it)}`),
         ...shown.filter((it) => lines(it).some((colour) => beside(it, colour) < 3)).map((it) => `${it.outerHTML.slice(0, 80)} ${lines(it)}`)];

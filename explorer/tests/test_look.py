@@ -113,7 +113,7 @@ class Look(Walk):
 
     def test_controls_are_large_and_tell_their_errors(self):
         small = """return [...document.querySelectorAll("button, select, summary, label:has(input), label[for], textarea")]
-            .filter((it) => it.checkVisibility() && !it.closest(".skips, h2") && it.getBoundingClientRect().height < 24).map((it) => it.outerHTML);"""
+            .filter((it) => it.checkVisibility() && !it.closest(".skips, h2, h3") && it.getBoundingClientRect().height < 24).map((it) => it.outerHTML);"""
         wordless = """return [...document.querySelectorAll("[aria-invalid=true]:not([type=checkbox])")].filter((it) => {
             const message = find(it.getAttribute("aria-errormessage"));
             return !message?.textContent || !message.closest("[role=status], [role=alert]"); }).map((it) => it.outerHTML);"""
