@@ -42,20 +42,10 @@ fn words(form: &Form, literals: &[Literal<'_>]) -> String {
         (true, false) => "integer",
         _ => "float",
     };
+    let parts = ["sign", "prefix", "digits", "point", "exponent_character", "suffix"].into_iter();
     let mark = format.digit_separator().map_or(0, NonZeroU8::get);
-    // Of each part, the longest words tell the most.
-    let longer = |it: Option<String>, other: Option<String>| {
-        if it.as_ref().map(String::len) < other.as_ref().map(String::len) {
-            other
-        } else {
-            it
-        }
-    };
-    let parts = literals.iter().fold(Default::default(), |all: [Option<String>; 7], it| {
-        let mut parts = parts_of(it, mark).into_iter();
-        all.map(|part| longer(part, parts.next().flatten()))
-    });
-    let parts: Vec<_> = parts.into_iter().flatten().collect();
+    let parts: Vec<_> =
+        parts.filter_map(|it| if it == "digits" { places(literals, mark) } else { part(literals, it) }).collect();
     let with = match &parts[..] {
         [] => String::new(),
         [one] => format!(" with {one}"),
@@ -67,26 +57,33 @@ fn words(form: &Form, literals: &[Literal<'_>]) -> String {
     }
 }
 
-/// Returns the words for each part of a literal that not all have. Its form has a digit separator, or the byte is 0.
-fn parts_of(literal: &Literal<'_>, mark: u8) -> [Option<String>; 7] {
-    let text = |it: &[u8]| format!("`{}`", it.escape_ascii());
-    let shown = |before: &str, it: &[u8]| (!it.is_empty()).then(|| format!("{before} {}", text(it)));
-    let part = |kind: &str| literal.parts().find(|it| it.0 == kind).map_or(&[][..], |it| it.1);
-    let has = |is: &dyn Fn(&[u8]) -> bool| ["integer", "fraction", "exponent"].into_iter().any(|it| is(part(it)));
+/// Returns the words for a part that literals have, which is that of the first one.
+fn part(literals: &[Literal<'_>], kind: &str) -> Option<String> {
+    let (_, text) = literals.iter().flat_map(Literal::parts).find(|it| it.0 == kind && it.1 != b".")?;
+    let words = match kind {
+        "sign" => return Some("a sign".into()),
+        "exponent_character" => "an exponent behind",
+        "prefix" => "the prefix",
+        "suffix" => "the suffix",
+        _ => "the point",
+    };
+    Some(format!("{words} `{}`", text.escape_ascii()))
+}
+
+/// Returns the words for the places where literals have the digit separator, or the byte 0 if there is none.
+fn places(literals: &[Literal<'_>], mark: u8) -> Option<String> {
+    let has = |is: &dyn Fn(&[u8]) -> bool| {
+        let digits = |it: (&str, _)| matches!(it.0, "integer" | "fraction" | "exponent").then_some(it.1);
+        literals.iter().flat_map(Literal::parts).filter_map(digits).any(is)
+    };
     let outside = has(&|it| it.first() == Some(&mark) || it.last() == Some(&mark));
     let inside = has(&|it| it.split(|&byte| byte == mark).filter(|it| !it.is_empty()).count() > 1);
+    let several = if has(&|it| it.windows(2).any(|it| it == [mark, mark])) { ", several in a row" } else { "" };
     let places = match (inside, outside) {
         (true, true) => "between, before or behind digits",
         (true, false) => "between digits",
-        _ => "before or behind digits",
+        (false, true) => "before or behind digits",
+        _ => return None,
     };
-    [
-        (!part("sign").is_empty()).then(|| "a sign".into()),
-        shown("the prefix", part("prefix")),
-        (inside || outside).then(|| format!("{} {places}", text(&[mark]))),
-        has(&|it| it.windows(2).any(|it| it == [mark, mark])).then(|| "several of these in a row".into()),
-        shown("the point", part("point")).filter(|it| !it.ends_with("`.`")),
-        shown("an exponent behind", part("exponent_character")),
-        shown("the suffix", part("suffix")),
-    ]
+    Some(format!("`{}` {places}{several}", mark.escape_ascii()))
 }
