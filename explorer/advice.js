@@ -12,7 +12,7 @@ const UNREADABLE = [
     [/[\u2018\u2019\u02bc]/g, "is an apostrophe that no format has: replace it by `'`", "'"],
     [/[\u00a0\u2007\u2009\u202f]/g, "is a space that no format has: replace it by the space of ASCII", " "],
     [/[\u2010-\u2015\u2212]/g, "is a minus sign that no format has: replace it by `-`", "-"],
-    [/(?![0-9])\p{Nd}/gu, "is a digit that no format has: replace it by one of ASCII", digitOf],
+    [/(?![0-9])\p{Decimal_Number}/gu, "is a digit that no format has: replace it by one of ASCII", digitOf],
     [/^\((.+)\)$|^([^-].*)-$/g, "is a negative number in a way that no format has: replace it by one with `-`", "-$1$2"],
     [/\s*%$/g, "is a percent sign: divide the value by 100, and remove it", ""],
     [/\s*\p{Sc}\s*/gu, "is a currency sign: remove it", ""],
@@ -24,7 +24,7 @@ const UNREADABLE = [
 function digitOf(digit) {
     const ascii = digit.normalize("NFKC");
     if (/[0-9]/.test(ascii)) return ascii;
-    const isDigit = (it) => /\p{Nd}/u.test(String.fromCodePoint(it));
+    const isDigit = (it) => /\p{Decimal_Number}/u.test(String.fromCodePoint(it));
     return String([...Array(10).keys()].find((it) => !isDigit(digit.codePointAt() - it - 1)));
 }
 

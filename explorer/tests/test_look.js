@@ -84,8 +84,9 @@ function misleading() {
 /* Calls back with the shown buttons that neither change the state nor go elsewhere, nor copy what is beside them. */
 function idle() {
     const [link, done] = arguments;
-    const not = ":not(#undo, #redo, .readers button, [aria-pressed=true], [aria-selected=true])";
-    const buttons = () => [...document.querySelectorAll(`button:enabled${not}`)].filter((it) => it.checkVisibility());
+    const not = ":not(#undo, #redo, .rover ~ .rover, [aria-pressed=true], [aria-selected=true])";
+    const where = link.endsWith("languages") ? "" : "#pane ";
+    const buttons = () => [...document.querySelectorAll(`${where}button:enabled${not}`)].filter((it) => it.checkVisibility());
     navigator.clipboard.writeText = async (text) => { window.copied = text; };
     const start = () => {
         history.replaceState(null, "", link);
