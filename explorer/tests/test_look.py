@@ -1,13 +1,15 @@
 """Tests of the page: look."""
-from test_base import Walk, ActionChains, By, Keys, MIXED, SCRIPTS
+from test_base import Walk, ActionChains, Keys, MIXED, SCRIPTS
 
 
 class Look(Walk):
     def test_each_control_has_a_name_and_each_button_does_something(self):
         for link in self.links():
-            controls = self.driver.find_elements(By.CSS_SELECTOR, "button, input, select, textarea, summary, pre[tabindex]")
-            unnamed = [it.get_attribute("outerHTML") for it in controls if it.is_displayed() and not it.accessible_name]
-            fields = [it.accessible_name for it in controls if it.is_displayed() and it.tag_name in ("input", "select", "textarea")]
+            controls = self.run_script("""return [...document.querySelectorAll("button, input, select, textarea, summary, pre[tabindex]")]
+                .filter((it) => it.checkVisibility() && (arguments[0] || it.closest("#pane")) && !it.matches(".rover ~ .rover"))""", link.endswith("languages"))
+            named = [(it.tag_name, it.accessible_name, it) for it in controls]
+            unnamed = [it.get_attribute("outerHTML") for _, name, it in named if not name]
+            fields = [name for tag, name, _ in named if tag in ("input", "select", "textarea")]
             same = [it for it in fields if fields.count(it) > 1]
             self.assertEqual((unnamed, same, self.driver.execute_async_script(f"{SCRIPTS}; idle(...arguments);", link)), ([], [], []), link)
         lost = self.call("eachControlHasANameAndEachButtonDoesSomething")
