@@ -1,26 +1,46 @@
 /* Prefixes of other languages, such as `$` and `16#`: a mark alone stands before a letter, or digits and a letter. */
 const PREFIXED = /^[+-]?(?:(?:[#&][hox]|\d+#|\d\dr|\d*'s?[hdob]|x')[\da-f]|[#\p{Sc}]\d*[a-f])[\da-f_]*['#]?(?:e[+-]?\d+)?$/iu;
+/* Texts that no format has: a pattern, and the row of what no format can express, or words. */
+const IMPOSSIBLE = [
+    [PREFIXED, 0],
+    [/^[+-]?\d+(?:[/\u2044]\d+|(?::\d+)+)$/, 3],
+    [/^[+-]?[\d.]+\s*(?:\^|\*\*?|x\s*10\^|[\u00d7\u00b7+-])\s*[\d.]+/i,
+        "is not one number, and no format has its operator: read each number, and compute the value."],
+];
 /* What a text must lose before it is read: a pattern, what is told of it, and the text that takes its place. */
 const UNREADABLE = [
     [/[\u2018\u2019\u02bc]/g, "is an apostrophe that no format has: replace it by `'`", "'"],
     [/[\u00a0\u2007\u2009\u202f]/g, "is a space that no format has: replace it by the space of ASCII", " "],
     [/[\u2010-\u2015\u2212]/g, "is a minus sign that no format has: replace it by `-`", "-"],
+    [/(?![0-9])\p{Decimal_Number}/gu, "is a digit that no format has: replace it by one of ASCII", digitOf],
+    [/^\((.+)\)$|^([^-].*)-$/g, "is a negative number in a way that no format has: replace it by one with `-`", "-$1$2"],
     [/\s*%$/g, "is a percent sign: divide the value by 100, and remove it", ""],
     [/\s*\p{Sc}\s*/gu, "is a currency sign: remove it", ""],
-    [/(?<=^[+-]?\.?\d([\w.,']*[\da-f.])?)_?[g-nq-wyz]\w*$|(?<=^[+-]?[\d._]*\d\.?)_?[fd](32|64|128)?$/gi,
-        "can be a suffix, which `read_prefix` leaves: remove it", ""],
+    [/(?<=^[+-]?\.?\d([\w.,']*[\da-f.])?)_?[g-nq-wyz]\w*$|(?<=^[+-]?[\d._]*\d\.?)_?[fd](32|64|128)?$|(?<=\d) [a-z]+$/gi,
+        "can be a suffix, which no format has: `token` reads it, with your suffixes. Remove it", ""],
 ];
 
-/* Returns what a text must lose before it is read, in words, and the text then. Of a prefix, returns what FORMAT tells, which
- * is the first row of what no format can express. */
+/* Returns the digit of ASCII for one of another script, of which ten follow each other. */
+function digitOf(digit) {
+    const ascii = digit.normalize("NFKC");
+    if (/[0-9]/.test(ascii)) return ascii;
+    const isDigit = (it) => /\p{Decimal_Number}/u.test(String.fromCodePoint(it));
+    return String([...Array(10).keys()].find((it) => !isDigit(digit.codePointAt() - it - 1)));
+}
+
+/* Returns what a text must lose before it is read, in words, and the text then. Of what no format has, returns what FORMAT
+ * tells, and the row of what no format can express. */
 function adviceFor(text) {
-    const [cannot, , instead] = [...find("limits").querySelectorAll("td")].map((it) => it.textContent);
-    if (PREFIXED.test(text)) return [{ words: `In \`${text}\`: a format cannot ${cannot}. Instead, ${instead}.` }];
+    const [, row] = IMPOSSIBLE.find(([pattern]) => pattern.test(text.normalize("NFKC"))) ?? [];
+    if (typeof row === "string") return [{ words: `\`${text}\` ${row}` }];
+    if (row !== undefined) {
+        const [cannot, , instead] = [...find("limits").querySelectorAll("td")].slice(3 * row).map((it) => it.textContent);
+        return [{ words: `In \`${text}\`: a format cannot ${cannot}. Instead, ${instead}.`, row }];
+    }
     return UNREADABLE.flatMap(([pattern, told, other]) => {
         const [found] = text.match(pattern) ?? [];
         if (!found) return [];
-        const [first] = found.trim() || found;
-        const shown = /[!-~]/.test(first) ? found.trim() : `U+${first.codePointAt().toString(16).toUpperCase().padStart(4, "0")}`;
+        const shown = /[!-~]/.test(found.trim()[0] ?? "") ? found.trim() : visible((found.trim() || found).replace(/[^ -~]/u, (it) => `U+${it.codePointAt().toString(16).toUpperCase().padStart(4, "0")}`));
         return [{ words: `\`${shown}\` ${told} before the number is read.`, text: text.replace(pattern, other) }];
     });
 }

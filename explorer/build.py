@@ -18,8 +18,9 @@ HERE = pathlib.Path(__file__).resolve().parent
 TOP = HERE.parent
 PAGE = HERE / "index.html"
 FORMAT = (TOP / "docs/FORMAT.md").read_text()
-SCRIPTS = ("library", "element", "controls", "code", "report", "advice", "literal", "page")
-MOST_BYTES = 241_000
+LANGUAGES = (TOP / "docs/LANGUAGES.md").read_text()
+SCRIPTS = ("library", "element", "words", "controls", "code", "report", "advice", "literal", "page")
+MOST_BYTES = 252_000
 TARGET = "wasm32-unknown-unknown"
 OPTIONS = [f"--target={TARGET}", "-Ctarget-feature=+bulk-memory", "-Copt-level=s", "-Cpanic=abort", "--cap-lints=allow"]
 NO_COMPILER = f"no compiler has the target {TARGET}: `rustup target add {TARGET}`, or `apt-get install rustc-web rust-web-src lld`"
@@ -32,6 +33,10 @@ SECTIONS = [
     ("NaN and infinity", "special", r"\w*special"),
     ("Base prefix and suffix", "base", r"case_sensitive_base_\w+"),
 ]
+# The names of languages for people, unless they are those of the constants, and which of these are words.
+TITLES = {"C_PLUS_PLUS": "C++", "C_SHARP": "C#", "CSV_DE": "CSV (German)", "CSV_EN": "CSV (English)", "JAVASCRIPT": "JavaScript",
+          "HASKELL_GHC2021": "Haskell (GHC2021)", "OCAML": "OCaml", "XML_SCHEMA": "XML Schema", "YAML_1_1": "YAML 1.1"}
+SHORT = {"ADA", "GO", "JAVA", "LUA", "RUBY", "RUST"}
 BYTE_PARTS = {"digit_separator": "separator", "base_prefix": "base", "base_suffix": "base", "mantissa_radix": "digits"}
 
 
@@ -54,50 +59,50 @@ def table(text):
     return "<table>" + "".join(f"<tr>{line}" for line in lines) + "</table>"
 
 
-def sentences():
-    """Returns what each flag or group does, by the first sentence of its setter's documentation."""
-    text = (TOP / "rust/src/format_builder/setters.rs").read_text()
-    found = {}
-    for comment, name in re.findall(r"((?: +///.*\n)+) +pub const fn (\w+)", text):
-        first = re.match(r"Sets (?:or clears |whether (?:the format )?)?(.*?)\.(?: |$)", " ".join(comment.replace("///", "").split()))
-        if first:
-            found[name] = first[1][0].upper() + first[1][1:]
-    return found
+def cells(line):
+    """Returns the cells of a row of a table in Markdown."""
+    return [cell.strip() for cell in line.strip().strip("|").split("|")]
+
+
+def texts(cell):
+    """Returns the texts between backquotes of a cell."""
+    return cell.split("`")[1::2]
 
 
 def fields():
     """Returns the flags, the groups of flags and the bytes: each with its name, its bit or bits, and its meaning."""
-    sentence = sentences()
+    lines = [cells(line) for line in FORMAT.splitlines() if line.startswith("| ")]
     groups = [
-        {"name": name, "bits": [*map(int, bits.split())], "meaning": sentence[name]}
-        for name, bits, _ in rows(r"^\| `(\w+)` \| ([\d ]+) \| (.*) \|$")
+        {"name": texts(name)[0], "bits": [*map(int, bits.split())], "meaning": meaning}
+        for name, bits, meaning, *_ in (row for row in lines if len(row) == 3)
+        if bits.replace(" ", "").isdigit()
     ]
     separators = next(group["bits"] for group in groups if group["name"] == "digit_separator_flags")
     flags, numbers = [], []
-    for bit, name, accepted, rejected in rows(r"^\| (\d+) \| `(\w+)` \| \w+ \|[^|]*\|[^|]*\| (`[^|]*`) \| (`[^|]*`) \|$"):
+    for bit, name, _, meaning, _, accepted, refused in (row for row in lines if len(row) == 7 and row[0].isdigit()):
+        name = texts(name)[0]
         found = next((row[:2] for row in SECTIONS if re.fullmatch(row[2], name)), None)
         if int(bit) in separators:
             found = ("", "separator")
         title, part = found or sys.exit(f"explorer/build.py: no section of {name}")
-        texts = {"accepts": accepted.strip("`").split("` `"), "refuses": rejected.strip("`").split("` `")}
-        flags.append({"bit": int(bit), "name": name, "meaning": sentence[name], **texts, "section": title, "part": part})
-    for low, name, meaning in rows(r"^\| (\d+) to \d+ \| `(\w+)` \| \d+ \| (.*) \|$"):
+        row = {"bit": int(bit), "name": name, "meaning": meaning.rstrip("."), "accepts": texts(accepted), "refuses": texts(refused)}
+        flags.append({**row, "section": title, "part": part})
+    for bits, name, _, meaning in (row for row in lines if len(row) == 4 and row[0].replace(" to ", "").isdigit()):
+        name = texts(name)[0]
         meaning += "; 0 means the mantissa radix" if name.startswith("exponent_") else ""
         part, is_number = BYTE_PARTS.get(name, "exponent"), name.endswith(("_base", "_radix"))
-        numbers.append({"bit": int(low), "name": name, "meaning": meaning, "part": part, "isNumber": is_number})
+        numbers.append({"bit": int(bits.split()[0]), "name": name, "meaning": meaning, "part": part, "isNumber": is_number})
     return {"flags": flags, "groups": groups, "bytes": numbers}
 
 
 def conditions():
-    """Returns the conditions: the name of each, what it does, a text that it refuses, and its least and greatest number."""
-    text, syntax = ((TOP / f"rust/src/literal/{name}.rs").read_text() for name in ("conditions", "syntax"))
-    arms = re.findall(r"((?:Condition::\w+[|\s]+)+)=> \((\d+), (\d+)\)", syntax)
-    limits = {it: [int(least), int(most)] for arm, least, most in arms for it in re.findall(r"::(\w+)", arm)}
-    for comment, condition, name in re.findall(r"((?: +///.*\n)+) +(\w+): (\w+)\(\w+\);", text):
-        does, *_ = re.split(r"\. |, from ", " ".join(comment.replace("///", "").split()))
-        refused = re.findall(r"refuses `([^`]*)`", comment)
-        numbers = {"isNumber": True, "limits": limits[condition]} if condition in limits else {}
-        yield {"name": name, "meaning": does, "refuses": refused, **numbers}
+    """Returns the conditions: the name of each, what it does, and texts that it refuses."""
+    for line in section("Conditions").splitlines():
+        if line.startswith("| `"):
+            setting, meaning, _, _, refused, *_ = cells(line)
+            name, value = texts(setting)[0].split()[-1].split("=")
+            meaning = meaning.removesuffix(", as below").replace("three", "as many").replace("two", "as many")
+            yield {"name": name, "meaning": f"A literal {meaning}", "refuses": texts(refused), "isNumber": value.isdigit()}
 
 
 def numbers(name):
@@ -107,16 +112,17 @@ def numbers(name):
 
 
 def languages():
-    """Returns the name, the comment and the numbers of each language."""
-    text = (TOP / "rust/src/literal/language/tables.rs").read_text()
-    for comment, name in re.findall(r"((?:^    ///[^\n]*\n)+)^    (\w+) = \{", text, re.M):
-        yield {"name": name, "about": " ".join(comment.replace("///", "").split()), "numbers": numbers(name)}
+    """Returns what the page tells of each language, by its name: its name for people, what it documents, and its numbers."""
+    for part in LANGUAGES.split("\n## ")[1:]:
+        name, about, *_ = part.split("\n\n")
+        title = TITLES.get(name, name.title() if len(name) > 4 or name in SHORT else name)
+        yield name, {"title": title, "about": " ".join(about.split()), "numbers": numbers(name)}
 
 
 def data():
     """Returns the data that the page shows."""
     version = re.search(r'^#define PELTZIVAR_VERSION "(.*)"$', (TOP / "c/peltzivar.h").read_text(), re.M)[1]
-    return {**fields(), "conditions": [*conditions()], "languages": [*languages()], "version": version}
+    return {**fields(), "conditions": [*conditions()], "languages": dict(languages()), "version": version}
 
 
 def hash_of(wasm):
@@ -156,14 +162,14 @@ def compiler(folder):
 
 
 def compiled():
-    """Returns the WebAssembly of library.rs with the crate, compressed, in base64."""
+    """Returns the WebAssembly of library.rs with the crate, compressed, in base 85, which needs 6% less than base 64."""
     with tempfile.TemporaryDirectory() as folder:
         rustc, wasm = compiler(folder), pathlib.Path(folder, "library.wasm")
         crate = ["--edition=2021", "--crate-type=rlib", "--crate-name=peltzivar", TOP / "rust/src/lib.rs"]
         output(*rustc, *crate, f"--out-dir={folder}")
         page = ["--edition=2024", "--crate-type=cdylib", "-Clto=fat", "-Ccodegen-units=1", "-Cstrip=symbols"]
         output(*rustc, *page, "--extern=peltzivar", "-o", wasm, HERE / "library.rs")
-        return base64.b64encode(gzip.compress(wasm.read_bytes(), mtime=0)).decode()
+        return base64.b85encode(gzip.compress(wasm.read_bytes(), mtime=0)).decode()
 
 
 def digest(text):
@@ -175,6 +181,7 @@ def page(wasm):
     """Returns the page with this WebAssembly."""
     style = "\n" + (HERE / "page.css").read_text()
     script = "\n" + "\n".join((HERE / f"{name}.js").read_text() for name in SCRIPTS)
+    style, script = (re.sub(r"^ */\*.*?\*/\n", "", it, flags=re.M | re.S) for it in (style, script))
     embedded = json.dumps(data(), ensure_ascii=False, separators=(",", ":")).replace("<", "\\u003c")
     policy = f"default-src 'none'; script-src {digest(script)} 'wasm-unsafe-eval'; style-src {digest(style)}"
     policy += "; img-src data:; base-uri 'none'; form-action 'none'"
@@ -188,7 +195,7 @@ def main(arguments):
     if arguments not in ([], ["--check"]):
         sys.exit("usage: explorer/build [--check]")
     old = PAGE.read_text() if PAGE.exists() else ""
-    found = re.search(r'<script id="library" [^>]*data-hash="(\w+)">([^<]*)</script>', old)
+    found = re.search(r'<script id="library" [^>]*data-hash="(\w+)">(.*?)</script>', old)
     is_current = bool(found) and found[1] == hash_of(found[2])
     if arguments:
         sys.exit(0 if is_current and old == page(found[2]) else "explorer/index.html: not up to date: run explorer/build")

@@ -12,10 +12,12 @@ const COMMENTS = {
     python: (name) => `# The reader of all forms is peltzivar.languages.${name}.\n`,
 };
 
-/* Returns a text between double quotes. Characters that are not plain are written by a function of their numbers. */
+/* Returns a text between double quotes. Characters that are not plain are written by a function of their numbers. In C, `??`
+ * begins a trigraph. */
 function literalText(text, escape) {
     const characters = [...text.replace(/\p{Surrogate}/gu, "\ufffd")];
-    return `"${characters.map((it) => (/[^ -~]|["\\?]/.test(it) ? escape(it.codePointAt()) : it)).join("")}"`;
+    const special = escape === cEscape ? /[^ -~]|["\\?]/ : /[^ -~]|["\\]/;
+    return `"${characters.map((it) => (special.test(it) ? escape(it.codePointAt()) : it)).join("")}"`;
 }
 
 /* Each returns the escape of a character, which is a number. In C, it is that of each byte. */
@@ -67,7 +69,8 @@ class Code {
         const [float, kind] = [used("FloatKind"), used("IntegerKind") && "IntegerKind, Kind, "];
         const names = `${used("Conditions")}${float}Form, FormError, Forms, ${kind}Number, ${nan ? "Specials, " : ""}Syntax`;
         const ofFloat = forms.some(({ exponent, point }) => exponent || point) ? "`f64::try_from(number)` or, of an integer, " : "";
-        return `${used("NonZeroU8") && "use core::num::NonZeroU8;\n"}use peltzivar::literal::{${names}};
+        const wrapped = names.length > 70 ? `\n    ${names.replace(/(.{50,}?), /g, "$1,\n    ")},\n` : names;
+        return `${used("NonZeroU8") && "use core::num::NonZeroU8;\n"}use peltzivar::literal::{${wrapped}};
 use peltzivar::NumberFormatBuilder;
 
 pub static FORMS: Forms<'static> = Forms::new_or_panic(&[
@@ -166,8 +169,8 @@ bool test_numbers(void) {
     }
 
     python(forms, specials, tests) {
-        const settings = (form) => this.lines(form).map((line) => `\n        ${JSON.stringify(line)},`).join("");
-        const one = (form) => `    # ${wordText(form.word)}\n    (${literalText(form.name, pythonEscape)}, Syntax.of(${settings(form)}\n    )),\n`;
+        const settings = (form) => this.lines(form).map((line) => `\n        ${JSON.stringify(line)},`).join("") + (this.lines(form).length ? "\n    " : "");
+        const one = (form) => `    # ${wordText(form.word)}\n    (${literalText(form.name, pythonEscape)}, Syntax.of(${settings(form)})),\n`;
         const ofKind = (form) => {
             const [integers, bits, single] = this.kind(form, ["", "at_most", "wraps", "modulo=True, wraps"]);
             const all = [bits && `${integers}=${bits}`, single && "single=True"].filter(Boolean).join(", ");

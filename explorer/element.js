@@ -50,3 +50,37 @@ function isRefused(box) {
 function byteText(byte) {
     return byte > 32 && byte < 127 ? String.fromCharCode(byte) : (NAMES[byte] ?? String(byte));
 }
+
+/* Makes the children of a node these. Those that it has already stay. */
+function keep(node, children) {
+    [...node.children].filter((it) => !children.includes(it)).forEach((it) => it.remove());
+    children.forEach((it, index) => node.children[index] !== it && node.insertBefore(it, node.children[index] ?? null));
+}
+
+/* Returns a list of names in words, the first two of many. */
+function named(names) {
+    const [first, second, ...others] = names;
+    if (others.length) return `${first}, ${second} and ${others.length} more`;
+    return names.join(" and ");
+}
+
+/* Returns a text in which characters that cannot be seen have their numbers. */
+function visible(text) {
+    return text.replace(/[\p{Cf}\p{Cc}\p{Zl}\p{Zp}]|(?! )\p{Zs}/gu, (it) => `U+${it.codePointAt().toString(16).toUpperCase().padStart(4, "0")}`);
+}
+
+/* Of the buttons of a group, one is a tab stop. Arrows lead to the others. */
+function oneStop(group, stop) {
+    const all = [...group.querySelectorAll(".rover")];
+    for (const it of all) it.tabIndex = it === (all.includes(stop) ? stop : all[0]) ? 0 : -1;
+}
+
+function rove({ key, target }) {
+    const step = { ArrowRight: 1, ArrowDown: 1, ArrowLeft: -1, ArrowUp: -1 }[key];
+    if (!step || !target.matches(".rover")) return;
+    const group = target.closest(".roving");
+    const all = [...group.querySelectorAll(".rover")];
+    const next = all.at((all.indexOf(target) + step) % all.length);
+    oneStop(group, next);
+    next.focus();
+}

@@ -3,8 +3,8 @@
  * forms of numbers, and the spellings of special values unless these are the usual ones. */
 "use strict";
 
-/* How many bytes a text may have. */
-const MOST_TEXT = 60000;
+/* How many bytes a text may have, and how many explanations are kept. */
+const [MOST_TEXT, MOST_KNOWN] = [60000, 500];
 /* The options of a parser, which are not in the word. If both are 0, numbers are integers alone. */
 const OPTIONS = [
     { name: "exponent", part: "exponent", isByte: true, title: "exponent character", meaning: "an option of the parser, such as the `e` in `1e5`" },
@@ -25,9 +25,11 @@ class Library {
     constructor(calls, { flags, groups, bytes, conditions }) {
         this.calls = calls;
         /* The conditions are the bytes of a number. Those of integers of a kind exclude each other. */
+        const limits = this.call("limits", "");
         const kinds = KINDS.map((it) => ({ ...it, isKind: true, isNumber: Boolean(it.limits) }));
         const ofIntegers = 0xffffffn << BigInt(8 * conditions.length);
-        this.conditions = [...conditions, ...kinds].map((it, index) => {
+        const limited = conditions.map((it, index) => (it.isNumber ? { ...it, limits: limits[index] } : it));
+        this.conditions = [...limited, ...kinds].map((it, index) => {
             const [shift, mask] = [BigInt(8 * index), 255n << BigInt(8 * index)];
             return { ...it, part: "option", mask, shift, clears: mask & ofIntegers ? ofIntegers : mask };
         });
@@ -39,6 +41,7 @@ class Library {
         this.named = new Map([...this.fields, ...this.groups].map((field) => [field.name, field]));
         this.known = this.fields.reduce((all, { mask }) => all | mask, 0n);
         this.usual = { word: this.build([]).word, ...STANDARD_OPTIONS, name: "" };
+        this.explained = new Map();
     }
 
     /* Returns a library from its compressed WebAssembly. */
@@ -64,14 +67,9 @@ class Library {
         return answer.error ? answer : { ...answer, word: BigInt(answer.word) };
     }
 
-    /* Returns the languages, with what the page tells of each: their names, short ones if no other has them, numbers, and lists
-     * of forms. */
+    /* Returns the languages, with what the page tells of each, and their lists of forms. */
     languages(told) {
-        const shorts = told.map(({ about }) => /^(\S+?)'s /.exec(about)?.[1]);
-        return this.call("languages", "").map(({ name, specials, forms }, index) => {
-            const short = (shorts.indexOf(shorts[index]) === index && shorts[index]) || name;
-            return { ...told[index], short, specials, forms: forms.map(numbered) };
-        });
+        return this.call("languages", "").map(({ name, specials, forms }) => ({ name, ...told[name], specials, forms: forms.map(numbered) }));
     }
 
     /* Returns the languages that read each line of a text, as `readers` of library.rs describes. */
@@ -82,11 +80,17 @@ class Library {
     /* Returns what `explain` of library.rs describes, with its problems: reasons, and why options and conditions do not fit,
      * each with its text and the fields that it blames. */
     explain(form) {
+        const key = passed({ forms: [form], specials: [] });
+        if (this.explained.size > MOST_KNOWN) this.explained.clear();
+        if (!this.explained.has(key)) this.explained.set(key, this.explainAnew(form));
+        return this.explained.get(key);
+    }
+
+    explainAnew(form) {
         const answer = this.call("explain", passed({ forms: [form] }));
-        const named = ({ text, mask }) => {
-            const named = [...OPTIONS, ...this.conditions].filter(({ isKind }) => !isKind);
-            const all = named.filter(({ name, title = name }) => text.includes(title));
-            return { text, fields: [...all.map(({ name }) => name), ...this.namesOf(BigInt(mask))] };
+        const named = ({ text, mask, names, kind }) => {
+            const fields = [...names.split(" ").filter(Boolean), ...this.namesOf(BigInt(mask))];
+            return { text, fields, kind: `${kind} ${fields.join(" ")}` };
         };
         const [reasons, options, conditions, notes] = ["reasons", "options", "conditions", "notes"].map((it) => answer[it].map(named));
         const taken = "Numbers are read, since no flag allows the separator, but is_valid_options_punctuation refuses this";
@@ -95,11 +99,10 @@ class Library {
     }
 
     /* Returns forms with fewer problems and without this one: one of its fields is absent, cleared, set or a usual character. */
-    repairs(state, { text, fields }) {
+    repairs(state, { kind, fields }) {
         const usual = { exponent: [101, 112, 94], point: [46, 44], mantissa_radix: [10], integer_group_size: [0, 3] };
-        const kind = (it) => it.replace(/'.'|\d+/g, "");
         const [problems, most] = [(it) => this.explain(it).problems, this.explain(state).problems.length];
-        const isBetter = (it) => problems(it).length <= most && !problems(it).some((other) => kind(other.text) === kind(text));
+        const isBetter = (it) => problems(it).length <= most && !problems(it).some((other) => other.kind === kind);
         const first = (name) => (usual[name] ?? [0, 1]).map((value) => this.with(state, name, value)).find(isBetter);
         return fields.map(first).filter(Boolean).sort((a, b) => problems(a).length - problems(b).length);
     }
@@ -120,8 +123,18 @@ class Library {
 
     /* Returns an object for each line of a text, as `numbers` of library.rs describes: none if a word is not lawful. */
     numbers(list, text) {
-        const answers = this.call("numbers", `${passed(list)}\n${text}`);
-        return answers.map((answer) => ({ ...answer, offers: answer.offers.map(numbered) }));
+        return this.call("numbers", `${passed(list)}\n${text}`);
+    }
+
+    /* Returns what can be done for one line of a text, as `offered` of library.rs describes. */
+    offered(list, line, text) {
+        const { offers, ...others } = this.call("offered", `${passed(list)}\n${line}\n${text}`);
+        return { offers: offers.map(numbered), ...others };
+    }
+
+    /* Returns what the lines of a text are in words, as `summary` of library.rs describes. */
+    summary(list, text) {
+        return this.call("summary", `${passed(list)}\n${text}`);
     }
 
     /* Returns texts that tell a list from another one, as `differ` of library.rs describes. */

@@ -10,13 +10,17 @@ use core::alloc::{GlobalAlloc, Layout};
 use core::fmt::Display;
 use core::ops::Range;
 
+use clauses::clauses;
 use examples::{examples, Example};
 use forms::{numbers_of, state_of, states_of, value_of, List, Value};
 use peltzivar::edits::{apply, is_built, normal_form};
-use peltzivar::literal::{Condition, Conditions, FormError, Forms, Language, Number, Specials};
-use peltzivar::{Edit, FormatView, NumberFormatBuilder};
+use peltzivar::literal::{
+    Condition, Conditions, ConditionsError, ConditionsErrorKind, FormError, Forms, Language, Number, Specials,
+};
+use peltzivar::{Byte, Cause, Edit, FormatView, NamedByte, NumberFormatBuilder, Reason};
 use suggest::{lines_of, offers, Line, State};
 
+mod clauses;
 mod examples;
 mod forms;
 mod suggest;
@@ -103,18 +107,42 @@ pub extern "C" fn explain(length: usize) -> u64 {
         let [sentence, grammar, regex] = [quoted(it.sentence()), quoted(it.grammar()), quoted(it.regex())];
         format!(r#","sentence":{sentence},"grammar":{grammar},"regex":{regex}"#)
     });
-    let put = |text: &dyn Display, mask| format!(r#"{{"text":{},"mask":{}}}"#, quoted(text), word(mask));
+    let put = |text: &dyn Display, mask, names: &str, kind| {
+        format!(r#"{{"text":{},"mask":{},"names":"{names}","kind":"{kind}"}}"#, quoted(text), word(mask))
+    };
+    let misfit = |it: ConditionsError| {
+        let other = if it.kind == ConditionsErrorKind::NoIntegerGroupSize { "integer_group_size " } else { "" };
+        put(&it, it.mask(), &format!("{other}{}", it.condition.name()), 0)
+    };
+    let reason = |it: Reason| put(&it, it.mask(), &options_of(it.cause()), it.rule().map_or(0, |it| it as usize + 1));
     let options = view.options_reasons(state.exponent, state.point).filter(|_| !state.is_integers());
     answer(format!(
         r#"{{"normal":{},"isBuilt":{},"fits":{},"reasons":{},"options":{},"conditions":{},"notes":{}{notation}}}"#,
         word(normal_form(state.word)),
         is_built(state.word),
         State { conditions: Conditions::NONE, ..state }.syntax().is_some(),
-        list(view.reasons().map(|it| put(&it, it.mask()))),
-        list(options.map(|it| put(&it, it.mask()))),
-        list(state.misfits().map(|it| put(&it, it.mask()))),
-        list(view.notes().map(|it| put(&it, it.mask()))),
+        list(view.reasons().map(reason)),
+        list(options.map(reason)),
+        list(state.misfits().map(misfit)),
+        list(view.notes().map(|it| put(&it, it.mask(), "", 0))),
     ))
+}
+
+/// Returns the names of the options that a cause blames.
+fn options_of(cause: Cause) -> String {
+    let name = |it: NamedByte| match it.name {
+        Byte::ExponentCharacter => "exponent ",
+        Byte::DecimalPoint => "point ",
+        _ => "",
+    };
+    cause.bytes().into_iter().flatten().map(name).collect()
+}
+
+/// Returns the limits of the number of each condition.
+#[unsafe(no_mangle)]
+pub extern "C" fn limits(_: usize) -> u64 {
+    let limits = |it: &Condition| format!("[{},{}]", it.limits().0, it.limits().1);
+    answer(list(Condition::ALL.iter().map(limits)))
 }
 
 /// Returns an object for each language: its name, the spellings of its special values, and the name and the parts of
@@ -161,28 +189,60 @@ fn parts_of(State { word: format, exponent, point, conditions, kind, .. }: State
 
 /// Returns an object for each line but the first, which has the forms: the value and the parts of its number, or the parts
 /// of the longest front of a refused text that is a number; the form that accepts the text, or to which it is nearest; why
-/// and where it is refused, with the flags to blame and the bytes to mark; and, if it is not as expected, the states of
-/// this form that are offered, each with the same for the number in it and how many lines are as expected then. If a word
-/// is not lawful, returns an empty array.
+/// and where it is refused, with the flags to blame and the bytes to mark. If a word is not lawful, returns an empty array.
 #[unsafe(no_mangle)]
 pub extern "C" fn numbers(length: usize) -> u64 {
     let (states, lines) = text_of(length);
     let forms = List::new(states);
-    answer(list(forms.iter().flat_map(|forms| lines_of(lines).map(|line| number(forms, lines, line)))))
+    answer(list(
+        forms.iter().flat_map(|all| lines_of(lines).map(|line| format!("{{{}}}", reading(all.forms(), line.text)))),
+    ))
 }
 
-fn number(all: &List, lines: &[u8], line: Line<'_>) -> String {
-    let read = all.forms().read(line.text);
-    let form = read.map_or_else(|error| error.form, |number| number.form().unwrap_or(0));
-    let offers = match read.is_err() == line.is_refused {
-        true => Vec::new(),
-        false => offers(all.states[form], &all.lines(form, lines), line),
-    };
-    let offers = list(offers.into_iter().filter_map(|(state, expected)| {
+/// Returns what can be done for a line that is not as expected, which is the first one behind the forms, and again among the
+/// others: `{"offers", "readers", "tokens"}`, the states of its form that are offered, each with what it reads and how many
+/// lines are as expected then; the languages that read the text; and those of which it is a token, with its suffix.
+#[unsafe(no_mangle)]
+pub extern "C" fn offered(length: usize) -> u64 {
+    let (states, lines) = text_of(length);
+    let (Some(all), Some(line)) = (List::new(states), lines_of(lines).next()) else { return answer("{}".to_string()) };
+    let lines = &lines[line.text.len() + usize::from(line.is_refused)..];
+    let form = all.forms().read(line.text).map_or_else(|error| error.form, |number| number.form().unwrap_or(0));
+    let offers = offers(all.states[form], &all.lines(form, lines), line).into_iter().filter_map(|(state, expected)| {
         let reading = reading(all.with(form, Some(state))?.forms(), line.text);
         Some(format!(r#"{{{},"expected":{expected},{reading}}}"#, parts_of(state)))
-    }));
-    format!(r#"{{{},"offers":{offers}}}"#, reading(all.forms(), line.text))
+    });
+    let languages = || Language::ALL.iter().enumerate();
+    let readers = languages().filter(|it| it.1.read(line.text).is_ok()).map(|it| it.0.to_string());
+    let tokens = languages().filter_map(|(index, it)| Some((index, suffix_of(it, line.text)?)));
+    let tokens = tokens.map(|(index, suffix)| format!(r#"{{"language":{index},"suffix":{}}}"#, quoted(suffix)));
+    answer(format!(r#"{{"offers":{},"readers":{},"tokens":{}}}"#, list(offers), list(readers), list(tokens)))
+}
+
+/// Returns the suffix of a text that is a literal of a language and one of the suffixes of its form.
+fn suffix_of<'a>(language: &Language, text: &'a [u8]) -> Option<&'a str> {
+    let (number, suffix) = language.read_prefix(text).ok().filter(|it| !it.1.is_empty())?;
+    let known = language.forms()[number.form()?].suffixes()?;
+    let words = if number.literal()?.is_float() { known.floats() } else { known.integers() };
+    let is_word = |it: &&[u8]| *it == suffix || known.is_either_case() && it.eq_ignore_ascii_case(suffix);
+    words.iter().any(is_word).then(|| utf8(suffix))
+}
+
+/// Returns an object for each form that reads lines, and for special values: what its numbers are in words, how many they
+/// are, and the languages that read all of them. If a word is not lawful, returns an empty array.
+#[unsafe(no_mangle)]
+pub extern "C" fn summary(length: usize) -> u64 {
+    let (states, lines) = text_of(length);
+    let (all, lines) = (List::new(states), lines_of(lines).collect::<Vec<_>>());
+    answer(list(all.iter().flat_map(|all| clauses(&all.forms(), &lines)).map(|it| {
+        let has_value = |language: &Language, line: &Line<'_>| {
+            language.read(line.text).is_ok_and(|number| !matches!(value_of(number), Value::Refused(_)))
+        };
+        let reads_all = |language: &Language| it.lines.iter().all(|line| has_value(language, line));
+        let readers = Language::ALL.iter().enumerate().filter(|it| reads_all(it.1)).map(|it| it.0.to_string());
+        let (words, count) = (quoted(&it.words), it.lines.len());
+        format!(r#"{{"words":{words},"count":{count},"readers":{}}}"#, list(readers))
+    })))
 }
 
 /// Returns the value and the parts of a text, or the parts of its longest front that is a number, and why and where it is

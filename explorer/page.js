@@ -1,15 +1,19 @@
 /* The state of the page: the forms of numbers, which of them is shown, the numbers, and the language from which the forms
- * are. The fragment of the URL has it too, with the format to compare with and the tab of the code. */
+ * are. The fragment of the URL has it too, with the format to compare with and the tab. */
 
-const TABS = { rust: "Rust", c: "C", python: "Python", settings: "Settings", grammar: "Grammar", regex: "Regex" };
-/* The milliseconds before the fragment is written, its parts, what is told without a language, and the first numbers. */
+/* The tabs of the pane, and those of its code, by whose names a tab is known. */
+const PANES = { languages: "Languages", code: "Code", compare: "Compare", edit: "Settings", words: "In words" };
+const CODES = { rust: "Rust", c: "C", python: "Python", settings: "As text" };
+/* The milliseconds before the fragment is written, its parts, and the example. */
 const PAUSE = 400;
 const LINK = ["word", "exponent", "point", "conditions", "forms", "language", "numbers", "compare", "tab"];
-const ABOUT = "Type numbers of your language or file: the page finds their format, and the code that reads them.";
 const EXAMPLE = "1_000.5\n0x1F\n-2e-3\n!1__0";
-/* The names of forms without one, by their radix, and what is told of a link from a file, which others cannot open. */
+/* A link that is pasted, what is told of one from a file, which others cannot open, and how many characters of numbers it has. */
+const PASTED = /^\s*[^\s#]*#((?:word|exponent|point|language|forms|numbers)=\S*)\s*$/;
+const OF_FILE = "Copied: pasted into the numbers of any copy of this page, it opens there.";
+const MOST_LINKED = 4000;
+/* The names of forms without one, by their radix. */
 const RADIXES = { 2: "binary", 8: "octal", 10: "decimal", 16: "hexadecimal" };
-const OF_FILE = "Copied from # on: paste it behind the address of the page.";
 /* How many steps are kept for a page that is loaded again, and how long the numbers of each may be. */
 const [MOST_STEPS, MOST_KEPT] = [100, 2000];
 
@@ -21,12 +25,14 @@ class Page {
         [this.past, this.future] = [[], []];
         const bound = (...names) => Object.fromEntries(names.map((name) => [name, this[name].bind(this)]));
         this.controls = new Controls(library, bound("edit").edit);
-        this.report = new Report(library, languages, bound("use", "edit", "saveLater"));
-        this.trial = new Trial(library, languages, bound("change", "put", "add", "start", "languageOf"));
+        this.report = new Report(library, languages, bound("use", "edit", "open"));
+        this.trial = new Trial(library, languages, bound("change", "put", "add", "start", "open", "languageOf"));
         this.code = new Code(library);
         setText(find("version"), data.version);
         for (const listen of [this.listen, this.listenToWord, this.listenToForms, this.makeTabs]) listen.call(this);
-        find("language").append(...choices([["", "none"]], languages).filter(({ value }) => !/:|standard/.test(value)));
+        const own = element("option", { value: "own", hidden: "" }, "your own format");
+        find("language").append(own, ...choices([["", "the standard format"]], languages, false));
+        document.addEventListener("keydown", rove);
         this.read();
     }
 
@@ -37,8 +43,9 @@ class Page {
         click("undo", () => this.travel(this.past, this.future));
         click("redo", () => this.travel(this.future, this.past));
         document.addEventListener("keydown", (event) => this.undo(event));
-        click("standard", () => this.enter({ forms: [this.library.usual], at: 0, language: "" }));
         click("clear", () => (this.change({ numbers: "" }), find("literal").focus()));
+        click("example", () => (this.change({ numbers: EXAMPLE }), find("literal").focus()));
+        find("literal").addEventListener("input", ({ target }) => this.type(target.value));
         find("language").addEventListener("change", ({ target }) => this.start(target.value));
         for (const { id, dataset } of document.querySelectorAll("[data-copies]")) click(id, () => {
             const beside = find(dataset.copies);
@@ -48,24 +55,42 @@ class Page {
             this.save();
             const isFile = location.protocol === "file:";
             const link = isFile ? location.hash : location.href;
-            setText(find("told"), (await copy(target, link)) ? (isFile ? OF_FILE : "") : link);
+            const lost = this.state.numbers.length - this.linked().length;
+            const cut = lost ? `The link has the first ${this.linked().split("\n").length} lines alone. ` : "";
+            setText(find("told"), (await copy(target, link)) ? cut + (isFile ? OF_FILE : "") : link);
             if (find("told").textContent === link) getSelection().selectAllChildren(find("told"));
         });
         click("verdict", () => {
-            const bad = this.trial.list.forms.findIndex(({ problems }) => problems.length);
+            const bad = this.list.forms.findIndex(({ problems }) => problems.length);
             if (bad >= 0 && !this.shown.problems.length) this.jump({ at: bad });
-            find(find("report").hidden ? "code-title" : "report-title").focus();
+            this.open("edit");
+            find("report-title").focus();
         });
         click("count", () => find("literal").focus());
-        for (const { id, dataset } of document.querySelectorAll("[data-go]")) click(id, () => find(dataset.go).focus());
+        for (const { id, dataset } of document.querySelectorAll("[data-go]")) click(id, () => this.go(dataset.go));
         document.addEventListener("focusin", ({ target }) => (this.key = target.id === this.key ? this.key : ""));
+    }
+
+    /* Takes typed numbers, or a link in their place. */
+    type(numbers) {
+        const [, link] = PASTED.exec(numbers) ?? [];
+        if (!link) return this.change({ numbers }, "literal");
+        history.pushState(null, "", `#${link}`);
+        this.read();
+    }
+
+    /* Shows a control in its tab, and gives it the focus. */
+    go(id) {
+        const pane = find(id)?.closest("[role=tabpanel][id^=pane]");
+        if (pane?.hidden) this.open(pane.id === "pane-code" ? this.language : pane.id.slice(5));
+        find(id)?.focus();
     }
 
     /* Takes a form that ends a reason. */
     use(form) {
         this.put(form);
         this.showAnew();
-        (find("reasons").querySelector(".use") ?? find("verdict")).focus();
+        (find("reasons").querySelector(".use") ?? find("tab-edit")).focus();
     }
 
     /* The shown form has a name and a place, and another form can be behind it. */
@@ -82,6 +107,7 @@ class Page {
         find("form-name").addEventListener("input", ({ target }) => this.put({ name: target.value }, "form-name"));
         find("add").addEventListener("change", ({ target }) => {
             this.add(target.value === "copy" ? [{ ...this.form, name: "" }] : this.report.listOf(target.value).forms);
+            this.open("edit");
             target.value = "";
         });
     }
@@ -91,7 +117,7 @@ class Page {
         this.jump({ forms: [...this.state.forms, ...added], at: this.state.forms.length });
     }
 
-    /* Takes Ctrl+Z, Ctrl+Y and Ctrl+Shift+Z, except in the fields for texts. */
+    /* Takes Ctrl+Z, Ctrl+Y and Ctrl+Shift+Z, except in the field for numbers, which has steps of its own. */
     undo(event) {
         const key = event.key?.toLowerCase();
         if (!(event.ctrlKey || event.metaKey) || !["z", "y"].includes(key) || event.target.id === "literal") return;
@@ -122,37 +148,57 @@ class Page {
     }
 
     makeTabs() {
-        const names = Object.keys(TABS);
-        const keydown = ({ key }) => {
-            const step = { ArrowRight: 1, ArrowLeft: -1 }[key];
-            if (!step) return;
-            this.chooseTab(names.at((names.indexOf(this.tab) + step) % names.length));
-            find(`tab-${this.tab}`).focus();
-        };
-        const attributes = (name) => ({ id: `tab-${name}`, role: "tab", "aria-controls": "code", keydown });
-        find("tabs").append(...names.map((name) => button("", TABS[name], () => this.chooseTab(name), attributes(name))));
+        for (const [id, tabs] of [["panes", PANES], ["tabs", CODES]]) {
+            const names = Object.keys(tabs);
+            const choose = (name) => this.open(name === "code" ? this.language : name);
+            const keydown = ({ key, target }) => {
+                const step = { ArrowRight: 1, ArrowLeft: -1 }[key];
+                if (!step) return;
+                const name = names.at((names.indexOf(target.id.slice(4)) + step) % names.length);
+                choose(name);
+                find(`tab-${name}`).focus();
+            };
+            const attributes = (name) => ({ id: `tab-${name}`, role: "tab", "aria-controls": tabs === CODES ? "code" : `pane-${name}`, keydown });
+            find(id).append(...names.map((name) => button("", tabs[name], () => choose(name), attributes(name))));
+        }
     }
 
-    /* Shows the code of a tab. */
+    /* Shows a tab, and on a narrow screen brings it into view. */
+    open(tab) {
+        this.chooseTab(tab);
+        const [bar, panes] = [document.querySelector(".bar"), find("panes")];
+        const above = bar.offsetHeight + panes.offsetHeight;
+        if (getComputedStyle(panes).position === "sticky") scrollBy(0, find("pane").getBoundingClientRect().top - above);
+    }
+
     chooseTab(tab) {
         this.tab = tab;
-        for (const name of Object.keys(TABS)) {
-            find(`tab-${name}`).setAttribute("aria-selected", String(name === tab));
-            find(`tab-${name}`).tabIndex = name === tab ? 0 : -1;
+        if (tab in CODES) this.language = tab;
+        const pane = tab in CODES ? "code" : tab;
+        const select = (name, isChosen) => {
+            find(`tab-${name}`).setAttribute("aria-selected", String(isChosen));
+            find(`tab-${name}`).tabIndex = isChosen ? 0 : -1;
+        };
+        for (const name of Object.keys(PANES)) {
+            select(name, name === pane);
+            find(`pane-${name}`).hidden = name !== pane;
         }
-        find("code").setAttribute("aria-labelledby", `tab-${tab}`);
+        for (const name of Object.keys(CODES)) select(name, name === this.language);
+        find("code").setAttribute("aria-labelledby", `tab-${this.language}`);
+        find("pane").scrollTop = 0;
         if (!this.shown) return;
-        this.showCode();
+        this.draw();
         this.saveLater();
     }
 
     /* Starts from a form of a language, or from the first with its own numbers in place of those of others or the example. */
     start(name, form) {
         const { languages } = this.data;
-        const { forms, numbers, at = 0 } = languages.find((it) => it.name === name) ?? this.state;
+        const { forms, numbers, at = 0 } = languages.find((it) => it.name === name) ?? { forms: [this.library.usual], numbers: "" };
         const isOwn = this.state.numbers && ![EXAMPLE, ...languages.map((it) => it.numbers)].includes(this.state.numbers);
         const kept = isOwn || form !== undefined ? this.state.numbers : numbers;
         this.enter({ forms, at: form ?? at, language: name, numbers: kept });
+        this.open(this.language);
     }
 
     /* Returns the language from which the forms of a state are, by default if they are as they were. */
@@ -160,25 +206,34 @@ class Page {
         return this.data.languages.find((it) => it.name === language && (isOrigin || isSame(it.forms, forms)));
     }
 
-    /* Shows the language and the forms, and returns the list, in which each form has a name of its own if there are several. */
-    showForms() {
-        const { forms, at } = this.state;
-        const [language, origin] = [false, true].map((isOrigin) => this.languageOf(this.state, isOrigin));
-        find("language").value = language?.name ?? "";
-        const changed = origin ? `These forms are from ${origin.short}, and have its spellings of NaN and infinity.` : ABOUT;
-        find("about").replaceChildren(...withCode(language?.about ?? changed));
-        find("forms").hidden = find("tools").hidden = forms.length === 1;
+    /* Returns the list, in which each form has a name of its own if there are several. */
+    listOf({ forms, language }) {
         const usual = (word) => (forms.length > 1 ? (RADIXES[this.library.get(word, "mantissa_radix")] ?? "form") : "");
         const names = forms.map(({ name, word }) => name || usual(word));
         const own = names.map((name, index) => (names.indexOf(name) < index ? `${name} (${index + 1})` : name));
         const all = forms.map((form, index) => ({ ...this.library.explain(form), ...form, name: own[index] }));
-        refill(find("forms"), all.map(({ name, problems }, index) => {
+        return { forms: all, specials: this.languageOf({ language, forms }, true)?.specials };
+    }
+
+    /* Shows the forms by their names, and the tools for the shown one. */
+    showForms() {
+        const { forms, at } = this.state;
+        find("forms").hidden = find("tools").hidden = forms.length === 1;
+        refill(find("forms"), this.list.forms.map(({ name, problems }, index) => {
             const attributes = { "aria-pressed": String(index === at) };
             return button(problems.length ? "form bad" : "form", name, () => this.jump({ at: index }), attributes);
         }));
-        Object.assign(find("form-name"), { value: forms[at].name, placeholder: own[at] });
+        Object.assign(find("form-name"), { value: forms[at].name, placeholder: this.list.forms[at].name });
         [find("earlier").disabled, find("later").disabled] = [at === 0, at === forms.length - 1];
-        return { forms: all, specials: origin?.specials };
+    }
+
+    /* Shows the language, and what it documents. */
+    showLanguage() {
+        const [language, origin] = [false, true].map((isOrigin) => this.languageOf(this.state, isOrigin));
+        const isUsual = isSame(this.state.forms, [this.library.usual]);
+        find("language").value = language?.name ?? (isUsual ? "" : "own");
+        const changed = origin ? `These forms are from ${origin.title}, and have its spellings of NaN and infinity.` : "";
+        find("about").replaceChildren(...withCode(language?.about ?? changed));
     }
 
     /* Takes a text as the word, or shows why it is not one. */
@@ -221,7 +276,7 @@ class Page {
         const state = { ...this.state, ...part };
         if (isSame(state.forms, this.state.forms)) state.forms = this.state.forms;
         if (Object.keys(state).some((name) => state[name] !== this.state[name])) {
-            const lost = this.languageOf(state) ? undefined : this.languageOf(this.state)?.short;
+            const lost = this.languageOf(state) ? undefined : this.languageOf(this.state)?.title;
             setText(find("told"), lost ? `The format is not that of ${lost} any more. Undo brings it back.` : "");
             if (!key || key !== this.key) this.past.push(this.state);
             [this.future, this.key, this.state] = [[], key, state];
@@ -245,19 +300,26 @@ class Page {
 
     showAnew() {
         this.show();
+        if (this.tab !== "edit") return;
         this.showWord();
         for (const name of this.controls.inputs.keys()) this.controls.fill(name);
     }
 
     fragment() {
-        const { form, state: { forms: list, at, numbers, language } } = this;
+        const { form, state: { forms: list, at, language } } = this;
         const conditions = this.library.conditionsText(form);
         const isOwn = !this.languageOf(this.state) && (list.length > 1 || language || form.name);
         const lines = list.map((it, index) => (index === at ? `:${it.name}` : this.library.formText(it)));
-        const [forms, tab] = [isOwn ? lines.join("\n") : "", this.tab === "rust" ? "" : this.tab];
-        const others = Object.entries({ conditions, forms, language, numbers, compare: find("compare").value, tab });
+        const [forms, tab] = [isOwn ? lines.join("\n") : "", this.tab === "languages" ? "" : this.tab];
+        const others = Object.entries({ conditions, forms, language, numbers: this.linked(), compare: find("compare").value, tab });
         const all = others.map(([name, text]) => text && `&${name}=${encodeURIComponent(text)}`).join("");
         return `#word=${wordText(form.word)}&exponent=${form.exponent}&point=${form.point}${all}`;
+    }
+
+    /* Returns the numbers that a link has: all, or the first lines of many. */
+    linked() {
+        const { numbers } = this.state;
+        return numbers.length <= MOST_LINKED ? numbers : numbers.slice(0, numbers.lastIndexOf("\n", MOST_LINKED) + 1).trimEnd();
     }
 
     /* Writes the fragment, at once or after a pause, with the steps that can be undone and done again. */
@@ -279,7 +341,8 @@ class Page {
         const parts = new URLSearchParams(/^\w+=/.test(hash) ? hash.replaceAll("+", "%2B") : { word: hash });
         const lost = [...parts].filter(([name]) => !LINK.includes(name)).map(([name]) => name);
         const language = languages.find(({ name }) => name === parts.get("language"));
-        const tab = parts.get("tab") || "rust";
+        const usualTab = parts.get("compare") ? "compare" : parts.get("language") ? "rust" : "languages";
+        const tab = { grammar: "words", regex: "words" }[parts.get("tab")] ?? (parts.get("tab") || usualTab);
         const usual = language && !parts.has("word") ? language.forms[0] : library.usual;
         const byte = (name) => (parts.has(name) ? library.byte(parts.get(name)) : usual[name]);
         const word = parts.get("word") ? library.read(parts.get("word")).word : usual.word;
@@ -289,16 +352,18 @@ class Page {
             found[name] = usual[name];
         }
         const conditions = parts.has("conditions") ? library.withConditions(0n, parts.get("conditions"), lost) : usual.conditions;
-        const numbers = (parts.get("numbers") ?? (hash ? "" : EXAMPLE)).replace(/\r\n?/g, "\n");
+        const numbers = (parts.get("numbers") ?? (parts.has("word") ? "" : language?.numbers) ?? "").replace(/\r\n?/g, "\n");
         const state = this.readForms({ ...found, conditions }, parts.get("forms"), language, lost);
         if (parts.get("language") && !state.language) lost.push(`language=${parts.get("language")}`);
-        if (!(tab in TABS)) lost.push(`tab=${tab}`);
+        const isTab = tab in CODES || (tab in PANES && tab !== "code");
+        if (!isTab) lost.push(`tab=${tab}`);
         find("compare").value = parts.get("compare") ?? "";
         if (find("compare").selectedIndex < 0) lost.push(`compare=${parts.get("compare").slice(0, 40)}`);
         const isKept = history.state?.flat().every((it) => it.forms);
         [this.past, this.future] = isKept ? history.state : [this.state ? [...this.past, this.state] : [], []];
         [this.state, this.key] = [{ ...state, numbers }, ""];
-        this.chooseTab(tab in TABS ? tab : "rust");
+        this.language ??= "rust";
+        this.chooseTab(isTab ? tab : "languages");
         this.showAnew();
         const told = `The page cannot read this of the link, and shows what is usual in its place: ${lost.join(", ")}.`;
         setText(find("told"), lost.length ? told : "");
@@ -322,39 +387,60 @@ class Page {
         this.tell("", false);
     }
 
-    /* Shows the state. What has the focus stays at its place on the screen. */
+    /* Shows the state. What has the focus stays at its place on the screen, but for the numbers, above which nothing changes. */
     show() {
         const focused = document.activeElement;
+        if ([document.body, find("literal")].includes(focused)) return this.showAll();
         const top = () => focused.getBoundingClientRect().top;
         const before = top();
         this.showAll();
-        if (document.activeElement === focused) scrollBy(0, top() - before);
+        const scroller = getComputedStyle(find("panes")).position === "sticky" ? document.scrollingElement : focused.closest("#trial, #pane");
+        if (document.activeElement === focused) scroller?.scrollBy(0, top() - before);
     }
 
     showAll() {
-        const list = this.showForms();
-        this.shown = list.forms[this.state.at];
+        this.list = this.listOf(this.state);
+        this.shown = this.list.forms[this.state.at];
+        this.showLanguage();
+        [find("undo").disabled, find("redo").disabled] = [!this.past.length, !this.future.length];
+        this.report.showVerdict(this.shown, this.list);
+        const { count, isGood, first } = this.trial.show(this.state, this.list);
+        Object.assign(find("count"), { textContent: count, className: isGood ? "good" : "bad" });
+        [find("clear").hidden, find("example").hidden] = [!this.state.numbers, Boolean(this.state.numbers)];
+        setText(find("first-error"), this.shown.problems[0]?.text ?? first);
+        this.draw();
+        this.saveLater();
+    }
+
+    /* Shows the pane that is chosen. */
+    draw() {
+        if (this.tab in CODES) this.showCode();
+        if (this.tab === "languages") this.trial.showReaders();
+        if (this.tab === "compare") this.report.compare();
+        if (this.tab === "edit") this.showSettings();
+        if (this.tab === "words") this.showWords();
+    }
+
+    showSettings() {
+        this.showForms();
         const isKept = isRefused(find("word")) && this.wordTold === this.form.word;
         if (document.activeElement !== find("word") && !isKept) this.showWord();
-        [find("undo").disabled, find("redo").disabled] = [!this.past.length, !this.future.length];
-        this.report.show(this.shown, list);
+        this.report.show(this.shown);
         this.controls.show(this.form);
-        const { count, isGood, first } = this.trial.show(this.state, list);
-        Object.assign(find("count"), { textContent: count, className: isGood ? "good" : "bad" });
-        find("clear").disabled = !this.state.numbers;
-        setText(find("first-error"), this.shown.problems[0]?.text ?? first);
-        const { sentence, problems } = this.shown;
-        const numbers = list.forms.length > 1 ? "Numbers of this form" : "Numbers";
-        find("sentence").replaceChildren(...withCode(sentence ? `${numbers} are ${sentence}.` : ""));
-        const blamed = problems.flatMap(({ fields }) => fields);
+        const blamed = this.shown.problems.flatMap(({ fields }) => fields);
         this.blame(new Set(blamed), new Set(this.library.differences(this.form).map((it) => it.name)));
-        this.showCode();
-        this.saveLater();
+    }
+
+    showWords() {
+        const numbers = this.list.forms.length > 1 ? `Numbers of the form ${this.shown.name}` : "Numbers";
+        const { sentence } = this.shown;
+        find("sentence").replaceChildren(...withCode(sentence ? `${numbers} are ${sentence}.` : ""));
+        for (const name of ["grammar", "regex"]) setText(find(name), this.code.text(name, this.list, this.shown, []));
     }
 
     /* Marks the fields that reasons blame, and those that differ from the standard format. */
     blame(blamed, changed) {
-        for (const node of document.querySelectorAll("[data-field]")) {
+        for (const node of document.querySelectorAll("#pane-edit [data-field]")) {
             const names = node.dataset.field.split(" ");
             node.classList.toggle("blamed", names.some((name) => blamed.has(name)));
             node.classList.toggle("changed", names.some((name) => changed.has(name)));
@@ -365,7 +451,7 @@ class Page {
     /* Shows the code of all forms, with the numbers as a test. */
     showCode() {
         const comment = this.languageOf(this.state) && COMMENTS[this.tab]?.(this.state.language);
-        const text = this.code.text(this.tab, this.trial.list, this.shown, this.trial.answers);
+        const text = this.code.text(this.tab, this.list, this.shown, this.trial.answers);
         setText(find("code"), (comment ?? "") + text);
     }
 }
@@ -382,14 +468,24 @@ async function copy(button, text, node) {
     return isCopied;
 }
 
+/* Returns the bytes of a text in base 85, in which five characters are four bytes. */
+function decoded(text) {
+    const digits = "0123456789ABCDEFGHIJKLMNOPQRSTUVWXYZabcdefghijklmnopqrstuvwxyz!#$%&()*+-;<=>?@^_`{|}~";
+    return Uint8Array.from(text.match(/.{1,5}/g).flatMap((part) => {
+        const number = [...part.padEnd(5, "~")].reduce((all, digit) => all * 85 + digits.indexOf(digit), 0);
+        return [24, 16, 8, 0].map((shift) => (number >>> shift) & 255).slice(0, part.length - 1);
+    }));
+}
+
 async function main() {
-    const bytes = Uint8Array.from(atob(find("library").textContent), (character) => character.charCodeAt(0));
+    const bytes = decoded(find("library").textContent);
     const data = JSON.parse(find("data").textContent);
     window.page = new Page(await Library.load(bytes, data), data);
     document.documentElement.dataset.ready = "true";
 }
 
-/* The page is painted before the library is made. */
-requestAnimationFrame(() => setTimeout(() => {
-    main().catch((error) => setText(find("verdict"), `This browser cannot run the library: ${error.message}`));
-}));
+/* Nothing is shown before the library is made. */
+main().catch((error) => {
+    setText(find("told"), `This browser cannot run the library: ${error.message}`);
+    document.documentElement.dataset.ready = "false";
+});

@@ -2,13 +2,14 @@
 
 /* How many texts of a list are shown before it is opened. */
 const MOST_TEXTS = 6;
+const STANDARD = ["standard", "the standard format"];
 
 class Report {
-    constructor(library, languages, { use, edit, saveLater }) {
+    constructor(library, languages, { use, edit, open }) {
         Object.assign(this, { library, languages, use, edit });
-        find("compare").append(...choices([["", "nothing"]], languages));
-        find("add").append(...choices([["", "Add a form"], ["copy", "a copy of this one"]], languages));
-        find("compare").addEventListener("change", () => (this.compare(), saveLater()));
+        find("compare").append(...choices([["", "nothing"], STANDARD], languages));
+        find("add").append(...choices([["", "Add a form"], ["copy", "a copy of this one"], STANDARD], languages));
+        find("compare").addEventListener("change", () => open("compare"));
     }
 
     /* Returns buttons that lead to the controls of fields. Reserved bits have none. */
@@ -21,8 +22,9 @@ class Report {
     }
 
     /* Shows why the format is not valid: a reason of the word, or an option or a condition that does not fit. */
-    reason({ text, fields }) {
-        const buttons = this.library.repairs(this.form, { text, fields }).map((form) => {
+    reason(problem) {
+        const { text, fields } = problem;
+        const buttons = this.library.repairs(this.form, problem).map((form) => {
             const changes = this.library.differences(form, this.form);
             const label = changes.map((it) => it.text).join(", ") || "clear the reserved bits";
             return button("use", label, () => this.use(stateOf(form)), { "data-field": changes.map(({ name }) => name).join(" ") });
@@ -45,9 +47,8 @@ class Report {
 
     /* Shows texts that tell the list from a chosen one, and each field in which the form differs, with a button for it. */
     compare() {
-        const [{ value = "", textContent } = {}] = find("compare").selectedOptions;
-        if ((find("comparison").hidden = !value)) return;
-        setText(find("comparison-title"), `Compared with ${textContent}`);
+        const { value } = find("compare");
+        if (!value) return [find("texts"), find("changes"), find("same")].forEach((it) => it.replaceChildren());
         const other = this.listOf(value);
         const texts = this.texts(this.library.differ(this.list, other));
         find("texts").replaceChildren(...texts);
@@ -76,27 +77,29 @@ class Report {
         });
     }
 
-    /* Shows all of this for a form of a list. */
-    show(form, list) {
+    /* Shows whether all forms of a list are valid. */
+    showVerdict(form, list) {
         Object.assign(this, { form, list });
-        const { problems, notes } = form;
-        const other = list.forms.find((it) => it.problems.length)?.name;
-        const count = problems.length === 1 ? "1 reason" : `${problems.length} reasons`;
-        const bad = problems.length ? count : other;
-        setText(find("verdict"), bad === undefined ? "Valid format" : `Not valid: ${bad}`);
-        find("verdict").className = bad === undefined ? "good" : "bad";
+        const { length } = form.problems;
+        const count = length === 1 ? "1 reason" : `${length} reasons`;
+        const bad = length ? count : list.forms.find((it) => it.problems.length)?.name;
+        setText(find("verdict"), bad === undefined ? "" : `Not valid: ${bad}`);
+        find("verdict").className = "bad";
+    }
+
+    /* Shows the reasons and the notes of a form. */
+    show({ problems, notes }) {
         find("report").hidden = !problems.length && !notes.length;
         find("reasons").replaceChildren(...problems.map((it) => this.reason(it)));
         find("notes").replaceChildren(...notes.map((note) => this.note(note)));
-        this.compare();
     }
 }
 
-/* Returns choices of a select: some of its own, the standard format, and the languages, each with its forms if several. */
-function choices(own, languages) {
-    const all = languages.flatMap(({ name, about, forms }) => {
-        const each = forms.map((form) => [`${name}:${form.name}`, `${name}: ${form.name}`]);
-        return [[name, about.replace(/[:.]? \(.*|, as .*| with .*|\.$/, "")], ...(forms.length > 1 ? each : [])];
+/* Returns choices of a select: some of its own, and the languages, each with its forms if they are asked for. */
+function choices(own, languages, hasForms = true) {
+    const all = languages.flatMap(({ name, title, forms }) => {
+        const each = hasForms && forms.length > 1 ? forms : [];
+        return [[name, title], ...each.map((form) => [`${name}:${form.name}`, `${title}: ${form.name}`])];
     });
-    return [...own, ["standard", "the standard format"], ...all].map(([value, title]) => element("option", { value }, title));
+    return [...own, ...all].map(([value, title]) => element("option", { value }, title));
 }

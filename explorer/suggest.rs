@@ -4,8 +4,10 @@ use alloc::vec::Vec;
 use core::cmp::Reverse;
 
 use peltzivar::format::{
-    BASE_PREFIX, BASE_SUFFIX, CONSECUTIVE_DIGIT_SEPARATOR, DIGIT_SEPARATOR, DIGIT_SEPARATOR_FLAG_MASK, EXPONENT_BASE,
-    EXPONENT_RADIX, FLAG_MASK, MANTISSA_RADIX, SPECIAL_DIGIT_SEPARATOR,
+    BASE_PREFIX, BASE_SUFFIX, CASE_SENSITIVE_BASE_PREFIX, CASE_SENSITIVE_BASE_SUFFIX, CASE_SENSITIVE_EXPONENT,
+    CASE_SENSITIVE_SPECIAL, CONSECUTIVE_DIGIT_SEPARATOR, DIGIT_SEPARATOR, DIGIT_SEPARATOR_FLAG_MASK, EXPONENT_BASE,
+    EXPONENT_RADIX, FLAG_MASK, MANTISSA_RADIX, REQUIRED_DIGITS, REQUIRED_EXPONENT_NOTATION, REQUIRED_EXPONENT_SIGN,
+    REQUIRED_MANTISSA_SIGN, SPECIAL_DIGIT_SEPARATOR,
 };
 use peltzivar::literal::{
     Condition, Conditions, ConditionsError, ConditionsErrorKind, Kind, ReadError, ReadErrorKind, Specials, Syntax,
@@ -20,6 +22,14 @@ const MOST_ROLES: usize = 3;
 
 /// The flags that allow separators between digits, before digits and behind them, and then consecutive ones.
 const SEPARATORS: u128 = DIGIT_SEPARATOR_FLAG_MASK & !SPECIAL_DIGIT_SEPARATOR;
+
+/// The flags that require something of all numbers, which few formats do.
+const REQUIREMENTS: u128 =
+    REQUIRED_DIGITS | REQUIRED_MANTISSA_SIGN | REQUIRED_EXPONENT_SIGN | REQUIRED_EXPONENT_NOTATION;
+
+/// The flags of letters in one case, which refuse the fewest texts, and count as no change.
+const CASES: u128 =
+    CASE_SENSITIVE_EXPONENT | CASE_SENSITIVE_BASE_PREFIX | CASE_SENSITIVE_BASE_SUFFIX | CASE_SENSITIVE_SPECIAL;
 
 /// The bits of no field.
 const RESERVED: u128 = Rule::ReservedBitsAreZero.mask();
@@ -84,11 +94,14 @@ impl State {
     }
 
     /// Returns the state with another mantissa radix. If the exponent character is a digit in it, hexadecimal floats are
-    /// as in C: `p` and a power of two in decimal.
+    /// as in C: `p` and a power of two in decimal. If `p` is one, too, numbers are integers alone.
     fn with_radix(self, radix: u8) -> Self {
         let state = self.with(MANTISSA_RADIX, radix);
-        let digit = value(self.exponent).filter(|&digit| digit < radix);
-        digit.map_or(state, |_| state.with_exponent(b'p'))
+        match value(self.exponent).filter(|&digit| digit < radix) {
+            None => state,
+            Some(_) if value(b'p') < Some(radix) => Self { exponent: 0, point: 0, ..state },
+            Some(_) => state.with_exponent(b'p'),
+        }
     }
 
     fn with_exponent(self, exponent: u8) -> Self {
@@ -112,6 +125,24 @@ impl State {
             Err(error) if self.specials.read(&syntax, text).is_none() => Err(Some(error)),
             _ => Ok(()),
         }
+    }
+
+    /// Returns how many requirements are set that another state does not have, and then how many fields and conditions differ.
+    fn changes(self, other: Self) -> (usize, usize) {
+        let bytes = [DIGIT_SEPARATOR, BASE_PREFIX, BASE_SUFFIX, MANTISSA_RADIX, EXPONENT_BASE, EXPONENT_RADIX];
+        let flags = (self.word ^ other.word) & FLAG_MASK;
+        let fields = bytes.iter().filter(|&it| (self.word ^ other.word) & it != 0).count();
+        let conditions = Condition::ALL.iter().filter(|&&it| self.conditions.number(it) != other.conditions.number(it));
+        let required = conditions.clone().filter(|it| it.limits().1 == 1 && **it != Condition::NegativeSign);
+        let set = (self.word & flags & REQUIREMENTS).count_ones() as usize + required.count();
+        let weight = if self.has_free_groups() { MOST } else { 1 };
+        let count = (flags & !CASES).count_ones() as usize + fields + weight * conditions.count();
+        (set, count)
+    }
+
+    /// Returns whether groups have any size, as in languages, and not an equal one, as in texts for people.
+    fn has_free_groups(self) -> bool {
+        FormatView::new(self.word).digit_separator().is_some_and(|it| matches!(it.get(), b'_' | b'\''))
     }
 
     /// Returns the first of some states with which the most lines are as expected.
@@ -172,13 +203,15 @@ pub fn offers(state: State, lines: &[Line<'_>], line: Line<'_>) -> Vec<(State, u
     }
     let mut offered: Vec<(State, usize)> = Vec::new();
     for it in found {
+        let it = if line.is_refused { without_needless(it, state, line.text) } else { it };
         if offered.iter().all(|other| other.0 != it) {
             offered.push((it, it.as_expected(lines)));
         }
     }
     let most = offered.iter().map(|it| it.1).max();
     offered.retain(|it| !line.is_refused || Some(it.1) == most);
-    offered.sort_by_key(|it| Reverse(it.1));
+    // Of what accepts a text, the likeliest is first.
+    offered.sort_by_key(|it| (Reverse(it.1), if line.is_refused { it.0.changes(state) } else { (0, 0) }));
     offered.truncate(MOST);
     offered
 }
@@ -197,6 +230,18 @@ fn refusing(state: State, text: &[u8], lines: &[Line<'_>], found: &mut Vec<State
     );
 }
 
+/// Returns a state that refuses a text with the flags of another one that need no change for this.
+fn without_needless(found: State, state: State, text: &[u8]) -> State {
+    bits_of((found.word ^ state.word) & FLAG_MASK).fold(found, |found, flag| {
+        let other = State { word: found.word ^ flag, ..found };
+        if matches!(other.read(text), Err(Some(_))) {
+            other
+        } else {
+            found
+        }
+    })
+}
+
 /// Finds states with up to this many new roles that accept the text.
 fn accepting(state: State, text: &[u8], lines: &[Line<'_>], roles: usize, found: &mut Vec<State>) {
     match settled(state, text) {
@@ -206,7 +251,10 @@ fn accepting(state: State, text: &[u8], lines: &[Line<'_>], roles: usize, found:
                 Condition::ALL.iter().filter(|it| settled.conditions != state.conditions && it.limits().1 > 1);
             let accepts = |it: &State| it.read(text).is_ok();
             found.extend(numbered.filter_map(|&it| State::first_best(state.with_numbers(it).filter(accepts), lines)));
-            found.push(settled);
+            let grouped = grouped(settled, text).filter(accepts);
+            // The state that has no sizes of groups is the likelier one if these are free.
+            let (first, second) = if settled.has_free_groups() { (None, grouped) } else { (grouped, None) };
+            found.extend(first.into_iter().chain([settled]).chain(second.filter(|_| !text.contains(&b'_'))));
         }
         Err(_) if roles == 0 => {}
         Err(at) => {
@@ -214,6 +262,23 @@ fn accepting(state: State, text: &[u8], lines: &[Line<'_>], roles: usize, found:
             next.for_each(|it| accepting(it, text, lines, roles - 1, found));
         }
     }
+}
+
+/// Returns the state with the sizes of the groups of integer digits that a text shows: a usual one, or one that is twice there.
+fn grouped(state: State, text: &[u8]) -> Option<State> {
+    let separator = FormatView::new(state.word).digit_separator()?.get();
+    let is_digit = |&byte: &u8| byte == separator || value(byte).is_some_and(|digit| digit < state.radix());
+    let integer = unsigned(text);
+    let integer = &integer[..integer.iter().position(|it| !is_digit(it)).unwrap_or(integer.len())];
+    let sizes: Vec<_> = integer.split(|&byte| byte == separator).map(<[u8]>::len).collect();
+    let [first, higher @ .., last] = &sizes[..] else { return None };
+    let size = *higher.first().unwrap_or(last);
+    let is_shown = !higher.is_empty() || *last == usize::from(USUAL_SIZE);
+    let is_grouped = is_shown && (1..=size).contains(first) && higher.iter().all(|&it| it == size);
+    let (least, most) = Condition::IntegerGroupSize.limits();
+    let number = |size: usize| u8::try_from(size).ok().filter(|it| (least..=most).contains(it));
+    let state = state.with_condition(Condition::IntegerGroupSize, number(*last).filter(|_| is_grouped)?);
+    Some(if size == *last { state } else { state.with_condition(Condition::HigherGroupSize, number(size)?) })
 }
 
 /// Returns the state with the flags that the text needs: without the requirements that it breaks, and with the fewest
@@ -244,20 +309,31 @@ fn settled(mut state: State, text: &[u8]) -> Result<State, usize> {
 }
 
 /// Returns the states in which the byte at an index, or the last one, gets a role, the likeliest first.
-fn candidates(state: State, text: &[u8], at: usize) -> [Option<State>; 9] {
-    let Some((&byte, rest)) = text.get(at..).and_then(<[u8]>::split_first) else { return [None; 9] };
+fn candidates(state: State, text: &[u8], at: usize) -> [Option<State>; 11] {
+    let Some((&byte, rest)) = text.get(at..).and_then(<[u8]>::split_first) else { return [None; 11] };
     let before = &text[..at];
     let [shown, same, needed] = suffixes(state, text, at);
-    let radix = radix_of(text, state.radix() + 1).filter(|_| byte.is_ascii_alphanumeric());
+    // A letter that is the last of a fraction is a suffix, and letters in front show a large radix.
+    let is_whole = unsigned(text).iter().all(u8::is_ascii_alphanumeric);
+    let is_word = is_whole && unsigned(text).first().is_some_and(u8::is_ascii_alphabetic);
+    let radix = radix_of(text, state.radix() + 1).or(is_word.then_some(36).filter(|&it| it > state.radix()));
+    let is_digit = byte.is_ascii_alphanumeric() && (is_whole || !rest.is_empty());
+    let radix = radix.filter(|_| is_digit).map(|radix| state.with_radix(radix));
+    // In `1,234`, the comma separates groups.
+    let is_group =
+        rest.len() == usize::from(USUAL_SIZE) && rest.iter().all(u8::is_ascii_digit) && unsigned(before).len() <= 3;
+    let mark = separator(state, byte);
     [
         prefix(state, before, byte, rest),
         exponent(state, before, byte, rest),
+        mark.filter(|_| byte == b',' && is_group && !matches!(unsigned(before), b"" | b"0")),
         point(state, before, byte, rest),
         shown,
+        radix.filter(|it| is_whole && it.radix() <= 16),
         same,
         needed,
-        separator(state, byte),
-        radix.map(|radix| state.with_radix(radix)),
+        mark,
+        radix,
         state.is_integers().then_some(State { exponent: b'e', point: b'.', ..state }),
     ]
 }
@@ -271,9 +347,10 @@ fn is_mark(byte: u8) -> bool {
 /// so the radix is kept if the exponent character is such a digit and is before a sign.
 fn prefix(state: State, before: &[u8], byte: u8, rest: &[u8]) -> Option<State> {
     let radix = match byte.to_ascii_lowercase() {
-        b'x' => 16,
-        b'o' => 8,
-        b'b' => 2,
+        b'x' | b'h' => 16,
+        b'd' | b't' => 10,
+        b'o' | b'q' => 8,
+        b'b' | b'y' => 2,
         _ => return None,
     };
     let is_digit = value(state.exponent).is_some_and(|digit| digit < radix);
@@ -285,9 +362,9 @@ fn prefix(state: State, before: &[u8], byte: u8, rest: &[u8]) -> Option<State> {
     (unsigned(before) == b"0").then(|| shown.with(BASE_PREFIX, byte))
 }
 
-/// A letter of a known exponent or `^` between digits is the exponent character. Others begin a suffix, such as `u8`.
+/// A letter of a known exponent between digits is the exponent character. Others begin a suffix, such as `u8`.
 fn exponent(state: State, before: &[u8], byte: u8, rest: &[u8]) -> Option<State> {
-    let is_character = matches!(byte.to_ascii_lowercase(), b'd' | b'e' | b'p' | b'q' | b'^');
+    let is_character = matches!(byte.to_ascii_lowercase(), b'd' | b'e' | b'p' | b'q');
     let follows =
         before.last().is_some_and(|&it| it == state.point || it.is_ascii_alphanumeric()) && unsigned(before) != b"0";
     let has_digits = unsigned(rest).first().is_some_and(u8::is_ascii_digit);

@@ -13,12 +13,16 @@ use suggest::{lines_of, offers, Line, State};
 const SPECIALS: Specials = Specials { nan: Some(b"NaN"), inf: Some(b"inf"), infinity: Some(b"infinity") };
 const HEXADECIMAL: &str = "mantissa_radix=16 exponent_base=2 exponent_radix=10";
 
-/// Returns the state of settings that change the standard format. The exponent character is `p` in radix 16.
+/// Returns the state of settings that change the standard format. The exponent character is `p` in radix 16. `groups` and
+/// `higher` are the sizes of groups.
 fn state(settings: &str, exponent: u8, point: u8) -> State {
+    let size = |name| settings.split_once(name).and_then(|it| it.1[..1].parse().ok());
+    let conditions = Conditions::NONE.integer_group_size(size("groups=")).higher_group_size(size("higher="));
     let edits = settings.replace("hexadecimal", HEXADECIMAL);
+    let edits = edits.split(" groups=").next().unwrap_or_default();
     let builder: Result<NumberFormatBuilder, _> = edits.split_whitespace().map(str::parse::<Edit>).collect();
     let word = builder.expect(settings).build_unchecked();
-    State { word, exponent, point, conditions: Conditions::NONE, kind: Kind::EXACT, specials: SPECIALS }
+    State { word, exponent, point, conditions, kind: Kind::EXACT, specials: SPECIALS }
 }
 
 /// Returns what is offered for the first of the lines.
@@ -52,13 +56,23 @@ fn numbers_of_many_forms_lead_to_their_formats() {
         ("17o", "mantissa_radix=8 base_suffix='o'", b'e', b'.'),
         ("17q", "mantissa_radix=8 base_suffix='q'", b'e', b'.'),
         ("FF", "hexadecimal", b'p', b'.'),
+        ("1F", "hexadecimal", b'p', b'.'),
         ("1D3", "", b'D', b'.'),
+        ("0h1F", "hexadecimal base_prefix='h'", b'p', b'.'),
+        ("0y101", "mantissa_radix=2 base_prefix='y'", b'e', b'.'),
+        ("0q17", "mantissa_radix=8 base_prefix='q'", b'e', b'.'),
+        ("0d10", "base_prefix='d'", b'e', b'.'),
+        ("0t10", "base_prefix='t'", b'e', b'.'),
         ("1.5E3L", "base_suffix='L'", b'e', b'.'),
         ("1,5", "", b'e', b','),
-        ("1.234,5", "digit_separator='.' integer_internal_digit_separator=true", b'e', b','),
-        ("1.234.567", "digit_separator='.' integer_internal_digit_separator=true", b'e', b','),
-        ("1,234.5", "digit_separator=',' integer_internal_digit_separator=true", b'e', b'.'),
-        ("1,234\n0.5", "digit_separator=',' integer_internal_digit_separator=true", b'e', b'.'),
+        ("1.234,5", "digit_separator='.' integer_internal_digit_separator=true groups=3", b'e', b','),
+        ("1.234.567", "digit_separator='.' integer_internal_digit_separator=true groups=3", b'e', b','),
+        ("1,234.5", "digit_separator=',' integer_internal_digit_separator=true groups=3", b'e', b'.'),
+        ("1,234\n0.5", "digit_separator=',' integer_internal_digit_separator=true groups=3", b'e', b'.'),
+        ("1,234", "digit_separator=',' integer_internal_digit_separator=true groups=3", b'e', b'.'),
+        ("12,34,567.89", "digit_separator=',' integer_internal_digit_separator=true groups=3 higher=2", b'e', b'.'),
+        ("1 234,56", "digit_separator=32 integer_internal_digit_separator=true groups=3", b'e', b','),
+        ("1_000", "digit_separator='_' integer_internal_digit_separator=true", b'e', b'.'),
         ("1_0__0", "digit_separator='_' integer_internal_digit_separator=true integer_consecutive_digit_separator=true", b'e', b'.'),
         ("1e", "required_exponent_digits=false", b'e', b'.'),
         ("!.5\n0.5\n1", "required_integer_digits=true", b'e', b'.'),
@@ -82,6 +96,7 @@ fn numbers_of_many_forms_lead_to_their_formats() {
         assert_eq!(offered(state("", b'e', b'.'), text), [], "{text}");
     }
     assert_eq!(offered(state("hexadecimal base_prefix='x'", b'p', b'.'), "0x1.8p3f"), []);
+    assert_eq!(offered(state("", b'e', b'.'), "ZZ").first(), Some(&state("mantissa_radix=36", 0, 0)));
     let flags = "digit_separator='_' integer_internal_digit_separator=true integer_consecutive_digit_separator=true";
     let separators = state(flags, b'e', b'.');
     let none = State { word: separators.word & !DIGIT_SEPARATOR_FLAG_MASK, ..separators };

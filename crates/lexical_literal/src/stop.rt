@@ -434,7 +434,7 @@ const fn tail_byte(text: &[u8], size: usize, tail: usize, place: usize) -> u8
 
 // Returns the first `size` bytes.
 #[inline(always)]
-pub(crate) fn front_of<'a>(text: &'a [u8], size: usize) -> &'a [u8]
+pub(crate) fn front_of(text: &[u8], size: usize) -> &[u8]
     requires { size ≤ length text.now }
     ensures { result.now ≡ take size text.now }
 {

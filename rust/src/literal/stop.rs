@@ -310,6 +310,6 @@ const fn tail_byte(text: &[u8], size: usize, tail: usize, place: usize) -> u8 {
 
 // Returns the first `size` bytes.
 #[inline(always)]
-pub(crate) const fn front_of<'a>(text: &'a [u8], size: usize) -> &'a [u8] {
+pub(crate) const fn front_of(text: &[u8], size: usize) -> &[u8] {
     text.split_at(size).0
 }

@@ -1,0 +1,96 @@
+/* Functions of test_languages.py, which run in the page. */
+"use strict";
+
+function comparisonsFindWhatTellsTwoLanguagesApart() {
+    const { library, data: { languages } } = page;
+    const tried = [...new Set([...arguments[0], ...languages.flatMap((it) => [...it.specials, ...it.numbers.replaceAll("!", "").split("\n")])])];
+    const readings = (texts) => library.readers(texts.join("\n")).map((all) => new Map(all.map((it) => [it.language, valueText(it)])));
+    const pairs = languages.flatMap((here, first) => languages.slice(first + 1).map((there, next) => [first, first + next + 1]));
+    const listed = pairs.map(([here, there]) => library.differ(languages[here], languages[there]));
+    const texts = [...new Set([...tried.filter(Boolean), ...listed.flat(2).map(({ text }) => text)])];
+    const read = new Map(readings(texts).map((all, index) => [texts[index], all]));
+    const errors = languages.map((list) => new Map(library.numbers(list, texts.join("\n")).map(({ error }, index) => [texts[index], error])));
+    const cause = (it) => it?.split(", which ")[1];
+    return pairs.flatMap((pair, index) => listed[index].flatMap((list, part) => {
+        const [here, there] = part === 1 ? pair.toReversed() : pair;
+        const values = (text) => [here, there].map((it) => read.get(text).get(it));
+        const differs = (text) => {
+            const [one, other] = values(text);
+            const isRefused = [one, other].every((it) => it?.includes(" its form") ?? true);
+            return one !== undefined && (part < 2 ? other === undefined : other !== undefined && one !== other && !isRefused);
+        };
+        const told = list.map(({ text }) => text);
+        const isTold = (text) => told.some((it) => it.replace(/^[+-]/, "").toLowerCase() === text.toLowerCase());
+        const needed = part < 2 ? languages[here].specials : ["010"];
+        const causes = list.map(({ error }) => cause(error));
+        const isCaused = (it) => !cause(errors[there].get(it)) || causes.includes(cause(errors[there].get(it)));
+        const isKnown = (it) => (part < 2 ? it.error : valueText(it.here) === values(it.text)[0] && valueText(it.there) === values(it.text)[1]);
+        return [...told.filter((it) => !differs(it)), ...list.filter((it) => !isKnown(it)).map(({ text }) => text),
+            ...needed.filter((it) => it && differs(it) && !isTold(it)), 
+            ...texts.filter((it) => differs(it) && (part < 2 ? !isCaused(it) || !list.length : !list.length)).slice(0, 1)]
+            .map((text) => `${languages[here].name} ${languages[there].name} ${part} ${text} ${values(text)}`);
+    }));
+}
+
+function spellingsInOneCaseAreToldApart() {
+    const { library, data: { languages } } = page;
+    const words = languages.flatMap(({ specials }) => specials).flatMap((it) => [it, it.toLowerCase(), it.toUpperCase()]);
+    const forms = [library.with(library.usual, "case_sensitive_special", 1)];
+    return [...new Set(words)].filter((it) => /[a-z]/i.test(it)).filter((it) => {
+        const specials = /n.?a/i.test(it) ? [it, "", ""] : ["", it, ""];
+        return !library.differ({ forms: [library.usual], specials }, { forms, specials }).flat().length;
+    });
+}
+
+function twoFormatsAreCompared() {
+    return Array.from({ length: 12 }, (_, it) => it).filter((count) => {
+        const texts = Array.from({ length: count }, (_, it) => ({ text: String(it), error: "" }));
+        return page.report.texts([texts]).some((it) => it.tagName === "UL" && Boolean(it.querySelector("summary")) !== (count > MOST_TEXTS));
+    });
+}
+
+function languagesAreShownAsTheyAreDocumented() {
+    return page.data.languages.map(({ name, title }) => {
+        page.jump({ numbers: "" });
+        page.start(name);
+        const codes = ["rust", "c", "python"].map((tab) => (page.chooseTab(tab), find("code").textContent));
+        const forms = page.state.forms.map((it) => it.name);
+        return [name, [codes, find("about").textContent, forms, find("literal").value.split("\n"), title]];
+    });
+}
+
+function eachLanguageIsBelowWhatItReads() {
+    const { languages } = page.data;
+    page.chooseTab("languages");
+    const reads = (list, text) => page.library.numbers(list, text)[0];
+    return ["010", "0x1F", "1_0", "NaN", "1e5", "-5", "2147483648", "0xffffffff", "9223372036854775808"].flatMap((first) => {
+        const numbers = ["1", first];
+        page.change({ numbers: numbers.join("\n") });
+        const lines = [...find("readers").children].map((it) => {
+            const titles = [...it.querySelectorAll("button")].map((button) => button.textContent);
+            return it.tagName === "H3" ? it.textContent : titles.map((title) => `${it.firstChild.textContent} ${title}`);
+        }).flat();
+        const hasAll = (list) => numbers.map((text) => reads(list, text)).every(({ error, refused }) => !error && !refused);
+        const wanted = [...languages.filter(hasAll).map(({ title }) => `All 2, as expected: ${title}`), ...numbers.flatMap((text) => {
+            const told = languages.map((list) => [list, reads(list, text)]).filter(([, it]) => !it.error);
+            const readers = told.filter(([, it]) => !it.refused).length;
+            return [`${text} Read by ${readers || "none"} of ${languages.length} languages`, ...told.map(([list, it]) => {
+                const form = it.parts.some(({ kind }) => kind === "special") ? "special value" : list.forms[it.form].name;
+                return `${it.refused ? "refused, " : ""}${valueText(it)}, ${form}: ${list.title}`;
+            })];
+        })];
+        return [...lines.filter((it) => !wanted.includes(it)), ...wanted.filter((it) => !lines.includes(it))];
+    });
+}
+
+function languagesAreThoseThatReadANumber() {
+    const { library, data: { languages } } = page;
+    const texts = [...new Set([...arguments[0], ...languages.flatMap((it) => it.numbers.replaceAll("!", "").split("\n"))])];
+    const found = library.readers(texts.join("\n"));
+    return languages.flatMap((list, language) => library.numbers(list, texts.join("\n")).map((answer, index) => {
+        const reader = found[index].find((it) => it.language === language);
+        const told = (it) => (it ? `${it.form} ${valueText(it)}` : "refused");
+        const there = told(answer.error ? undefined : answer);
+        return told(reader) === there ? [] : [list.name, texts[index], told(reader), there];
+    }).filter((it) => it.length));
+}

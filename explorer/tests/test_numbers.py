@@ -1,0 +1,115 @@
+"""Tests of the page: numbers."""
+from test_base import Walk, Keys, MIXED, STANDARD
+
+
+class Numbers(Walk):
+    def test_numbers_are_tried(self):
+        self.load("#word=0x00000A000000005F000000020000000C")
+        self.type("#literal", "-0.1_2e-5\n-1_000\n1\u00e95\n!1\n!.x")
+        self.assertEqual(self.texts("#read > li:first-child .written span"), ["-", "0", ".", "1", "_", "2", "e", "-", "5"])
+        self.assertEqual(self.find("#read .separator").get_attribute("data-field"), "digit_separator")
+        self.assertEqual(self.run_script("return [...document.querySelectorAll('#read > li:first-child .written span')].map((it) => it.title).join()"),
+            "sign,integer,point,fraction,digit separator,fraction,exponent character,exponent sign,exponent")
+        self.assertEqual(self.texts("#read > li:nth-child(2) .written"), ["-1_000"])
+        self.assertEqual(self.texts("#read > li:nth-child(2) .written span"), ["-", "1"])
+        self.assertEqual(self.texts("#read mark"), ["_", "\u00e9"])
+        self.assertEqual(self.texts("#read p"), [
+            "accepted: float = -0.0000012",
+            "at index 2: unexpected digit separator in the integer after a digit, which requires "
+            "integer_internal_digit_separator or integer_trailing_digit_separator",
+            "at index 1: unexpected character '\u00e9'",
+            "accepted as integer = 1, but it must be refused"])
+        self.assertEqual(self.texts("#read .row"), [".x refused: at index 1: unexpected character 'x'"])
+        self.assertEqual((self.text("#count"), self.text("#first-error").split(" ")[0]), ("2 of 5 as expected", "-1_000"))
+        self.find("#refuse-3").send_keys(Keys.SPACE)
+        self.assertEqual((self.value("#literal").split("\n")[3], self.focused()), ("1", "refuse-3"))
+        self.assertEqual(self.text("#count"), "3 of 5 as expected")
+        self.click("#read .row")
+        self.assertEqual((self.focused(), self.texts("#read mark")[-1], len(self.texts("#read .row"))), ("refuse-4", "x", 1))
+        self.click("#no_special")
+        self.click("#case_sensitive_special")
+        self.assertEqual((self.texts("#read li"), self.text("#summary")), ([], "Nothing is read, since the format is not valid."))
+        self.load("#word=0x00000A0000000000000000000000101E")
+        self.type("#literal", "001\n+Infinity\n1.")
+        self.assertEqual(self.texts("#read mark"), ["001", "+", " "])
+        self.assertEqual(self.texts("#read mark span"), ["0"])
+        self.assertEqual(self.texts("#read .use"), ["allow 01", "allow +1", "allow 1."])
+        self.click("#read .use", "allow +1")
+        self.assertEqual(self.texts("#read > li:nth-child(2) .written span"), ["+", "Infinity"])
+
+    def test_parts_are_those_of_the_form_that_reads(self):
+        wrong = self.call("partsAreThoseOfTheFormThatReads")
+        self.assertEqual(wrong, [])
+        wrong = self.call("partsAreThoseOfTheFormThatReads2")
+        self.assertEqual(wrong, [])
+
+    def test_numbers_are_shown_as_they_are_typed_and_with_the_reason_for_no_value(self):
+        shown = """page.jump({ forms: [page.library.usual], at: 0, language: "", numbers: arguments[0] });
+            return [find("read").querySelector(".written").innerText, ...[...find("read").querySelectorAll("p")].map((it) => it.textContent)]"""
+        for text in (" 1", "1 ", "1  0", "  "):
+            self.assertEqual(self.run_script(shown, text)[0], text)
+        for number, why in ((-(2**127) - 1, f"below {-(2**127)}, the least i128"), (2**128, f"above {2**128 - 1}, the largest u128")):
+            self.assertEqual(self.run_script(shown, str(number)), [str(number), f"accepted: integer: {why}"])
+
+    def test_an_example_is_replaced_by_what_is_typed(self):
+        self.load()
+        self.assertEqual((self.texts("#read > li"), self.find("#clear").is_displayed()), ([], False))
+        self.click("#example")
+        self.assertEqual((len(self.texts("#read > li")), self.focused()), (4, "literal"))
+        self.select("#language", "JSON")
+        self.assertNotIn("1__0", self.value("#literal"))
+        self.type("#literal", "7")
+        self.click("#clear")
+        self.assertEqual((self.value("#literal"), self.focused()), ("", "literal"))
+
+    def test_good_and_bad_have_marks(self):
+        wrong = self.call("goodAndBadHaveMarks")
+        self.assertEqual(wrong, [])
+
+    def test_parts_differ_by_more_than_colour(self):
+        self.load(f"#word={MIXED}&exponent=112&point=44&numbers=-0x1_0%2C8p%2B1h%0ANaN".replace("441F", "401F"))
+        self.assertEqual(" ".join(self.texts(".legend")).replace("\n", " "), "- sign 0x prefix 1_0 integer , point 8 fraction p exponent character "
+            "+ exponent sign 1 exponent h suffix _ digit separator")
+        kinds = ("sign", "base", "digits", "separator", "option", "exponent", "special")
+        for style in ("[it.textDecorationStyle, it.textDecorationLine].join()", "it.color"):
+            styles = [self.run_script(f"const it = getComputedStyle(document.querySelector('.written .{kind}')); return {style}") for kind in kinds]
+            self.assertEqual(len(set(styles)), len(styles))
+        self.load()
+        self.type("#literal", "12\u05d03")
+        before, mark = (self.run_script(f"return document.querySelector('#read {it}').getBoundingClientRect().toJSON()") for it in (".digits", "mark"))
+        self.assertAlmostEqual(before["right"], mark["left"], delta=3)
+        self.driver.execute_cdp_cmd("Emulation.setEmulatedMedia", {"features": [{"name": "forced-colors", "value": "active"}]})
+        self.addCleanup(self.driver.execute_cdp_cmd, "Emulation.setEmulatedMedia", {"features": []})
+        outlines = self.run_script("return [...document.querySelectorAll('#panes [role=tab]')].map((it) => getComputedStyle(it).outlineStyle)")
+        self.assertEqual(outlines, ["solid"] + 4 * ["none"])
+
+    def test_an_unlawful_form_is_told_wherever_it_is(self):
+        for shown in (0, 1):
+            for at in (0, 1):
+                words = [STANDARD, STANDARD]
+                words[at] = "0x000010006200005F00000000000000CC"
+                lines = [f":{name}" if index == shown else f"{words[index]} 101 46 :{name}" for index, name in enumerate("ab")]
+                self.load(f"#word={words[shown]}&numbers=1&forms=" + "%0A".join(lines))
+                self.assertEqual((self.text("#verdict")[:9], self.texts("#forms .bad")), ("Not valid", ["ab"[at]]))
+                self.assertIn("Nothing can be read", self.text("#code"))
+                self.assertIn("Nothing is read", self.text("#summary"))
+                self.click("#verdict")
+                self.assertEqual((self.text("#forms [aria-pressed=true]"), self.focused()), ("ab"[at], "report-title"))
+
+    def test_the_sentence_tells_what_the_numbers_are(self):
+        """A clause for each form: the parts that its numbers have, no others, and the languages that read all of them."""
+        self.load("#language=RUST&numbers=0x1_F%0A0xFF%0A-1%0A!5")
+        self.assertRegex(self.text("#summary"), r"^Hexadecimal integers with the prefix 0x and _ between digits: Rust, C# and \d+ more read them\.\n"
+            r"-1 and 1 more are not as expected: In Rust, - is an operator, so that numbers have no sign\.$")
+        self.assertEqual(self.call("theSentenceTellsWhatTheNumbersAre"), [])
+
+    def test_a_value_that_is_too_large_is_not_as_expected(self):
+        self.load("#language=JAVA&numbers=2147483648%0A1%0A!2147483648")
+        self.assertEqual((self.text("#count"), self.texts("#read > li:first-child .use")), ("1 of 3 as expected", []))
+        self.assertIn("above 2147483647", self.text("#summary"))
+
+    def test_characters_that_cannot_be_seen_have_their_numbers(self):
+        for text in ("1\u061c", "1\u200b2", "1\u00a02"):
+            self.run_script("page.jump({ numbers: arguments[0] })", text)
+            told = self.text("#read p") + self.text("#first-error")
+            self.assertEqual((f"U+{ord(text[1]):04X}" in told, text[1] in told), (True, False))
