@@ -8,3 +8,4 @@ mod PlainLemmas
 mod WholeLemmas
 mod FloatLemmas
 mod ChoiceLemmas
+mod RoundedLemmas

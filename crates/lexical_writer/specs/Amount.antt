@@ -1,6 +1,6 @@
 -- A float as an amount, to which the rules for literals apply then: its digits, its exponent and its places.
 use Rattle.std.specs.Prelude.{ℕ, ◌≡◌, ◌+◌, ◌*◌, ◌%◌, ◌^◌, ◌<◌, ◌≤◌, ◌==◌, ◌&&◌, ◌||◌, ◌⊎◌, ◌++◌, not, nat_le, nat_lt, if◌then◌else◌}
-use Rattle.std.specs.Prelude.{Bool, true, false, is_some, length, Option, None, Some}
+use Rattle.std.specs.Prelude.{Bool, true, false, is_some, length, IfSome, Option, None, Some}
 use Rattle.std.specs.Float.{Float, Format}
 use Rattle.std.specs.Float.Ieee.{round}
 use Rattle.std.specs.Int.Digits.{number_from_digits}
@@ -16,6 +16,7 @@ use Rattle.lexical_value.specs.Float.{is_binary, is_decimal}
 use Rattle.lexical_writer.specs.Digits.{values_of}
 use Rattle.lexical_writer.specs.Layout.{allows_exponent, given_fraction, needs_exponent, one_if}
 use Rattle.lexical_writer.specs.Rounded.{rounded}
+use Rattle.lexical_writer.specs.declared.form.Exponent.{Exponent}
 use Rattle.lexical_writer.specs.declared.layout.Amount.{Amount}
 use Rattle.lexical_writer.specs.declared.layout.ExponentStyle.{ExponentStyle}
 use Rattle.lexical_writer.specs.declared.layout.ExponentStyle.TheVariants as exponents
@@ -95,24 +96,42 @@ pub record HasUnits (r : Record) (decimals : Option ℕ) (least num den : ℕ) (
       ≡ num * r.byte layout.mantissa_radix ^ places * raised_down negative (effective_exponent_base r) e
   pub last : (places ≡ least) ⊎ ((decimals ≡ None) × (least ≤ places) × (0 < units % r.byte layout.mantissa_radix))
 
--- `power_if shown negative e` is the exponent `e`, if it is shown.
-abbrev pub power_if : Bool → Bool → ℕ → Option Power
-power_if shown negative e = if shown then Some (record { negative = negative; source = sources.Number e }) else None
-
--- `HasShape r amount places units power` holds if `amount` has the digits of `units`, at least one of them before the point and `places`
--- behind it, and the exponent `power`.
-pub record HasShape (r : Record) (amount : Amount) (places units : ℕ) (power : Option Power) : Type 0 where
-  pub number : number_from_digits (r.byte layout.mantissa_radix)
-      (values_of (r.byte layout.mantissa_radix) amount.integer ++ values_of (r.byte layout.mantissa_radix) (given_fraction amount)) ≡ units
-  pub places : length (values_of (r.byte layout.mantissa_radix) (given_fraction amount)) ≡ places
-  pub some : is_some amount.fraction ≡ nat_lt 0 places
-  pub integer : is_present (values_of (r.byte layout.mantissa_radix) amount.integer) ≡ true
-  pub power : amount.exponent ≡ power
+-- `power_in exponent` is an exponent as it is written, if it is shown.
+abbrev pub power_in : Option Exponent → Option Power
+power_in None = None
+power_in (Some exponent) = Some (record { negative = exponent.negative; source = sources.Number exponent.size })
 
 -- `asks wish` is true if a wish asks for the size of the exponent.
 abbrev pub asks : ExponentStyle → Bool
 asks (exponents.From n) = true
 asks _ = false
+
+-- `IsDecided g style num den places units exponent` holds if `num` over `den` is written in `g` by `style` with these digits, of which
+-- `places` are behind the point, and this exponent, or none.
+pub record IsDecided (g : Grammar) (style : Style) (num den places units : ℕ) (exponent : Option Exponent) : Type 0 where
+  -- The digits without an exponent.
+  pub plain_places : ℕ
+  pub plain_units : ℕ
+  pub plain : HasUnits (raw g.word) style.decimals (least_places g style false) num den false 0 plain_places plain_units
+  -- The exponent, and whether it is shown.
+  pub negative : Bool
+  pub e : ℕ
+  pub shown : is_some exponent ≡ is_shown g style e (is_far (raw g.word) num den) (is_long (raw g.word) plain_places plain_units)
+  pub first : allows_exponent g ≡ true → (is_some exponent || asks style.exponent) ≡ true → IsExponent (raw g.word) style.decimals num den negative e
+  pub same : IfSome exponent (λ it. (it.negative ≡ negative) × (it.size ≡ e))
+  -- The digits that are written.
+  pub digits : HasUnits (raw g.word) style.decimals (least_places g style (is_some exponent)) num den negative
+      (if is_some exponent then e else 0) places units
+
+-- `HasShape r amount places units exponent` holds if `amount` has the digits of `units`, at least one of them before the point and
+-- `places` behind it, and this exponent, or none.
+pub record HasShape (r : Record) (amount : Amount) (places units : ℕ) (exponent : Option Exponent) : Type 0 where
+  pub number : number_from_digits (r.byte layout.mantissa_radix)
+      (values_of (r.byte layout.mantissa_radix) amount.integer ++ values_of (r.byte layout.mantissa_radix) (given_fraction amount)) ≡ units
+  pub places : length (values_of (r.byte layout.mantissa_radix) (given_fraction amount)) ≡ places
+  pub some : is_some amount.fraction ≡ nat_lt 0 places
+  pub integer : is_present (values_of (r.byte layout.mantissa_radix) amount.integer) ≡ true
+  pub power : amount.exponent ≡ power_in exponent
 
 -- `IsAmountOf f x g style amount` holds if `amount` is the float `x` of `f`, as a literal of `g` has it by `style`.
 pub record IsAmountOf (f : Format) (x : Float) (g : Grammar) (style : Style) (amount : Amount) : Type 0 where
@@ -120,21 +139,11 @@ pub record IsAmountOf (f : Format) (x : Float) (g : Grammar) (style : Style) (am
   pub den : ℕ
   pub some : 0 < den
   pub worth : IsWorth f (raw g.word) style.decimals x amount.negative num den
-  -- The digits without an exponent.
-  pub plain_places : ℕ
-  pub plain_units : ℕ
-  pub plain : HasUnits (raw g.word) style.decimals (least_places g style false) num den false 0 plain_places plain_units
-  -- The exponent.
-  pub negative : Bool
-  pub e : ℕ
-  pub shown : Bool
-  pub decided : shown ≡ is_shown g style e (is_far (raw g.word) num den) (is_long (raw g.word) plain_places plain_units)
-  pub exponent : allows_exponent g ≡ true → (shown || asks style.exponent) ≡ true → IsExponent (raw g.word) style.decimals num den negative e
-  -- The digits that are written.
   pub places : ℕ
   pub units : ℕ
-  pub digits : HasUnits (raw g.word) style.decimals (least_places g style shown) num den negative (if shown then e else 0) places units
-  pub shape : HasShape (raw g.word) amount places units (power_if shown negative e)
+  pub exponent : Option Exponent
+  pub decided : IsDecided g style num den places units exponent
+  pub shape : HasShape (raw g.word) amount places units exponent
 
 -- `IsLong g style num den` holds if `num` over `den` has more than 800 digits in `g` without an exponent.
 pub record IsLong (g : Grammar) (style : Style) (num den : ℕ) : Type 0 where
