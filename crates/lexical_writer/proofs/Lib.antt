@@ -9,3 +9,4 @@ mod WholeLemmas
 mod FloatLemmas
 mod ChoiceLemmas
 mod RoundedLemmas
+mod AmountLemmas

@@ -14,12 +14,13 @@ use Rattle.lexical_literal.specs.declared.syntax.Grammar.{Grammar}
 use Rattle.lexical_number.specs.Float.{raised_down, raised_up}
 use Rattle.lexical_value.specs.Float.{is_binary, is_decimal}
 use Rattle.lexical_writer.specs.Digits.{values_of}
-use Rattle.lexical_writer.specs.Layout.{allows_exponent, given_fraction, needs_exponent, one_if}
+use Rattle.lexical_writer.specs.Layout.{allows_exponent, given_fraction, laid_out, literal_of, needs_exponent, one_if}
 use Rattle.lexical_writer.specs.Rounded.{rounded}
 use Rattle.lexical_writer.specs.declared.form.Exponent.{Exponent}
 use Rattle.lexical_writer.specs.declared.layout.Amount.{Amount}
 use Rattle.lexical_writer.specs.declared.layout.ExponentStyle.{ExponentStyle}
 use Rattle.lexical_writer.specs.declared.layout.ExponentStyle.TheVariants as exponents
+use Rattle.lexical_writer.specs.declared.layout.Layout.{Layout}
 use Rattle.lexical_writer.specs.declared.layout.Power.{Power}
 use Rattle.lexical_writer.specs.declared.layout.Style.{Style}
 use Rattle.lexical_writer.specs.declared.layout.WriteError.{WriteError}
@@ -120,8 +121,8 @@ pub record IsDecided (g : Grammar) (style : Style) (num den places units : ℕ) 
   pub first : allows_exponent g ≡ true → (is_some exponent || asks style.exponent) ≡ true → IsExponent (raw g.word) style.decimals num den negative e
   pub same : IfSome exponent (λ it. (it.negative ≡ negative) × (it.size ≡ e))
   -- The digits that are written.
-  pub digits : HasUnits (raw g.word) style.decimals (least_places g style (is_some exponent)) num den negative
-      (if is_some exponent then e else 0) places units
+  pub digits : HasUnits (raw g.word) style.decimals (least_places g style (is_some exponent)) num den
+      (is_some exponent && negative) (if is_some exponent then e else 0) places units
 
 -- `HasShape r amount places units exponent` holds if `amount` has the digits of `units`, at least one of them before the point and
 -- `places` behind it, and this exponent, or none.
@@ -133,17 +134,20 @@ pub record HasShape (r : Record) (amount : Amount) (places units : ℕ) (exponen
   pub integer : is_present (values_of (r.byte layout.mantissa_radix) amount.integer) ≡ true
   pub power : amount.exponent ≡ power_in exponent
 
--- `IsAmountOf f x g style amount` holds if `amount` is the float `x` of `f`, as a literal of `g` has it by `style`.
-pub record IsAmountOf (f : Format) (x : Float) (g : Grammar) (style : Style) (amount : Amount) : Type 0 where
-  pub num : ℕ
-  pub den : ℕ
-  pub some : 0 < den
-  pub worth : IsWorth f (raw g.word) style.decimals x amount.negative num den
+-- `IsAmountOf g style negative num den amount` holds if `amount` is `num` over `den`, as a literal of `g` has it by `style`.
+pub record IsAmountOf (g : Grammar) (style : Style) (negative : Bool) (num den : ℕ) (amount : Amount) : Type 0 where
+  pub sign : amount.negative ≡ negative
   pub places : ℕ
   pub units : ℕ
   pub exponent : Option Exponent
   pub decided : IsDecided g style num den places units exponent
   pub shape : HasShape (raw g.word) amount places units exponent
+
+-- `IsFloatOf f x g style layout` holds if `layout` is what is written for the float `x` of `f` by `style`: its amount, by the rules for
+-- literals.
+abbrev pub IsFloatOf : Format → Float → Grammar → Style → Layout → Type 0
+IsFloatOf f x g style layout = (negative : Bool) × (num : ℕ) × (den : ℕ) × (0 < den) × IsWorth f (raw g.word) style.decimals x negative num den
+    × (amount : Amount) × IsAmountOf g style negative num den amount × (literal_of layout ≡ laid_out g style amount)
 
 -- `IsLong g style num den` holds if `num` over `den` has more than 800 digits in `g` without an exponent.
 pub record IsLong (g : Grammar) (style : Style) (num den : ℕ) : Type 0 where

@@ -1,5 +1,15 @@
 //! The digits of a float in a radix that is a power of two.
 
+ghost use Rattle.std.specs.Prelude.{ℕ, ◌≡◌, ◌+◌, ◌-◌, ◌*◌, ◌/◌, ◌%◌, ◌^◌, ◌<◌, ◌≤◌, ◌&&◌, ◌||◌, ◌⊎◌, false, true, nat_lt, nat_le, is_some, None, Some, IfOk, IfErr, IfSome};
+ghost use Rattle.lexical_util.specs.Layout as layout;
+ghost use Rattle.lexical_util.specs.Record.{bytes_of, effective_exponent_base, raw};
+ghost use Rattle.lexical_number.specs.Float.{is_power_of_two};
+ghost use Rattle.lexical_value.specs.Float.{is_binary};
+ghost use Rattle.lexical_writer.specs.Amount.{IsDecided, IsLong};
+ghost use Rattle.lexical_writer.specs.Layout.{allows_exponent};
+ghost use Rattle.lexical_writer.specs.Rounded.{rounded};
+ghost use Rattle.lexical_writer.specs.declared.layout.WriteError.TheVariants as errors;
+
 use crate::form::{Exponent, Form, is_shown, least_places};
 use crate::layout::{Style, WriteError, allows_exponent};
 use crate::rounded::rounded;
@@ -15,13 +25,20 @@ struct Binary {
     power: u64,
     bits: u64,
     base_bits: u64,
+    ghost limits: { (number < 2 ^ 53) × (power < 4000) },
+    ghost radixes: { (1 ≤ bits) × (bits ≤ 5) × (1 ≤ base_bits) × (base_bits ≤ 5) },
+    ghost odd: { (number % 2 ≡ 1) ⊎ ((number ≡ 0) × (power ≡ 1200)) },
 }
 
 // What is added to the exponent of a power of two. Each number of bits of a digit divides it.
 const RAISED: u64 = 1200;
 
 // Returns a number over a power of two: the nearest, or the even one if two are as near.
-const fn cut(number: u64, down: u64) -> u64 {
+const fn cut(number: u64, down: u64) -> u64
+    requires { number < 2 ^ 62 }
+    ensures value { result ≡ rounded number (2 ^ down) }
+    ensures limit { result < 2 ^ 62 + 1 }
+{
     if down > 64 {
         return 0;
     }
@@ -30,7 +47,11 @@ const fn cut(number: u64, down: u64) -> u64 {
 
 impl Binary {
     // Returns a float in a radix and with an exponent base, if both are powers of two.
-    fn of(units: Units, radix: u32, base: u32) -> Option<Binary> {
+    fn of(units: Units, radix: u32, base: u32) -> Option<Binary>
+        ensures bits { IfSome result (λ it. (2 ^ it.bits ≡ radix) × (2 ^ it.base_bits ≡ base)) }
+        ensures value { IfSome result (λ it. it.number * 2 ^ it.power * 2 ^ 1074 ≡ units.size * 2 ^ units.scale * 2 ^ 1200) }
+        ensures some { (is_power_of_two radix && is_power_of_two base) ≡ is_some result }
+    {
         let bits = bits_of(radix)? as u64;
         let base_bits = bits_of(base)? as u64;
         let (number, power) = if units.size == 0 {
@@ -49,7 +70,12 @@ impl Binary {
 
     // Returns the number over a power of two, in units of the last of so many digits behind the point, as a number with zeros behind its
     // digits.
-    fn units(&self, places: u64, low: u64) -> (u64, u64) {
+    fn units(&self, places: u64, low: u64) -> (u64, u64)
+        requires { (places ≤ 4000) × (low ≤ 4069) }
+        ensures value { result.0 * (2 ^ self.now.bits) ^ result.1
+            ≡ rounded (self.now.number * 2 ^ self.now.power * (2 ^ self.now.bits) ^ places) (2 ^ low) }
+        ensures limit { result.1 < 30000 }
+    {
         let power = self.power + self.bits * places;
         if power < low {
             return (cut(self.number, low - power), 0);
@@ -59,7 +85,14 @@ impl Binary {
     }
 
     // Returns how many digits are behind the point of the number over a power of two, if at least so many are wished.
-    fn places(&self, style: Style, least: usize, low: u64) -> u64 {
+    fn places(&self, style: Style, least: usize, low: u64) -> u64
+        requires { (least ≤ 255) × (low ≤ 4069) }
+        ensures least { least ≤ result }
+        ensures rounded { is_some style.decimals ≡ true → result ≡ least }
+        ensures exact { style.decimals ≡ None → low ≤ self.now.power + self.now.bits * result }
+        ensures last { least < result → self.now.power + self.now.bits * result < low + self.now.bits }
+        ensures limit { result ≤ 4000 }
+    {
         let needed = low.saturating_sub(self.power).div_ceil(self.bits);
         if style.decimals.is_some() {
             least as u64
@@ -69,7 +102,12 @@ impl Binary {
     }
 
     // Returns the exponent of two of the first bit.
-    fn top(&self) -> u64 {
+    fn top(&self) -> u64
+        ensures first { 0 < self.now.number → 2 ^ result ≤ self.now.number * 2 ^ self.now.power }
+        ensures below { self.now.number * 2 ^ self.now.power < 2 ^ (result + 1) }
+        ensures zero { self.now.number ≡ 0 → result ≡ 1200 }
+        ensures limit { result < 4064 }
+    {
         if self.number == 0 {
             RAISED
         } else {
@@ -78,7 +116,21 @@ impl Binary {
     }
 
     // Returns the exponent, plus that of which `RAISED` is the power of two.
-    fn exponent(&self, style: Style, places: u64) -> u64 {
+    fn exponent(&self, style: Style, places: u64) -> u64
+        requires { places ≤ 255 }
+        ensures plain { style.decimals ≡ None
+            → self.now.number * 2 ^ self.now.power < 2 ^ (result * self.now.base_bits) * 2 ^ self.now.base_bits }
+        ensures least { style.decimals ≡ None → 0 < self.now.number
+            → 2 ^ (result * self.now.base_bits) ≤ self.now.number * 2 ^ self.now.power }
+        ensures below { is_some style.decimals ≡ true
+            → rounded (self.now.number * 2 ^ self.now.power * (2 ^ self.now.bits) ^ places) (2 ^ (result * self.now.base_bits))
+            < 2 ^ self.now.base_bits * (2 ^ self.now.bits) ^ places }
+        ensures first { is_some style.decimals ≡ true → 0 < self.now.number → 2 ^ self.now.base_bits * (2 ^ self.now.bits) ^ places
+            ≤ rounded (self.now.number * 2 ^ self.now.power * 2 ^ self.now.base_bits * (2 ^ self.now.bits) ^ places)
+            (2 ^ (result * self.now.base_bits)) }
+        ensures zero { self.now.number ≡ 0 → result ≡ 1200 / self.now.base_bits }
+        ensures limit { result * self.now.base_bits ≤ 4064 + 5 }
+    {
         let exponent = self.top() / self.base_bits;
         if style.decimals.is_none() {
             return exponent;
@@ -90,7 +142,11 @@ impl Binary {
     }
 
     // Returns whether the number has more than 800 digits without an exponent.
-    fn is_long(&self, places: u64) -> bool {
+    fn is_long(&self, places: u64) -> bool
+        requires { places ≤ 4000 }
+        ensures { result ≡ (nat_lt 799 places || nat_le ((2 ^ self.now.bits) ^ 800)
+            (rounded (self.now.number * 2 ^ self.now.power * (2 ^ self.now.bits) ^ places) (2 ^ 1200))) }
+    {
         let (units, after) = self.units(places, RAISED);
         let size = (64 - units.leading_zeros() as u64).div_ceil(self.bits);
         places > 799 || size + after > 800
@@ -102,7 +158,13 @@ pub(crate) fn binary_form(
     units: Units,
     syntax: &Syntax,
     style: Style,
-) -> Result<(u64, Form), WriteError> {
+) -> Result<(u64, Form), WriteError>
+    requires { is_binary (bytes_of syntax.now.word) ≡ true }
+    ensures decided { IfOk result (λ it. (num : ℕ) × (den : ℕ) × (0 < den) × (num * 2 ^ 1074 ≡ units.size * 2 ^ units.scale * den)
+        × IsDecided syntax.now style num den it.1.places (it.0 * (raw syntax.now.word).byte layout.mantissa_radix ^ it.1.after) it.1.exponent) }
+    ensures long { IfErr result (λ error. (error ≡ errors.Long) × (allows_exponent syntax.now ≡ false)
+        × ((num : ℕ) × (den : ℕ) × (0 < den) × (num * 2 ^ 1074 ≡ units.size * 2 ^ units.scale * den) × IsLong syntax.now style num den)) }
+{
     let format = syntax.format().view();
     let Some(float) = Binary::of(units, format.mantissa_radix(), format.exponent_base()) else {
         return Err(WriteError::Radix);

@@ -45,7 +45,7 @@ fn is_same<F: Float>(size: F, negative: bool, value: F) -> bool
 #[inline(always)]
 pub(crate) fn is_read<F: Float>(value: F, negative: bool, decimal: Decimal) -> bool
     ensures { result ≡ true → F.value value ≡ round (format_of F.DOUBLE) negative
-        (decimal.digits * raised_up decimal.negative 10 decimal.exponent) (raised_down decimal.negative 10 decimal.exponent) }
+        (decimal.digits * raised_up decimal.negative 10 decimal.exponent) (10 ^ 0 * raised_down decimal.negative 10 decimal.exponent) }
 {
     let size = digits_to_float(decimal.digits, 0, decimal.negative, decimal.exponent);
     is_same(size, negative, value)
@@ -62,7 +62,11 @@ pub(crate) struct Exact {
 impl Exact {
     // Returns a float without its sign, which has no more twos below the line than it needs.
     #[inline(always)]
-    pub(crate) fn of(units: Units) -> Exact {
+    pub(crate) fn of(units: Units) -> Exact
+        ensures value { result.number * 2 ^ result.up * 2 ^ 1074 ≡ units.size * 2 ^ units.scale * 2 ^ result.down }
+        ensures odd { 0 < result.down → (result.up ≡ 0) × (result.number % 2 ≡ 1) }
+        ensures limits { (result.number < 2 ^ 53) × (result.up ≤ 971) × (result.down ≤ 1074) }
+    {
         if units.size == 0 {
             return Exact {
                 number: 0,

@@ -35,19 +35,29 @@ impl Exponent {
     }
 }
 
+// Returns an exponent as it is written, if it is shown.
+const fn power_in(exponent: Option<Exponent>) -> Option<Power<'static>> {
+    match exponent {
+        Some(exponent) => Some(exponent.power()),
+        None => None,
+    }
+}
+
+// Returns a fraction, if it has digits, of which there are as many as `places`.
+#[inline(always)]
+const fn fraction_in<'a>(places: usize, fraction: Source<'a>) -> Option<Source<'a>> {
+    if places > 0 {
+        Some(fraction)
+    } else {
+        None
+    }
+}
+
 // Returns digits in a form, as a number that is to be written.
 #[inline(always)]
 pub(crate) fn amount_in<'a>(negative: bool, digits: &'a [u8], form: Form) -> Amount<'a> {
     let (integer, fraction) = split(digits, form.after, form.places);
-    Amount {
-        negative,
-        integer,
-        fraction: if form.places > 0 { Some(fraction) } else { None },
-        exponent: match form.exponent {
-            Some(exponent) => Some(exponent.power()),
-            None => None,
-        },
-    }
+    Amount { negative, integer, fraction: fraction_in(form.places, fraction), exponent: power_in(form.exponent) }
 }
 
 // Returns whether an exponent of this size is shown, of a float that is far from 1 or not, and long without an exponent or not.
@@ -55,14 +65,18 @@ pub(crate) fn amount_in<'a>(negative: bool, digits: &'a [u8], form: Form) -> Amo
 pub(crate) fn is_shown(syntax: &Syntax, style: Style, size: u64, far: bool, long: bool) -> bool {
     let plain = style.decimals.is_none();
     allows_exponent(syntax)
-        && (long
-            || plain && needs_exponent(syntax)
-            || match style.exponent {
-                ExponentStyle::AsNumber => plain && far,
-                ExponentStyle::Never => false,
-                ExponentStyle::Always => true,
-                ExponentStyle::From(least) => size >= least as u64,
-            })
+        && (long || (plain && needs_exponent(syntax)) || is_wanted(style.exponent, size, plain && far))
+}
+
+// Returns whether an exponent is written by a wish.
+#[inline(always)]
+const fn is_wanted(wish: ExponentStyle, size: u64, far: bool) -> bool {
+    match wish {
+        ExponentStyle::AsNumber => far,
+        ExponentStyle::Never => false,
+        ExponentStyle::Always => true,
+        ExponentStyle::From(least) => size >= least as u64,
+    }
 }
 
 // Returns how many digits are behind the point at least, where an exponent is shown or not.
