@@ -10,3 +10,4 @@ mod FloatLemmas
 mod ChoiceLemmas
 mod RoundedLemmas
 mod AmountLemmas
+mod BinaryLemmas

@@ -1,0 +1,80 @@
+-- A float as an odd number times a power of two, and its digits in a radix that is a power of two.
+use Rattle.lexical_writer.proofs.Common.{ℕ, suc, zero, ◌≡◌, ◌+◌, ◌-◌, ◌*◌, ◌/◌, ◌%◌, ◌<◌, ◌≤◌, ◌^◌, ◌⊎◌, ap, arith, inl, inr, refl, sym, subst, ◌∙◌, one-le-pow}
+use Rattle.lexical_writer.proofs.Common.{pow-suc, pow-zero, mod-lt}
+use Rattle.std.proofs.Common.{div-add-mod', mul-pos, mul-lt-mul_of_pos_right, mul-le-mul_right}
+use native.Mathlib.Nat.{div-div-eq-div-mul}
+use lib.Count.{count_trailing_zeros, leading_top, under}
+use lib.Pow.{pow-add}
+use Rattle.lexical_writer.specs.Rounded.{rounded}
+use Rattle.lexical_writer.proofs.PlainLemmas.{pow_twice}
+use Rattle.lexical_writer.proofs.RoundedLemmas.{rounded_same, rounded_whole}
+
+powers : (m n k : ℕ) → m + n ≡ k → 2 ^ m * 2 ^ n ≡ 2 ^ k
+powers m n k is = sym (pow-add 2 m n) ∙ ap (λ n. 2 ^ n) is
+
+assoc : (a b c : ℕ) → a * b * c ≡ a * (b * c)
+assoc a b c = omega arith
+
+-- `IsOdd n t` holds if `n` is an odd number times two to the power of `t`.
+abbrev IsOdd : ℕ → ℕ → Type 0
+IsOdd n t = (n / 2 ^ t * 2 ^ t ≡ n) × (n / 2 ^ t % 2 ≡ 1)
+
+double : (n t : ℕ) → n % 2 ≡ 0 → IsOdd (n / 2) t → IsOdd n (suc t)
+double n t even is =
+    let over : n / 2 ^ suc t ≡ n / 2 / 2 ^ t = ap (λ p. n / p) (pow-suc 2 t ∙ turned (2 ^ t)) ∙ sym (div-div-eq-div-mul n 2 (2 ^ t)) in
+    (ap (λ m. m * 2 ^ suc t) over ∙ ap (λ p. n / 2 / 2 ^ t * p) (pow-suc 2 t) ∙ sym (assoc (n / 2 / 2 ^ t) (2 ^ t) 2) ∙ ap (λ m. m * 2) is.0
+    ∙ omega (arith, even),
+    ap (λ m. m % 2) over ∙ is.1)
+  where
+    turned : (p : ℕ) → p * 2 ≡ 2 * p
+    turned p = omega arith
+
+pub trailing : (k n : ℕ) → 0 < n → n < 2 ^ k → IsOdd n (count_trailing_zeros k n) × (count_trailing_zeros k n < k)
+unfolding count_trailing_zeros
+trailing zero n some small = absurd (omega (arith, some, small, pow-zero 2))
+trailing (suc k) n some small = go (n % 2) refl
+  where
+    half : n % 2 ≡ 0 → IsOdd (n / 2) (count_trailing_zeros k (n / 2)) × (count_trailing_zeros k (n / 2) < k)
+    half even = trailing k (n / 2) (omega (arith, even, some)) (omega (arith, small, pow-suc 2 k))
+
+    go : (d : ℕ) → n % 2 ≡ d → IsOdd n (under d (count_trailing_zeros k (n / 2))) × (under d (count_trailing_zeros k (n / 2)) < suc k)
+    go zero even = let h = half even in (double n (count_trailing_zeros k (n / 2)) even h.0, omega (arith, h.1))
+    go (suc d) odd =
+        let one : n / 2 ^ 0 ≡ n = omega arith in
+        ((ap (λ m. m * 2 ^ 0) one ∙ omega arith, ap (λ m. m % 2) one ∙ omega (arith, odd, mod-lt n {n = 2} (omega arith))), omega arith)
+
+-- The digits of a number over a power of two, where some of its bits are cut.
+pub cut_units : (n k b p low : ℕ) → k + b * p < low → rounded n (2 ^ (low - (k + b * p))) ≡ rounded (n * 2 ^ k * (2 ^ b) ^ p) (2 ^ low)
+cut_units n k b p low less =
+    let down = low - (k + b * p) in
+    rounded_same n (2 ^ down) (n * 2 ^ k * (2 ^ b) ^ p) (2 ^ low) (one-le-pow down 2 (omega arith)) (one-le-pow low 2 (omega arith))
+    (ap (λ q. n * q) (sym (powers (k + b * p) down low (omega (arith, less))) ∙ ap (λ q. q * 2 ^ down) (raised k b p)) ∙ regrouped n (2 ^ k) ((2 ^ b) ^ p) (2 ^ down))
+  where
+    raised : (k b p : ℕ) → 2 ^ (k + b * p) ≡ 2 ^ k * (2 ^ b) ^ p
+    raised k b p =
+        pow-add 2 k (b * p) ∙ ap (λ q. 2 ^ k * q) (ap (λ e. 2 ^ e) {x = b * p} {y = p * b} (omega arith) ∙ sym (pow_twice 2 b p))
+
+    regrouped : (n a b d : ℕ) → n * (a * b * d) ≡ n * a * b * d
+    regrouped n a b d = omega arith
+
+-- And where zeros come behind them.
+pub moved_units : (n k b p low : ℕ) → low ≤ k + b * p
+    → n * 2 ^ ((k + b * p - low) % b) * (2 ^ b) ^ ((k + b * p - low) / b) ≡ rounded (n * 2 ^ k * (2 ^ b) ^ p) (2 ^ low)
+moved_units n k b p low least =
+    let up = k + b * p - low in
+    let whole : n * 2 ^ (up % b) * (2 ^ b) ^ (up / b) ≡ n * 2 ^ up =
+    ap (λ q. n * 2 ^ (up % b) * q) (pow_twice 2 b (up / b)) ∙ assoc n (2 ^ (up % b)) (2 ^ (up / b * b))
+    ∙ ap (λ q. n * q) (powers (up % b) (up / b * b) up (omega (arith, div-add-mod' up b))) in
+    whole ∙ sym (rounded_whole (n * 2 ^ up) (2 ^ low) (n * 2 ^ k * (2 ^ b) ^ p) (one-le-pow low 2 (omega arith))
+    (assoc n (2 ^ k) ((2 ^ b) ^ p) ∙ ap (λ q. n * q) (ap (λ q. 2 ^ k * q) (pow_twice 2 b p) ∙ powers k (p * b) (k + b * p) (omega arith)
+    ∙ sym (powers up low (k + b * p) (omega (arith, least)))) ∙ sym (assoc n (2 ^ up) (2 ^ low))))
+
+-- The digits are exact where no bit is cut.
+pub moved_exact : (n k b p low : ℕ) → low ≤ k + b * p
+    → n * 2 ^ ((k + b * p - low) % b) * (2 ^ b) ^ ((k + b * p - low) / b) * 2 ^ low ≡ n * 2 ^ k * (2 ^ b) ^ p
+moved_exact n k b p low least =
+    let up = k + b * p - low in
+    ap (λ m. m * 2 ^ low) (ap (λ q. n * 2 ^ (up % b) * q) (pow_twice 2 b (up / b)) ∙ assoc n (2 ^ (up % b)) (2 ^ (up / b * b))
+    ∙ ap (λ q. n * q) (powers (up % b) (up / b * b) up (omega (arith, div-add-mod' up b))))
+    ∙ assoc n (2 ^ up) (2 ^ low) ∙ ap (λ q. n * q) (powers up low (k + b * p) (omega (arith, least)) ∙ sym (powers k (p * b) (k + b * p) (omega arith))
+    ∙ ap (λ q. 2 ^ k * q) (sym (pow_twice 2 b p))) ∙ sym (assoc n (2 ^ k) ((2 ^ b) ^ p))
