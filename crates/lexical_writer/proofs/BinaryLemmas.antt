@@ -2,7 +2,7 @@
 use Rattle.lexical_writer.proofs.Common.{ℕ, suc, zero, ◌≡◌, ◌+◌, ◌-◌, ◌*◌, ◌/◌, ◌%◌, ◌<◌, ◌≤◌, ◌^◌, ◌⊎◌, ap, arith, inl, inr, refl, sym, subst, ◌∙◌, one-le-pow}
 use Rattle.lexical_writer.proofs.Common.{pow-suc, pow-zero, mod-lt}
 use Rattle.std.proofs.Common.{div-add-mod', mul-pos, mul-lt-mul_of_pos_right, mul-le-mul_right}
-use native.Mathlib.Nat.{div-div-eq-div-mul}
+use native.Mathlib.Nat.{div-div-eq-div-mul, mul-div_cancel}
 use lib.Count.{count_trailing_zeros, leading_top, under}
 use lib.Pow.{pow-add}
 use Rattle.lexical_writer.specs.Rounded.{rounded}
@@ -78,3 +78,34 @@ moved_exact n k b p low least =
     ∙ ap (λ q. n * q) (powers (up % b) (up / b * b) up (omega (arith, div-add-mod' up b))))
     ∙ assoc n (2 ^ up) (2 ^ low) ∙ ap (λ q. n * q) (powers up low (k + b * p) (omega (arith, least)) ∙ sym (powers k (p * b) (k + b * p) (omega arith))
     ∙ ap (λ q. 2 ^ k * q) (sym (pow_twice 2 b p))) ∙ sym (assoc n (2 ^ k) ((2 ^ b) ^ p))
+
+-- A number is a multiple of fewer twos, too.
+pub fewer_twos : (n t z : ℕ) → n / 2 ^ t * 2 ^ t ≡ n → z ≤ t → n / 2 ^ z * 2 ^ z ≡ n
+fewer_twos n t z is less =
+    let q = n / 2 ^ t * 2 ^ (t - z) in
+    let whole : n ≡ q * 2 ^ z = sym is ∙ ap (λ p. n / 2 ^ t * p) (sym (powers (t - z) z t (omega (arith, less)))) ∙ sym (assoc (n / 2 ^ t) (2 ^ (t - z)) (2 ^ z)) in
+    let over : n / 2 ^ z ≡ q = ap (λ m. m / 2 ^ z) whole ∙ mul-div_cancel q (one-le-pow z 2 (omega arith)) in
+    ap (λ m. m * 2 ^ z) over ∙ sym whole
+
+-- A float as a number over a power of two, without the twos that it need not have.
+pub exact_value : (n s z least : ℕ) → n / 2 ^ z * 2 ^ z ≡ n → z ≤ least → least ≡ 1074 - s
+    → n / 2 ^ z * 2 ^ (s - 1074) * 2 ^ 1074 ≡ n * 2 ^ s * 2 ^ (least - z)
+exact_value n s z least is less same =
+    let m = n / 2 ^ z in
+    assoc m (2 ^ (s - 1074)) (2 ^ 1074) ∙ ap (λ p. m * p) (powers (s - 1074) 1074 (z + s + (least - z)) (omega (arith, less, same))
+    ∙ sym (powers (z + s) (least - z) (z + s + (least - z)) refl) ∙ ap (λ p. p * 2 ^ (least - z)) (sym (powers z s (z + s) refl)))
+    ∙ regrouped m (2 ^ z) (2 ^ s) (2 ^ (least - z)) ∙ ap (λ k. k * 2 ^ s * 2 ^ (least - z)) is
+  where
+    regrouped : (m a b c : ℕ) → m * (a * b * c) ≡ m * a * b * c
+    regrouped m a b c = omega arith
+
+-- A float as an odd number times a power of two.
+pub odd_value : (n s t : ℕ) → n / 2 ^ t * 2 ^ t ≡ n → n / 2 ^ t * 2 ^ (s + t + 1200 - 1074) * 2 ^ 1074 ≡ n * 2 ^ s * 2 ^ 1200
+odd_value n s t is =
+    let m = n / 2 ^ t in
+    assoc m (2 ^ (s + t + 1200 - 1074)) (2 ^ 1074) ∙ ap (λ p. m * p) (powers (s + t + 1200 - 1074) 1074 (t + s + 1200) (omega arith)
+    ∙ sym (powers (t + s) 1200 (t + s + 1200) refl) ∙ ap (λ p. p * 2 ^ 1200) (sym (powers t s (t + s) refl)))
+    ∙ regrouped m (2 ^ t) (2 ^ s) (2 ^ 1200) ∙ ap (λ k. k * 2 ^ s * 2 ^ 1200) is
+  where
+    regrouped : (m a b c : ℕ) → m * (a * b * c) ≡ m * a * b * c
+    regrouped m a b c = omega arith

@@ -8,6 +8,8 @@ use Rattle.std.proofs.lemmas.List.{take-append-drop}
 use Rattle.std.proofs.lemmas.List.Elements.{filter_map-append}
 use Rattle.std.proofs.Common.{IfSome, is_some, not, subst, unwrap_or, ◌⊎◌}
 use Rattle.std.proofs.lemmas.Bool.{false≢true}
+use Rattle.std.proofs.Common.{refl}
+use Rattle.lexical_literal.specs.Literal.{is_present}
 use Rattle.lexical_literal.specs.Notation.{lacks_options}
 use Rattle.lexical_writer.specs.declared.layout.Style.{Style}
 use lib.Ieee.{Float, Format, emax, low, prec, round}
@@ -20,7 +22,7 @@ use Rattle.lexical_literal.specs.Read.{exponent, mantissa}
 use Rattle.lexical_number.specs.Leading.{IsCutTo}
 use Rattle.lexical_value.specs.Float.{is_binary, is_decimal, nearest}
 use Rattle.lexical_value.specs.Value.{denominator, numerator, power, scale}
-use Rattle.lexical_writer.specs.Amount.{IsAmountOf, least_places, power_in, wished_places}
+use Rattle.lexical_writer.specs.Amount.{IsAmountOf, least_places, power_in, sign_in, size_in, wished_places}
 use Rattle.lexical_writer.specs.Layout.{HasNumber, given_fraction, given_power, no_power}
 use Rattle.lexical_writer.specs.declared.form.Exponent.{Exponent}
 use Rattle.lexical_writer.specs.declared.layout.Power.{Power}
@@ -72,6 +74,20 @@ all_digits radix k bytes all =
     let first = fewer radix (take k bytes) in
     let second = fewer radix (drop k bytes) in
     omega (arith, all, digits, whole, first, second)
+
+-- And up to an index.
+pub first_digits : (radix k : ℕ) (bytes : List ℕ) → length (digits_in radix bytes) ≡ length bytes
+    → length (digits_in radix (take k bytes)) ≡ length (take k bytes)
+first_digits radix k bytes all =
+    let digits = sym (ap length (cut_digits radix k bytes)) ∙ length-append (digits_in radix (take k bytes)) (digits_in radix (drop k bytes)) in
+    let whole = sym (ap length (take-append-drop k bytes)) ∙ length-append (take k bytes) (drop k bytes) in
+    let first = fewer radix (take k bytes) in
+    let second = fewer radix (drop k bytes) in
+    omega (arith, all, digits, whole, first, second)
+
+pub present : (digits : List ℕ) → 0 < length digits → is_present digits ≡ true
+present [] some = absurd (omega (arith, some))
+present (digit ∷ digits) some = refl
 
 -- `HasParts r l n places negative e` holds if the mantissa of `l` is `n` over the radix to the power of `places`, and its exponent is `e`.
 record HasParts (r : Record) (l : Literal) (n places : ℕ) (negative : Bool) (e : ℕ) : Type 0 where
@@ -134,28 +150,26 @@ some_denominator r l is =
     some false = omega arith
 
 -- The power of an exponent that is shown, or of none.
-pub powers_of : (base radix : ℕ) (exponent : Option Exponent) (power : Option Power) (negative : Bool) (e : ℕ) → power ≡ power_in exponent
-    → IfSome exponent (λ it. (it.negative ≡ negative) × (it.size ≡ e))
+powers_of : (base radix : ℕ) (exponent : Option Exponent) (power : Option Power) → power ≡ power_in exponent
     → (raised_up (unwrap_or power no_power).negative base (size_of radix (unwrap_or power no_power).source)
-    ≡ raised_up (is_some exponent && negative) base (if is_some exponent then e else 0))
+    ≡ raised_up (sign_in exponent) base (size_in exponent))
     × (raised_down (unwrap_or power no_power).negative base (size_of radix (unwrap_or power no_power).source)
-    ≡ raised_down (is_some exponent && negative) base (if is_some exponent then e else 0))
-powers_of base radix None power negative e is same =
+    ≡ raised_down (sign_in exponent) base (size_in exponent))
+powers_of base radix None power is =
     (ap (λ p. raised_up (unwrap_or p no_power).negative base (size_of radix (unwrap_or p no_power).source)) is,
     ap (λ p. raised_down (unwrap_or p no_power).negative base (size_of radix (unwrap_or p no_power).source)) is)
-powers_of base radix (Some it) power negative e is same =
-    (ap (λ p. raised_up (unwrap_or p no_power).negative base (size_of radix (unwrap_or p no_power).source)) is ∙ (λ i. raised_up (same.0 i) base (same.1 i)),
-    ap (λ p. raised_down (unwrap_or p no_power).negative base (size_of radix (unwrap_or p no_power).source)) is ∙ (λ i. raised_down (same.0 i) base (same.1 i)))
+powers_of base radix (Some it) power is =
+    (ap (λ p. raised_up (unwrap_or p no_power).negative base (size_of radix (unwrap_or p no_power).source)) is,
+    ap (λ p. raised_down (unwrap_or p no_power).negative base (size_of radix (unwrap_or p no_power).source)) is)
 
 -- The parts of a literal that is written for an amount.
 parts_of : (g : Grammar) (style : Style) (negative : Bool) (num den : ℕ) (amount : Amount) (l : Literal) → 2 ≤ (raw g.word).byte layout.mantissa_radix
     → (is : IsAmountOf g style negative num den amount) → HasNumber g amount l
-    → HasParts (raw g.word) l is.units is.places (is_some is.exponent && is.decided.negative) (if is_some is.exponent then is.decided.e else 0)
+    → HasParts (raw g.word) l is.units is.places (sign_in is.exponent) (size_in is.exponent)
 parts_of g style negative num den amount l two is has =
     let r = raw g.word in
-    let powers = powers_of (effective_exponent_base r) (effective_exponent_radix r) is.exponent amount.exponent is.decided.negative is.decided.e
-    is.shape.power is.decided.same in
-    has_parts g amount is.units is.places (if is_some is.exponent then is.decided.e else 0) (is_some is.exponent && is.decided.negative)
+    let powers = powers_of (effective_exponent_base r) (effective_exponent_radix r) is.exponent amount.exponent is.shape.power in
+    has_parts g amount is.units is.places (size_in is.exponent) (sign_in is.exponent)
     is.shape.number is.shape.places powers.0 powers.1 two l has
 
 -- A literal that is written for a fraction that is not rounded is read as the float nearest to it.
@@ -167,9 +181,9 @@ amount_nearest f g style negative num den amount l two supported some plain is h
     let r = raw g.word in
     let p = parts_of g style negative num den amount l two is has in
     let b = effective_exponent_base r in
-    let s = is_some is.exponent && is.decided.negative in
-    let e = if is_some is.exponent then is.decided.e else 0 in
-    let exact : is.units * (den * raised_up s b e) ≡ num * r.byte layout.mantissa_radix ^ is.places * raised_down s b e = is.decided.digits.exact plain in
+    let s = sign_in is.exponent in
+    let e = size_in is.exponent in
+    let exact : is.units * (den * raised_up s b e) ≡ num * r.byte layout.mantissa_radix ^ is.places * raised_down s b e = is.digits.exact plain in
     let above : numerator r.byte l ≡ is.units * p.factor * raised_up s b e = (λ i. p.mantissa i * p.up i) in
     let below : denominator r.byte l ≡ r.byte layout.mantissa_radix ^ is.places * p.factor * raised_down s b e = (λ i. p.scale i * p.down i) in
     round_same f negative num den (numerator r.byte l) (denominator r.byte l) some (some_denominator r l supported)
@@ -202,11 +216,11 @@ amount_rounded g style negative num den n amount l x two some decimals value is 
     let r = raw g.word in
     let p = parts_of g style negative num den amount l two is has in
     let b = effective_exponent_base r in
-    let s = is_some is.exponent && is.decided.negative in
-    let e = if is_some is.exponent then is.decided.e else 0 in
+    let s = sign_in is.exponent in
+    let e = size_in is.exponent in
     let unit = r.byte layout.mantissa_radix ^ is.places in
-    let decided : HasDecimals r l is.places num den =
-    ap (λ m. m * unit) p.mantissa ∙ turned is.units p.factor unit ∙ ap (λ m. m * (unit * p.factor)) is.decided.digits.units
+    let rounded_to : HasDecimals r l is.places num den =
+    ap (λ m. m * unit) p.mantissa ∙ turned is.units p.factor unit ∙ ap (λ m. m * (unit * p.factor)) is.digits.units
     ∙ sym (λ j. rounded (num * unit * p.down j) (den * p.up j) * p.scale j) in
     record {
       num = num;
@@ -214,7 +228,7 @@ amount_rounded g style negative num den n amount l x two some decimals value is 
       some = some;
       value = subst (λ sign. HasValue x sign num den) (sym (has.sign ∙ is.sign)) value;
       decimals = subst (λ k. HasDecimals r l k num den)
-          (decimals_are g style (is_some is.exponent) n is.places (is.units % r.byte layout.mantissa_radix) decimals is.decided.digits.last) decided;
+          (decimals_are g style (is_some is.exponent) n is.places (is.units % r.byte layout.mantissa_radix) decimals is.digits.last) rounded_to;
     }
   where
     turned : (n q u : ℕ) → n * q * u ≡ n * (u * q)

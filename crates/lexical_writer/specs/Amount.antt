@@ -107,22 +107,33 @@ abbrev pub asks : ExponentStyle → Bool
 asks (exponents.From n) = true
 asks _ = false
 
--- `IsDecided g style num den places units exponent` holds if `num` over `den` is written in `g` by `style` with these digits, of which
--- `places` are behind the point, and this exponent, or none.
-pub record IsDecided (g : Grammar) (style : Style) (num den places units : ℕ) (exponent : Option Exponent) : Type 0 where
+-- `sign_in exponent` and `size_in exponent` are the sign and the size of an exponent, or of 0 if none is shown.
+abbrev pub sign_in : Option Exponent → Bool
+sign_in None = false
+sign_in (Some exponent) = exponent.negative
+
+abbrev pub size_in : Option Exponent → ℕ
+size_in None = 0
+size_in (Some exponent) = exponent.size
+
+-- `HasDigits g style num den places units exponent` holds if `num` over `den` has these digits in `g` by `style`, of which `places` are
+-- behind the point, with this exponent, or none.
+abbrev pub HasDigits : Grammar → Style → ℕ → ℕ → ℕ → ℕ → Option Exponent → Type 0
+HasDigits g style num den places units exponent =
+    HasUnits (raw g.word) style.decimals (least_places g style (is_some exponent)) num den (sign_in exponent) (size_in exponent) places units
+
+-- `IsChosen g style num den exponent` holds if `num` over `den` is written in `g` by `style` with this exponent, or with none.
+pub record IsChosen (g : Grammar) (style : Style) (num den : ℕ) (exponent : Option Exponent) : Type 0 where
   -- The digits without an exponent.
-  pub plain_places : ℕ
-  pub plain_units : ℕ
-  pub plain : HasUnits (raw g.word) style.decimals (least_places g style false) num den false 0 plain_places plain_units
+  pub places : ℕ
+  pub units : ℕ
+  pub plain : HasDigits g style num den places units None
   -- The exponent, and whether it is shown.
   pub negative : Bool
   pub e : ℕ
-  pub shown : is_some exponent ≡ is_shown g style e (is_far (raw g.word) num den) (is_long (raw g.word) plain_places plain_units)
   pub first : allows_exponent g ≡ true → (is_some exponent || asks style.exponent) ≡ true → IsExponent (raw g.word) style.decimals num den negative e
+  pub shown : is_some exponent ≡ is_shown g style e (is_far (raw g.word) num den) (is_long (raw g.word) places units)
   pub same : IfSome exponent (λ it. (it.negative ≡ negative) × (it.size ≡ e))
-  -- The digits that are written.
-  pub digits : HasUnits (raw g.word) style.decimals (least_places g style (is_some exponent)) num den
-      (is_some exponent && negative) (if is_some exponent then e else 0) places units
 
 -- `HasShape r amount places units exponent` holds if `amount` has the digits of `units`, at least one of them before the point and
 -- `places` behind it, and this exponent, or none.
@@ -140,7 +151,7 @@ pub record IsAmountOf (g : Grammar) (style : Style) (negative : Bool) (num den :
   pub places : ℕ
   pub units : ℕ
   pub exponent : Option Exponent
-  pub decided : IsDecided g style num den places units exponent
+  pub digits : HasDigits g style num den places units exponent
   pub shape : HasShape (raw g.word) amount places units exponent
 
 -- `IsFloatOf f x g style layout` holds if `layout` is what is written for the float `x` of `f` by `style`: its amount, by the rules for
@@ -153,7 +164,7 @@ IsFloatOf f x g style layout = (negative : Bool) × (num : ℕ) × (den : ℕ) �
 pub record IsLong (g : Grammar) (style : Style) (num den : ℕ) : Type 0 where
   pub places : ℕ
   pub units : ℕ
-  pub digits : HasUnits (raw g.word) style.decimals (least_places g style false) num den false 0 places units
+  pub digits : HasDigits g style num den places units None
   pub long : is_long (raw g.word) places units ≡ true
 
 -- `float_error g style negative num den` is why no float with this value is written as a literal of `g`, whatever its digits are, or `None`.

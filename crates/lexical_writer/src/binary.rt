@@ -5,10 +5,8 @@ ghost use Rattle.lexical_util.specs.Layout as layout;
 ghost use Rattle.lexical_util.specs.Record.{bytes_of, effective_exponent_base, raw};
 ghost use Rattle.lexical_number.specs.Float.{is_power_of_two};
 ghost use Rattle.lexical_value.specs.Float.{is_binary};
-ghost use Rattle.lexical_writer.specs.Amount.{IsDecided, IsLong};
-ghost use Rattle.lexical_writer.specs.Layout.{allows_exponent};
+ghost use Rattle.lexical_writer.specs.Amount.{HasDigits};
 ghost use Rattle.lexical_writer.specs.Rounded.{rounded};
-ghost use Rattle.lexical_writer.specs.declared.layout.WriteError.TheVariants as errors;
 
 use crate::form::{Exponent, Form, is_shown, least_places};
 use crate::layout::{Style, WriteError, allows_exponent};
@@ -103,9 +101,6 @@ impl Binary {
 
     // Returns the exponent of two of the first bit.
     fn top(&self) -> u64
-        ensures first { 0 < self.now.number → 2 ^ result ≤ self.now.number * 2 ^ self.now.power }
-        ensures below { self.now.number * 2 ^ self.now.power < 2 ^ (result + 1) }
-        ensures zero { self.now.number ≡ 0 → result ≡ 1200 }
         ensures limit { result < 4064 }
     {
         if self.number == 0 {
@@ -118,17 +113,6 @@ impl Binary {
     // Returns the exponent, plus that of which `RAISED` is the power of two.
     fn exponent(&self, style: Style, places: u64) -> u64
         requires { places ≤ 255 }
-        ensures plain { style.decimals ≡ None
-            → self.now.number * 2 ^ self.now.power < 2 ^ (result * self.now.base_bits) * 2 ^ self.now.base_bits }
-        ensures least { style.decimals ≡ None → 0 < self.now.number
-            → 2 ^ (result * self.now.base_bits) ≤ self.now.number * 2 ^ self.now.power }
-        ensures below { is_some style.decimals ≡ true
-            → rounded (self.now.number * 2 ^ self.now.power * (2 ^ self.now.bits) ^ places) (2 ^ (result * self.now.base_bits))
-            < 2 ^ self.now.base_bits * (2 ^ self.now.bits) ^ places }
-        ensures first { is_some style.decimals ≡ true → 0 < self.now.number → 2 ^ self.now.base_bits * (2 ^ self.now.bits) ^ places
-            ≤ rounded (self.now.number * 2 ^ self.now.power * 2 ^ self.now.base_bits * (2 ^ self.now.bits) ^ places)
-            (2 ^ (result * self.now.base_bits)) }
-        ensures zero { self.now.number ≡ 0 → result ≡ 1200 / self.now.base_bits }
         ensures limit { result * self.now.base_bits ≤ 4064 + 5 }
     {
         let exponent = self.top() / self.base_bits;
@@ -144,8 +128,6 @@ impl Binary {
     // Returns whether the number has more than 800 digits without an exponent.
     fn is_long(&self, places: u64) -> bool
         requires { places ≤ 4000 }
-        ensures { result ≡ (nat_lt 799 places || nat_le ((2 ^ self.now.bits) ^ 800)
-            (rounded (self.now.number * 2 ^ self.now.power * (2 ^ self.now.bits) ^ places) (2 ^ 1200))) }
     {
         let (units, after) = self.units(places, RAISED);
         let size = (64 - units.leading_zeros() as u64).div_ceil(self.bits);
@@ -161,9 +143,7 @@ pub(crate) fn binary_form(
 ) -> Result<(u64, Form), WriteError>
     requires { is_binary (bytes_of syntax.now.word) ≡ true }
     ensures decided { IfOk result (λ it. (num : ℕ) × (den : ℕ) × (0 < den) × (num * 2 ^ 1074 ≡ units.size * 2 ^ units.scale * den)
-        × IsDecided syntax.now style num den it.1.places (it.0 * (raw syntax.now.word).byte layout.mantissa_radix ^ it.1.after) it.1.exponent) }
-    ensures long { IfErr result (λ error. (error ≡ errors.Long) × (allows_exponent syntax.now ≡ false)
-        × ((num : ℕ) × (den : ℕ) × (0 < den) × (num * 2 ^ 1074 ≡ units.size * 2 ^ units.scale * den) × IsLong syntax.now style num den)) }
+        × HasDigits syntax.now style num den it.1.places (it.0 * (raw syntax.now.word).byte layout.mantissa_radix ^ it.1.after) it.1.exponent) }
 {
     let format = syntax.format().view();
     let Some(float) = Binary::of(units, format.mantissa_radix(), format.exponent_base()) else {
