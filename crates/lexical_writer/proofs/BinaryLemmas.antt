@@ -1,7 +1,7 @@
 -- A float as an odd number times a power of two, and its digits in a radix that is a power of two.
 use Rattle.lexical_writer.proofs.Common.{ℕ, suc, zero, ◌≡◌, ◌+◌, ◌-◌, ◌*◌, ◌/◌, ◌%◌, ◌<◌, ◌≤◌, ◌^◌, ◌⊎◌, ap, arith, inl, inr, refl, sym, subst, ◌∙◌, one-le-pow}
 use Rattle.lexical_writer.proofs.Common.{pow-suc, pow-zero, mod-lt}
-use Rattle.std.proofs.Common.{div-add-mod', mul-pos, mul-lt-mul_of_pos_right, mul-le-mul_right}
+use Rattle.std.proofs.Common.{div-add-mod', eq-zero-or-pos, eq_of_mul-eq-mul_right, mul-pos}
 use native.Mathlib.Nat.{div-div-eq-div-mul, mul-div_cancel}
 use lib.Count.{count_trailing_zeros, leading_top, under}
 use lib.Pow.{pow-add}
@@ -109,3 +109,29 @@ odd_value n s t is =
   where
     regrouped : (m a b c : ℕ) → m * (a * b * c) ≡ m * a * b * c
     regrouped m a b c = omega arith
+
+-- An odd number times fewer twos than a digit has is no multiple of the radix.
+pub odd_left : (n u b : ℕ) → n % 2 ≡ 1 → u < b → 0 < n * 2 ^ u % 2 ^ b
+odd_left n u b odd less = elim (eq-zero-or-pos (n * 2 ^ u % 2 ^ b)) [
+  | inl none ↦
+      let q = n * 2 ^ u / 2 ^ b in
+      let whole : n * 2 ^ u ≡ q * 2 ^ b = omega (arith, div-add-mod' (n * 2 ^ u) (2 ^ b), none) in
+      let parts : q * 2 ^ b ≡ q * 2 ^ (b - u) * 2 ^ u = ap (λ p. q * p) (sym (powers (b - u) u b (omega (arith, less)))) ∙ sym (assoc q (2 ^ (b - u)) (2 ^ u)) in
+      let even : n ≡ q * 2 ^ (b - u) = eq_of_mul-eq-mul_right (2 ^ u) (one-le-pow u 2 (omega arith)) n (q * 2 ^ (b - u)) (whole ∙ parts) in
+      let half : 2 ^ (b - u) ≡ 2 ^ (b - u - 1) * 2 = ap (λ e. 2 ^ e) {x = b - u} {y = suc (b - u - 1)} (omega (arith, less)) ∙ pow-suc 2 (b - u - 1) in
+      let twice : q * 2 ^ (b - u) ≡ q * 2 ^ (b - u - 1) * 2 = ap (λ p. q * p) half ∙ sym (assoc q (2 ^ (b - u - 1)) 2) in
+      absurd (omega (arith, odd, even, twice))
+  | inr some ↦ some
+]
+
+-- Digits over the power of an exponent, by one that is over a power of two.
+pub over_power : (n up down low : ℕ) → 0 < up → 2 ^ 1200 * up ≡ 2 ^ low * down → rounded n (2 ^ low) ≡ rounded (n * down) (2 ^ 1200 * up)
+over_power n up down low some same =
+    rounded_same n (2 ^ low) (n * down) (2 ^ 1200 * up) (one-le-pow low 2 (omega arith)) (mul-pos (one-le-pow 1200 2 (omega arith)) some)
+    (ap (λ p. n * p) same ∙ turned n (2 ^ low) down)
+  where
+    turned : (n l d : ℕ) → n * (l * d) ≡ n * d * l
+    turned n l d = omega arith
+
+pub exact_power : (u n up down low : ℕ) → 2 ^ 1200 * up ≡ 2 ^ low * down → u * 2 ^ low ≡ n → u * (2 ^ 1200 * up) ≡ n * down
+exact_power u n up down low same is = ap (λ p. u * p) same ∙ sym (assoc u (2 ^ low) down) ∙ ap (λ m. m * down) is

@@ -3,9 +3,9 @@
 ghost use Rattle.std.specs.Prelude.{ℕ, ◌≡◌, ◌+◌, ◌-◌, ◌*◌, ◌/◌, ◌%◌, ◌^◌, ◌<◌, ◌≤◌, ◌&&◌, ◌||◌, ◌⊎◌, false, true, nat_lt, nat_le, is_some, None, Some, IfOk, IfErr, IfSome};
 ghost use Rattle.lexical_util.specs.Layout as layout;
 ghost use Rattle.lexical_util.specs.Record.{bytes_of, effective_exponent_base, raw};
-ghost use Rattle.lexical_number.specs.Float.{is_power_of_two};
+ghost use Rattle.lexical_number.specs.Float.{raised_down, raised_up};
 ghost use Rattle.lexical_value.specs.Float.{is_binary};
-ghost use Rattle.lexical_writer.specs.Amount.{HasDigits};
+ghost use Rattle.lexical_writer.specs.Amount.{HasDigits, sign_in, size_in};
 ghost use Rattle.lexical_writer.specs.Rounded.{rounded};
 
 use crate::form::{Exponent, Form, is_shown, least_places};
@@ -43,26 +43,37 @@ const fn cut(number: u64, down: u64) -> u64
     rounded(number as u128, 1 << down) as u64
 }
 
+// Returns a float as an odd number, or 0, times two to the power of what is returned, less 1200.
+fn odd_of(units: Units) -> (u64, u64)
+    ensures value { result.0 * 2 ^ result.1 * 2 ^ 1074 ≡ units.size * 2 ^ units.scale * 2 ^ 1200 }
+    ensures odd { (result.0 % 2 ≡ 1) ⊎ ((result.0 ≡ 0) × (result.1 ≡ 1200)) }
+    ensures limits { (result.0 < 2 ^ 53) × (result.1 < 4000) }
+{
+    if units.size == 0 {
+        return (0, RAISED);
+    }
+    let zeros = units.size.trailing_zeros() as u64;
+    (units.size >> (zeros % 64), units.scale + zeros + RAISED - 1074)
+}
+
 impl Binary {
     // Returns a float in a radix and with an exponent base, if both are powers of two.
     fn of(units: Units, radix: u32, base: u32) -> Option<Binary>
-        ensures bits { IfSome result (λ it. (2 ^ it.bits ≡ radix) × (2 ^ it.base_bits ≡ base)) }
+        ensures bits { IfSome result (λ it. (radix ≡ 2 ^ it.bits) × (base ≡ 2 ^ it.base_bits)) }
         ensures value { IfSome result (λ it. it.number * 2 ^ it.power * 2 ^ 1074 ≡ units.size * 2 ^ units.scale * 2 ^ 1200) }
-        ensures some { (is_power_of_two radix && is_power_of_two base) ≡ is_some result }
     {
-        let bits = bits_of(radix)? as u64;
-        let base_bits = bits_of(base)? as u64;
-        let (number, power) = if units.size == 0 {
-            (0, RAISED)
-        } else {
-            let zeros = units.size.trailing_zeros() as u64;
-            (units.size >> (zeros % 64), units.scale + zeros + RAISED - 1074)
+        let Some(bits) = bits_of(radix) else {
+            return None;
         };
+        let Some(base_bits) = bits_of(base) else {
+            return None;
+        };
+        let (number, power) = odd_of(units);
         Some(Binary {
             number,
             power,
-            bits,
-            base_bits,
+            bits: bits as u64,
+            base_bits: base_bits as u64,
         })
     }
 
@@ -133,6 +144,34 @@ impl Binary {
         let size = (64 - units.leading_zeros() as u64).div_ceil(self.bits);
         places > 799 || size + after > 800
     }
+
+    // Returns the digits of the number over a power of two, and how they are written with an exponent, or without one.
+    fn form(
+        &self,
+        syntax: &Syntax,
+        style: Style,
+        exponent: Option<Exponent>,
+        low: u64,
+    ) -> (u64, Form)
+        requires radix { (raw syntax.now.word).byte layout.mantissa_radix ≡ 2 ^ self.now.bits }
+        requires base { 0 < effective_exponent_base (raw syntax.now.word) }
+        requires low { low ≤ 4069 }
+        requires power { 2 ^ 1200 * raised_up (sign_in exponent) (effective_exponent_base (raw syntax.now.word)) (size_in exponent)
+            ≡ 2 ^ low * raised_down (sign_in exponent) (effective_exponent_base (raw syntax.now.word)) (size_in exponent) }
+        requires zero { self.now.number ≡ 0 → low ≤ 1200 }
+        ensures digits { HasDigits syntax.now style (self.now.number * 2 ^ self.now.power) (2 ^ 1200) result.1.places
+            (result.0 * (raw syntax.now.word).byte layout.mantissa_radix ^ result.1.after) result.1.exponent }
+        ensures exponent { result.1.exponent ≡ exponent }
+    {
+        let places = self.places(style, least_places(syntax, style, exponent.is_some()), low);
+        let (number, after) = self.units(places, low);
+        let form = Form {
+            after: after as usize,
+            places: places as usize,
+            exponent,
+        };
+        (number, form)
+    }
 }
 
 // Returns the digits of a float, and how they are written.
@@ -159,13 +198,9 @@ pub(crate) fn binary_form(
     let power = Exponent::of(exponent, RAISED / float.base_bits);
     let far = top + 4 * bits < RAISED || top >= RAISED + 16 * bits;
     let shown = is_shown(syntax, style, power.size, far, long);
-    let low = if shown { exponent * float.base_bits } else { RAISED };
-    let places = float.places(style, least_places(syntax, style, shown), low);
-    let (number, after) = float.units(places, low);
-    let form = Form {
-        after: after as usize,
-        places: places as usize,
-        exponent: if shown { Some(power) } else { None },
-    };
-    Ok((number, form))
+    Ok(if shown {
+        float.form(syntax, style, Some(power), exponent * float.base_bits)
+    } else {
+        float.form(syntax, style, None, RAISED)
+    })
 }

@@ -30,18 +30,26 @@ const fn cut(number: u64, down: u64) -> u64 {
     rounded(number as u128, 1 << down) as u64
 }
 
+// Returns a float as an odd number, or 0, times two to the power of what is returned, less 1200.
+fn odd_of(units: Units) -> (u64, u64) {
+    if units.size == 0 {
+        return (0, RAISED);
+    }
+    let zeros = units.size.trailing_zeros() as u64;
+    (units.size >> (zeros % 64), units.scale + zeros + RAISED - 1074)
+}
+
 impl Binary {
     // Returns a float in a radix and with an exponent base, if both are powers of two.
     fn of(units: Units, radix: u32, base: u32) -> Option<Binary> {
-        let bits = bits_of(radix)? as u64;
-        let base_bits = bits_of(base)? as u64;
-        let (number, power) = if units.size == 0 {
-            (0, RAISED)
-        } else {
-            let zeros = units.size.trailing_zeros() as u64;
-            (units.size >> (zeros % 64), units.scale + zeros + RAISED - 1074)
+        let Some(bits) = bits_of(radix) else {
+            return None;
         };
-        Some(Binary { number, power, bits, base_bits })
+        let Some(base_bits) = bits_of(base) else {
+            return None;
+        };
+        let (number, power) = odd_of(units);
+        Some(Binary { number, power, bits: bits as u64, base_bits: base_bits as u64 })
     }
 
     // Returns the number over a power of two, in units of the last of so many digits behind the point, as a number with zeros behind its
@@ -92,6 +100,14 @@ impl Binary {
         let size = (64 - units.leading_zeros() as u64).div_ceil(self.bits);
         places > 799 || size + after > 800
     }
+
+    // Returns the digits of the number over a power of two, and how they are written with an exponent, or without one.
+    fn form(&self, syntax: &Syntax, style: Style, exponent: Option<Exponent>, low: u64) -> (u64, Form) {
+        let places = self.places(style, least_places(syntax, style, exponent.is_some()), low);
+        let (number, after) = self.units(places, low);
+        let form = Form { after: after as usize, places: places as usize, exponent };
+        (number, form)
+    }
 }
 
 // Returns the digits of a float, and how they are written.
@@ -110,10 +126,9 @@ pub(crate) fn binary_form(units: Units, syntax: &Syntax, style: Style) -> Result
     let power = Exponent::of(exponent, RAISED / float.base_bits);
     let far = top + 4 * bits < RAISED || top >= RAISED + 16 * bits;
     let shown = is_shown(syntax, style, power.size, far, long);
-    let low = if shown { exponent * float.base_bits } else { RAISED };
-    let places = float.places(style, least_places(syntax, style, shown), low);
-    let (number, after) = float.units(places, low);
-    let form =
-        Form { after: after as usize, places: places as usize, exponent: if shown { Some(power) } else { None } };
-    Ok((number, form))
+    Ok(if shown {
+        float.form(syntax, style, Some(power), exponent * float.base_bits)
+    } else {
+        float.form(syntax, style, None, RAISED)
+    })
 }
