@@ -183,6 +183,35 @@ fn a_style_decides_on_the_exponent() {
     }
 }
 
+/// Writes a float with the exponent of the number, with one and with none, as std does.
+#[test]
+fn floats_are_written_as_std_writes_them() {
+    fn compare<F: Bits + Display>(value: F) {
+        let json = Language::JSON.forms()[0].syntax();
+        let plain = format!("{value}");
+        let never = if plain.contains('.') { plain } else { plain + ".0" };
+        for (wish, wanted) in [
+            (ExponentStyle::AsNumber, format!("{value:?}")),
+            (ExponentStyle::Always, format!("{value:e}")),
+            (ExponentStyle::Never, never),
+        ] {
+            match json.format_float(value, Style::PLAIN.exponent(wish)) {
+                Ok(text) => assert_eq!(text.to_string(), wanted, "{value:e}"),
+                Err(error) => {
+                    assert!(error == WriteError::Special && !wanted.contains(char::is_numeric), "{value:e}: {error}");
+                }
+            }
+        }
+    }
+    let state = &mut Random::new(20_261_132);
+    (-323..=308).for_each(|power| compare(format!("1e{power}").parse::<f64>().unwrap()));
+    (-45..=38).for_each(|power| compare(format!("1e{power}").parse::<f32>().unwrap()));
+    for _ in 0..10 * count() {
+        compare(float::<f64>(state));
+        compare(float::<f32>(state));
+    }
+}
+
 /// Rounds a float to so many digits behind the point, without an exponent and with one, as std does.
 fn is_rounded<F: Bits + Display>(value: F, places: usize) {
     let json = Language::JSON.forms()[0].syntax();

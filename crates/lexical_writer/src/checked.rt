@@ -45,7 +45,7 @@ fn is_same<F: Float>(size: F, negative: bool, value: F) -> bool
 #[inline(always)]
 pub(crate) fn is_read<F: Float>(value: F, negative: bool, decimal: Decimal) -> bool
     ensures { result ≡ true → F.value value ≡ round (format_of F.DOUBLE) negative
-        (decimal.digits * raised_up decimal.negative 10 decimal.exponent) (10 ^ 0 * raised_down decimal.negative 10 decimal.exponent) }
+        (decimal.digits * raised_up decimal.negative 10 decimal.exponent) (raised_down decimal.negative 10 decimal.exponent) }
 {
     let size = digits_to_float(decimal.digits, 0, decimal.negative, decimal.exponent);
     is_same(size, negative, value)
