@@ -12,3 +12,4 @@ mod RoundedLemmas
 mod AmountLemmas
 mod BinaryLemmas
 mod ShortLemmas
+mod DecimalLemmas
