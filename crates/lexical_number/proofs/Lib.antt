@@ -8,4 +8,3 @@ mod NearLemmas
 mod PowersLemmas
 mod ScalingLemmas
 mod TenLemmas
-pub mod ValueLemmas

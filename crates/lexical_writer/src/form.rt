@@ -1,65 +1,52 @@
-//! How the digits of a float are written: where its point is, and whether its exponent is shown.
+//! How the digits of a float are written.
 
-ghost use Rattle.std.specs.Prelude.{◌≡◌, ◌+◌, ◌-◌, ◌*◌, ◌^◌, ◌≤◌, ◌++◌, ℕ, true, is_some, length, nat_lt, unwrap_or};
+ghost use Rattle.std.specs.Prelude.{◌≡◌, ◌+◌, ◌*◌, ◌^◌, ◌<◌, ◌≤◌, ◌++◌, ℕ, if◌then◌else◌, false, is_some, length, nat_lt, unwrap_or};
 ghost use Rattle.std.specs.Int.Digits.{number_from_digits};
-ghost use Rattle.lexical_literal.specs.Literal.{is_present};
+ghost use Rattle.std.specs.Float.Ieee.{hid, ones};
+ghost use Rattle.lexical_number.specs.Float.{format_of, raised_down, raised_up};
 ghost use Rattle.lexical_number.specs.Number.{number, places as digit_count};
-ghost use Rattle.lexical_writer.specs.Amount.{is_shown, is_wanted, least_places, power_in};
-ghost use Rattle.lexical_writer.specs.Digits.{values_of};
-ghost use Rattle.lexical_writer.specs.Layout.{given_fraction};
+ghost use Rattle.lexical_writer.specs.Digits.{size_of, values_of};
+ghost use Rattle.lexical_writer.specs.Amount.{is_shown, is_wanted, least_places, power_if};
+ghost use Rattle.lexical_writer.specs.Layout.{given_fraction, given_power, no_power};
 ghost use Rattle.lexical_writer.specs.declared.run.Source.TheVariants as sources;
 
 use crate::float_digits::split;
 use crate::layout::{Amount, ExponentStyle, Power, Style, allows_exponent, needs_exponent};
 use crate::run::Source;
 use lexical_literal::syntax::Syntax;
+use lexical_number::shortest::{Decimal, shortest};
 
-// How digits are written: with zeros behind them, with a point before the last of all these digits, and with an exponent, if it is shown.
+// How the digits of a number are written: with zeros behind them, with a point before the last of all these digits, and with an
+// exponent, if it is shown.
 #[derive(Debug, Clone, Copy)]
 pub(crate) struct Form {
     pub(crate) after: usize,
     pub(crate) places: usize,
-    pub(crate) exponent: Option<Exponent>,
-}
-
-// An exponent, with its sign.
-#[derive(Debug, Clone, Copy)]
-pub(crate) struct Exponent {
+    // Whether the sign of the exponent is `-`.
     pub(crate) negative: bool,
-    pub(crate) size: u64,
+    pub(crate) exponent: u64,
+    pub(crate) shown: bool,
+    ghost limits: { (after < 4096) × (places < 4096) × (exponent < 4096) },
+    ghost hidden: { shown ≡ false → exponent ≡ 0 },
 }
 
-impl Exponent {
-    // Returns the difference of two numbers.
+impl Form {
+    // Returns the exponents above and below the line of a fraction, of a number of which the radix and the base are powers with
+    // these exponents.
     #[inline(always)]
-    pub(crate) const fn of(up: u64, down: u64) -> Exponent
-        ensures sign { result.negative ≡ nat_lt up down }
-        ensures size { result.size ≡ up - down + (down - up) }
+    pub(crate) const fn scales(self, radix: u64, base: u64) -> (u64, u64)
+        requires { (radix ≤ 5) × (base ≤ 5) }
+        ensures up { result.0 ≡ self.after * radix + (if self.negative then 0 else self.exponent * base) }
+        ensures down { result.1 ≡ self.places * radix + (if self.negative then self.exponent * base else 0) }
+        ensures limits { (result.0 < 2 ^ 20) × (result.1 < 2 ^ 20) }
     {
-        Exponent {
-            negative: up < down,
-            size: up.abs_diff(down),
+        let (up, down) = (self.after as u64 * radix, self.places as u64 * radix);
+        let exponent = self.exponent * base;
+        if self.negative {
+            (up, down + exponent)
+        } else {
+            (up + exponent, down)
         }
-    }
-
-    // Returns the exponent as it is written.
-    const fn power(self) -> Power<'static>
-        ensures { result ≡ record { negative = self.negative; source = sources.Number self.size } }
-    {
-        Power {
-            negative: self.negative,
-            source: Source::Number(self.size as u128),
-        }
-    }
-}
-
-// Returns an exponent as it is written, if it is shown.
-const fn power_in(exponent: Option<Exponent>) -> Option<Power<'static>>
-    ensures { result ≡ power_in exponent }
-{
-    match exponent {
-        Some(exponent) => Some(exponent.power()),
-        None => None,
     }
 }
 
@@ -73,6 +60,24 @@ const fn fraction_in<'a>(places: usize, fraction: Source<'a>) -> Option<Source<'
     if places > 0 { Some(fraction) } else { None }
 }
 
+// Returns the exponent of a form, if it is shown.
+#[inline(always)]
+const fn power_in(form: Form) -> Option<Power<'static>>
+    ensures up { (radix base : ℕ) → raised_up (unwrap_or result no_power).negative base (size_of radix (unwrap_or result no_power).source)
+        ≡ raised_up form.negative base form.exponent }
+    ensures down { (radix base : ℕ) → raised_down (unwrap_or result no_power).negative base (size_of radix (unwrap_or result no_power).source)
+        ≡ raised_down form.negative base form.exponent }
+    ensures power { result ≡ power_if form.shown form.negative form.exponent }
+{
+    if !form.shown {
+        return None;
+    }
+    Some(Power {
+        negative: form.negative,
+        source: Source::Number(form.exponent as u128),
+    })
+}
+
 // Returns digits in a form, as a number that is to be written.
 #[inline(always)]
 pub(crate) fn amount_in<'a>(negative: bool, digits: &'a [u8], form: Form) -> Amount<'a>
@@ -82,17 +87,19 @@ pub(crate) fn amount_in<'a>(negative: bool, digits: &'a [u8], form: Form) -> Amo
         ≡ number radix digits.entry.now * radix ^ form.after }
     ensures places { (radix : ℕ) → digit_count radix digits.entry.now ≡ length digits.entry.now
         → length (values_of radix (given_fraction result)) ≡ form.places }
+    ensures up { (radix base : ℕ) → raised_up (given_power result).negative base (size_of radix (given_power result).source)
+        ≡ raised_up form.negative base form.exponent }
+    ensures down { (radix base : ℕ) → raised_down (given_power result).negative base (size_of radix (given_power result).source)
+        ≡ raised_down form.negative base form.exponent }
     ensures some { is_some result.fraction ≡ nat_lt 0 form.places }
-    ensures integer { (radix : ℕ) → 2 ≤ radix → digit_count radix digits.entry.now ≡ length digits.entry.now
-        → is_present (values_of radix result.integer) ≡ true }
-    ensures power { result.exponent ≡ power_in form.exponent }
+    ensures power { result.exponent ≡ power_if form.shown form.negative form.exponent }
 {
     let (integer, fraction) = split(digits, form.after, form.places);
     Amount {
         negative,
         integer,
         fraction: fraction_in(form.places, fraction),
-        exponent: power_in(form.exponent),
+        exponent: power_in(form),
     }
 }
 
@@ -133,5 +140,48 @@ pub(crate) fn least_places(syntax: &Syntax, style: Style, shown: bool) -> usize
     match style.decimals {
         Some(decimals) => decimals as usize,
         None => (style.point || !shown) as usize,
+    }
+}
+
+// Returns the decimal number of a float with these bits. Programs have one copy of this.
+#[inline(never)]
+pub(crate) fn decimal_of(double: bool, size: u64) -> Decimal
+    requires { size < ones (format_of double) * hid (format_of double) }
+    ensures { result.exponent ≤ 340 }
+{
+    shortest(double, size)
+}
+
+// Returns the form of a decimal number of so many digits, times ten to an exponent.
+#[inline(always)]
+pub(crate) fn decimal_form(length: usize, decimal: Decimal, syntax: &Syntax, style: Style) -> Form
+    requires { (length ≤ 64) × (decimal.exponent ≤ 340) }
+{
+    let power = decimal.exponent as usize;
+    let (up, down) = if decimal.negative {
+        (0, power)
+    } else {
+        (power, 0)
+    };
+    let last = length.saturating_sub(1);
+    let (negative, exponent) = (up + last < down, (up + last).abs_diff(down) as u64);
+    let far = exponent > if negative { 4 } else { 15 };
+    if is_shown(syntax, style, exponent, far, false) {
+        let places = last.max(least_places(syntax, style, true));
+        return Form {
+            after: places - last,
+            places,
+            negative,
+            exponent,
+            shown: true,
+        };
+    }
+    let places = down.max(least_places(syntax, style, false));
+    Form {
+        after: up + places - down,
+        places,
+        negative: false,
+        exponent: 0,
+        shown: false,
     }
 }

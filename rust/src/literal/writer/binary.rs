@@ -1,11 +1,11 @@
 // Made by rust/tools/erase.py from crates/lexical_writer/src/binary.rt: change that file.
 
-//! The digits of a float in a radix that is a power of two.
+//! How a float is written in a radix that is a power of two.
 
 use crate::literal::syntax::Syntax;
 use crate::literal::value::number::scaling::bits_of;
 use crate::literal::value::number::shortest::Units;
-use crate::literal::writer::form::{is_shown, least_places, Exponent, Form};
+use crate::literal::writer::form::{is_shown, least_places, Form};
 use crate::literal::writer::layout::{allows_exponent, Style, WriteError};
 use crate::literal::writer::rounded::rounded;
 
@@ -35,8 +35,8 @@ fn odd_of(units: Units) -> (u64, u64) {
     if units.size == 0 {
         return (0, RAISED);
     }
-    let zeros = units.size.trailing_zeros() as u64;
-    (units.size >> (zeros % 64), units.scale + zeros + RAISED - 1074)
+    let zeros = units.size.trailing_zeros() as u64 % 64;
+    (units.size >> zeros, units.scale + zeros + RAISED - 1074)
 }
 
 impl Binary {
@@ -78,7 +78,7 @@ impl Binary {
         if self.number == 0 {
             RAISED
         } else {
-            self.power + 63 - self.number.leading_zeros() as u64
+            self.power + (63 - self.number.leading_zeros() as u64 % 64)
         }
     }
 
@@ -89,7 +89,7 @@ impl Binary {
             return exponent;
         }
         let (units, after) = self.units(places, exponent * self.base_bits);
-        let size = 64 - units.leading_zeros() as u64 + after * self.bits;
+        let size = 64 - units.leading_zeros() as u64 % 65 + after * self.bits;
         // The number can be rounded up to the base.
         exponent + (size > self.base_bits + self.bits * places) as u64
     }
@@ -97,20 +97,12 @@ impl Binary {
     // Returns whether the number has more than 800 digits without an exponent.
     fn is_long(&self, places: u64) -> bool {
         let (units, after) = self.units(places, RAISED);
-        let size = (64 - units.leading_zeros() as u64).div_ceil(self.bits);
+        let size = (64 - units.leading_zeros() as u64 % 65).div_ceil(self.bits);
         places > 799 || size + after > 800
-    }
-
-    // Returns the digits of the number over a power of two, and how they are written with an exponent, or without one.
-    fn form(&self, syntax: &Syntax, style: Style, exponent: Option<Exponent>, low: u64) -> (u64, Form) {
-        let places = self.places(style, least_places(syntax, style, exponent.is_some()), low);
-        let (number, after) = self.units(places, low);
-        let form = Form { after: after as usize, places: places as usize, exponent };
-        (number, form)
     }
 }
 
-// Returns the digits of a float, and how they are written.
+// Returns the digits of a float, and how they are written. If the style has a number of decimals, there are at most so many digits.
 pub(crate) fn binary_form(units: Units, syntax: &Syntax, style: Style) -> Result<(u64, Form), WriteError> {
     let format = syntax.format().view();
     let Some(float) = Binary::of(units, format.mantissa_radix(), format.exponent_base()) else {
@@ -123,12 +115,19 @@ pub(crate) fn binary_form(units: Units, syntax: &Syntax, style: Style) -> Result
     let (bits, top) = (float.bits, float.top());
     let least = least_places(syntax, style, true);
     let exponent = float.exponent(style, least as u64);
-    let power = Exponent::of(exponent, RAISED / float.base_bits);
+    let zero = RAISED / float.base_bits;
     let far = top + 4 * bits < RAISED || top >= RAISED + 16 * bits;
-    let shown = is_shown(syntax, style, power.size, far, long);
-    Ok(if shown {
-        float.form(syntax, style, Some(power), exponent * float.base_bits)
-    } else {
-        float.form(syntax, style, None, RAISED)
-    })
+    let shown = is_shown(syntax, style, exponent.abs_diff(zero), far, long);
+    let power = if shown { exponent } else { zero };
+    let low = (power * float.base_bits).min(4095);
+    let places = float.places(style, least_places(syntax, style, shown), low);
+    let (number, after) = float.units(places, low);
+    let form = Form {
+        after: after.min(4095) as usize,
+        places: places as usize,
+        negative: power < zero,
+        exponent: power.abs_diff(zero).min(4095),
+        shown,
+    };
+    Ok((number, form))
 }

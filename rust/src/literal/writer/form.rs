@@ -1,45 +1,37 @@
 // Made by rust/tools/erase.py from crates/lexical_writer/src/form.rt: change that file.
 
-//! How the digits of a float are written: where its point is, and whether its exponent is shown.
+//! How the digits of a float are written.
 
 use crate::literal::syntax::Syntax;
+use crate::literal::value::number::shortest::{shortest, Decimal};
 use crate::literal::writer::float_digits::split;
 use crate::literal::writer::layout::{allows_exponent, needs_exponent, Amount, ExponentStyle, Power, Style};
 use crate::literal::writer::run::Source;
 
-// How digits are written: with zeros behind them, with a point before the last of all these digits, and with an exponent, if it is shown.
+// How the digits of a number are written: with zeros behind them, with a point before the last of all these digits, and with an
+// exponent, if it is shown.
 #[derive(Debug, Clone, Copy)]
 pub(crate) struct Form {
     pub(crate) after: usize,
     pub(crate) places: usize,
-    pub(crate) exponent: Option<Exponent>,
-}
-
-// An exponent, with its sign.
-#[derive(Debug, Clone, Copy)]
-pub(crate) struct Exponent {
+    // Whether the sign of the exponent is `-`.
     pub(crate) negative: bool,
-    pub(crate) size: u64,
+    pub(crate) exponent: u64,
+    pub(crate) shown: bool,
 }
 
-impl Exponent {
-    // Returns the difference of two numbers.
+impl Form {
+    // Returns the exponents above and below the line of a fraction, of a number of which the radix and the base are powers with
+    // these exponents.
     #[inline(always)]
-    pub(crate) const fn of(up: u64, down: u64) -> Exponent {
-        Exponent { negative: up < down, size: up.abs_diff(down) }
-    }
-
-    // Returns the exponent as it is written.
-    const fn power(self) -> Power<'static> {
-        Power { negative: self.negative, source: Source::Number(self.size as u128) }
-    }
-}
-
-// Returns an exponent as it is written, if it is shown.
-const fn power_in(exponent: Option<Exponent>) -> Option<Power<'static>> {
-    match exponent {
-        Some(exponent) => Some(exponent.power()),
-        None => None,
+    pub(crate) const fn scales(self, radix: u64, base: u64) -> (u64, u64) {
+        let (up, down) = (self.after as u64 * radix, self.places as u64 * radix);
+        let exponent = self.exponent * base;
+        if self.negative {
+            (up, down + exponent)
+        } else {
+            (up + exponent, down)
+        }
     }
 }
 
@@ -53,11 +45,20 @@ const fn fraction_in<'a>(places: usize, fraction: Source<'a>) -> Option<Source<'
     }
 }
 
+// Returns the exponent of a form, if it is shown.
+#[inline(always)]
+const fn power_in(form: Form) -> Option<Power<'static>> {
+    if !form.shown {
+        return None;
+    }
+    Some(Power { negative: form.negative, source: Source::Number(form.exponent as u128) })
+}
+
 // Returns digits in a form, as a number that is to be written.
 #[inline(always)]
 pub(crate) fn amount_in<'a>(negative: bool, digits: &'a [u8], form: Form) -> Amount<'a> {
     let (integer, fraction) = split(digits, form.after, form.places);
-    Amount { negative, integer, fraction: fraction_in(form.places, fraction), exponent: power_in(form.exponent) }
+    Amount { negative, integer, fraction: fraction_in(form.places, fraction), exponent: power_in(form) }
 }
 
 // Returns whether an exponent of this size is shown, of a float that is far from 1 or not, and long without an exponent or not.
@@ -89,4 +90,26 @@ pub(crate) fn least_places(syntax: &Syntax, style: Style, shown: bool) -> usize 
         Some(decimals) => decimals as usize,
         None => (style.point || !shown) as usize,
     }
+}
+
+// Returns the decimal number of a float with these bits. Programs have one copy of this.
+#[inline(never)]
+pub(crate) fn decimal_of(double: bool, size: u64) -> Decimal {
+    shortest(double, size)
+}
+
+// Returns the form of a decimal number of so many digits, times ten to an exponent.
+#[inline(always)]
+pub(crate) fn decimal_form(length: usize, decimal: Decimal, syntax: &Syntax, style: Style) -> Form {
+    let power = decimal.exponent as usize;
+    let (up, down) = if decimal.negative { (0, power) } else { (power, 0) };
+    let last = length.saturating_sub(1);
+    let (negative, exponent) = (up + last < down, (up + last).abs_diff(down) as u64);
+    let far = exponent > if negative { 4 } else { 15 };
+    if is_shown(syntax, style, exponent, far, false) {
+        let places = last.max(least_places(syntax, style, true));
+        return Form { after: places - last, places, negative, exponent, shown: true };
+    }
+    let places = down.max(least_places(syntax, style, false));
+    Form { after: up + places - down, places, negative: false, exponent: 0, shown: false }
 }
