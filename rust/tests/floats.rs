@@ -189,7 +189,7 @@ fn floats_are_written_as_std_writes_them() {
     fn compare<F: Bits + Display>(value: F) {
         let json = Language::JSON.forms()[0].syntax();
         let plain = format!("{value}");
-        let never = if plain.contains('.') { plain } else { plain + ".0" };
+        let never = if plain.ends_with(char::is_numeric) && !plain.contains('.') { plain + ".0" } else { plain };
         for (wish, wanted) in [
             (ExponentStyle::AsNumber, format!("{value:?}")),
             (ExponentStyle::Always, format!("{value:e}")),

@@ -10,8 +10,8 @@ no_down : (negative : Bool) (base e : ℕ) → e ≡ 0 → 1 ≡ raised_down neg
 no_down true base e none = sym (ap (λ e. base ^ e) none ∙ pow-zero base)
 no_down false base e none = refl
 
-pub returns-then-form-eq0-clause-up : goal.returns-then-form-eq0-clause-up
-returns-then-form-eq0-clause-up c radix base = no_up c.args.form.negative base c.args.form.exponent c.if-form-eq0.true
+pub returns-then-not-form-clause-up : goal.returns-then-not-form-clause-up
+returns-then-not-form-clause-up c radix base = no_up c.args.form.negative base c.args.form.exponent (c.args.form.hidden c.if-not-form.true)
 
-pub returns-then-form-eq0-clause-down : goal.returns-then-form-eq0-clause-down
-returns-then-form-eq0-clause-down c radix base = no_down c.args.form.negative base c.args.form.exponent c.if-form-eq0.true
+pub returns-then-not-form-clause-down : goal.returns-then-not-form-clause-down
+returns-then-not-form-clause-down c radix base = no_down c.args.form.negative base c.args.form.exponent (c.args.form.hidden c.if-not-form.true)
