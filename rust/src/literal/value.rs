@@ -3,7 +3,8 @@
 use core::fmt::{self, Write};
 
 use crate::format_flags::Part;
-use crate::literal::plain::{At, Sums};
+use crate::literal::literal::Sums;
+use crate::literal::stop::Stopped;
 use crate::literal::{FloatKind, IntegerKind, Kind, Literal, Number, Sign, Special, Spelling, Syntax};
 
 mod error;
@@ -25,7 +26,7 @@ pub(crate) mod number {
     pub(crate) mod powers;
     pub(crate) mod scaling;
     pub(crate) mod shortest;
-    pub(crate) mod word;
+    pub(crate) mod small;
 }
 
 pub use error::{ParseError, Target, ValueError};
@@ -345,19 +346,19 @@ impl Syntax {
         // A decimal literal need not be in memory to have a value, unless its digits have to be looked at again. With up to 19
         // digits, a number fits 64 bits.
         if self.is_decimal() {
-            let counted = self.begin(true, text, false);
-            if self.is_whole(text, counted) {
-                if counted.sums.mantissa.digits <= 19 && counted.sums.exponent.digits <= 19 {
-                    if let Ok(value) = T::from_literal(self.literal(text, counted.counts, counted.sums)) {
+            let begun = self.begin(true, text, false);
+            if begun.is_whole(self, text) {
+                if begun.sums.mantissa.digits <= 19 && begun.sums.exponent.digits <= 19 {
+                    if let Ok(value) = T::from_literal(self.literal(text, begun.counts, begun.sums)) {
                         return Ok(value);
                     }
                 } else if T::TARGET.has_long_values() {
-                    if let Ok(value) = self.long_value(text, counted.counts, counted.sums) {
+                    if let Ok(value) = self.long_value(text, begun.counts, begun.sums) {
                         return Ok(value);
                     }
                 }
-            } else if counted.exact {
-                return self.refuse_value(text, counted.at);
+            } else if begun.exact {
+                return self.refuse_value(text, begun.at);
             }
         }
         self.parse_generally(text)
@@ -402,10 +403,10 @@ impl Syntax {
         Ok((Number::Literal { literal, form: 0 }.value()?, rest))
     }
 
-    // Returns why `text`, of which reading stopped at `at`, is not a literal.
+    // Returns why `text`, of which reading stopped at `stop`, is not a literal.
     #[cold]
-    fn refuse_value<T>(&self, text: &[u8], at: At) -> Result<T, ParseError> {
-        Ok(self.refuse(text, at)?)
+    fn refuse_value<T>(&self, text: &[u8], stop: Stopped) -> Result<T, ParseError> {
+        Ok(stop.refuse(self, text)?)
     }
 
     /// Returns whether literals have values of float types: whether the mantissa radix and the exponent base of the format
