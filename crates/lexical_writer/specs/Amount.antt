@@ -53,13 +53,16 @@ least_places g style shown = if lacks_options g.options then 0 else wished_place
 abbrev pub power_if : Bool → Bool → ℕ → Option Power
 power_if shown negative e = if shown then Some (record { negative = negative; source = sources.Number e }) else None
 
+-- `first_refusal sign fraction radix` is the error of the first of the three that is refused.
+abbrev pub first_refusal : Bool → Bool → Bool → Option WriteError
+first_refusal sign fraction radix =
+    if sign then Some errors.Negative else (if fraction then Some errors.Fraction else (if radix then Some errors.Radix else None))
+
 -- `float_error g style negative fraction` is why no float is written as a literal of `g`, whatever its digits are, or `None`: one that is
 -- below 0, or -0, if `negative` is true, and not whole if `fraction` is.
 abbrev pub float_error : Grammar → Style → Bool → Bool → Option WriteError
-float_error g style negative fraction =
-    if negative && has g.conditions conditions.NegativeSign then Some errors.Negative
-    else (if (lacks_options g.options && not (is_some style.decimals)) && fraction then Some errors.Fraction
-    else (if is_decimal (bytes_of g.word) || is_binary (bytes_of g.word) then None else Some errors.Radix))
+float_error g style negative fraction = first_refusal (negative && has g.conditions conditions.NegativeSign)
+    ((lacks_options g.options && not (is_some style.decimals)) && fraction) (not (is_decimal (bytes_of g.word) || is_binary (bytes_of g.word)))
 
 -- `IsWorth f decimals x negative num den` holds if `num` over `den`, with a minus sign if `negative` is true, is what is written of the
 -- float `x` of `f`: its value or, without a number of decimals, a number that is read as `x`.

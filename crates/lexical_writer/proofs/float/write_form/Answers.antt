@@ -70,24 +70,29 @@ returns-clause-amount g c plain =
     (ap (number_from_digits radix) c.requires.digits ∙ number_digits_of radix c.args.number two) in
     let some = some_radixes r supported in
     if_laid s c.args.style amount (λ layout. IsFloatOf f (g.F.Float.value c.args.value) s c.args.style layout) c.lay_out.result c.lay_out.ensures.parts
-    (λ layout is. (num, radix ^ form.places * down, mul-pos (one-le-pow form.places radix some.0) (some_down form.negative base form.exponent some.1), amount,
-    inr (plain, value ∙ ap (λ sign. round f sign num (radix ^ form.places * down)) (sym c.amount_in.ensures.sign)),
-    record {
-      negative = form.negative;
-      e = form.exponent;
-      shown = form.shown;
-      power = c.amount_in.ensures.power;
-      hidden = form.hidden;
-      places = form.places;
-      units = c.args.number * radix ^ form.after;
-      number = digits;
-      count = c.amount_in.ensures.places radix all;
-      some = c.amount_in.ensures.some;
-      exact = λ _. turned (c.args.number * radix ^ form.after) (radix ^ form.places) down up;
-      decimals = λ n is. absurd (false≢true (sym (ap is_some plain) ∙ ap is_some is));
-      rounded = λ n is. absurd (false≢true (sym (ap is_some plain) ∙ ap is_some is));
-    },
-    is))
+    (λ layout is. (
+      num,
+      radix ^ form.places * down,
+      mul-pos (one-le-pow form.places radix some.0) (some_down form.negative base form.exponent some.1),
+      amount,
+      inr (plain, value ∙ ap (λ sign. round f sign num (radix ^ form.places * down)) (sym c.amount_in.ensures.sign)),
+      record {
+        negative = form.negative;
+        e = form.exponent;
+        shown = form.shown;
+        power = c.amount_in.ensures.power;
+        hidden = form.hidden;
+        places = form.places;
+        units = c.args.number * radix ^ form.after;
+        number = digits;
+        count = c.amount_in.ensures.places radix all;
+        some = c.amount_in.ensures.some;
+        exact = λ _. turned (c.args.number * radix ^ form.after) (radix ^ form.places) down up;
+        decimals = λ n is. absurd (false≢true (sym (ap is_some plain) ∙ ap is_some is));
+        rounded = λ n is. absurd (false≢true (sym (ap is_some plain) ∙ ap is_some is));
+      },
+      is,
+    ))
   where
     turned : (n p d u : ℕ) → n * (p * d * u) ≡ n * u * p * d
     turned n p d u = omega arith
