@@ -15,7 +15,9 @@ is_hidden true none = absurd (false≢true none)
 is_hidden false none = refl
 
 pub returns-then-not-form-clause-up : goal.returns-then-not-form-clause-up
-returns-then-not-form-clause-up c radix base = no_up c.args.form.negative base c.args.form.exponent (c.args.form.hidden (is_hidden c.args.form.shown c.if-not-form.true))
+returns-then-not-form-clause-up c radix base =
+    no_up c.args.form.negative base c.args.form.exponent (c.args.form.hidden (is_hidden c.args.form.shown c.if-not-form.true))
 
 pub returns-then-not-form-clause-down : goal.returns-then-not-form-clause-down
-returns-then-not-form-clause-down c radix base = no_down c.args.form.negative base c.args.form.exponent (c.args.form.hidden (is_hidden c.args.form.shown c.if-not-form.true))
+returns-then-not-form-clause-down c radix base =
+    no_down c.args.form.negative base c.args.form.exponent (c.args.form.hidden (is_hidden c.args.form.shown c.if-not-form.true))
