@@ -16,7 +16,10 @@ use Rattle.lexical_literal.specs.Read.{exponent, mantissa}
 use Rattle.lexical_number.specs.Leading.{IsCutTo}
 use Rattle.lexical_value.specs.Float.{is_binary, is_decimal, nearest}
 use Rattle.lexical_value.specs.Value.{denominator, numerator, power, scale}
-use Rattle.lexical_writer.specs.Layout.{HasNumber, given_fraction, given_power}
+use Rattle.lexical_writer.specs.Layout.{HasNumber, IsLaidOut, given_fraction, given_power, laid_out, literal_of}
+use Rattle.lexical_writer.specs.declared.layout.Layout.{Layout}
+use Rattle.lexical_writer.specs.declared.layout.Style.{Style}
+use Rattle.lexical_writer.specs.declared.layout.WriteError.{WriteError}
 use Rattle.lexical_writer.specs.Rounded.{HasDecimals, rounded}
 use Rattle.lexical_writer.proofs.ConversionLemmas.{zero_scaled}
 use Rattle.lexical_writer.proofs.DigitLemmas.{zeros_number}
@@ -216,10 +219,10 @@ some_product : (m n : ℕ) → 0 < m → 0 < n → 0 < m * n
 some_product m n some more = grind arith
 
 -- Radixes in which floats are written are not 0.
-some_radixes : (r : Record) → (is_decimal r.byte || is_binary r.byte) ≡ true → (0 < r.byte layout.mantissa_radix) × (0 < effective_exponent_base r)
+pub some_radixes : (r : Record) → (is_decimal r.byte || is_binary r.byte) ≡ true → (0 < r.byte layout.mantissa_radix) × (0 < effective_exponent_base r)
 some_radixes r is = grind (arith, nat_tests)
 
-some_down : (negative : Bool) (b e : ℕ) → 0 < b → 0 < raised_down negative b e
+pub some_down : (negative : Bool) (b e : ℕ) → 0 < b → 0 < raised_down negative b e
 some_down true b e some = one-le-pow e b some
 some_down false b e some = omega arith
 
@@ -275,3 +278,9 @@ same_nearest f r l sign negative num places e is minus same =
 pub if_ok : {A E : Type 0} (P Q : A → Type 0) (result : Result A E) → ((x : A) → P x → Q x) → IfOk result P → IfOk result Q
 if_ok P Q (Ok x) follows holds = follows x holds
 if_ok P Q (Err error) follows holds = holds
+
+-- What follows from what a layout is.
+pub if_laid : (g : Grammar) (style : Style) (amount : Amount) (P : Layout → Type 0) (result : Result Layout WriteError) → IsLaidOut g style amount result
+    → ((layout : Layout) → literal_of layout ≡ laid_out g style amount → P layout) → IfOk result P
+if_laid g style amount P (Ok layout) is follows = follows layout is.1
+if_laid g style amount P (Err error) is follows = tt
