@@ -1,8 +1,7 @@
 #!/usr/bin/env python3
-"""Writes parts of peltzivar/__init__.py: the constants, enumerations, structures and calls of both headers, and the
-attributes of a view, the parameters of calls that take fields, and the languages, with their documentation in rust/src;
-and the calls of languages in peltzivar.h and in rust/capi, the numbers of conditions there, and those of setters and
-errors in peltzivar_words.h.
+"""Writes what is made of rust/src: in peltzivar/__init__.py the attributes of a view, the conditions and the documentation of
+languages, in peltzivar/_peltzivar.c the names of errors, in peltzivar.h and rust/capi the calls of languages, and in both
+headers the numbers of setters, errors and conditions. Writes the stub of the extension module, if that is built.
 
     c/make_python.py            writes each part between the lines `Made by make_python.py: PART` and `End`
     c/make_python.py --check    ends with status 1 if a part is not up to date
@@ -19,90 +18,13 @@ SETTERS = HERE.parent.joinpath("rust/src/format_builder/setters.rs").read_text()
 ERRORS = HERE.parent.joinpath("rust/src/error.rs").read_text()
 FORMAT = HERE.parent.joinpath("docs/FORMAT.md").read_text()
 LANGUAGES = HERE.parent.joinpath("rust/src/literal/language/tables.rs").read_text()
-CODE = " ".join(re.sub(r"/\*.*?\*/|^#.*?(?<!\\)$", "", HEADER, flags=re.S | re.M).split())
-# Two structures are named before they are defined.
-CODE = re.sub(r"(?<!typedef )struct (peltzivar_\w+) ({.*?});", r"typedef struct \2 \1;", re.sub(r"typedef struct (\w+) \1;", "", CODE))
+CODE = " ".join(re.sub(r"/\*.*?\*/|^#.*?$", "", HEADER, flags=re.S | re.M).split())
 PAGE_OF_LANGUAGES = HERE.parent.joinpath("docs/languages.py").read_text()
 LANGUAGE_NAMES = re.findall(r"^    (\w+) = \{", LANGUAGES, re.M)
-STRUCTS = {name: f"_{name[10:].title().replace('_', '')}" for name in re.findall(r"} (peltzivar_\w+);", CODE)}
 # The setters, by the lowest bits of fields, and from 128 on by the order of groups.
 SET = [(name, int(bit)) for bit, name in re.findall(r"^\| (\d+)(?: to \d+)? \| `(\w+)` \|", FORMAT, re.M)]
 SET += [(name, number) for number, name in enumerate(re.findall(r"^\| `(\w+)` \| \d[\d ]* \|", FORMAT, re.M), 128)]
-TYPES = {"bool": "c_bool", "size_t": "c_size_t", "int64_t": "c_int64", "double": "c_double", "float": "c_float", **STRUCTS}
-TYPES |= {f"uint{bits}_t": f"c_uint{bits}" for bits in (8, 32, 64)}
-TYPES |= {name: TYPES[kind] for kind, name in re.findall(r"typedef (\w+) (\w+);", CODE)}
-POINTERS = {"char": "c_char_p", "void": "c_void_p", "peltzivar_forms": "c_void_p"}
-
-
-def defined(name):
-    return re.search(rf"^#define PELTZIVAR_{name} (.+)$", HEADER, re.M)[1]
-
-
-def enumeration(name, pattern, meaning, *lines):
-    members = sorted(re.findall(rf"\bPELTZIVAR_{pattern} = (\d+)", HEADER), key=lambda it: int(it[1]))
-    yield from ("", "", f"class {name}(_Named):", f'    """{meaning}"""', "")
-    yield from (f"    {member} = {number}" for member, number in members)
-    yield from lines
-
-
-def text(name, call, meaning):
-    """Returns the lines of a property that has the text of a call."""
-    head = ("", "    @property", f"    def {name}(self) -> str:", f'        """{meaning}"""')
-    return *head, f"        return str(_library.{call}(self.value).decode())"
-
-
-def argument(text):
-    kind, pointer, count = re.fullmatch(r"(?:const )?(\w+) (\*?)\w+(?:\[(\d+)\])?", text).groups()
-    kind = POINTERS.get(kind) or (f"POINTER({TYPES[kind]})" if pointer else TYPES[kind])
-    return f"{kind} * {count}" if count else kind
-
-
 SIGNS = re.search(r"Numbers have a sign in .*? it\.", PAGE_OF_LANGUAGES, re.S)[0]
-RULE = "`condition` is what a rule requires of a word."
-ERROR = "`description` is the sentence of an error in single quotes. Success is 0, and false."
-DESCRIPTION = text("description", "description", "The description of the error in single quotes.")
-DESCRIPTION += ("", "    def __bool__(self) -> bool:", "        return self is not Error.SUCCESS")
-CONDITION = text("condition", "rule_condition", "What the rule requires of a word.")
-
-
-def constants():
-    """Returns the lines."""
-    yield f'__version__ = {defined("VERSION")}'
-    low, high = re.findall(r"0x(\w+)", defined("STANDARD_INIT"))
-    yield f"_VERSION = {defined('VERSION_NUMBER')}"
-    yield f"STANDARD = 0x{high:>016}{low:>016}"
-    flags, others = re.fullmatch(r"\{UINT64_C\((\w+)\), (.*)\}", defined("NEW_FIELDS_INIT")).groups()
-    yield f"_NEW_FIELDS = ({flags}, {others})"
-    names = "FIELD_COUNT FORMS_MAX WORDS_MAX SOURCE_SIZE TEXT_SIZE NO_PART".split()
-    yield from (f"_{name} = {defined(name)}" for name in names)
-    yield f"_NO_DIGIT = {2**32 - 1}"
-    yield "_REFUSED = " + re.search(r"PELTZIVAR_VALUE_REFUSED = (\d+)", HEADER)[1]
-    yield "_WRITE_SPECIAL = " + re.search(r"PELTZIVAR_WRITE_SPECIAL = (\d+)", HEADER)[1]
-    for row in (
-        ("Setter", r"SET_(\w+)", "The setters. A member has the name of the setter in uppercase."),
-        ("Rule", r"RULE_(\w+)", f"The rules, in the order in which they are checked. {RULE}", *CONDITION),
-        ("Error", r"((?!SET_|RULE_|PART_|ROLE_|KIND_|SPELLING_|VALUE_|CONDITION_|WRITE_|STYLE_|INTEGERS_|FLOATS_)\w+)", f"The errors, and success. {ERROR}", *DESCRIPTION),
-        ("Part", r"PART_(\w+)", "The parts of a number that can have digit separators."),
-        ("Role", r"ROLE_((?!NONE)\w+)", "The roles of a byte in a number."),
-        ("ReadErrorKind", r"KIND_(\w+)", "The kinds of causes why a text is not a literal."),
-        ("Spelling", r"SPELLING_(\w+)", "The spellings of special values."),
-    ):
-        yield from enumeration(*row)
-    for body, struct in re.findall(r"typedef struct { (.*?) } (\w+);", CODE):
-        declared = re.findall(r"(?:const |PELTZIVAR_ALIGNED )?(\w+) ([\w, *\[\]]+);", body)
-        members = [(it, kind) for kind, names in declared for it in names.split(", ")]
-        yield from ("", "", f"class {STRUCTS[struct]}(Structure):", "    _fields_ = [")
-        named = ((re.sub(r"\[.*|\W", "", member), argument(f"{kind} {member}")) for member, kind in members)
-        yield from (f'        ("{name}", {kind}),' for name, kind in named)
-        yield "    ]"
-    yield from ("", "", "_CALLS: Dict[str, Tuple[Any, List[Any]]] = {")
-    # Python finds languages by their names.
-    for result, call, arguments in re.findall(r"(\w+ \*?)peltzivar_(?!language_[a-z_]+\(void)(\w+)\( ?([^()]*)\);", CODE):
-        kinds = [argument(it) for it in arguments.split(", ") if it != "void"]
-        yield f'    "{call}": ({argument(result + "result")}, [{", ".join(kinds)}]),'
-    yield "}"
-
-
 def attributes():
     """Returns the lines. Each attribute has the first paragraph of its setter's documentation."""
     documented = re.findall(r"((?:^ +///.*\n)+)(?: +#.*\n)* +pub const fn (\w+)\(", SETTERS, re.M)
@@ -114,27 +36,12 @@ def attributes():
         yield f'{name}: {kind} = _field("{meaning}")'
 
 
-def parameters():
-    """Returns the lines. `radix` is another name."""
-    for name, bit in [*SET, ("radix", 104)]:
-        number = "int" if bit == 104 else "Optional[int]"
-        kind = "bool" if not 64 <= bit < 128 else "Optional[Byte]" if bit < 104 else number
-        yield f"{name}: {kind} = _KEPT,"
-
-
 def conditions():
     """Returns the lines."""
-    syntax = re.search(r"uint8_t exponent, decimal_point; ([^{}]*) } peltzivar_syntax;", CODE)[1]
+    syntax = re.search(r"uint8_t exponent, decimal_point; ([^{}]*) }", CODE)[1]
     for kind, names in re.findall(r"(\w+) ([\w, ]+);", syntax):
         value = "bool = False" if kind == "bool" else "Optional[int] = None"
         yield from (f"{name}: {value}" for name in names.split(", "))
-
-
-def settings():
-    """Returns the lines. Options and conditions are no fields."""
-    yield from parameters()
-    yield from (f"{name}: Optional[Byte] = _KEPT," for name in ("exponent", "point"))
-    yield from (re.sub("= .*", "= _KEPT,", it) for it in conditions())
 
 
 def numbered(pairs):
@@ -152,6 +59,12 @@ def errors():
     variants = re.findall(r"^    (\w+)\b", re.search(r"^pub enum Error \{(.*?)^\}", ERRORS, re.M | re.S)[1], re.M)
     names = ["Success", *(it for it in variants if it != "Success")]
     return numbered((re.sub("(?<=[a-z])(?=[A-Z])", "_", it), number) for number, it in enumerate(names))
+
+
+def error_names():
+    """Returns the lines."""
+    names = " ".join(line.split()[0].replace("PELTZIVAR_", "") for line in errors())
+    return ['{"Error",', *(f' "{line} "' for line in textwrap.wrap(names, 110)), " , PELTZIVAR_SUCCESS},"]
 
 
 def condition_bits():
@@ -178,12 +91,42 @@ def languages():
     yield from ("", "`read(text)` returns a `Literal` of one of its forms, or a `Special`. Raises LiteralError if the text is neither.")
     yield "`read_prefix(text)` returns the longest literal that a text begins with, and the rest. Raises LiteralError if there"
     yield "is none. `forms` has the same forms, with the syntax of each by its name, and the spellings of NaN and infinity."
-    yield from ("", *textwrap.wrap(SIGNS, 115))
+    yield from ("", *textwrap.wrap(SIGNS, 115), "")
     for text, name, forms in documented:
         about = " ".join(text.replace("///", " ").replace("×", "*").split())
         names = "; ".join(re.findall(r'"([^"]+)":', forms))
-        yield from ("", *textwrap.wrap(f"{name}: {about} Forms: {names}.", 115, subsequent_indent="    "))
-    yield from ('"""', "", *(f'{name} = "{name}"' for _, name, _ in documented))
+        yield from textwrap.wrap(f"{name}: {about} Forms: {names}.", 115, subsequent_indent="    ")
+    yield '"""'
+
+
+def stub():
+    """Returns the text of the stub, from the imported module."""
+    sys.path.insert(0, str(HERE))
+    import peltzivar
+
+    calls, kinds = peltzivar._peltzivar, "Setter Rule Error Part Role ReadErrorKind Spelling Language".split()
+    lines = ["# Made by make_python.py from the imported module.", "from typing import Any, Optional, Union", ""]
+    lines += ["from . import Byte, Edit, _Error, _Language, _Named, _Rule"]
+    for kind in (calls.Reader, calls.Found):
+        lines += ["", f"class {kind.__name__}:"]
+        names = "; ".join(f"{name}:~Any" for name in sorted(vars(kind)) if name[0] == "_" != name[1])
+        lines += [f"    {it.strip('; ').replace('~', ' ')}" for it in textwrap.wrap(names, 114)]
+        lines += ["    def __float__(self) -> float: ..."] * ("__float__" in vars(kind))
+    for name in kinds:
+        kind = getattr(calls, name)
+        members = textwrap.wrap("; ".join(f"{it.name}~=~{it.value!r}" for it in kind), 114, break_on_hyphens=False)
+        lines += ["", f"class {name}({kind.__base__.__name__}):", *(f"    {it.strip('; ').replace('~', ' ')}" for it in members)]
+    bits = {**{name: bit for name, bit in SET}, "radix": 104}
+    types = {name: "bool" if not 64 <= bit < 128 else "Byte" if bit < 104 else "int" for name, bit in bits.items()}
+    types |= {name: kind.__name__ for name, kind in peltzivar._CONDITIONS.items()}
+    for call in ("fields", "settings"):
+        given = [(name, types.get(name, "Byte")) for name in getattr(calls, call)]
+        optional = {it for it, kind in given if kind != "bool" and bits.get(it) != 104}
+        shown = ", ".join(f"{it}:~{f'Optional[{kind}]' if it in optional else kind}~=~..." for it, kind in given)
+        lines += ["", f"def {call}(", "    *settings: Union[Edit, str],"]
+        lines += [it.replace("~", " ") for it in textwrap.wrap(shown + ",", 120, initial_indent="    ", subsequent_indent="    ")]
+        lines += [") -> Any: ..."]
+    return "\n".join(lines) + "\n"
 
 
 def made(text):
@@ -199,9 +142,16 @@ def made(text):
 
 if __name__ == "__main__":
     HEADER = made(HEADER)
-    for path in (*HEADERS, HERE.parent / "rust/capi/src/languages.rs", HERE / "peltzivar/__init__.py"):
+    paths = [*HEADERS, HERE.parent / "rust/capi/src/languages.rs"]
+    paths += [HERE / "peltzivar" / it for it in ("__init__.py", "_peltzivar.c", "_peltzivar.pyi")]
+    for path in paths:
         old = path.read_text()
+        try:
+            new = stub() if path.suffix == ".pyi" else made(old)
+        except ImportError as error:
+            print(f"{path} is left as it is: {error}. Run `make -C c` first.")
+            sys.exit("--check" in sys.argv[1:])
         if "--check" in sys.argv[1:]:
-            made(old) == old or sys.exit(f"run c/make_python.py: {path} is not up to date")
+            new == old or sys.exit(f"run c/make_python.py: {path} is not up to date")
         else:
-            path.write_text(made(old))
+            path.write_text(new)

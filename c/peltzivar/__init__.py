@@ -29,8 +29,7 @@ A format is a 128-bit word. It is lawful if it satisfies all rules. A `FormatVie
 one. In the repository, docs/FORMAT.md describes fields, rules and literals, and docs/C-AND-PYTHON.md this module. A
 value of a wrong type raises a TypeError, and another wrong value a ValueError.
 
-This module needs the shared library of peltzivar.h, but no other package. `make install` and pip install both. To use
-another library, set PELTZIVAR_LIBRARY to its path. If none is found, importing this module raises an ImportError.
+The calls are those of peltzivar.h, which the extension module beside this file has in it. It needs no other package.
 """
 
 from __future__ import annotations
@@ -40,22 +39,23 @@ import functools
 import inspect
 import math
 import operator
-import os
+import re
 import reprlib
 import sys
+import typing
 from array import array
-from ctypes import CDLL, POINTER, PyDLL, Structure, byref, c_bool, c_char_p, c_double, c_float, c_int64, c_size_t
-from ctypes import addressof, c_uint8, c_uint32, c_uint64, c_void_p, create_string_buffer, pointer, sizeof
 from dataclasses import dataclass, field
-from decimal import MAX_EMAX, MIN_EMIN, Context, Decimal, DecimalException, InvalidOperation, Overflow, Rounded, Subnormal
+from decimal import MAX_EMAX, MIN_EMIN, Context, Decimal, DecimalException, InvalidOperation, Overflow, Rounded, Subnormal, ROUND_05UP, ROUND_HALF_EVEN
 from enum import Enum
 from fractions import Fraction
-from itertools import accumulate, count, repeat, takewhile
-from pathlib import Path
-from struct import Struct
-from types import SimpleNamespace
-from typing import Any, AnyStr, Callable, Dict, Generic, Iterable, Iterator, List, Mapping, Optional, Sequence
-from typing import SupportsFloat, SupportsIndex, Tuple, Type, TypeVar, Union, cast
+from itertools import count
+from typing import Any, AnyStr, Callable, Concatenate, Dict, Generic, Iterable, Iterator, List, Mapping, Optional, ParamSpec
+from typing import Sequence, SupportsFloat, SupportsIndex, Tuple, Type, TypeVar, Union, cast
+
+from . import _peltzivar
+
+# The calls of C.
+_c: Any = _peltzivar
 
 __all__ = ["STANDARD", "Byte", "Column", "ColumnError", "Edit", "Error", "Format", "FormatError", "FormatView", "Forms"]
 __all__ += ["Kind", "Language", "Literal", "LiteralError", "Note", "OptionsError", "Part", "Parts", "ReadErrorKind", "Reason", "ReasonsError"]
@@ -67,559 +67,43 @@ class _Named(Enum):
         return self.name
 
 
-# Made by make_python.py: constants
-__version__ = "1.0.0"
-_VERSION = 0x010000
-STANDARD = 0x00000A0000000000000000000000000C
-_NEW_FIELDS = (0xC, 0, 0, 0, 10, 0, 0)
-_FIELD_COUNT = 37
-_FORMS_MAX = 64
-_WORDS_MAX = 256
-_SOURCE_SIZE = 2048
-_TEXT_SIZE = 256
-_NO_PART = 255
-_NO_DIGIT = 4294967295
-_REFUSED = 6
-_WRITE_SPECIAL = 6
-
-
-class Setter(_Named):
-    """The setters. A member has the name of the setter in uppercase."""
-
-    REQUIRED_INTEGER_DIGITS = 0
-    REQUIRED_FRACTION_DIGITS = 1
-    REQUIRED_EXPONENT_DIGITS = 2
-    REQUIRED_MANTISSA_DIGITS = 3
-    NO_POSITIVE_MANTISSA_SIGN = 4
-    REQUIRED_MANTISSA_SIGN = 5
-    NO_EXPONENT_NOTATION = 6
-    NO_POSITIVE_EXPONENT_SIGN = 7
-    REQUIRED_EXPONENT_SIGN = 8
-    NO_EXPONENT_WITHOUT_FRACTION = 9
-    NO_SPECIAL = 10
-    CASE_SENSITIVE_SPECIAL = 11
-    NO_INTEGER_LEADING_ZEROS = 12
-    NO_FLOAT_LEADING_ZEROS = 13
-    REQUIRED_EXPONENT_NOTATION = 14
-    CASE_SENSITIVE_EXPONENT = 15
-    CASE_SENSITIVE_BASE_PREFIX = 16
-    CASE_SENSITIVE_BASE_SUFFIX = 17
-    INTEGER_INTERNAL_DIGIT_SEPARATOR = 32
-    FRACTION_INTERNAL_DIGIT_SEPARATOR = 33
-    EXPONENT_INTERNAL_DIGIT_SEPARATOR = 34
-    INTEGER_LEADING_DIGIT_SEPARATOR = 35
-    FRACTION_LEADING_DIGIT_SEPARATOR = 36
-    EXPONENT_LEADING_DIGIT_SEPARATOR = 37
-    INTEGER_TRAILING_DIGIT_SEPARATOR = 38
-    FRACTION_TRAILING_DIGIT_SEPARATOR = 39
-    EXPONENT_TRAILING_DIGIT_SEPARATOR = 40
-    INTEGER_CONSECUTIVE_DIGIT_SEPARATOR = 41
-    FRACTION_CONSECUTIVE_DIGIT_SEPARATOR = 42
-    EXPONENT_CONSECUTIVE_DIGIT_SEPARATOR = 43
-    SPECIAL_DIGIT_SEPARATOR = 44
-    DIGIT_SEPARATOR = 64
-    BASE_PREFIX = 88
-    BASE_SUFFIX = 96
-    MANTISSA_RADIX = 104
-    EXPONENT_BASE = 112
-    EXPONENT_RADIX = 120
-    REQUIRED_DIGITS = 128
-    INTERNAL_DIGIT_SEPARATOR = 129
-    LEADING_DIGIT_SEPARATOR = 130
-    TRAILING_DIGIT_SEPARATOR = 131
-    CONSECUTIVE_DIGIT_SEPARATOR = 132
-    DIGIT_SEPARATOR_FLAGS = 133
-    INTEGER_DIGIT_SEPARATOR_FLAGS = 134
-    FRACTION_DIGIT_SEPARATOR_FLAGS = 135
-    EXPONENT_DIGIT_SEPARATOR_FLAGS = 136
-
-
-class Rule(_Named):
-    """The rules, in the order in which they are checked. `condition` is what a rule requires of a word."""
-
-    MANTISSA_RADIX_IN_RANGE = 1
-    EXPONENT_BASE_IN_RANGE = 2
-    EXPONENT_RADIX_IN_RANGE = 3
-    DIGIT_SEPARATOR_IS_PUNCTUATION = 4
-    BASE_PREFIX_IS_PUNCTUATION = 5
-    BASE_SUFFIX_IS_PUNCTUATION = 6
-    PUNCTUATION_DIFFERS = 7
-    EXPONENT_FLAGS_AGREE = 8
-    MANTISSA_SIGN_FLAGS_AGREE = 9
-    EXPONENT_SIGN_FLAGS_AGREE = 10
-    SPECIAL_CASE_FLAGS_AGREE = 11
-    SPECIAL_SEPARATOR_FLAGS_AGREE = 12
-    INTEGER_CONSECUTIVE_IS_ALLOWED = 13
-    FRACTION_CONSECUTIVE_IS_ALLOWED = 14
-    EXPONENT_CONSECUTIVE_IS_ALLOWED = 15
-    RESERVED_BITS_ARE_ZERO = 16
-
+class _Rule(_Named):
     @property
     def condition(self) -> str:
         """What the rule requires of a word."""
-        return str(_library.rule_condition(self.value).decode())
+        return str(_c.describe("rule", self.value))
 
 
-class Error(_Named):
-    """The errors, and success. `description` is the sentence of an error in single quotes. Success is 0, and false."""
-
-    SUCCESS = 0
-    OVERFLOW = 1
-    UNDERFLOW = 2
-    INVALID_DIGIT = 3
-    EMPTY = 4
-    EMPTY_MANTISSA = 5
-    EMPTY_EXPONENT = 6
-    EMPTY_INTEGER = 7
-    EMPTY_FRACTION = 8
-    INVALID_POSITIVE_MANTISSA_SIGN = 9
-    MISSING_MANTISSA_SIGN = 10
-    INVALID_EXPONENT = 11
-    INVALID_POSITIVE_EXPONENT_SIGN = 12
-    MISSING_EXPONENT_SIGN = 13
-    EXPONENT_WITHOUT_FRACTION = 14
-    INVALID_LEADING_ZEROS = 15
-    MISSING_EXPONENT = 16
-    MISSING_SIGN = 17
-    INVALID_POSITIVE_SIGN = 18
-    INVALID_NEGATIVE_SIGN = 19
-    INVALID_MANTISSA_RADIX = 20
-    INVALID_EXPONENT_BASE = 21
-    INVALID_EXPONENT_RADIX = 22
-    INVALID_DIGIT_SEPARATOR = 23
-    INVALID_DECIMAL_POINT = 24
-    INVALID_EXPONENT_SYMBOL = 25
-    INVALID_BASE_PREFIX = 26
-    INVALID_BASE_SUFFIX = 27
-    INVALID_PUNCTUATION = 28
-    INVALID_EXPONENT_FLAGS = 29
-    INVALID_MANTISSA_SIGN = 30
-    INVALID_EXPONENT_SIGN = 31
-    INVALID_SPECIAL = 32
-    INVALID_CONSECUTIVE_INTEGER_DIGIT_SEPARATOR = 33
-    INVALID_CONSECUTIVE_FRACTION_DIGIT_SEPARATOR = 34
-    INVALID_CONSECUTIVE_EXPONENT_DIGIT_SEPARATOR = 35
-    INVALID_FLAGS = 36
-    INVALID_NAN_STRING = 37
-    NAN_STRING_TOO_LONG = 38
-    INVALID_INF_STRING = 39
-    INF_STRING_TOO_LONG = 40
-    INVALID_INFINITY_STRING = 41
-    INFINITY_STRING_TOO_LONG = 42
-    INFINITY_STRING_TOO_SHORT = 43
-    INVALID_FLOAT_PARSE_ALGORITHM = 44
-    INVALID_RADIX = 45
-    INVALID_FLOAT_PRECISION = 46
-    INVALID_NEGATIVE_EXPONENT_BREAK = 47
-    INVALID_POSITIVE_EXPONENT_BREAK = 48
-
+class _Error(_Named):
     @property
     def description(self) -> str:
         """The description of the error in single quotes."""
-        return str(_library.description(self.value).decode())
+        return str(_c.describe("error", self.value))
 
     def __bool__(self) -> bool:
-        return self is not Error.SUCCESS
+        return bool(self.value)
 
 
-class Part(_Named):
-    """The parts of a number that can have digit separators."""
-
-    INTEGER = 0
-    FRACTION = 1
-    EXPONENT = 2
-
-
-class Role(_Named):
-    """The roles of a byte in a number."""
-
-    DIGIT = 1
-    SIGN = 2
-    SEPARATOR = 3
-    PREFIX = 4
-    SUFFIX = 5
-    EXPONENT = 6
-    POINT = 7
-
-
-class ReadErrorKind(_Named):
-    """The kinds of causes why a text is not a literal."""
-
-    REQUIREMENT = 1
-    SEPARATOR = 2
-    CASE = 3
-    BYTE = 4
-    MISSING = 5
-    SUFFIX = 6
-    POINT = 7
-    STOP = 8
-
-
-class Spelling(_Named):
-    """The spellings of special values."""
-
-    NAN = 1
-    INF = 2
-    INFINITY = 3
-
-
-class _ReadError(Structure):
-    _fields_ = [
-        ("magic", c_uint64),
-        ("valid_up_to", c_size_t),
-        ("form", c_uint8),
-        ("stop", c_uint64 * 13),
-    ]
-
-
-class _Span(Structure):
-    _fields_ = [
-        ("start", c_size_t),
-        ("end", c_size_t),
-    ]
-
-
-class _Literal(Structure):
-    _fields_ = [
-        ("magic", c_uint64),
-        ("text", c_char_p),
-        ("sign", _Span),
-        ("prefix", _Span),
-        ("integer", _Span),
-        ("point", _Span),
-        ("fraction", _Span),
-        ("exponent_character", _Span),
-        ("exponent_sign", _Span),
-        ("exponent", _Span),
-        ("suffix", _Span),
-        ("size", c_size_t),
-        ("is_float", c_bool),
-        ("form", c_uint8),
-        ("numbers", c_uint64 * 18),
-    ]
-
-
-class _Specials(Structure):
-    _fields_ = [
-        ("nan", c_char_p),
-        ("inf", c_char_p),
-        ("infinity", c_char_p),
-        ("reserved", c_uint8 * 8),
-    ]
-
-
-class _Special(Structure):
-    _fields_ = [
-        ("spelling", c_uint8),
-        ("sign", c_uint8),
-    ]
-
-
-class _I128(Structure):
-    _fields_ = [
-        ("low", c_uint64),
-        ("high", c_int64),
-    ]
-
-
-class _Token(Structure):
-    _fields_ = [
-        ("literal", _Literal),
-        ("suffix", _Span),
-        ("size", c_size_t),
-        ("rest", c_char_p),
-        ("reserved", c_uint64 * 2),
-    ]
-
-
-class _Style(Structure):
-    _fields_ = [
-        ("group", c_uint8),
-        ("fraction_group", c_uint8),
-        ("without_base", c_bool),
-        ("lowercase", c_bool),
-        ("keep_leading_zeros", c_bool),
-        ("min_digits", c_uint8),
-        ("exponent", c_uint8),
-        ("exponent_from", c_uint32),
-        ("point", c_bool),
-        ("has_decimals", c_bool),
-        ("decimals", c_uint8),
-        ("nearest", c_bool),
-        ("reserved", c_uint8 * 8),
-    ]
-
-
-class _Word(Structure):
-    _fields_ = [
-        ("low", c_uint64),
-        ("high", c_uint64),
-    ]
-
-
-class _Syntax(Structure):
-    _fields_ = [
-        ("format", _Word),
-        ("exponent", c_uint8),
-        ("decimal_point", c_uint8),
-        ("required_base_prefix", c_bool),
-        ("required_base_suffix", c_bool),
-        ("no_negative_mantissa_sign", c_bool),
-        ("integer_group_size", c_uint8),
-        ("higher_group_size", c_uint8),
-        ("fraction_group_size", c_uint8),
-        ("required_leading_zero", c_bool),
-        ("decimal_first_digit", c_bool),
-        ("reserved", c_uint8 * 6),
-    ]
-
-
-class _SuffixKind(Structure):
-    _fields_ = [
-        ("word", c_char_p),
-        ("integer_kind", c_uint8),
-        ("integer_bits", c_uint8),
-        ("float_kind", c_uint8),
-        ("reserved", c_uint8 * 5),
-    ]
-
-
-class _Stop(Structure):
-    _fields_ = [
-        ("last", c_char_p),
-        ("next", c_char_p),
-        ("second", c_char_p),
-        ("reserved", c_uint8 * 8),
-    ]
-
-
-class _Suffixes(Structure):
-    _fields_ = [
-        ("integers", c_char_p),
-        ("floats", c_char_p),
-        ("any", c_char_p),
-        ("kinds", POINTER(_SuffixKind)),
-        ("kind_count", c_size_t),
-        ("stops", POINTER(_Stop)),
-        ("stop_count", c_size_t),
-        ("either_case", c_bool),
-        ("reserved", c_uint8 * 7),
-    ]
-
-
-class _Form(Structure):
-    _fields_ = [
-        ("name", c_char_p),
-        ("syntax", _Syntax),
-        ("integer_kind", c_uint8),
-        ("integer_bits", c_uint8),
-        ("float_kind", c_uint8),
-        ("reserved", c_uint8 * 5),
-        ("suffixes", POINTER(_Suffixes)),
-    ]
-
-
-class _Tokens(Structure):
-    _fields_ = [
-        ("forms", POINTER(_Form)),
-        ("count", c_size_t),
-        ("following", c_char_p),
-        ("gives_points_back", c_bool),
-        ("reserved", c_uint8 * 7),
-    ]
-
-
-class _Forms(Structure):
-    _fields_ = [
-        ("forms", POINTER(_Form)),
-        ("count", c_size_t),
-        ("specials", _Specials),
-        ("language", c_void_p),
-        ("reserved", c_uint64 * 2),
-        ("tokens", POINTER(_Tokens)),
-    ]
-
-
-class _Explanation(Structure):
-    _fields_ = [
-        ("span", _Span),
-        ("index", c_size_t),
-        ("mask", _Word),
-        ("code", c_uint32),
-        ("kind", c_uint8),
-        ("number", c_uint8),
-        ("part", c_uint8),
-        ("reserved", c_uint8),
-        ("conditions", c_uint64),
-    ]
-
-
-class _Edit(Structure):
-    _fields_ = [
-        ("setter", c_uint8),
-        ("value", c_uint8),
-    ]
-
-
-class _Fields(Structure):
-    _fields_ = [
-        ("flags", c_uint64),
-        ("digit_separator", c_uint8),
-        ("base_prefix", c_uint8),
-        ("base_suffix", c_uint8),
-        ("mantissa_radix", c_uint8),
-        ("exponent_base", c_uint8),
-        ("exponent_radix", c_uint8),
-    ]
-
-
-class _Separators(Structure):
-    _fields_ = [
-        ("internal", c_bool),
-        ("leading", c_bool),
-        ("trailing", c_bool),
-        ("consecutive", c_bool),
-    ]
-
-
-_CALLS: Dict[str, Tuple[Any, List[Any]]] = {
-    "version": (c_uint32, []),
-    "language": (c_void_p, [c_char_p, c_size_t]),
-    "language_haskell_ghc2021": (c_void_p, []),
-    "language_yaml_1_1": (c_void_p, []),
-    "language_name": (c_char_p, [c_size_t]),
-    "parse_i64": (c_uint8, [c_void_p, c_char_p, c_size_t, POINTER(c_int64), POINTER(_ReadError)]),
-    "parse_u64": (c_uint8, [c_void_p, c_char_p, c_size_t, POINTER(c_uint64), POINTER(_ReadError)]),
-    "parse_f64": (c_uint8, [c_void_p, c_char_p, c_size_t, POINTER(c_double), POINTER(_ReadError)]),
-    "parse_f32": (c_uint8, [c_void_p, c_char_p, c_size_t, POINTER(c_float), POINTER(_ReadError)]),
-    "parse_error_text": (c_size_t, [c_uint8, POINTER(_ReadError), c_char_p, c_size_t]),
-    "value_description": (c_char_p, [c_uint8]),
-    "parse_i64_column": (c_size_t, [c_void_p, c_char_p, POINTER(c_int64), c_size_t, POINTER(c_int64), POINTER(c_uint8)]),
-    "parse_u64_column": (c_size_t, [c_void_p, c_char_p, POINTER(c_int64), c_size_t, POINTER(c_uint64), POINTER(c_uint8)]),
-    "parse_f64_column": (c_size_t, [c_void_p, c_char_p, POINTER(c_int64), c_size_t, POINTER(c_double), POINTER(c_uint8)]),
-    "parse_f32_column": (c_size_t, [c_void_p, c_char_p, POINTER(c_int64), c_size_t, POINTER(c_float), POINTER(c_uint8)]),
-    "forms_read": (c_bool, [c_void_p, c_char_p, c_size_t, POINTER(_Literal), POINTER(_ReadError)]),
-    "forms_read_prefix": (c_bool, [c_void_p, c_char_p, c_size_t, POINTER(_Literal), POINTER(_ReadError)]),
-    "forms_read_special": (c_bool, [c_void_p, c_char_p, c_size_t, POINTER(_Special)]),
-    "read": (c_bool, [POINTER(_Syntax), c_char_p, c_size_t, POINTER(_Literal), POINTER(_ReadError)]),
-    "read_prefix": (c_bool, [POINTER(_Syntax), c_char_p, c_size_t, POINTER(_Literal), POINTER(_ReadError)]),
-    "read_special": (c_bool, [POINTER(_Syntax), POINTER(_Specials), c_char_p, c_size_t, POINTER(_Special)]),
-    "to_i64": (c_uint8, [POINTER(_Literal), POINTER(c_int64)]),
-    "to_u64": (c_uint8, [POINTER(_Literal), POINTER(c_uint64)]),
-    "to_i128": (c_uint8, [POINTER(_Literal), POINTER(_I128)]),
-    "to_f64": (c_uint8, [POINTER(_Literal), POINTER(c_double)]),
-    "to_f32": (c_uint8, [POINTER(_Literal), POINTER(c_float)]),
-    "forms_token": (c_bool, [c_void_p, c_char_p, c_size_t, POINTER(_Token), POINTER(_ReadError)]),
-    "token_error_text": (c_size_t, [c_void_p, c_char_p, c_size_t, c_char_p, c_size_t]),
-    "forms_format_i64": (c_uint8, [c_void_p, c_int64, POINTER(_Style), c_char_p, c_size_t, POINTER(c_size_t)]),
-    "forms_format_u64": (c_uint8, [c_void_p, c_uint64, POINTER(_Style), c_char_p, c_size_t, POINTER(c_size_t)]),
-    "forms_format_i128": (c_uint8, [c_void_p, _I128, POINTER(_Style), c_char_p, c_size_t, POINTER(c_size_t)]),
-    "forms_format_f64": (c_uint8, [c_void_p, c_double, POINTER(_Style), c_char_p, c_size_t, POINTER(c_size_t)]),
-    "forms_format_literal": (c_uint8, [c_void_p, POINTER(_Literal), POINTER(_Style), c_char_p, c_size_t, POINTER(c_size_t)]),
-    "format_i64": (c_uint8, [POINTER(_Syntax), c_int64, POINTER(_Style), c_char_p, c_size_t, POINTER(c_size_t)]),
-    "format_u64": (c_uint8, [POINTER(_Syntax), c_uint64, POINTER(_Style), c_char_p, c_size_t, POINTER(c_size_t)]),
-    "format_i128": (c_uint8, [POINTER(_Syntax), _I128, POINTER(_Style), c_char_p, c_size_t, POINTER(c_size_t)]),
-    "format_f64": (c_uint8, [POINTER(_Syntax), c_double, POINTER(_Style), c_char_p, c_size_t, POINTER(c_size_t)]),
-    "format_literal": (c_uint8, [POINTER(_Syntax), POINTER(_Literal), POINTER(_Style), c_char_p, c_size_t, POINTER(c_size_t)]),
-    "format_special": (c_uint8, [POINTER(_Syntax), POINTER(_Specials), _Special, c_char_p, c_size_t, POINTER(c_size_t)]),
-    "write_description": (c_char_p, [c_uint8]),
-    "read_settings": (c_size_t, [c_char_p, c_size_t, POINTER(_Syntax)]),
-    "settings_text": (c_size_t, [c_char_p, c_size_t, c_size_t, c_char_p, c_size_t]),
-    "settings_lines": (c_size_t, [c_char_p, c_size_t, c_size_t, POINTER(c_size_t), c_size_t]),
-    "check_syntax": (c_uint32, [POINTER(_Syntax)]),
-    "syntax_error_text": (c_size_t, [POINTER(_Syntax), c_char_p, c_size_t]),
-    "sentence": (c_size_t, [POINTER(_Syntax), c_char_p, c_size_t]),
-    "grammar": (c_size_t, [POINTER(_Syntax), c_char_p, c_size_t]),
-    "regex": (c_size_t, [POINTER(_Syntax), c_char_p, c_size_t]),
-    "read_error_text": (c_size_t, [POINTER(_ReadError), c_char_p, c_size_t]),
-    "read_error_full_text": (c_size_t, [POINTER(_ReadError), c_char_p, c_size_t]),
-    "part_name": (c_char_p, [c_uint8]),
-    "explain": (c_bool, [POINTER(_ReadError), POINTER(_Explanation)]),
-    "build": (c_bool, [POINTER(_Edit), c_size_t, POINTER(_Word)]),
-    "edit_word": (c_bool, [_Word, POINTER(_Edit), c_size_t, POINTER(_Word)]),
-    "check": (c_uint32, [_Word]),
-    "normal_form": (_Word, [_Word]),
-    "same_format": (c_bool, [_Word, _Word]),
-    "migrate": (c_uint32, [_Word, POINTER(_Word)]),
-    "is_built": (c_bool, [_Word]),
-    "edits_of": (c_size_t, [_Word, POINTER(_Edit), c_size_t]),
-    "flag": (c_bool, [_Word, c_uint8]),
-    "parse_word": (c_uint32, [c_char_p, c_size_t, POINTER(_Word), POINTER(c_size_t)]),
-    "word_text": (c_size_t, [_Word, c_char_p, c_size_t]),
-    "source": (c_size_t, [_Word, c_char_p, c_size_t]),
-    "description": (c_char_p, [c_uint32]),
-    "error_text": (c_size_t, [c_uint32, c_size_t, c_char_p, c_size_t]),
-    "fields_of": (_Fields, [_Word]),
-    "edit_fields": (c_bool, [POINTER(_Fields), POINTER(_Edit), c_size_t]),
-    "pack": (_Word, [POINTER(_Fields)]),
-    "parse_edit": (c_bool, [c_char_p, c_size_t, POINTER(_Edit)]),
-    "parse_byte": (c_bool, [c_char_p, c_size_t, POINTER(c_uint8)]),
-    "setting_error_text": (c_size_t, [c_char_p, c_size_t, c_char_p, c_size_t]),
-    "edit_text": (c_size_t, [_Edit, c_char_p, c_size_t]),
-    "setter_name": (c_char_p, [c_uint8]),
-    "setter_of_name": (c_uint8, [c_char_p, c_size_t]),
-    "setter_mask": (_Word, [c_uint8]),
-    "reason_text": (c_size_t, [_Word, c_size_t, c_char_p, c_size_t]),
-    "reason_mask": (_Word, [_Word, c_size_t]),
-    "reason_rules": (c_uint32, [_Word, c_size_t]),
-    "rule_condition": (c_char_p, [c_uint32]),
-    "note_text": (c_size_t, [POINTER(_Fields), c_size_t, c_char_p, c_size_t]),
-    "note_mask": (_Word, [POINTER(_Fields), c_size_t]),
-    "check_options": (c_uint32, [_Word, c_uint8, c_uint8]),
-    "options_reason_text": (c_size_t, [_Word, c_uint8, c_uint8, c_size_t, c_char_p, c_size_t]),
-    "options_reason_mask": (_Word, [_Word, c_uint8, c_uint8, c_size_t]),
-    "options_reason_roles": (c_uint32, [_Word, c_uint8, c_uint8, c_size_t]),
-    "mantissa_digit": (c_uint32, [_Word, c_uint8]),
-    "exponent_digit": (c_uint32, [_Word, c_uint8]),
-    "separators_of": (_Separators, [_Word, c_uint8]),
-    "is_separator": (c_bool, [_Word, c_uint8]),
-    "is_base_prefix": (c_bool, [_Word, c_uint8]),
-    "is_base_suffix": (c_bool, [_Word, c_uint8]),
-    "role_of": (c_uint8, [_Word, c_uint8, c_uint8, c_uint8]),
-    "role_name": (c_char_p, [c_uint8]),
+# The enumerations: their documentation, and what they have beside their members, which C names.
+_ENUMERATIONS: Any = {
+    "Setter": (_Named, "The setters. A member has the name of the setter in uppercase."),
+    "Rule": (_Rule, "The rules, in the order in which they are checked. `condition` is what a rule requires of a word."),
+    "Error": (_Error, "The errors, and success. `description` is the sentence of an error in single quotes. Success is 0, and false."),
+    "Part": (_Named, "The parts of a number that can have digit separators."),
+    "Role": (_Named, "The roles of a byte in a number."),
+    "ReadErrorKind": (_Named, "The kinds of causes why a text is not a literal."),
+    "Spelling": (_Named, "The spellings of special values."),
 }
-# End
+for _name, (_kind, _doc) in _ENUMERATIONS.items():
+    _names, _first = _c.MEMBERS.get(_name, ([(it.upper(), number) for it, number in _c.SETTERS], 1))
+    _made: Any = _kind(_name, _names, start=_first, module=__name__)
+    _made.__doc__ = _doc
+    setattr(_c, _name, _made)
+from ._peltzivar import Error, Part, ReadErrorKind, Role, Rule, Setter, Spelling
 
-
-def _candidates() -> Iterable[str]:
-    """Returns the paths where the library may be: the given one, or those in the folder of this file, in the three
-    folders above it and where a checkout builds it, and then the names that the system's loader looks for."""
-    if given := os.environ.get("PELTZIVAR_LIBRARY"):
-        return [os.path.abspath(given)]
-    names = (f"libpeltzivar_c.so.{_VERSION >> 16}", "libpeltzivar_c.so")
-    folders = list(Path(__file__).resolve().parents)[:4]
-    folders += [top / built for top in folders[2:3] for built in ("rust/target/make/release", "target/release")]
-    return [*(str(it) for folder in folders for name in names if (it := folder / name).exists()), *names]
-
-
-def _load() -> Any:
-    """Loads the library, checks its version and returns its calls."""
-    why: List[str] = []
-    for path in _candidates():
-        try:
-            library = CDLL(path)
-            break
-        except OSError as error:
-            why.append(str(error))
-    else:
-        raise ImportError(
-            f"the shared library of peltzivar.h does not load ({why[0]}): name its path in PELTZIVAR_LIBRARY, "
-            f"put it beside {__file__}, or install it where the system's loader finds it. In a checkout, build it with "
-            "`make -C c`, or run a program outside c/, which hides an installed package"
-        )
-    version = getattr(library, "peltzivar_version", lambda: 0)()
-    if version >> 8 != _VERSION >> 8 or version < _VERSION:
-        found = ".".join(map(str, (version & 0xFFFFFF).to_bytes(3, "big")))
-        raise ImportError(f"{path} has version {found}, and this file {__version__}")
-    calls = SimpleNamespace(path=path)
-    for name, (result, arguments) in _CALLS.items():
-        call = getattr(library, f"peltzivar_{name}")
-        call.restype, call.argtypes = result, arguments
-        setattr(calls, name, call)
-    return calls
-
-
-_library = _load()
+__version__: str = _c.VERSION
+STANDARD: int = _c.STANDARD[1] << 64 | _c.STANDARD[0]
+_NO_PART = 255
 
 # A byte: a number from 0 to 255, or one ASCII character.
 Byte = Union[int, str, bytes]
@@ -627,29 +111,20 @@ Byte = Union[int, str, bytes]
 Value = Union[bool, Byte, None]
 Typed = TypeVar("Typed")
 View = TypeVar("View", bound="FormatView")
+Owner = TypeVar("Owner")
 Number = TypeVar("Number", int, float)
-Call = TypeVar("Call", bound=Callable[..., Any])
+Result = TypeVar("Result")
+P = ParamSpec("P")
 
 _RADIXES = (Setter.MANTISSA_RADIX, Setter.EXPONENT_BASE, Setter.EXPONENT_RADIX)
 _BYTES = (Setter.DIGIT_SEPARATOR, Setter.BASE_PREFIX, Setter.BASE_SUFFIX)
 _SETTERS = {**{it.name.lower(): it for it in Setter}, "radix": Setter.MANTISSA_RADIX}
 # The conditions of a syntax, with their types.
-_CONDITIONS: Dict[str, Any] = dict(_Syntax._fields_[3:-1])
+_CONDITIONS: Dict[str, Any] = {it: int if it.endswith("size") else bool for it in _c.CONDITIONS}
+# The names of the arguments that are fields, and of all settings.
+_c.fields = (*_SETTERS,)
+_c.settings = (*_SETTERS, "exponent", "point", *_CONDITIONS)
 _SETTING = "a str or an Edit (pass a list as `*settings`)"
-# The default of an argument whose field keeps its value.
-_KEPT: Any = ...
-
-
-def _text(call: Any, *arguments: Any, size: int = _TEXT_SIZE) -> str:
-    """Returns the text that a call writes."""
-    buffer = create_string_buffer(size)
-    call(*arguments, buffer, size)
-    return buffer.value.decode(errors="replace")
-
-
-def _texts(call: Any, *of: Any) -> Iterable[str]:
-    """Returns the texts that a call writes for the indices from 0 on."""
-    return takewhile(bool, (_text(call, *of, index) for index in count()))
 
 
 def _members(kind: Type[Any], bits: int) -> Tuple[Any, ...]:
@@ -657,15 +132,14 @@ def _members(kind: Type[Any], bits: int) -> Tuple[Any, ...]:
     return tuple(it for it in kind if bits >> it.value & 1)
 
 
-def _notes(fields: _Fields) -> Tuple[Note, ...]:
+def _notes(fields: Tuple[int, ...]) -> Tuple[Note, ...]:
     """Returns the notes on fields."""
-    texts = enumerate(_texts(_library.note_text, fields))
-    return tuple(Note(text, _joined(_library.note_mask(fields, index))) for index, text in texts)
+    return tuple(Note(text, _joined(mask)) for text, mask in _c.notes(fields))
 
 
-def _joined(halves: _Word) -> int:
+def _joined(halves: Tuple[int, int]) -> int:
     """Returns the word of two halves."""
-    return int(halves.high << 64 | halves.low)
+    return halves[1] << 64 | halves[0]
 
 
 def _typed(name: str, value: object, kind: Type[Typed], wanted: str = "") -> Typed:
@@ -704,29 +178,37 @@ def _encoded(name: str, text: object, wanted: str = "a str or bytes") -> bytes:
 def _refusal(setting: str) -> str:
     """Returns the reason why a setting is refused."""
     text, name = _encoded("a setting", setting), reprlib.repr(setting.partition("=")[0].strip(" \t\n\f\r"))
-    sentence = _text(_library.setting_error_text, text, len(text))
-    return sentence.replace("unknown setting name", f"unknown setting `{name[1:-1]}`")
+    return str(_c.setting_error(text)).replace("unknown setting name", f"unknown setting `{name[1:-1]}`")
 
 
-def _takes_fields(call: Call) -> Call:
+class _OfFields(Generic[P]):
+    """What type checkers take for a method that takes fields and returns an object of the class."""
+
+    def __get__(self, owner: Optional[Owner], kind: Type[Owner]) -> Callable[P, Owner]:
+        raise NotImplementedError
+
+
+def _takes(names: Callable[P, object]) -> Callable[[Callable[..., Result]], Callable[P, Result]]:
     """Makes a call pass its keyword arguments as settings, in order and behind its other settings."""
-    signature = inspect.signature(call)
-    others = [it for it in signature.parameters.values() if it.default is not _KEPT]
-    names = set(signature.parameters) - {it.name for it in others}
 
-    @functools.wraps(call)
-    def calling(*settings: Any, **fields: Any) -> Any:
-        for name in fields:
-            if name not in names:
-                setting = name.encode() + b"="
-                text = _settings_text(setting, 0) if "point" in names else _refusal(name + "=")
-                raise TypeError(f"{call.__name__}() got an unexpected keyword argument {name!r}: {text}")
-        return call(*settings, *(_setting(name, value) for name, value in fields.items()))
+    def made(call: Any) -> Any:
+        @functools.wraps(call)
+        def calling(*settings: Any, **fields: Any) -> Any:
+            for name in fields:
+                if name not in cast(Any, names):
+                    text = _c.settings_text(f"{name}=".encode()) if "point" in cast(Any, names) else _refusal(f"{name}=")
+                    raise TypeError(f"{call.__name__}() got an unexpected keyword argument {name!r}: {text}")
+            return call(*settings, *(_setting(name, value) for name, value in fields.items()))
 
-    # That which `help` shows. Type checkers see each field.
-    fields = inspect.Parameter("fields", inspect.Parameter.VAR_KEYWORD)
-    calling.__dict__["__signature__"] = signature.replace(parameters=[*others, fields])
-    return cast(Call, calling)
+        return calling
+
+    return made
+
+
+def _of(names: Callable[P, object]) -> Callable[[Callable[..., object]], _OfFields[P]]:
+    """Does the same for a method."""
+    made: Any = lambda call: classmethod(_takes(names)(call)) if call.__name__ == "of" else _takes(names)(call)
+    return cast(Callable[[Callable[..., object]], _OfFields[P]], made)
 
 
 def _setting(name: str, value: Value) -> Union[Edit, str]:
@@ -740,7 +222,7 @@ def _setting(name: str, value: Value) -> Union[Edit, str]:
 
 def _condition(name: str, value: Value) -> Optional[int]:
     """Returns the value of a condition, None for 0. Raises an error that names it if it does not take the value."""
-    if _CONDITIONS[name] is c_bool:
+    if _CONDITIONS[name] is bool:
         return _typed(name, value, bool)
     return None if value is None else _number(name, value) or None
 
@@ -759,10 +241,9 @@ class Edit:
     value: Union[bool, int, str, None]
 
     def __init__(self, text: str) -> None:
-        edit, setting = _Edit(), _encoded("a setting", _typed("a setting", text, str))
-        if not _library.parse_edit(setting, len(setting), edit):
+        if not (edit := _c.parse_edit(_encoded("a setting", _typed("a setting", text, str)))):
             raise ValueError(f"{text}: {_refusal(text)}")
-        vars(self).update(setter=Setter(edit.setter), value=_value(Setter(edit.setter), edit.value))
+        vars(self).update(setter=Setter(edit[0]), value=_value(Setter(edit[0]), edit[1]))
 
     @classmethod
     def of(cls, setter: Union[Setter, str], value: Value) -> Edit:
@@ -783,14 +264,14 @@ class Edit:
     @property
     def mask(self) -> int:
         """A mask of the bits of a word that the edit writes."""
-        return _joined(_library.setter_mask(self.setter.value))
+        return _joined(_c.describe("mask", self.setter.value))
 
-    def _numbers(self) -> _Edit:
-        return _Edit(self.setter.value, _number_of(self.setter, self.value))
+    def _numbers(self) -> Tuple[int, int]:
+        return self.setter.value, int(_number_of(self.setter, self.value))
 
     def __str__(self) -> str:
         """Returns NAME=VALUE."""
-        return _text(_library.edit_text, self._numbers())
+        return str(_c.describe("edit", *self._numbers()))
 
     def __repr__(self) -> str:
         return f"Edit({str(self)!r})"
@@ -903,28 +384,19 @@ class LiteralError(ValueError):
         """Makes all attributes when the first is asked for."""
         if name not in LiteralError.__annotations__:
             raise AttributeError(name)
-        (owner, self.text, stopped, *is_token), why = self.args, _Explanation()
-        _library.explain(stopped, why)
-        text, self.valid_up_to = self.text, stopped.valid_up_to
-        index = self.valid_up_to
-        calls = _library.read_error_text, _library.read_error_full_text
-        self.sentence, self.full_sentence = (_text(it, stopped) for it in calls)
-        if is_token and why.kind == ReadErrorKind.SUFFIX.value:
-            data = _bytes_of(text)
-            self.sentence = self.full_sentence = _text(_library.token_error_text, owner._forms, data, len(data))
-        if not (isinstance(text, bytes) or text[index : index + 1].isascii()) and why.kind == ReadErrorKind.BYTE.value:
-            self.sentence = self.full_sentence = f"unexpected character {text[index]!r}"
-        self.part = Part(why.part) if why.part != _NO_PART else None
-        # A token is read as UTF-8, and other texts up to the first character that is not ASCII.
-        end = _characters(text, why.span.end) if is_token and isinstance(text, str) else why.span.end
-        self.span, self.kind, self.mask = (why.span.start, end), ReadErrorKind(why.kind), _joined(why.mask)
-        self.conditions = tuple(it for bit, it in enumerate(_CONDITIONS) if why.conditions >> bit & 1)
-        self.error, self.form = Error(why.code), owner._listed[stopped.form][0]
+        owner, text, *start = self.args
+        at, is_bytes = start[0] if start else 0, isinstance(text, bytes)
+        sentence, full, valid, begin, end, kind, part, mask, code, form, bits = owner._explain(text, start[0] if start else -1)
+        self.text, self.valid_up_to, self.span = text, at + valid, (at + begin, at + end)
+        # Python shows each character, also one that a terminal does not.
+        wrong = "" if is_bytes else text[self.valid_up_to : self.valid_up_to + 1]
+        if not wrong.isascii() and kind == ReadErrorKind.BYTE.value:
+            sentence = full = f"unexpected character {wrong!r}"
+        self.sentence, self.full_sentence, self.kind, self.mask = sentence, full, ReadErrorKind(kind), _joined(mask)
+        self.part = Part(part) if part != _NO_PART else None
+        self.conditions = tuple(it for bit, it in enumerate(_CONDITIONS) if bits >> bit & 1)
+        self.error, self.form = Error(code), owner._listed[form][0]
         return vars(self)[name]
-
-    def __reduce__(self) -> Tuple[Any, ...]:
-        """Returns what reads the text again."""
-        return _Several._token_refusal if self.args[3:] else _Reader._refusal, self.args[:2]
 
     def __repr__(self) -> str:
         return f"LiteralError({self.sentence!r})"
@@ -952,8 +424,8 @@ class _Field:
         if view is None:
             return self
         if self._setter not in _BYTES + _RADIXES:
-            return bool(_library.flag(view._halves, self._setter.value))
-        byte = getattr(view._unpacked(), self._name)
+            return _c.flag(view._halves, self._setter.value)
+        byte = view._unpacked()[1 + (*_BYTES, *_RADIXES).index(self._setter)]
         return _value(self._setter, byte) if self._setter in _BYTES else byte
 
     def __set__(self, view: FormatView, value: Value) -> None:
@@ -1025,63 +497,10 @@ class FormatView:
 
     def __init__(self, word: int = STANDARD) -> None:
         self._word = _number("a format word", word, 1 << 128, "a number of at most 128 bits")
-        self._halves = _Word(self._word & (1 << 64) - 1, self._word >> 64)
+        self._halves = self._word & (1 << 64) - 1, self._word >> 64
 
-    @classmethod
-    @_takes_fields
-    def of(
-        cls: Type[View],
-        *settings: Union[Edit, str],
-        # Made by make_python.py: parameters
-        required_integer_digits: bool = _KEPT,
-        required_fraction_digits: bool = _KEPT,
-        required_exponent_digits: bool = _KEPT,
-        required_mantissa_digits: bool = _KEPT,
-        no_positive_mantissa_sign: bool = _KEPT,
-        required_mantissa_sign: bool = _KEPT,
-        no_exponent_notation: bool = _KEPT,
-        no_positive_exponent_sign: bool = _KEPT,
-        required_exponent_sign: bool = _KEPT,
-        no_exponent_without_fraction: bool = _KEPT,
-        no_special: bool = _KEPT,
-        case_sensitive_special: bool = _KEPT,
-        no_integer_leading_zeros: bool = _KEPT,
-        no_float_leading_zeros: bool = _KEPT,
-        required_exponent_notation: bool = _KEPT,
-        case_sensitive_exponent: bool = _KEPT,
-        case_sensitive_base_prefix: bool = _KEPT,
-        case_sensitive_base_suffix: bool = _KEPT,
-        integer_internal_digit_separator: bool = _KEPT,
-        fraction_internal_digit_separator: bool = _KEPT,
-        exponent_internal_digit_separator: bool = _KEPT,
-        integer_leading_digit_separator: bool = _KEPT,
-        fraction_leading_digit_separator: bool = _KEPT,
-        exponent_leading_digit_separator: bool = _KEPT,
-        integer_trailing_digit_separator: bool = _KEPT,
-        fraction_trailing_digit_separator: bool = _KEPT,
-        exponent_trailing_digit_separator: bool = _KEPT,
-        integer_consecutive_digit_separator: bool = _KEPT,
-        fraction_consecutive_digit_separator: bool = _KEPT,
-        exponent_consecutive_digit_separator: bool = _KEPT,
-        special_digit_separator: bool = _KEPT,
-        digit_separator: Optional[Byte] = _KEPT,
-        base_prefix: Optional[Byte] = _KEPT,
-        base_suffix: Optional[Byte] = _KEPT,
-        mantissa_radix: int = _KEPT,
-        exponent_base: Optional[int] = _KEPT,
-        exponent_radix: Optional[int] = _KEPT,
-        required_digits: bool = _KEPT,
-        internal_digit_separator: bool = _KEPT,
-        leading_digit_separator: bool = _KEPT,
-        trailing_digit_separator: bool = _KEPT,
-        consecutive_digit_separator: bool = _KEPT,
-        digit_separator_flags: bool = _KEPT,
-        integer_digit_separator_flags: bool = _KEPT,
-        fraction_digit_separator_flags: bool = _KEPT,
-        exponent_digit_separator_flags: bool = _KEPT,
-        radix: int = _KEPT,
-        # End
-    ) -> View:
+    @_of(_peltzivar.fields)
+    def of(cls: Any, *settings: Union[Edit, str], **fields: Value) -> FormatView:
         """Applies the settings and then the fields, in order, to the default fields, and returns a view of the word.
 
             FormatView.of(mantissa_radix=16, base_prefix="x")
@@ -1090,105 +509,50 @@ class FormatView:
         If no flag allows the digit separator, a `FormatView` drops it, and `notes_of` reports it. A `Format` raises a
         ValueError then, and a FormatError if the word is not lawful.
         """
-        return cls._packed(_Fields(*_NEW_FIELDS), settings)
+        return cast(FormatView, cls._packed(_c.NEW_FIELDS, settings))
 
     @classmethod
     def parse(cls: Type[View], text: str) -> View:
         """Parses `0x` followed by 1 to 32 hexadecimal digits. Raises ValueError if the text has another form."""
-        word, digits = _Word(), _encoded("a format word", _typed("a format word", text, str))
-        if error := _library.parse_word(digits, len(digits), word, None):
+        error, word = _c.parse_word(_encoded("a format word", _typed("a format word", text, str)))
+        if error:
             raise ValueError(f"{reprlib.repr(text)} is not a format word: {Error(error).description}")
         return cls(_joined(word))
 
     def mantissa_digit(self, byte: Byte) -> Optional[int]:
         """Returns the value of a byte as a digit of the integer or the fraction, or None if it is not one."""
-        digit = _library.mantissa_digit(self._halves, _byte("a byte", byte))
-        return None if digit == _NO_DIGIT else int(digit)
+        return cast(Optional[int], _c.mantissa_digit(self._halves, _byte("a byte", byte)))
 
     def exponent_digit(self, byte: Byte) -> Optional[int]:
         """Returns the value of a byte as a digit of the exponent, or None if it is not one."""
-        digit = _library.exponent_digit(self._halves, _byte("a byte", byte))
-        return None if digit == _NO_DIGIT else int(digit)
+        return cast(Optional[int], _c.exponent_digit(self._halves, _byte("a byte", byte)))
 
     def separators(self, part: Part) -> Separators:
         """Returns where a part of a number may have digit separators, such as `separators(Part.FRACTION).internal`."""
-        allowed = _library.separators_of(self._halves, _typed("part", part, Part).value)
-        return Separators(allowed.internal, allowed.leading, allowed.trailing, allowed.consecutive)
+        return Separators(*_c.separators_of(self._halves, _typed("part", part, Part).value))
 
     def is_separator(self, byte: Byte) -> bool:
         """Returns whether a byte is the digit separator, and some flag allows it."""
-        return bool(_library.is_separator(self._halves, _byte("a byte", byte)))
+        return bool(_c.is_separator(self._halves, _byte("a byte", byte)))
 
     def is_base_prefix(self, byte: Byte) -> bool:
         """Returns whether the base prefix matches a byte. A letter matches both cases unless it is case-sensitive."""
-        return bool(_library.is_base_prefix(self._halves, _byte("a byte", byte)))
+        return bool(_c.is_base_prefix(self._halves, _byte("a byte", byte)))
 
     def is_base_suffix(self, byte: Byte) -> bool:
         """Returns whether the base suffix matches a byte. A letter matches both cases unless it is case-sensitive."""
-        return bool(_library.is_base_suffix(self._halves, _byte("a byte", byte)))
+        return bool(_c.is_base_suffix(self._halves, _byte("a byte", byte)))
 
     def role_of(self, byte: Byte, *, exponent: Byte = 0, point: Byte = 0) -> Optional[Role]:
         """Returns the first role that a byte has in numbers with this exponent character and this decimal point, or
         None. An option that is 0 matches no byte. If this is a `Format` and the options fit it, no byte has two roles.
         """
         options = _byte("exponent", exponent), _byte("point", point)
-        role = _library.role_of(self._halves, *options, _byte("a byte", byte))
+        role = _c.role_of(self._halves, *options, _byte("a byte", byte))
         return Role(role) if role else None
 
-    @_takes_fields
-    def edit(
-        self: View,
-        *settings: Union[Edit, str],
-        # Made by make_python.py: parameters
-        required_integer_digits: bool = _KEPT,
-        required_fraction_digits: bool = _KEPT,
-        required_exponent_digits: bool = _KEPT,
-        required_mantissa_digits: bool = _KEPT,
-        no_positive_mantissa_sign: bool = _KEPT,
-        required_mantissa_sign: bool = _KEPT,
-        no_exponent_notation: bool = _KEPT,
-        no_positive_exponent_sign: bool = _KEPT,
-        required_exponent_sign: bool = _KEPT,
-        no_exponent_without_fraction: bool = _KEPT,
-        no_special: bool = _KEPT,
-        case_sensitive_special: bool = _KEPT,
-        no_integer_leading_zeros: bool = _KEPT,
-        no_float_leading_zeros: bool = _KEPT,
-        required_exponent_notation: bool = _KEPT,
-        case_sensitive_exponent: bool = _KEPT,
-        case_sensitive_base_prefix: bool = _KEPT,
-        case_sensitive_base_suffix: bool = _KEPT,
-        integer_internal_digit_separator: bool = _KEPT,
-        fraction_internal_digit_separator: bool = _KEPT,
-        exponent_internal_digit_separator: bool = _KEPT,
-        integer_leading_digit_separator: bool = _KEPT,
-        fraction_leading_digit_separator: bool = _KEPT,
-        exponent_leading_digit_separator: bool = _KEPT,
-        integer_trailing_digit_separator: bool = _KEPT,
-        fraction_trailing_digit_separator: bool = _KEPT,
-        exponent_trailing_digit_separator: bool = _KEPT,
-        integer_consecutive_digit_separator: bool = _KEPT,
-        fraction_consecutive_digit_separator: bool = _KEPT,
-        exponent_consecutive_digit_separator: bool = _KEPT,
-        special_digit_separator: bool = _KEPT,
-        digit_separator: Optional[Byte] = _KEPT,
-        base_prefix: Optional[Byte] = _KEPT,
-        base_suffix: Optional[Byte] = _KEPT,
-        mantissa_radix: int = _KEPT,
-        exponent_base: Optional[int] = _KEPT,
-        exponent_radix: Optional[int] = _KEPT,
-        required_digits: bool = _KEPT,
-        internal_digit_separator: bool = _KEPT,
-        leading_digit_separator: bool = _KEPT,
-        trailing_digit_separator: bool = _KEPT,
-        consecutive_digit_separator: bool = _KEPT,
-        digit_separator_flags: bool = _KEPT,
-        integer_digit_separator_flags: bool = _KEPT,
-        fraction_digit_separator_flags: bool = _KEPT,
-        exponent_digit_separator_flags: bool = _KEPT,
-        radix: int = _KEPT,
-        # End
-    ) -> View:
+    @_of(_peltzivar.fields)
+    def edit(self, *settings: Union[Edit, str], **fields: Value) -> FormatView:
         """Applies the settings and then the fields to the word, in order, and returns a view of the new word.
 
         Before that, the mantissa radix replaces an absent exponent base or exponent radix. After that, a separator that
@@ -1199,13 +563,11 @@ class FormatView:
 
     def edits(self) -> Tuple[Edit, ...]:
         """Returns an edit for each field of the word that differs from its default, in the order of the bits."""
-        edits = (_Edit * _FIELD_COUNT)()
-        changed = _library.edits_of(self._halves, edits, len(edits))
-        return tuple(Edit.of(Setter(it.setter), _value(Setter(it.setter), it.value)) for it in edits[:changed])
+        return tuple(Edit.of(Setter(it), _value(Setter(it), value)) for it, value in _c.edits_of(self._halves))
 
     def normal_form(self: View) -> View:
         """Returns the normal form of the word. Equivalent words have the same normal form."""
-        return type(self)(_joined(_library.normal_form(self._halves)))
+        return type(self)(_joined(_c.normal_form(self._halves)))
 
     def check(self) -> Format:
         """Returns the word as a `Format`. Raises FormatError if the word is not lawful."""
@@ -1213,21 +575,16 @@ class FormatView:
 
     def error(self) -> Error:
         """Returns the error of the first rule that the word breaks, or `Error.SUCCESS` if the word is lawful."""
-        return Error(_library.check(self._halves))
+        return Error(_c.check(self._halves))
 
     def reasons(self) -> Tuple[Reason, ...]:
         """Returns each reason why the word is not lawful."""
-        word = self._halves
-        masks = (_joined(_library.reason_mask(word, index)) for index in count())
-        rules = (_members(Rule, _library.reason_rules(word, index)) for index in count())
-        return tuple(map(Reason, _texts(_library.reason_text, word), masks, repeat(()), rules))
+        return tuple(Reason(text, _joined(mask), (), _members(Rule, bits)) for text, mask, bits in _c.reasons(self._halves))
 
     def options_reasons(self, exponent: Byte, point: Byte) -> Tuple[Reason, ...]:
         """Returns each reason why an exponent character and a decimal point do not fit the word."""
-        options = self._halves, _byte("exponent", exponent), _byte("point", point)
-        masks = (_joined(_library.options_reason_mask(*options, index)) for index in count())
-        roles = (_members(Role, _library.options_reason_roles(*options, index)) for index in count())
-        return tuple(map(Reason, _texts(_library.options_reason_text, *options), masks, repeat(()), repeat(()), roles))
+        found = _c.options_reasons(self._halves, _byte("exponent", exponent), _byte("point", point))
+        return tuple(Reason(text, _joined(mask), (), (), _members(Role, bits)) for text, mask, bits in found)
 
     def notes(self) -> Tuple[Note, ...]:
         """Returns the notes on fields of the word that have no effect."""
@@ -1235,20 +592,21 @@ class FormatView:
 
     def source(self) -> str:
         """Returns Rust code that sets the fields of the word and packs them."""
-        return _text(_library.source, self._halves, size=_SOURCE_SIZE)
+        return str(_c.source(self._halves))
 
     @classmethod
-    def _packed(cls: Type[View], fields: _Fields, settings: Iterable[Union[Edit, str]]) -> View:
+    def _packed(cls: Type[View], fields: Tuple[int, ...], settings: Iterable[Union[Edit, str]]) -> View:
         """Applies settings to fields, and returns a view of the word."""
-        edits = _apply(settings, fields)
-        view = cls(_joined(_library.pack(fields)))
-        is_dropped = fields.digit_separator and view.digit_separator is None
+        edits = _edits(settings)
+        changed, word = _c.pack(fields, [it._numbers() for it in edits])
+        view = cls(_joined(word))
+        is_dropped = changed[1] and view.digit_separator is None
         if is_dropped and issubclass(cls, Format) and Setter.DIGIT_SEPARATOR in [edit.setter for edit in edits]:
-            raise ValueError("; ".join(note.text for note in _notes(fields) if note.mask >> 64 & 255))
+            raise ValueError("; ".join(note.text for note in _notes(changed) if note.mask >> 64 & 255))
         return view
 
-    def _unpacked(self) -> _Fields:
-        return cast(_Fields, _library.fields_of(self._halves))
+    def _unpacked(self) -> Tuple[int, ...]:
+        return cast(Tuple[int, ...], _c.fields_of(self._halves))
 
     def __int__(self) -> int:
         return self._word
@@ -1256,7 +614,7 @@ class FormatView:
     __index__ = __int__
 
     def __str__(self) -> str:
-        return _text(_library.word_text, self._halves)
+        return str(_c.word_text(self._halves))
 
     def __format__(self, specification: str) -> str:
         """Formats the text of the word or, if the specification is one of numbers such as `#x`, the number."""
@@ -1264,7 +622,7 @@ class FormatView:
 
     def __repr__(self) -> str:
         name = type(self).__name__
-        if not _library.is_built(self._halves):
+        if not _c.is_built(self._halves):
             return f"{name}({self})"
         return f"{name}.of({', '.join(f'{edit.name}={edit.value!r}' for edit in self.edits())})"
 
@@ -1309,11 +667,7 @@ class Parts(Generic[AnyStr]):
     suffix: AnyStr
 
 
-# The ends of the nine parts of a literal, each of which begins where that before it ends.
-_ENDS = Struct(f"{_Literal.sign.offset}x" + f"{sizeof(c_size_t)}xN" * 9).unpack_from
-
-
-class Literal(Generic[AnyStr]):
+class Literal(_peltzivar.Found, Generic[AnyStr]):
     """A text that is a literal of a syntax. `str(literal)` is the text, and `read` makes a literal.
 
         >>> literal = languages.TOML.read("-1_000.50e-3")
@@ -1332,87 +686,71 @@ class Literal(Generic[AnyStr]):
     Literals are equal if their formats, their parts and their kinds are equal, as in Rust.
     """
 
-    __slots__ = ("_owner", "_text", "_found", "_data", "_suffix")
+    __slots__ = ()
     __match_args__ = ("syntax", "text")
 
     def __init__(self, *arguments: object) -> None:
         raise TypeError("`read` of a Syntax or a Language makes a Literal")
 
-    def _set(self, owner: _Reader, text: AnyStr, found: _Literal, data: bytes) -> Literal[AnyStr]:
-        self._owner, self._found = owner, found
-        self._text: AnyStr = text
-        self._data = data  # `found` points to it.
-        self._suffix: Optional[AnyStr] = None  # That of a token.
-        return self
-
     @property
     def syntax(self) -> Syntax:
         """The syntax, which is that of a form of a language if `Language.read` has read the text."""
-        return cast(Syntax, self._owner._listed[self._found.form][1])
+        return cast(Syntax, self._owner._listed[self._form][1])
 
     @property
     def form(self) -> str:
         """The name of the form of a language, such as `hexadecimal`. It is empty if `Syntax.read` has read the text."""
-        return str(self._owner._listed[self._found.form][0])
+        return str(self._owner._listed[self._form][0])
 
     @property
     def kind(self) -> Kind:
         """The kind of the form or, of a token, of its suffix if that has one."""
-        if self._suffix is not None:
-            return cast(Kind, cast(Any, self._owner)._kind_with(self.form, self._suffix))
-        return Kind._of(_Forms.from_address(self._owner._forms.value).forms[self._found.form])
+        _, _, kind, own = self._owner._listed[self._form]
+        word = _shown(_encoded("a suffix", self._suffix or ""))
+        found = [of for it, of in own.kinds if it == word or own.either_case and it.lower() == word.lower()] if own and word else []
+        return cast(Kind, (found or [kind])[0])
 
     @property
     def text(self) -> AnyStr:
         """The text."""
-        return self._text
+        return cast(AnyStr, self._text)
 
     @property
     def parts(self) -> Parts[AnyStr]:
         """The parts of the text."""
-        ends: Tuple[int, ...] = _ENDS(self._found)
+        ends: Tuple[int, ...] = self._ends()
         return Parts(*(self._text[start:end] for start, end in zip((0, *ends), ends)))
 
     @property
     def is_float(self) -> bool:
         """Whether the literal has a decimal point or an exponent character."""
-        return bool(self._found.is_float)
+        return bool(self._is_float)
 
     @property
     def value(self) -> Union[int, float]:
         """The value: an int if the literal is an integer, and otherwise a float. Raises ValueError if it is too large for the
         kind of its form, as 3000000000 is for the decimal integers of JAVA."""
-        return float(self) if self._found.is_float else int(self)
+        return cast("Union[int, float]", self._value)
 
     def __int__(self) -> int:
-        value = c_int64()
-        if not _library.to_i64(self._found, value):
-            return value.value
-        if self._found.is_float:
+        if (found := self._int()) is not None:
+            return found if isinstance(found, int) else cast(int, found[0] << 64 | found[1])
+        if self.is_float:
             raise ValueError(f"{reprlib.repr(self._text)} is a float")
-        kind, wide = self.kind, _I128()
-        if not _library.to_i128(self._found, wide):
-            return int(wide.high << 64 | wide.low)
-        if kind.at_most or kind.wraps:
+        if self.kind.at_most or self.kind.wraps:
             raise ValueError(f"{reprlib.repr(self._text)} is too large for its kind")
         sign, integer, *_ = self._written()
-        return int(sign + integer, self.syntax._fields.mantissa_radix)
-
-    def __float__(self) -> float:
-        value = c_double()
-        if status := _library.to_f64(self._found, value):
-            raise ValueError(_library.value_description(status).decode())
-        return value.value
+        return int(sign + integer, self.syntax.format.mantissa_radix)
 
     def decimal(self) -> Decimal:
         """Returns the exact value, with the digits and exponent of the text if all radixes are 10. Raises OverflowError
         if it has more than 10^6 digits, and ValueError if a float has a radix with other prime factors than 2 and 5."""
         try:
-            return _EXACT.create_decimal(self._short() or "")
+            return _EXACT.create_decimal(self._plain() or "")
         except DecimalException:
             pass
         digits, places, exponent = self._scaled()
-        radix, base = self.syntax._fields.mantissa_radix, self.syntax._fields.exponent_base
+        radix, base = self.syntax.format.mantissa_radix, self.syntax.format.exponent_base
         if self.is_float and not (radix in _FACTORS and base in _FACTORS):
             raise ValueError("a float has an exact decimal value only if its radixes are products of 2 and 5")
         of_radix, of_base = _FACTORS.get(radix, (0, 0)), _FACTORS.get(base, (0, 0))
@@ -1439,12 +777,12 @@ class Literal(Generic[AnyStr]):
         try:
             fraction: Any = object.__new__(Fraction)
             # The two have no common factor, and Fraction would look for one.
-            fraction._numerator, fraction._denominator = _NEAR.create_decimal(self._short() or "").as_integer_ratio()
+            fraction._numerator, fraction._denominator = _NEAR.create_decimal(self._plain() or "").as_integer_ratio()
             return cast(Fraction, fraction)
         except DecimalException:
             pass
         digits, places, exponent = self._scaled()
-        radix, base = self.syntax._fields.mantissa_radix, self.syntax._fields.exponent_base
+        radix, base = self.syntax.format.mantissa_radix, self.syntax.format.exponent_base
         number = int(digits, radix)
         up, down = (max(it, 0) if number else 0 for it in (exponent, -exponent))
         above = math.log10(abs(number) or 1) + up * math.log10(base)
@@ -1452,29 +790,22 @@ class Literal(Generic[AnyStr]):
             raise OverflowError(_TOO_LONG)
         return Fraction(number * base**up, radix**places * base**down)
 
-    def _short(self) -> Optional[str]:
-        """Returns the text as Python writes floats, if all radixes are 10 and it is not long."""
-        plain, text = self._owner._plains[self._found.form], self._text
-        if plain is None or (size := len(text)) > 400:
-            return None
-        return text if plain[0] is None and isinstance(text, str) else self._data[:size].translate(*plain).decode()
-
     def _scaled(self) -> Tuple[str, int, int]:
         """Returns the sign with the digits of the integer and the fraction, the number of the latter, and the exponent."""
         sign, integer, fraction, exponent_sign, exponent = self._written()
-        digits, fields = (integer + fraction).lstrip("0"), self.syntax._fields
-        if (len(digits) - 1) * math.log10(fields.mantissa_radix) >= _MOST_DIGITS:
+        digits, of = (integer + fraction).lstrip("0"), self.syntax.format
+        if (len(digits) - 1) * math.log10(of.mantissa_radix) >= _MOST_DIGITS:
             raise OverflowError(_TOO_LONG)
         # Of a longer exponent, 64 digits are too many.
-        power = int(f"{exponent_sign}{exponent.lstrip('0')[:64] or 0}", fields.exponent_radix)
+        power = int(f"{exponent_sign}{exponent.lstrip('0')[:64] or 0}", of.exponent_radix)
         return f"{sign}{digits or 0}", len(fraction), power
 
     def _written(self) -> List[str]:
         """Returns the sign, the digits of the integer and of the fraction, the sign of the exponent, and its digits."""
-        ends: Tuple[int, ...] = _ENDS(self._found)
-        separator = bytes([self.syntax._fields.digit_separator])
-        parts = [self._data[: ends[0]], *(self._data[ends[it - 1] : ends[it]] for it in (2, 4, 6, 7))]
-        return [part.replace(separator, b"").decode() for part in parts]
+        text = str(self)
+        parts = [text[start:end] for start, end in zip((0, *self._ends()), self._ends())]
+        separator = self.syntax.format.digit_separator
+        return [parts[it].replace(str(separator or ""), "") for it in (0, 2, 4, 6, 7)]
 
     def digits(self, part: Part) -> AnyStr:
         """Returns the digits of a part without digit separators."""
@@ -1488,7 +819,8 @@ class Literal(Generic[AnyStr]):
 
     def __repr__(self) -> str:
         whole = self._text if self._suffix is None else self._text + self._suffix
-        return f"{self._owner!r}." + (f"read({whole!r})" if self._suffix is None else f"token({whole!r}).literal")
+        owner = repr(self._owner) if isinstance(self._owner, Language) else f"<{type(self._owner).__name__}>"
+        return f"{owner}." + (f"read({whole!r})" if self._suffix is None else f"token({whole!r}).literal")
 
     def __eq__(self, other: object) -> bool:
         if not isinstance(other, Literal):
@@ -1499,7 +831,7 @@ class Literal(Generic[AnyStr]):
         return hash(self._key())
 
     def _key(self) -> Tuple[Any, ...]:
-        return self.syntax.format, self._text, _ENDS(self._found), self.kind
+        return self.syntax.format, self._text, self._ends(), self.kind
 
     def __reduce__(self) -> Tuple[Any, ...]:
         """Returns what reads the text again."""
@@ -1550,9 +882,19 @@ class ColumnError(ValueError):
 class _Wrong(Sequence[WrongCell]):
     """Wrong cells."""
 
-    def __init__(self, owner: _Reader, text_of: Callable[[int], Any], status: bytes) -> None:
-        self._owner, self._text_of, self._status = owner, text_of, status
+    def __init__(self, owner: _Reader, cells: Any, status: bytes) -> None:
+        self._owner, self._cells, self._status = owner, cells, status
         self._count = len(status) - status.count(0)
+
+    def __reduce__(self) -> Tuple[Any, ...]:
+        """Returns what makes the same of the wrong cells alone."""
+        return _Wrong, (self._owner, {it: self._text(it) for it in self.indexes}, self._status)
+
+    def _text(self, index: int) -> Any:
+        if isinstance(self._cells, tuple) and len(self._cells) == 2 and isinstance(self._cells[1], array):
+            data, offsets = self._cells
+            return data[offsets[index] : offsets[index + 1]]
+        return self._cells[index]
 
     def __len__(self) -> int:
         return self._count
@@ -1564,58 +906,24 @@ class _Wrong(Sequence[WrongCell]):
     def __getitem__(self, at: Any) -> Any:
         if isinstance(at, slice):
             return [self[it] for it in range(len(self))[at]]
-        text = self._text_of(index := self.indexes[at])
+        text = self._text(index := self.indexes[at])
         return WrongCell(index, text, self._owner._why(text, self._status[index]))
 
     def __repr__(self) -> str:
         return f"<{len(self)} wrong cells>"
 
 
-class _Reader:
-    """What reads texts by forms, to which `_forms` points."""
+class _Reader(_peltzivar.Reader):
+    """What reads texts by forms."""
 
-    _forms: Any
     _named: Any  # The syntaxes of the forms, by their names.
+    _listed: Any  # The name, syntax, kind and suffixes of each form, and then of those that need a suffix.
     read: Any
-
-    @property
-    def _listed(self) -> List[Tuple[str, Any]]:
-        """The names and the syntaxes of the forms, and then of those that need a suffix."""
-        return [*self._named.items()]
-
-    @functools.cached_property
-    def _plains(self) -> List[Optional[Tuple[Optional[bytes], bytes]]]:
-        """For each syntax, what `bytes.translate` takes to make its texts those of Python, or None if a radix is not 10."""
-        found: List[Optional[Tuple[Optional[bytes], bytes]]] = []
-        for of, by in ((it._fields, it._by) for _, it in self._listed):
-            is_plain = of.mantissa_radix == of.exponent_base == of.exponent_radix == 10 and not (of.base_prefix or of.base_suffix)
-            marks = bytes([by.exponent]).lower() + bytes([by.exponent]).upper() + bytes([by.decimal_point])
-            table = None if marks == b"eE." and not of.digit_separator else bytes.maketrans(marks, b"ee.")
-            found.append((table, bytes([of.digit_separator or 255])) if is_plain else None)
-        return found
-
-    def _read(self, call: Any, text: AnyStr) -> Optional[Literal[AnyStr]]:
-        """Returns the literal that a call finds, if there is one."""
-        found, data = _Literal(), _readable(text)
-        if not call(self._forms, data, c_size_t(len(data)), byref(found), None):
-            return None
-        literal: Literal[AnyStr] = Literal.__new__(Literal)
-        return literal._set(self, text[: found.size], found, data)
-
-    def _special(self, text: Union[str, bytes]) -> Optional[Special]:
-        """Returns the special value that a text is, or None."""
-        data, special = _readable(text), _Special()
-        return _made(special, _READ_SPECIAL(self._forms, data, c_size_t(len(data)), byref(special)))
-
-    def _refusal(self, text: Union[str, bytes]) -> LiteralError:
-        """Returns why a text is not a number."""
-        stopped, data = _ReadError(), _readable(text)
-        _READ(self._forms, data, c_size_t(len(data)), None, byref(stopped))
-        return LiteralError(self, text, stopped)
 
     def _why(self, text: Union[str, bytes], status: int) -> ValueError:
         """Returns why a text has no value."""
-        return self._refusal(text) if status == _REFUSED else ValueError(_library.value_description(status).decode())
+        refused = status == _c.REFUSED
+        return LiteralError(self, text) if refused else ValueError(_c.describe("value", status))
 
     def read_prefix(self, text: AnyStr) -> Tuple[Literal[AnyStr], AnyStr]:
         """Returns the longest literal that a text begins with, and the rest. Raises LiteralError if there is none.
@@ -1624,24 +932,14 @@ class _Reader:
             >>> literal.text, rest
             ('1.25', '.3')
         """
-        if (literal := self._read(_READ_PREFIX, text)) is None:
-            raise self._refusal(text)
+        literal: Literal[AnyStr] = self._read(text, True)
         return literal, text[len(literal.text) :]
 
     def format_number(
-        self,
-        value: Union[SupportsIndex, SupportsFloat],
-        *,
-        group: Optional[int] = None,
-        fraction_group: Optional[int] = None,
-        without_base: bool = False,
-        lowercase: bool = False,
-        min_digits: int = 0,
-        keep_leading_zeros: bool = False,
-        exponent: Union[int, str, None] = None,
-        point: bool = False,
-        decimals: Optional[int] = None,
-        nearest: bool = False,
+        self, value: Union[SupportsIndex, SupportsFloat, Special], *, group: Optional[int] = None,
+        fraction_group: Optional[int] = None, without_base: bool = False, lowercase: bool = False, min_digits: int = 0,
+        keep_leading_zeros: bool = False, exponent: Union[int, typing.Literal["never", "always"], None] = None,
+        point: bool = False, decimals: Optional[int] = None, nearest: bool = False
     ) -> str:
         """Returns a number as a literal, or as NaN or infinity of several forms. Reading the text returns the same value.
 
@@ -1679,29 +977,33 @@ class _Reader:
 
         Raises ValueError for NaN and infinity without a spelling that is read as them, for a Fraction that no decimal
         number is equal to, for a sign `-` if no literal has one, for a number that is not whole if literals are
-        integers, for an int if each literal has an exponent, for an int of more than 4300 digits in radix 10, as `str`
+        integers, for an int of more than 4300 digits in radix 10, as `str`
         does, for another mantissa radix than that of the syntax, which is 10 for a float and a Decimal, if the number
         is not whole or has more than 128 bits, and, of a float, for another exponent base.
         """
-        sizes = ((group, "group"), (fraction_group, "fraction_group"))
-        groups = (0 if size is None else _number(name, size, 255, "a number from 0 to 254") or 255 for size, name in sizes)
-        flags = (("without_base", without_base), ("lowercase", lowercase), ("keep_leading_zeros", keep_leading_zeros))
-        if exponent is not None and exponent not in ("never", "always"):
-            wish = 3, _number("exponent", exponent, 1 << 32, '"never", "always" or a number from 0 to 4294967295')
-        else:
-            wish = (None, "never", "always").index(exponent), 0
-        flags_of, least = (_typed(name, flag, bool) for name, flag in flags), _number("min_digits", min_digits)
-        places = 0 if decimals is None else _number("decimals", decimals)
-        style = _Style(*groups, *flags_of, least, *wish, _typed("point", point, bool), decimals is not None, places, _typed("nearest", nearest, bool))
+        wishes = group, fraction_group, without_base, lowercase, min_digits, keep_leading_zeros, exponent, point, decimals, nearest
+        return self._text_of(value, _style(*wishes))
+
+    def format_column(self, numbers: Iterable[Any], *, fill: Optional[str] = None, **wishes: Any) -> List[str]:
+        """Returns numbers as texts, as `format_number` does with the same wishes, several times as fast. `numbers` is a list
+        or an array of numpy. If `fill` is a text, that of None and NaN is this.
+
+            >>> languages.CSV_DE.format_column([1234.5, Decimal("-7"), None], fill="", group=3, decimals=2)
+            ['1.234,50', '-7,00', '']
+        """
+        style = _style(**wishes)
+        listed: Any = numbers.tolist() if hasattr(numbers, "tolist") else numbers
+        other = lambda it: fill if fill is not None and (it is None or it != it) else self._text_of(it, style)
+        return cast("List[str]", self._write_column(tuple(listed), style, other))
+
+    def _text_of(self, value: Any, style: Tuple[int, ...]) -> str:
+        """Returns a number as a text."""
+        syntaxes: List[Syntax] = [*self._named.values()]
         if isinstance(self, _Several) and (special := _special_of(value)):
-            return self._spelled(special)
-        radix = self._fields.mantissa_radix if isinstance(self, Syntax) else 10
-        if decimals is not None and radix == 10 and not isinstance(value, float):
-            value = _rounded(value, places)
-        name, number, _literal = _writing(value, radix)
-        if isinstance(self, Syntax):
-            return _written(getattr(_library, name), self._by, number, style)
-        return _written(getattr(_library, f"forms_{name}"), self._forms, number, style)
+            return self._spelled_as(special)
+        radix = syntaxes[0].format.mantissa_radix if isinstance(self, Syntax) else 10
+        syntax = next((it for it in syntaxes if it.point), syntaxes[0])
+        return str(self._write(_writable(value, radix, syntax, style), style))
 
     def parse(self, text: Union[str, bytes], type: Type[Number] = cast(Any, float)) -> Number:
         """Returns the value of a text as a `float` or an `int`, faster than `read` does. Raises LiteralError if the text is
@@ -1710,25 +1012,17 @@ class _Reader:
             >>> languages.CSV_DE.parse("1.234,50"), languages.RUST.parse("0x1F", int)
             (1234.5, 31)
         """
-        try:
-            call, one = _ONE[type]
-            data = text.encode()  # type: ignore[union-attr]
-            size = _SIZES[len(data)]
-        except KeyError:
-            raise TypeError(f"type must be float or int, not {type!r}") from None
-        except (AttributeError, IndexError, UnicodeEncodeError):
-            data = _readable(text)
-            size = c_size_t(len(data))
-        values = one()
-        if not (status := call(self._forms, data, size, values, None)):
-            value: Number = values[0]
-            return value
-        if type is int and isinstance(number := self.read(text), Literal):
-            return type(number)
-        raise self._why(text, status)
+        if type is not float and type is not int:
+            raise TypeError(f"type must be float or int, not {type!r}")
+        number = self.read(text)
+        if type is int and isinstance(number, Special):
+            raise ValueError(_c.describe("value", _c.SPECIAL))
+        return type(number)
 
     def column(
-        self, cells: Any, type: Any = float, *, errors: str = "raise", fill: Union[int, float, None] = None, out: Any = None
+        self, cells: Union[Iterable[Union[str, bytes, None]], Tuple[Any, Any]],
+        type: Union[Type[float], Type[Decimal], typing.Literal["d", "f", "q", "Q"]] = float, *,
+        errors: typing.Literal["raise", "coerce"] = "raise", fill: Union[float, Decimal, None] = None, out: Any = None
     ) -> Column:
         """Returns the values of cells, some ten times as fast as `read` does.
 
@@ -1739,33 +1033,36 @@ class _Reader:
         `cells` is a sequence of `str`, such as a column of pandas, or of `bytes`, or a tuple `(data, offsets)` of
         buffers, as Arrow holds texts, with offsets of 32 or 64 bits: `memoryview(offsets).cast("i")` or `"q"` if the
         buffer has bytes. None, NaN and `pandas.NA` in a sequence are missing, and not wrong. `type` is `float`, `int`,
-        or the format of an array: `d` or `f` for floats, `q` or `Q` for integers of 64 bits. `out` is a writable buffer
+        `Decimal`, whose values are a list, or the format of an array: `d` or `f` for floats, `q` or `Q` for integers of 64 bits. `out` is a writable buffer
         of such a format to which the values are written, such as an array of numpy. Otherwise, `values` is a new
         `array.array`. A cell that is missing or wrong has the value `fill`, which is NaN for floats if it is None, and
         which integers need. With the `errors` "raise", a wrong cell raises ColumnError after the whole column is read.
         """
-        kind = _format(type, out)
-        name, one = _FORMATS[kind]
-        data, offsets, missing, text_of = _texts_of(cells)
-        count, status = len(offsets) - 1, bytearray(len(offsets) - 1)
+        kind = _format(float if type is Decimal and out is None else type, out)
+        texts, data, offsets = _texts_of(cells)
+        status, size = bytearray(len(texts) or len(offsets) - 1), {"f": 4}.get(kind, 8)
         if errors not in ("raise", "coerce"):
             raise ValueError(f"errors must be 'raise' or 'coerce', not {errors!r}")
-        if fill is None and kind in "qQ" and (missing or errors == "coerce"):
+        if is_left := fill is None and kind in "qQ":
+            fill = 0
+        elif fill is None:
+            fill = math.nan
+        try:
+            filling: Any = array(kind, [cast(Any, fill)])
+        except OverflowError:
+            raise ValueError(f"fill is not a value of the column: {fill!r}") from None
+        values = array(kind, bytes(size * len(status))) if out is None else out
+        if (shape := memoryview(values).shape) != (len(status),):
+            raise ValueError(f"out has the shape {shape}, and there are {len(status)} cells")
+        na = getattr(sys.modules.get("pandas"), "NA", None)
+        missing = self._column(texts, data, offsets, kind, values, status, filling, na)
+        if is_left and (missing or errors == "coerce"):
             raise ValueError("integers have no NaN: pass `fill`, the value of cells that are missing or wrong")
-        filling = array(kind, [(math.nan if kind in "df" else 0) if fill is None else fill])
-        values = filling * count if out is None else out
-        if (shape := memoryview(values).shape) != (count,):
-            raise ValueError(f"out has the shape {shape}, and there are {count} cells")
-        if count:
-            into, states = one.from_buffer(values), c_uint8.from_buffer(status)
-            getattr(_library, f"parse_{name}_column")(self._forms, data, c_int64.from_buffer(offsets), count, into, states)
-            del into, states
-        for index in missing:
-            status[index] = 0
-        column = Column(values, wrong := _Wrong(self, text_of, bytes(status)), missing)
-        with memoryview(values) as view:  # type: Any
-            for index in (*missing, *(wrong.indexes if wrong and out is not None else ())):
-                view[index] = filling[0]
+        wrong = _Wrong(self, texts or (data, offsets), bytes(status))
+        if type is Decimal:
+            left = {*missing, *wrong.indexes}
+            values = [fill if at in left else self.read(wrong._text(at)).decimal() for at in range(len(status))]
+        column = Column(values, wrong, missing)
         if wrong and errors == "raise":
             raise ColumnError(column)
         return column
@@ -1773,7 +1070,7 @@ class _Reader:
 
 def _format(type: Any, out: Any) -> str:
     """Returns the format of values. Raises TypeError if it does not fit the type."""
-    formats: str = {float: "df", int: "qQ", **{it: it for it in _FORMATS}}.get(type, "")
+    formats: str = cast(Any, {float: "df", int: "qQ", **{it: it for it in _FORMATS}}).get(type, "")
     if not formats:
         raise TypeError(f"type must be float, int, or one of the formats d, f, q and Q, not {type!r}")
     found = formats[:1] if out is None else memoryview(out).format
@@ -1783,8 +1080,8 @@ def _format(type: Any, out: Any) -> str:
     return found
 
 
-def _texts_of(cells: Any) -> Tuple[bytes, Any, Tuple[int, ...], Callable[[int], Any]]:
-    """Returns cells as bytes with offsets, the indexes of missing cells, and what returns the text with an index."""
+def _texts_of(cells: Any) -> Tuple[Tuple[Any, ...], bytes, Any]:
+    """Returns cells as a tuple of texts, or as bytes with whole offsets of their own."""
     given = None
     if type(cells) is tuple and len(cells) == 2 and not isinstance(cells[1], (str, bytes)):
         with contextlib.suppress(TypeError):
@@ -1798,47 +1095,33 @@ def _texts_of(cells: Any) -> Tuple[bytes, Any, Tuple[int, ...], Callable[[int], 
         memoryview(offsets).cast("B").cast(given.format)[: len(given) << halves : 1 + halves] = given
         if offsets[0] < 0 or offsets[-1] > len(data):
             raise ValueError(f"offsets are not within the data, which has {len(data)} bytes")
-        return data, offsets, (), lambda it: data[offsets[it] : offsets[it + 1]]
+        return (), data, offsets
     if isinstance(cells, (str, bytes)):
         raise TypeError(f"cells must be a sequence of texts, not {type(cells).__name__}")
-    texts: Tuple[Any, ...] = tuple(cells)
-    missing: Tuple[int, ...] = ()
-    parts: Any = texts
-    empty = next((it[:0] for it in texts if isinstance(it, (str, bytes))), "")
-    try:
-        joined = empty.join(texts)
-        if isinstance(joined, bytes) and {*map(type, texts)} != {bytes}:
-            raise TypeError  # `join` takes any buffer.
-    except TypeError:
-        na = getattr(sys.modules.get("pandas"), "NA", None)
-        missing = tuple(at for at, it in enumerate(texts) if type(it) is not str and (it is None or it is na or it != it))
-        parts = [*texts]
-        for at in missing:
-            parts[at] = empty
-        for at, it in enumerate(parts):
-            if not isinstance(it, type(empty)):
-                _typed(f"cell {at}", it, type(empty))
-        joined = empty.join(parts)
-    if isinstance(joined, str):
-        parts = parts if joined.isascii() else [it.encode("utf-8", "surrogatepass") for it in parts]
-        joined = joined.encode("utf-8", "surrogatepass")
-    return joined, array("q", [*accumulate(map(len, parts), initial=0)]), missing, texts.__getitem__
+    return tuple(cells), b"", array("q", [0])
 
 
-def _fast(call: str, result: Any) -> Any:
-    """Returns a call that takes its arguments as they are, which must have the types of C, and keeps Python's lock."""
-    made = _fast_library[f"peltzivar_{call}"]
-    made.restype = result
-    return made
-
-
-_fast_library = PyDLL(_library.path)
-_READ, _READ_PREFIX, _READ_SPECIAL = (_fast(f"forms_read{it}", c_bool) for it in ("", "_prefix", "_special"))
-# The calls that make a value, and the type of its memory.
-_ONE: Dict[Any, Any] = {float: (_fast("parse_f64", c_uint8), c_double * 1), int: (_fast("parse_i64", c_uint8), c_int64 * 1)}
-_SIZES = [c_size_t(size) for size in range(64)]
 _OFFSETS = ("i", "I", "l", "L", "q", "Q")
-_FORMATS: Dict[Any, Any] = {"d": ("f64", c_double), "f": ("f32", c_float), "q": ("i64", c_int64), "Q": ("u64", c_uint64)}
+_FORMATS = ("d", "f", "q", "Q")
+
+
+def _style(
+    group: Optional[int] = None, fraction_group: Optional[int] = None, without_base: bool = False,
+    lowercase: bool = False, min_digits: int = 0, keep_leading_zeros: bool = False,
+    exponent: Union[int, str, None] = None, point: bool = False, decimals: Optional[int] = None, nearest: bool = False
+) -> Tuple[int, ...]:
+    """Returns wishes as the members of a style."""
+    sizes = ((group, "group"), (fraction_group, "fraction_group"))
+    groups = [0 if size is None else _number(name, size, 255, "a number from 0 to 254") or 255 for size, name in sizes]
+    flags = (without_base, "without_base"), (lowercase, "lowercase"), (keep_leading_zeros, "keep_leading_zeros")
+    flags_of, least = [_typed(name, flag, bool) for flag, name in flags], _number("min_digits", min_digits)
+    if isinstance(exponent, (str, type(None))) and exponent in (None, "never", "always"):
+        wish = (None, "never", "always").index(exponent), 0
+    else:
+        wish = 3, _number("exponent", exponent, 1 << 32, '"never", "always" or a number from 0 to 4294967295')
+    places = 0 if decimals is None else _number("decimals", decimals)
+    last = _typed("point", point, bool), decimals is not None, places, _typed("nearest", nearest, bool)
+    return *groups, *flags_of, least, *wish, *last
 
 
 # How often 2 and 5 divide each number that no other prime divides.
@@ -1846,7 +1129,6 @@ _FACTORS = {2**twos * 5**fives: (twos, fives) for twos in range(6) for fives in 
 _MOST_DIGITS = 10**6
 _TOO_LONG = "the exact value has more than 10^6 digits"
 _EXACT = Context(_MOST_DIGITS, Emin=MIN_EMIN, Emax=MAX_EMAX, traps=[InvalidOperation, Rounded])
-_ROUNDED = Context(_MOST_DIGITS, Emin=MIN_EMIN, Emax=MAX_EMAX, traps=[InvalidOperation])
 # Numbers that are neither long nor far from 1.
 _NEAR = Context(400, Emin=-999, Emax=999, traps=[InvalidOperation, Rounded, Overflow, Subnormal])
 
@@ -1882,10 +1164,7 @@ class Syntax(_Reader):
     decimal_first_digit: bool = False
     # End
     _notes: Tuple[Note, ...] = field(init=False, repr=False, compare=False)
-    # What calls read by: as a syntax, and as one form.
-    _by: Any = field(init=False, repr=False, compare=False)
-    _form: Any = field(init=False, repr=False, compare=False)
-    _fields: Any = field(init=False, repr=False, compare=False)
+    _by: Any = field(init=False, repr=False, compare=False)  # The members of the structure.
 
     def __post_init__(self) -> None:
         notes, options = _typed("format", self.format, Format).notes(), (0, 0)
@@ -1894,16 +1173,15 @@ class Syntax(_Reader):
             options = _byte("exponent", self.exponent), _byte("point", self.point)
             format.check_options(*options)
         elif self.exponent is not self.point:
-            sentence = _settings_text(b"exponent=none", 0)
+            sentence = str(_c.settings_text(b"exponent=none"))
             raise OptionsError((Reason(sentence, options=(Role.EXPONENT, Role.POINT)),))
         exponent, point = (chr(it) if it else None for it in options)
         conditions = {name: _condition(name, getattr(self, name)) for name in _CONDITIONS}
-        by = _Syntax(format._halves, *options, *(it or 0 for it in conditions.values()))
-        if sentence := _text(_library.syntax_error_text, by):
+        by = (*format._halves, *options, *(int(it or 0) for it in conditions.values()))
+        _c.make(self, (((None, by, 0, 0, 0, None),), (None, None, None), None), False)
+        if sentence := self._notation(3):
             raise OptionsError((Reason(sentence),))
-        form = _Forms((_Form * 1)(_Form(None, by)), 1)
-        vars(self).update(conditions, format=format, exponent=exponent, point=point, _notes=notes)
-        vars(self).update(_by=by, _fields=format._unpacked(), _form=form, _forms=c_void_p(addressof(form)))
+        vars(self).update(conditions, format=format, exponent=exponent, point=point, _notes=notes, _by=by)
 
     def __repr__(self) -> str:
         conditions = "".join(f", {name}={it!r}" for name in _CONDITIONS if (it := getattr(self, name)))
@@ -1919,71 +1197,8 @@ class Syntax(_Reader):
         """Returns the syntax of the integers of a format."""
         return cls(format, None, None)
 
-    @classmethod
-    @_takes_fields
-    def of(
-        cls,
-        *settings: Union[Edit, str],
-        # Made by make_python.py: settings
-        required_integer_digits: bool = _KEPT,
-        required_fraction_digits: bool = _KEPT,
-        required_exponent_digits: bool = _KEPT,
-        required_mantissa_digits: bool = _KEPT,
-        no_positive_mantissa_sign: bool = _KEPT,
-        required_mantissa_sign: bool = _KEPT,
-        no_exponent_notation: bool = _KEPT,
-        no_positive_exponent_sign: bool = _KEPT,
-        required_exponent_sign: bool = _KEPT,
-        no_exponent_without_fraction: bool = _KEPT,
-        no_special: bool = _KEPT,
-        case_sensitive_special: bool = _KEPT,
-        no_integer_leading_zeros: bool = _KEPT,
-        no_float_leading_zeros: bool = _KEPT,
-        required_exponent_notation: bool = _KEPT,
-        case_sensitive_exponent: bool = _KEPT,
-        case_sensitive_base_prefix: bool = _KEPT,
-        case_sensitive_base_suffix: bool = _KEPT,
-        integer_internal_digit_separator: bool = _KEPT,
-        fraction_internal_digit_separator: bool = _KEPT,
-        exponent_internal_digit_separator: bool = _KEPT,
-        integer_leading_digit_separator: bool = _KEPT,
-        fraction_leading_digit_separator: bool = _KEPT,
-        exponent_leading_digit_separator: bool = _KEPT,
-        integer_trailing_digit_separator: bool = _KEPT,
-        fraction_trailing_digit_separator: bool = _KEPT,
-        exponent_trailing_digit_separator: bool = _KEPT,
-        integer_consecutive_digit_separator: bool = _KEPT,
-        fraction_consecutive_digit_separator: bool = _KEPT,
-        exponent_consecutive_digit_separator: bool = _KEPT,
-        special_digit_separator: bool = _KEPT,
-        digit_separator: Optional[Byte] = _KEPT,
-        base_prefix: Optional[Byte] = _KEPT,
-        base_suffix: Optional[Byte] = _KEPT,
-        mantissa_radix: int = _KEPT,
-        exponent_base: Optional[int] = _KEPT,
-        exponent_radix: Optional[int] = _KEPT,
-        required_digits: bool = _KEPT,
-        internal_digit_separator: bool = _KEPT,
-        leading_digit_separator: bool = _KEPT,
-        trailing_digit_separator: bool = _KEPT,
-        consecutive_digit_separator: bool = _KEPT,
-        digit_separator_flags: bool = _KEPT,
-        integer_digit_separator_flags: bool = _KEPT,
-        fraction_digit_separator_flags: bool = _KEPT,
-        exponent_digit_separator_flags: bool = _KEPT,
-        radix: int = _KEPT,
-        exponent: Optional[Byte] = _KEPT,
-        point: Optional[Byte] = _KEPT,
-        required_base_prefix: bool = _KEPT,
-        required_base_suffix: bool = _KEPT,
-        no_negative_mantissa_sign: bool = _KEPT,
-        integer_group_size: Optional[int] = _KEPT,
-        higher_group_size: Optional[int] = _KEPT,
-        fraction_group_size: Optional[int] = _KEPT,
-        required_leading_zero: bool = _KEPT,
-        decimal_first_digit: bool = _KEPT,
-        # End
-    ) -> Syntax:
+    @_of(_peltzivar.settings)
+    def of(cls: Any, *settings: Union[Edit, str], **fields: Value) -> Syntax:
         """Returns the syntax that settings make, such as the lines of a file, and then keyword arguments. Raises
         SettingsError if there is none.
 
@@ -1998,82 +1213,20 @@ class Syntax(_Reader):
         no flag allows is dropped, and `notes` of the syntax reports it: set a flag, such as
         `integer_internal_digit_separator`, too.
         """
-        text, made = _lines(settings), _Syntax()
-        if problems := _library.read_settings(text, len(text), made):
+        problems, made = _c.read_settings(text := _lines(settings))
+        if problems:
             raise SettingsError(tuple(Reason(*it) for it in _findings(text, range(min(problems, 100)))))
-        syntax = cls._of_numbers(made)
+        syntax: Syntax = cls._of_numbers(made)
         vars(syntax).update(_notes=tuple(Note(*it) for it in _findings(text, count())))
         return syntax
 
-    @classmethod
-    @_takes_fields
-    def notes_of(
-        cls,
-        *settings: Union[Edit, str],
-        # Made by make_python.py: settings
-        required_integer_digits: bool = _KEPT,
-        required_fraction_digits: bool = _KEPT,
-        required_exponent_digits: bool = _KEPT,
-        required_mantissa_digits: bool = _KEPT,
-        no_positive_mantissa_sign: bool = _KEPT,
-        required_mantissa_sign: bool = _KEPT,
-        no_exponent_notation: bool = _KEPT,
-        no_positive_exponent_sign: bool = _KEPT,
-        required_exponent_sign: bool = _KEPT,
-        no_exponent_without_fraction: bool = _KEPT,
-        no_special: bool = _KEPT,
-        case_sensitive_special: bool = _KEPT,
-        no_integer_leading_zeros: bool = _KEPT,
-        no_float_leading_zeros: bool = _KEPT,
-        required_exponent_notation: bool = _KEPT,
-        case_sensitive_exponent: bool = _KEPT,
-        case_sensitive_base_prefix: bool = _KEPT,
-        case_sensitive_base_suffix: bool = _KEPT,
-        integer_internal_digit_separator: bool = _KEPT,
-        fraction_internal_digit_separator: bool = _KEPT,
-        exponent_internal_digit_separator: bool = _KEPT,
-        integer_leading_digit_separator: bool = _KEPT,
-        fraction_leading_digit_separator: bool = _KEPT,
-        exponent_leading_digit_separator: bool = _KEPT,
-        integer_trailing_digit_separator: bool = _KEPT,
-        fraction_trailing_digit_separator: bool = _KEPT,
-        exponent_trailing_digit_separator: bool = _KEPT,
-        integer_consecutive_digit_separator: bool = _KEPT,
-        fraction_consecutive_digit_separator: bool = _KEPT,
-        exponent_consecutive_digit_separator: bool = _KEPT,
-        special_digit_separator: bool = _KEPT,
-        digit_separator: Optional[Byte] = _KEPT,
-        base_prefix: Optional[Byte] = _KEPT,
-        base_suffix: Optional[Byte] = _KEPT,
-        mantissa_radix: int = _KEPT,
-        exponent_base: Optional[int] = _KEPT,
-        exponent_radix: Optional[int] = _KEPT,
-        required_digits: bool = _KEPT,
-        internal_digit_separator: bool = _KEPT,
-        leading_digit_separator: bool = _KEPT,
-        trailing_digit_separator: bool = _KEPT,
-        consecutive_digit_separator: bool = _KEPT,
-        digit_separator_flags: bool = _KEPT,
-        integer_digit_separator_flags: bool = _KEPT,
-        fraction_digit_separator_flags: bool = _KEPT,
-        exponent_digit_separator_flags: bool = _KEPT,
-        radix: int = _KEPT,
-        exponent: Optional[Byte] = _KEPT,
-        point: Optional[Byte] = _KEPT,
-        required_base_prefix: bool = _KEPT,
-        required_base_suffix: bool = _KEPT,
-        no_negative_mantissa_sign: bool = _KEPT,
-        integer_group_size: Optional[int] = _KEPT,
-        higher_group_size: Optional[int] = _KEPT,
-        fraction_group_size: Optional[int] = _KEPT,
-        required_leading_zero: bool = _KEPT,
-        decimal_first_digit: bool = _KEPT,
-        # End
-    ) -> Tuple[Note, ...]:
+    @staticmethod
+    @_takes(_peltzivar.settings)
+    def notes_of(*settings: Union[Edit, str], **fields: Value) -> Tuple[Note, ...]:
         """Returns the notes on settings that later ones override, the first 32 alone, and on those that have no effect,
         such as a digit separator that no flag allows. `of` returns a syntax with the same ones as its `notes`."""
         text = _lines(settings)
-        return tuple(Note(*it) for it in _findings(text, count(_library.read_settings(text, len(text), _Syntax()))))
+        return tuple(Note(*it) for it in _findings(text, count(_c.read_settings(text)[0])))
 
     def notes(self) -> Tuple[Note, ...]:
         """Returns the notes on the format or the settings of which the syntax was made. Equal syntaxes can have other notes.
@@ -2084,9 +1237,10 @@ class Syntax(_Reader):
         return self._notes
 
     @classmethod
-    def _of_numbers(cls, numbers: _Syntax) -> Syntax:
-        options = numbers.exponent or None, numbers.decimal_point or None
-        return cls(Format(_joined(numbers.format)), *options, *(getattr(numbers, name) for name in _CONDITIONS))
+    def _of_numbers(cls, numbers: Tuple[int, ...]) -> Syntax:
+        low, high, exponent, point, *conditions = numbers
+        given: Any = (it if kind is int else bool(it) for it, kind in zip(conditions, _CONDITIONS.values()))
+        return cls(Format(_joined((low, high))), exponent or None, point or None, *given)
 
     def role_of(self, byte: Byte) -> Optional[Role]:
         """Returns the only role that a byte has in literals, or None."""
@@ -2095,9 +1249,7 @@ class Syntax(_Reader):
     def read(self, text: AnyStr) -> Literal[AnyStr]:
         """Returns a text as a literal. Raises LiteralError if it is not one. The indexes are those of characters in a
         `str`, and of bytes in `bytes`."""
-        if (literal := self._read(_READ, text)) is None:
-            raise self._refusal(text)
-        return literal
+        return cast("Literal[AnyStr]", self._read(text))
 
     def sentence(self) -> str:
         """Returns a sentence that states what differs from decimal digits with an optional sign, point and exponent.
@@ -2106,7 +1258,7 @@ class Syntax(_Reader):
             >>> grouped.sentence()
             "decimal; `'` between groups of three; NaN"
         """
-        return _text(_library.sentence, self._by, size=_SOURCE_SIZE)
+        return str(self._notation(0))
 
     def grammar(self) -> str:
         """Returns a grammar of the literals in the notation of W3C, with a rule a line.
@@ -2117,7 +1269,7 @@ class Syntax(_Reader):
             Prefix   ::= "0" [Xx]
             Digit    ::= [0-9A-Fa-f]
         """
-        return _text(_library.grammar, self._by, size=_SOURCE_SIZE)
+        return str(self._notation(1))
 
     def regex(self) -> str:
         """Returns a regular expression for `re.fullmatch`, of at most 500 characters. It matches a text if and only if
@@ -2126,67 +1278,62 @@ class Syntax(_Reader):
             >>> Syntax.integers(Format.of(radix=16, base_prefix="x")).regex()
             '[+-]?(?:[0][Xx])?[0-9A-Fa-f]+'
         """
-        return _text(_library.regex, self._by, size=_SOURCE_SIZE)
+        return str(self._notation(2))
 
     @property
     def _named(self) -> Any:
         return {"": self}
 
-
-def _written(call: Any, *arguments: Any) -> str:
-    """Returns the text that a call writes."""
-    needed = c_size_t(64)
-    for _ in range(2):
-        buffer = create_string_buffer(needed.value)
-        if not (status := call(*arguments, buffer, len(buffer), needed)):
-            return buffer.value.decode()
-    raise ValueError(_library.write_description(status).decode())
+    @property
+    def _listed(self) -> Any:
+        return [("", self, Kind(), None)]
 
 
-def _writing(value: Any, radix: int) -> Tuple[str, Any, Optional[Literal[Any]]]:
-    """Returns the name of the call that writes a number, its argument, and the literal to which this points. A longer int than 128
-    bits is a literal of the radix."""
-    kind = type(value)
+def _writable(value: Any, radix: int, syntax: Syntax, style: Tuple[int, ...]) -> Any:
+    """Returns a number as what C writes: a float, or a literal. A float is rounded by C, and any other number here. An int of
+    more than 128 bits is a literal of the radix."""
+    kind, (*_, wish, least, _, has_decimals, places, _) = type(value), style
     if kind is bool or not (hasattr(kind, "__float__") or hasattr(kind, "__index__")):
         raise TypeError(f"value must be a number or a Literal, not {kind.__name__}")
-    if isinstance(value, Fraction) and (radix == 10 or value != float(value)):
-        value = _decimal_of(value)
+    is_rounded = has_decimals and radix == 10
+    value = value.value if is_rounded and isinstance(value, Literal) else value
     if isinstance(value, Literal):
-        literal = value
-    elif isinstance(value, Decimal) and value.is_finite():
-        literal = _DECIMALS.read(str(value) if abs(value.adjusted()) > 400 else f"{value:f}")
-    elif not hasattr(kind, "__index__"):
-        return "format_f64", float(value), None
-    elif -(1 << 127) <= (number := operator.index(value)) < 1 << 127:
-        return "format_i128", _I128(number & (1 << 64) - 1, number >> 64), None
-    else:
-        rest, digits = (0, format(abs(number), "d" if radix == 10 else "X")) if radix in (10, 16) else (abs(number), "")
-        while rest:
-            rest, digits = rest // radix, "0123456789ABCDEFGHIJKLMNOPQRSTUVWXYZ"[rest % radix] + digits
-        literal = Syntax.integers(Format.of(radix=radix)).read(digits if number > 0 else f"-{digits}")
-    return "format_literal", literal._found, literal
+        return value
+    if hasattr(type(value), "__index__"):
+        value = operator.index(value)
+        if radix != 10 and value.bit_length() > 127:
+            return Syntax.integers(Format.of(radix=radix)).read(_digits(value, radix))
+        value = value if is_rounded else Decimal(str(value))
+    if isinstance(value, Fraction) and not is_rounded:
+        value = float(value) if radix != 10 and value.denominator > 1 and value == float(value) else _decimal_of(value)
+    if is_rounded and isinstance(value, (int, Fraction)):
+        # What is divided so is rounded as the exact quotient is.
+        size = value.numerator.bit_length() - value.denominator.bit_length()
+        value = Context(places + max(0, size) // 3 + 9, ROUND_05UP, MIN_EMIN, MAX_EMAX).divide(Decimal(value.numerator), value.denominator)
+    if not isinstance(value, Decimal) or not value.is_finite():
+        return float(value)
+    if not is_rounded:
+        return _DECIMALS.read(str(value) if abs(value.adjusted()) > 400 else f"{value:f}")
+    has_exponent = value and (wish == 2 or wish == 3 and abs(value.adjusted()) >= least)
+    if not syntax.point or syntax.format.no_exponent_notation or not has_exponent:
+        exact = Context(_MOST_DIGITS, ROUND_HALF_EVEN, MIN_EMIN, MAX_EMAX, traps=[InvalidOperation])
+        return _DECIMALS.read(f"{exact.quantize(value, Decimal(1).scaleb(-places if syntax.point else 0)):f}")
+    return _DECIMALS.read(f"{Context(places + 1, ROUND_HALF_EVEN, MIN_EMIN, MAX_EMAX).plus(value):.{places}E}")
+
+
+def _digits(number: int, radix: int) -> str:
+    """Returns an int in a radix."""
+    rest, digits = (0, format(abs(number), "X")) if radix == 16 else (abs(number), "")
+    while rest:
+        rest, digits = rest // radix, "0123456789ABCDEFGHIJKLMNOPQRSTUVWXYZ"[rest % radix] + digits
+    return digits if number > 0 else f"-{digits}"
 
 
 def _special_of(value: Any) -> Optional[Special]:
-    """Returns NaN or infinity as a special value, and None for another number."""
-    kind = type(value)
-    if issubclass(kind, (Special, Literal, Fraction)) or hasattr(kind, "__index__") or not hasattr(kind, "__float__"):
+    """Returns a special value, also that of a Decimal, which can have a sign, and None for another number."""
+    if not isinstance(value, Decimal) or value.is_finite():
         return value if isinstance(value, Special) else None
-    text = str(value if isinstance(value, Decimal) else float(value)).lower()
-    spelling = Spelling.NAN if "nan" in text else Spelling.INF
-    return Special("-" if text.startswith("-") else "", spelling) if "n" in text else None
-
-
-def _rounded(value: Any, places: int) -> Any:
-    """Returns a number with so many digits behind the point or, if the library rounds it, as a float. A Literal is what it is
-    worth."""
-    value = value.value if isinstance(value, Literal) else value
-    if isinstance(value, Fraction):
-        return _EXACT.scaleb(Decimal(round(value * 10**places)).copy_sign(value.numerator), -places)
-    if hasattr(type(value), "__index__") and not isinstance(value, bool):
-        value = Decimal(operator.index(value))
-    is_finite = isinstance(value, Decimal) and value.is_finite()
-    return _ROUNDED.quantize(value, Decimal(1).scaleb(-places)) if is_finite else value
+    return Special("-" * value.is_signed(), Spelling.NAN if value.is_nan() else Spelling.INF)
 
 
 def _decimal_of(value: Fraction) -> Decimal:
@@ -2203,16 +1350,6 @@ def _decimal_of(value: Fraction) -> Decimal:
 _DECIMALS = Syntax(Format())
 
 
-def _bytes_of(text: object) -> bytes:
-    """Returns a text as bytes, of UTF-8 if it is a string."""
-    return text.encode("utf-8", "surrogatepass") if isinstance(text, str) else _typed("a text", text, bytes, "a str or bytes")
-
-
-def _characters(text: str, size: int) -> int:
-    """Returns the number of characters in the first bytes of a text."""
-    return len(_bytes_of(text)[:size].decode("utf-8", "surrogatepass")) if not text.isascii() else size
-
-
 def _string(text: str) -> bytes:
     """Returns a string as one of C, of UTF-8. A surrogate stands for a byte that is not."""
     if "\0" in _typed("a string", text, str):
@@ -2225,14 +1362,6 @@ def _shown(text: Optional[bytes]) -> str:
     return (text or b"").decode("utf-8", "surrogateescape")
 
 
-def _readable(text: object) -> bytes:
-    """Returns a text as bytes, up to the first character that is not ASCII, for which it has a byte that is not."""
-    try:
-        return text.encode("ascii") if isinstance(text, str) else _typed("a text", text, bytes, "a str or bytes")
-    except UnicodeEncodeError as error:
-        return error.object[: error.start].encode("ascii") + b"\xff"
-
-
 def _lines(settings: Iterable[Union[Edit, str]]) -> bytes:
     """Returns settings as the lines of a text."""
     texts = [str(it) if isinstance(it, Edit) else it for it in settings]
@@ -2242,19 +1371,12 @@ def _lines(settings: Iterable[Union[Edit, str]]) -> bytes:
     return b"\n".join(lines)
 
 
-def _settings_text(text: bytes, index: int) -> str:
-    """Returns a problem of settings, or a note on them, or an empty text."""
-    return _text(_library.settings_text, text, len(text), index)
-
-
 def _findings(text: bytes, wanted: Iterable[int]) -> Iterable[Tuple[str, int, Tuple[int, ...]]]:
     """Returns the text, no mask and the indexes of problems of settings, behind which are the notes on them."""
     for index in wanted:
-        if not (sentence := _settings_text(text, index)):
+        if not (sentence := _c.settings_text(text, index)):
             break
-        lines = (c_size_t * _FIELD_COUNT)()
-        blamed = _library.settings_lines(text, len(text), index, lines, len(lines))
-        yield sentence, 0, tuple(lines[:blamed])
+        yield sentence, 0, tuple(_c.settings_lines(text, index))
 
 
 @dataclass(frozen=True)
@@ -2263,6 +1385,11 @@ class Special:
 
     sign: str
     spelling: Spelling
+
+    def __post_init__(self) -> None:
+        if _typed("sign", self.sign, str) not in ("", "+", "-"):
+            raise ValueError(f"sign must be '+', '-' or empty, not {reprlib.repr(self.sign)}")
+        _typed("spelling", self.spelling, Spelling)
 
     @property
     def value(self) -> float:
@@ -2291,8 +1418,7 @@ class Specials:
     def read(self, syntax: Syntax, text: Union[str, bytes]) -> Optional[Special]:
         """Returns the special value that a text is, or None. The flags of the syntax decide which signs, cases of
         letters and digit separators it may have. A text can also be a literal, such as `inf` in radix 36."""
-        data, special, by = _encoded("a text", text), _Special(), _typed("syntax", syntax, Syntax)._by
-        return _made(special, _library.read_special(by, self._spellings(), data, len(data), special))
+        return _special(self._reader(syntax)._special(text))
 
     def format(self, syntax: Syntax, special: Special) -> str:
         """Returns a special value as a text: its sign, if that is `-` or one is required, and the first of its spellings
@@ -2302,32 +1428,36 @@ class Specials:
             '-Infinity'
         """
         sign, spelling = _typed("special", special, Special).sign, special.spelling.value
-        special_of = _Special(spelling, ord(sign or "\0"))
-        return _written(_library.format_special, _typed("syntax", syntax, Syntax)._by, self._spellings(), special_of)
+        return str(self._reader(syntax)._spelled(spelling, ord(sign or "\0")))
 
-    def _spellings(self) -> _Specials:
-        spellings = [_encoded("a spelling", "" if it is None else it) for it in (self.nan, self.inf, self.infinity)]
+    def _reader(self, syntax: Syntax) -> Any:
+        """Returns what reads special values by the flags of a syntax."""
+        form, reader = (None, _typed("syntax", syntax, Syntax)._by, 0, 0, 0, None), _Reader()
+        _c.make(reader, ((form,), self._spellings(), None), True)
+        return reader
+
+    def _spellings(self) -> Tuple[bytes, ...]:
+        spellings = tuple(_encoded("a spelling", "" if it is None else it) for it in (self.nan, self.inf, self.infinity))
         if any(b"\0" in it for it in spellings):
             raise ValueError(f"a spelling has a null character: {self}")
-        return _Specials(*spellings)
+        return spellings
 
 
-def _made(special: _Special, is_one: bool) -> Optional[Special]:
-    """Returns a special value, if a call has made one."""
-    return Special(chr(special.sign) if special.sign else "", Spelling(special.spelling)) if is_one else None
+def _special(found: Any) -> Optional[Special]:
+    """Returns a special value of its numbers, if there is one."""
+    return Special(chr(found[1]) if found[1] else "", Spelling(found[0])) if found else None
 
 
 class _Several(_Reader):
     specials: Any
 
-    def read(self, text: AnyStr) -> Union[Literal[AnyStr], Special]:
-        """Returns the number that a text is: a literal or a special value. Raises LiteralError if it is neither."""
-        number = self._read(_READ, text) or (self._special(text) if any(vars(self.specials).values()) else None)
-        if number is None:
-            raise self._refusal(text)
-        return number
+    def read(self, text: AnyStr) -> Union[Literal[AnyStr], Any]:
+        """Returns the number that a text is: a literal or a special value. Raises LiteralError if it is neither. For type
+        checkers, it is a `Literal` or anything, so that they take attributes of both."""
+        found: Any = self._read(text)
+        return _special(found) if type(found) is tuple else found
 
-    def _spelled(self, special: Special) -> str:
+    def _spelled_as(self, special: Special) -> str:
         """Returns a special value by the first of its spellings that is read as it."""
         for name in ("nan",) if special.spelling is Spelling.NAN else ("inf", "infinity"):
             one = Specials(**{name: getattr(self.specials, name)})
@@ -2335,10 +1465,10 @@ class _Several(_Reader):
                 text = one.format(next(iter(self._named.values())), special)
                 if isinstance(found := self.read(text), Special) and repr(found.value) == repr(special.value):
                     return text
-        raise ValueError(_library.write_description(_WRITE_SPECIAL).decode())
+        raise ValueError(_c.describe("write", _c.WRITE_SPECIAL))
 
-    def token(self, text: AnyStr) -> Token[AnyStr]:
-        """Returns the number that a text begins with as a token, as a lexer reads it: the longest literal of a form with the
+    def token(self, text: AnyStr, start: int = 0) -> Token[AnyStr]:
+        """Returns the number that a text has from the index `start` on as a token, as a lexer reads it: the longest literal of a form with the
         longest of its suffixes. Raises LiteralError if a form goes on behind the number without an end, if what follows may
         not, or if there is no number, and ValueError if there are no rules for tokens, or too many words. Special values are
         names, and no tokens.
@@ -2349,45 +1479,40 @@ class _Several(_Reader):
             Traceback (most recent call last):
             peltzivar.LiteralError: unknown suffix; known are f, d
         """
-        found, data = _Token(), _bytes_of(text)
-        if not _library.forms_token(self._forms, data, len(data), found, None):
-            raise self._token_refusal(text)
-        size, end = found.literal.size, found.size
-        if isinstance(text, str):
-            end = _characters(text, end)
-        literal: Literal[AnyStr] = Literal.__new__(Literal)
-        literal._set(self, text[:size], found.literal, data)
-        literal._suffix = text[size:end]
-        return Token(literal, text[size:end], text[end:])
-
-    def _token_refusal(self, text: Union[str, bytes]) -> ValueError:
-        """Returns why a text does not begin with a token."""
-        stopped, data = _ReadError(), _bytes_of(text)
-        _library.forms_token(self._forms, data, len(data), None, stopped)
-        if not _library.explain(stopped, _Explanation()):
-            return ValueError(_text(_library.read_error_text, stopped))
-        return LiteralError(self, text, stopped, "token")
+        return Token(*self._token(text, start))
 
     def _literal_of(self, text: AnyStr) -> Literal[AnyStr]:
         """Returns the literal of a token."""
         return self.token(text).literal
 
-    def _kind_with(self, form: str, suffix: Union[str, bytes]) -> Kind:
-        """Returns the kind of the numbers of a form with a suffix."""
-        forms: Any = getattr(self, "forms", self)
-        forms = forms if form in forms else forms.tokens.forms
-        word, own = _shown(_bytes_of(suffix)), forms.suffixes.get(form, Suffixes())
-        found = [kind for it, kind in own.kinds if it == word or own.either_case and it.lower() == word.lower()]
-        return cast(Kind, (found or [forms.kinds.get(form, Kind())])[0])
 
-
-@dataclass(frozen=True)
 class Token(Generic[AnyStr]):
-    """A number that a text begins with, its suffix, which is empty if it has none, and what follows."""
+    """A number in a text, its suffix, which is empty if it has none, the index `end` behind it, and what follows: `rest`."""
 
-    literal: Literal[AnyStr]
-    suffix: AnyStr
-    rest: AnyStr
+    __slots__ = ("literal", "suffix", "end", "_text")
+
+    def __init__(self, literal: Literal[AnyStr], suffix: AnyStr, end: int, text: AnyStr) -> None:
+        self.literal: Literal[AnyStr] = literal
+        self.suffix: AnyStr = suffix
+        self._text: AnyStr = text
+        self.end = end
+
+    @property
+    def rest(self) -> AnyStr:
+        """What follows, which is a copy."""
+        return self._text[self.end :]
+
+    def _key(self) -> Tuple[Any, ...]:
+        return self.literal, self.suffix, self.rest
+
+    def __eq__(self, other: object) -> bool:
+        return isinstance(other, Token) and self._key() == other._key()
+
+    def __hash__(self) -> int:
+        return hash(self._key())
+
+    def __repr__(self) -> str:
+        return f"Token(literal={self.literal!r}, suffix={self.suffix!r}, rest={reprlib.repr(self.rest)})"
 
 
 @dataclass(frozen=True)
@@ -2409,8 +1534,9 @@ class Kind:
     single: bool = False
 
     def __post_init__(self) -> None:
-        bits = [it for it in (self.at_most, self.wraps) if it is not None]
-        if len(bits) > 1 or not all(1 <= _typed("a number of bits", it, int) <= 64 for it in bits) or self.modulo and self.wraps is None:
+        bits = [_number("a number of bits", it, 256) for it in (self.at_most, self.wraps) if it is not None]
+        flags = [_typed(name, getattr(self, name), bool) for name in ("modulo", "single")]
+        if len(bits) > 1 or not all(1 <= it <= 64 for it in bits) or flags[0] and self.wraps is None:
             raise ValueError(f"a kind has one number of bits, from 1 to 64, and `modulo` only with `wraps`: {self}")
 
     def _numbers(self) -> Tuple[int, int, int]:
@@ -2418,9 +1544,8 @@ class Kind:
         return number, self.at_most or self.wraps or 0, int(self.single)
 
     @classmethod
-    def _of(cls, form: Union[_Form, _SuffixKind]) -> Kind:
-        number, bits = form.integer_kind, form.integer_bits
-        return cls(bits if number == 1 else None, bits if number > 1 else None, number == 3, bool(form.float_kind))
+    def _of(cls, number: int, bits: int, single: int) -> Kind:
+        return cls(bits if number == 1 else None, bits if number > 1 else None, number == 3, bool(single))
 
 
 @dataclass(frozen=True)
@@ -2450,6 +1575,7 @@ class Suffixes:
         pairs = self.kinds.items() if isinstance(self.kinds, Mapping) else self.kinds
         object.__setattr__(self, "kinds", tuple((_typed("a word", it, str), _typed("a kind", kind, Kind)) for it, kind in pairs))
         object.__setattr__(self, "stops", tuple(tuple(_typed("a stop", it, str) for it in stop) for stop in self.stops))
+        _typed("either_case", self.either_case, bool)
         if any(len(stop) != 3 for stop in self.stops):
             raise ValueError(f"a stop has three strings: {self.stops}")
         [_string(it) for it in (self.integers, self.floats, self.any, *(it for stop in self.stops for it in stop))]
@@ -2457,18 +1583,16 @@ class Suffixes:
         if wrong := [it for it in words if any(it.isascii() and not it.isalnum() and it != "_" for it in it)]:
             raise ValueError(f"a suffix has letters, digits, `_` and characters that are not ASCII: {wrong[0]!r}")
 
-    def _structure(self) -> _Suffixes:
-        kinds = [_SuffixKind(_string(it), *kind._numbers()) for it, kind in self.kinds]
-        stops = [_Stop(*map(_string, stop)) for stop in self.stops]
-        words = map(_string, (self.integers, self.floats, self.any))
-        listed = (_SuffixKind * len(kinds))(*kinds), (_Stop * len(stops))(*stops)
-        return _Suffixes(*words, listed[0], len(kinds), listed[1], len(stops), self.either_case)
+    def _members(self) -> Tuple[Any, ...]:
+        """Returns the members of the structure."""
+        kinds = tuple((_string(it), *kind._numbers()) for it, kind in self.kinds)
+        stops = tuple(tuple(map(_string, stop)) for stop in self.stops)
+        return *map(_string, (self.integers, self.floats, self.any)), kinds, stops, int(self.either_case)
 
     @classmethod
-    def _of(cls, it: _Suffixes) -> Suffixes:
-        kinds = [(_shown(own.word), Kind._of(own)) for own in it.kinds[: it.kind_count]]
-        stops = [(_shown(own.last), _shown(own.next), _shown(own.second)) for own in it.stops[: it.stop_count]]
-        return cls(_shown(it.integers), _shown(it.floats), _shown(it.any), kinds, stops, it.either_case)
+    def _of(cls, integers: Any, floats: Any, any: Any, kinds: Any, stops: Any, either_case: int) -> Suffixes:
+        named = [(_shown(word), Kind._of(*numbers)) for word, *numbers in kinds]
+        return cls(_shown(integers), _shown(floats), _shown(any), named, [[*map(_shown, it)] for it in stops], bool(either_case))
 
 
 @dataclass(frozen=True)
@@ -2480,6 +1604,12 @@ class Tokens:
     forms: Optional[Forms] = None
     following: str = ""
     gives_points_back: bool = False
+
+    def __post_init__(self) -> None:
+        if self.forms is not None:
+            _typed("forms", self.forms, Forms)
+        _string(self.following)
+        _typed("gives_points_back", self.gives_points_back, bool)
 
 
 class Forms(_Several, Mapping[str, Syntax]):
@@ -2502,42 +1632,30 @@ class Forms(_Several, Mapping[str, Syntax]):
     """
 
     def __init__(
-        self,
-        forms: Union[Mapping[str, Syntax], Iterable[Tuple[str, Syntax]]],
-        *,
-        nan: Optional[str] = None,
-        inf: Optional[str] = None,
-        infinity: Optional[str] = None,
-        kinds: Optional[Mapping[str, Kind]] = None,
-        suffixes: Optional[Mapping[str, Suffixes]] = None,
-        tokens: Optional[Tokens] = None,
+        self, forms: Union[Mapping[str, Syntax], Iterable[Tuple[str, Syntax]]], *, nan: Optional[str] = None,
+        inf: Optional[str] = None, infinity: Optional[str] = None, kinds: Optional[Mapping[str, Kind]] = None,
+        suffixes: Optional[Mapping[str, Suffixes]] = None, tokens: Optional[Tokens] = None
     ) -> None:
         pairs = [*(forms.items() if isinstance(forms, Mapping) else forms)]
         self._named = {_typed("a name", name, str): _typed("a form", it, Syntax) for name, it in pairs}
-        if not 0 < len(pairs) == len(self) <= _FORMS_MAX:
-            raise ValueError(f"there are 1 to {_FORMS_MAX} forms, no two with the same name: {reprlib.repr([it for it, _ in pairs])}")
+        if not 0 < len(pairs) == len(self) <= _c.FORMS_MAX:
+            raise ValueError(f"there are 1 to {_c.FORMS_MAX} forms, no two with the same name: {reprlib.repr([it for it, _ in pairs])}")
         self.specials = Specials(nan, inf, infinity)
-        of: Any = forms if isinstance(forms, Forms) else SimpleNamespace(kinds=None, suffixes=None, tokens=None)
-        self.kinds: Dict[str, Kind] = self._by_form("a kind", of.kinds if kinds is None else kinds, Kind)
-        self.suffixes: Dict[str, Suffixes] = self._by_form("suffixes", of.suffixes if suffixes is None else suffixes, Suffixes)
-        self.tokens: Optional[Tokens] = of.tokens if tokens is None else _typed("tokens", tokens, Tokens)
-        structures = {it: it._structure() for it in self.suffixes.values()}
-        self._kept: List[Any] = [*structures.values()]
-        made = [_Form(None, it._by, *self.kinds.get(name, Kind())._numbers()) for name, it in self.items()]
-        for form, own in zip(made, map(self.suffixes.get, self)):
-            if own is not None:
-                form.suffixes = pointer(structures[own])
-        listed = (_Form * len(self))(*made)
-        self._made = _Forms(listed, len(self), self.specials._spellings())
-        if self.tokens is not None:
-            behind = self.tokens.forms._made if self.tokens.forms is not None else _Forms()
-            rules = _Tokens(behind.forms, behind.count, _string(self.tokens.following), self.tokens.gives_points_back)
-            self._made.tokens = pointer(rules)
-            self._kept += [behind, rules]
-        self._kept += made
-        self._forms = c_void_p(addressof(self._made))
-        if self.tokens is not None and not isinstance(self._token_refusal(b""), LiteralError):
-            raise ValueError(f"the forms have more than {_WORDS_MAX} words, kinds of suffixes, or stops")
+        if isinstance(forms, Forms):
+            kinds, suffixes = forms.kinds if kinds is None else kinds, forms.suffixes if suffixes is None else suffixes
+            tokens = forms.tokens if tokens is None else tokens
+        self.kinds: Dict[str, Kind] = self._by_form("a kind", kinds, Kind)
+        self.suffixes: Dict[str, Suffixes] = self._by_form("suffixes", suffixes, Suffixes)
+        self.tokens: Optional[Tokens] = None if tokens is None else _typed("tokens", tokens, Tokens)
+        own = [(self.kinds.get(name, Kind()), self.suffixes.get(name)) for name in self]
+        behind = self.tokens.forms if self.tokens is not None else None
+        self._listed: Any = [(*item, *more) for item, more in zip(self.items(), own)] + (behind._listed if behind is not None else [])
+        made = tuple((None, it._by, *kind._numbers(), more and more._members()) for it, (kind, more) in zip(self.values(), own))
+        rules = self.tokens and (behind._made[0] if behind is not None else (), _string(self.tokens.following), int(self.tokens.gives_points_back))
+        self._made: Any = made, self.specials._spellings(), rules
+        _c.make(self, self._made, True)
+        if self.tokens is not None and isinstance(self._explain(b"", 0), str):
+            raise ValueError(f"the forms have more than {_c.WORDS_MAX} words, kinds of suffixes, or stops")
 
     def _by_form(self, what: str, given: Optional[Mapping[str, Any]], kind: Type[Typed]) -> Dict[str, Typed]:
         """Returns what is given for forms."""
@@ -2545,11 +1663,6 @@ class Forms(_Several, Mapping[str, Syntax]):
         if unknown := [*(made.keys() - self.keys())]:
             raise ValueError(f"there is no form with this name: {unknown[0]!r}")
         return made
-
-    @property
-    def _listed(self) -> List[Tuple[str, Any]]:
-        behind = self.tokens.forms if self.tokens is not None else None
-        return [*self.items(), *(behind.items() if behind is not None else [])]
 
     def __getitem__(self, name: str) -> Syntax:
         return cast(Syntax, self._named[name])
@@ -2580,15 +1693,15 @@ class Forms(_Several, Mapping[str, Syntax]):
         return functools.partial(Forms, **vars(self.specials), **more), ([*self.items()],)
 
 
-def _forms_of(listed: List[_Form], more: Dict[str, Any]) -> Forms:
+def _forms_of(listed: Any, more: Dict[str, Any]) -> Forms:
     """Returns forms of a language."""
-    named = {it.name.decode(): it for it in listed}
-    kinds = {name: kind for name, it in named.items() if (kind := Kind._of(it)) != Kind()}
-    suffixes = {name: Suffixes._of(it.suffixes.contents) for name, it in named.items() if it.suffixes}
-    return Forms({name: Syntax._of_numbers(it.syntax) for name, it in named.items()}, **more, kinds=kinds, suffixes=suffixes)
+    named = {_shown(name): it for name, *it in listed}
+    kinds = {name: kind for name, (_, *numbers, _) in named.items() if (kind := Kind._of(*numbers)) != Kind()}
+    suffixes = {name: Suffixes._of(*it[-1]) for name, it in named.items() if it[-1]}
+    return Forms({name: Syntax._of_numbers(it[0]) for name, it in named.items()}, **more, kinds=kinds, suffixes=suffixes)
 
 
-class Language(_Several, _Named):
+class _Language(_Several, _Named):
     # Made by make_python.py: languages
     """How a language, or a file, writes numbers. `languages` is another name of this class.
 
@@ -2602,163 +1715,96 @@ class Language(_Several, _Named):
     ADA: Ada's decimal literals (Reference Manual 2012, 2.4.1). A format cannot accept based literals, such as
         `16#FF#`, or accept `1.0E-3` and `1E3` but reject `1E-3`. So `1E-3` is read here, but the first form never
         writes it. Forms: decimal; integer with an exponent.
-
     C: C's integer and floating constants (C23, 6.4.4.1 and 6.4.4.2). A format cannot accept `1u`, `1L` and `1.0f`.
         Forms: decimal; octal; hexadecimal; binary; hexadecimal float.
-
     CSS: CSS's numbers, with signs (CSS Syntax Module Level 3, 4.3.12). A format cannot accept a unit, as in `10px` and
         `5%`. A token has a word as its unit. It ends before `%`, and before a `-` that follows a digit: of `1p2-x`, it
         is `1p2`. Forms: decimal.
-
     CSV_DE: Numbers in CSV, as German spreadsheets write cells of the format `#.##0,00` (RFC 4180): `1.234,50`. `0.123`
         is refused for its leading zero, since its groups are right. LibreOffice reads `-0` as 0. Forms: decimal.
-
     CSV_EN: Numbers in CSV, as English spreadsheets write cells of the format `#,##0.00`, in quotes (RFC 4180):
         `"1,234.50"`. Remove the quotes, as CSV readers do. A format cannot accept the minus sign U+2212 of Gnumeric:
         replace it by `-`. LibreOffice reads `-0` as 0. Forms: decimal.
-
     C_PLUS_PLUS: C++'s integer and floating literals (C++17, 5.13.2 and 5.13.4). A format cannot accept `1u`, `1L`,
         `1.0f` and suffixes of users. Forms: decimal; octal; hexadecimal; binary; hexadecimal float.
-
     C_SHARP: C#'s integer and real literals (C# standard, 6.4.5.3 and 6.4.5.4). A format cannot accept `1L`, `1f` and
         `1m`. Forms: decimal; hexadecimal; binary.
-
     ELIXIR: Elixir's integers and floats (Syntax reference 1.14, Numbers). Elixir refuses numbers from 1.8e308 on,
         which are infinity here. Forms: decimal; hexadecimal; octal; binary.
-
     FORTRAN: Fortran's signed integers and reals (ISO/IEC 1539-1:2018, 7.4.3). A format cannot accept a kind, as in
         `1.0_8`, or binary, octal and hexadecimal constants, such as `Z'FF'`. Integers have at most 31 bits, and `0.1`,
         but not `0.1d0`, is an `f32`. Forms: decimal; double precision.
-
     GO: Go's integer and floating-point literals (Language Specification). A format cannot accept `1i`. Forms: decimal;
         octal; hexadecimal; octal, 0o; binary; hexadecimal float.
-
     HASKELL: Haskell's integers and floats (Haskell 2010 Report, 2.5). GHC reads more since 9.2: those of
         `HASKELL_GHC2021`. Forms: decimal; hexadecimal; octal.
-
     HASKELL_GHC2021: Haskell's integers and floats with the extensions of GHC that `GHC2021` has (GHC User's Guide 9.2,
         NumericUnderscores, BinaryLiterals and HexFloatLiterals). A format cannot accept `1_e5` but reject `1_.5`. GHC
         also accepts `_0.1`, which the guide does not. Forms: decimal; hexadecimal; octal; binary.
-
     JAVA: Java's integer and floating-point literals (Language Specification 21, 3.10.1 and 3.10.2). A format cannot
         accept `1L`, `1f` and `1d`. Values are those of `int` or, with `L`, of `long`: a hexadecimal, octal or binary
         integer from 2^31 on is negative, as `0xffffffff`, which is -1. `2147483648`, which is lawful only after the
         operator `-`, is too large. Forms: decimal; octal; hexadecimal; binary; hexadecimal float.
-
     JAVASCRIPT: JavaScript's numeric literals in strict code (ECMA-262, Numeric Literals). A format cannot accept `1n`.
         JavaScript makes integers doubles, which it rounds from 2^53 on: take their values as `f64`. Forms: decimal;
         hexadecimal; octal; binary.
-
     JSON: JSON's numbers (RFC 8259, 6. Numbers). Forms: decimal.
-
     JULIA: Julia's integers and floats (Manual 1.11, Integers and Floating-Point Numbers). `0.1f0`, but not `0.1`, is
         an `f32`. Forms: decimal; 32 bits; hexadecimal; octal; binary; hexadecimal float.
-
     KOTLIN: Kotlin's integer and real literals (Kotlin language specification 1.9, Literals). A format cannot accept
         `1L`, `1f` and `1u`. Forms: decimal; hexadecimal; binary.
-
     LUA: Lua's integers and floats (Reference Manual 5.4, 3.1). In Lua, a decimal integer from 2^63 on is a float: take
         its value as an `f64`. A hexadecimal one keeps its last 64 bits: `0xffffffffffffffff` is -1. Forms: decimal;
         hexadecimal.
-
     NASM: NASM's numeric constants (NASM manual, Numeric Constants and Floating-Point Constants). A format cannot
         accept `$0c8`, `0x_`, `0._` and `1e_`, which have separators alone, or `0h.` and `0op7`, which have no digit.
         NASM keeps the last 64 bits of an integer, with a sign: `0x10000000000000001` is 1, and `0xffffffffffffffff`
         -1. Forms: decimal; decimal, d; decimal, t; hexadecimal, h; hexadecimal, x; octal, o; octal, q; binary, b;
         binary, y; decimal, 0d; decimal, 0t; hexadecimal, 0h; hexadecimal, 0x; octal, 0o; octal, 0q; binary, 0b;
         binary, 0y.
-
     OCAML: OCaml's integers and floats (Manual 5.2, 11.1 Lexical conventions). A format cannot accept `1._`, whose
         fraction has a separator alone, or `1l`, `1L` and `1n`. An integer has 63 bits, so `0x7fffffffffffffff` is -1.
         `4611686018427387904`, of which OCaml makes its least integer, -2^62, is too large. Forms: decimal;
         hexadecimal; octal; binary.
-
     PHP: PHP's integers and floats (Manual, 8.1 and later, Integers and Floating point numbers). In PHP, an integer
         from 2^63 on is a float. Forms: decimal; octal; hexadecimal; octal, 0o; binary.
-
     PYTHON: Python's integers and floats (Language Reference 3.12, 2.4.5 and 2.4.6). A format cannot accept `00` and
         reject `01`, or accept `1j`. CPython takes the `0o` of `0or x` for a prefix, and refuses it: its token here is
         `0`. Forms: decimal; hexadecimal; octal; binary.
-
     R: R's numeric constants (R Language Definition 4.2, 10.3.1). A format cannot accept `1L` and `1i`. In R, all are
         doubles: `9007199254740993` is 9007199254740992 there. Forms: decimal; hexadecimal; hexadecimal float.
-
     RUBY: Ruby's integers and floats (ISO/IEC 30170:2012, 8.7.6.2), with signs. A format cannot accept `1r` and `1i`.
         Forms: decimal; octal; hexadecimal; octal, 0o; binary; decimal, 0d.
-
     RUST: Rust's integers and floats (Reference, Integer literals and Floating-point literals). A format cannot accept
         the suffixes in `0x1F_u8` and `1f32`. At the end of a text, the token of `0b1.` is `0b1`, but rustc takes the
         point, and refuses it. Forms: decimal; with a point at the end; hexadecimal; octal; binary.
-
     SQL: SQL's signed numeric literals (ISO/IEC 9075-2:2016, 5.3 `<literal>`). PostgreSQL reads `-0.0` as 0. Forms:
         decimal.
-
     SWIFT: Swift's numeric literals, with the sign `-` (The Swift Programming Language, Lexical Structure). Forms:
         decimal; hexadecimal; octal; binary; hexadecimal float.
-
     TOML: TOML's integers and floats (TOML 1.0.0, Integer and Float). Forms: decimal; hexadecimal; octal; binary.
-
     XML_SCHEMA: The decimals of XML Schema, with signs (XML Schema 1.1, Part 2, 3.3.3). Forms: decimal.
-
     YAML: YAML's integers and floats (YAML 1.2.2, 10.3.2 Tag Resolution). A format cannot accept `.inf` and `.INF` but
         reject `.iNF`, or accept `-.inf` but reject `-.nan`. Tools for YAML 1.1, such as PyYAML, read `YAML_1_1`:
         there, `010` is 8, and `1e3` is a string. Forms: decimal; octal; hexadecimal.
-
     YAML_1_1: YAML 1.1's integers and floats (int.html and float.html of its type repository). A format cannot accept
         `1:30`, which is 90 there, `1._`, whose fraction has a separator alone, or `-.inf` but reject `-.nan` and
         `.iNF`. PyYAML reads `-.5` and `._5` as strings. Forms: decimal; octal; hexadecimal; binary.
     """
-
-    ADA = "ADA"
-    C = "C"
-    CSS = "CSS"
-    CSV_DE = "CSV_DE"
-    CSV_EN = "CSV_EN"
-    C_PLUS_PLUS = "C_PLUS_PLUS"
-    C_SHARP = "C_SHARP"
-    ELIXIR = "ELIXIR"
-    FORTRAN = "FORTRAN"
-    GO = "GO"
-    HASKELL = "HASKELL"
-    HASKELL_GHC2021 = "HASKELL_GHC2021"
-    JAVA = "JAVA"
-    JAVASCRIPT = "JAVASCRIPT"
-    JSON = "JSON"
-    JULIA = "JULIA"
-    KOTLIN = "KOTLIN"
-    LUA = "LUA"
-    NASM = "NASM"
-    OCAML = "OCAML"
-    PHP = "PHP"
-    PYTHON = "PYTHON"
-    R = "R"
-    RUBY = "RUBY"
-    RUST = "RUST"
-    SQL = "SQL"
-    SWIFT = "SWIFT"
-    TOML = "TOML"
-    XML_SCHEMA = "XML_SCHEMA"
-    YAML = "YAML"
-    YAML_1_1 = "YAML_1_1"
     # End
 
-    @functools.cached_property
-    def _forms(self) -> Any:
-        return c_void_p(_library.language(self.name.encode(), len(self.name)))
+    def __init__(self, name: str) -> None:
+        _c.language(self, name)
 
     @functools.cached_property
     def forms(self) -> Forms:
         """The forms of literals, in the order of the documentation, with the spellings of NaN and infinity."""
-        made = _Forms.from_address(self._forms.value)
-        spelled = {name: it.decode() for name, _ in _Specials._fields_[:-1] if (it := getattr(made.specials, name))}
-        more: Dict[str, Any] = {**spelled}
-        if made.tokens:
-            rules = made.tokens.contents
-            behind = _forms_of(rules.forms[: rules.count], {}) if rules.count else None
-            more["tokens"] = Tokens(behind, _shown(rules.following), rules.gives_points_back)
-        forms = _forms_of(made.forms[: made.count], more)
-        forms._forms = self._forms
-        return forms
+        listed, spellings, rules = self._members()
+        more: Dict[str, Any] = {it: of.decode() for it, of in zip(("nan", "inf", "infinity"), spellings) if of}
+        if rules:
+            behind = _forms_of(rules[0], {}) if rules[0] else None
+            more["tokens"] = Tokens(behind, _shown(rules[1]), bool(rules[2]))
+        return _forms_of(listed, more)
 
     @property
     def specials(self) -> Specials:
@@ -2770,77 +1816,38 @@ class Language(_Several, _Named):
         return self.forms._named
 
     @property
-    def _listed(self) -> List[Tuple[str, Any]]:
+    def _listed(self) -> Any:
         return self.forms._listed
 
     def __repr__(self) -> str:
         return f"languages.{self.name}"
 
 
+_made = _Language
+_c.Language = _made("Language", [(it, it) for it in _c.LANGUAGES], module=__name__)
+_c.Language.__doc__ = _Language.__doc__
+from ._peltzivar import Language
+
 languages = Language
 
 
-@_takes_fields
-def notes_of(
-    *settings: Union[Edit, str],
-    # Made by make_python.py: parameters
-    required_integer_digits: bool = _KEPT,
-    required_fraction_digits: bool = _KEPT,
-    required_exponent_digits: bool = _KEPT,
-    required_mantissa_digits: bool = _KEPT,
-    no_positive_mantissa_sign: bool = _KEPT,
-    required_mantissa_sign: bool = _KEPT,
-    no_exponent_notation: bool = _KEPT,
-    no_positive_exponent_sign: bool = _KEPT,
-    required_exponent_sign: bool = _KEPT,
-    no_exponent_without_fraction: bool = _KEPT,
-    no_special: bool = _KEPT,
-    case_sensitive_special: bool = _KEPT,
-    no_integer_leading_zeros: bool = _KEPT,
-    no_float_leading_zeros: bool = _KEPT,
-    required_exponent_notation: bool = _KEPT,
-    case_sensitive_exponent: bool = _KEPT,
-    case_sensitive_base_prefix: bool = _KEPT,
-    case_sensitive_base_suffix: bool = _KEPT,
-    integer_internal_digit_separator: bool = _KEPT,
-    fraction_internal_digit_separator: bool = _KEPT,
-    exponent_internal_digit_separator: bool = _KEPT,
-    integer_leading_digit_separator: bool = _KEPT,
-    fraction_leading_digit_separator: bool = _KEPT,
-    exponent_leading_digit_separator: bool = _KEPT,
-    integer_trailing_digit_separator: bool = _KEPT,
-    fraction_trailing_digit_separator: bool = _KEPT,
-    exponent_trailing_digit_separator: bool = _KEPT,
-    integer_consecutive_digit_separator: bool = _KEPT,
-    fraction_consecutive_digit_separator: bool = _KEPT,
-    exponent_consecutive_digit_separator: bool = _KEPT,
-    special_digit_separator: bool = _KEPT,
-    digit_separator: Optional[Byte] = _KEPT,
-    base_prefix: Optional[Byte] = _KEPT,
-    base_suffix: Optional[Byte] = _KEPT,
-    mantissa_radix: int = _KEPT,
-    exponent_base: Optional[int] = _KEPT,
-    exponent_radix: Optional[int] = _KEPT,
-    required_digits: bool = _KEPT,
-    internal_digit_separator: bool = _KEPT,
-    leading_digit_separator: bool = _KEPT,
-    trailing_digit_separator: bool = _KEPT,
-    consecutive_digit_separator: bool = _KEPT,
-    digit_separator_flags: bool = _KEPT,
-    integer_digit_separator_flags: bool = _KEPT,
-    fraction_digit_separator_flags: bool = _KEPT,
-    exponent_digit_separator_flags: bool = _KEPT,
-    radix: int = _KEPT,
-    # End
-) -> Tuple[Note, ...]:
+@_takes(_peltzivar.fields)
+def notes_of(*settings: Union[Edit, str], **fields: Value) -> Tuple[Note, ...]:
     """Returns the notes on the fields that settings write, also on a digit separator that `FormatView.of` drops."""
-    fields = _Fields(*_NEW_FIELDS)
-    _apply(settings, fields)
-    return _notes(fields)
+    return _notes(_c.pack(_c.NEW_FIELDS, [it._numbers() for it in _edits(settings)])[0])
 
 
-def _apply(settings: Iterable[Union[Edit, str]], fields: _Fields) -> List[Edit]:
-    """Applies settings to fields, and returns their edits."""
-    edits = [it if isinstance(it, Edit) else Edit(_typed("a setting", it, str, _SETTING)) for it in settings]
-    _library.edit_fields(fields, (_Edit * len(edits))(*(edit._numbers() for edit in edits)), len(edits))
-    return edits
+def _edits(settings: Iterable[Union[Edit, str]]) -> List[Edit]:
+    """Returns settings as edits."""
+    return [it if isinstance(it, Edit) else Edit(_typed("a setting", it, str, _SETTING)) for it in settings]
+
+
+for _of_class, _name in ((_Reader, "parse"), (_Reader, "format_number"), (Syntax, "read"), (_Several, "read")):
+    # The method is one of C, with the signature and the documentation that it has above. It calls that for what it leaves.
+    _call = vars(_of_class)[_name]
+    _signature = inspect.signature(_call)
+    _plain = [it.replace(annotation=it.empty) for it in _signature.parameters.values()]
+    _shown_as = str(_signature.replace(parameters=_plain, return_annotation=_signature.empty)).replace("<class 'float'>", "float")
+    _doc = f"{_name}{_shown_as.replace('(self', '($self', 1)}\n--\n\n{inspect.getdoc(_call)}"
+    setattr(_of_class, _name, _c.fast(_of_class, _call, _doc))
+_c.register(Literal, LiteralError)

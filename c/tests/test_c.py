@@ -5,6 +5,7 @@ import pathlib
 import re
 import shutil
 import subprocess
+import sys
 import tempfile
 import unittest
 
@@ -143,9 +144,10 @@ class Programs(unittest.TestCase):
     def test_the_examples_print_what_the_page_shows(self):
         self.made("cc", C / "example.c", ARCHIVE, name="example")
         shutil.copy(C / "example.py", self.folder)
-        shown = re.findall(r"^    \$ (.*example.*)\n((?:    (?!\$).*\n)+)", PAGE, re.M)
+        page = "".join((TOP / "docs" / it).read_text() for it in ("C-AND-PYTHON.md", "PYTHON.md"))
+        shown = re.findall(r"^    \$ (.*example.*)\n((?:    (?!\$).*\n)+)", page, re.M)
         self.assertTrue(shown)
-        environment = {**os.environ, "PELTZIVAR_LIBRARY": str(SHARED), "PYTHONPATH": str(C)}
+        environment = {**os.environ, "PYTHONPATH": str(C)}
         for command, printed in shown:
             wanted = re.sub("^    ", "", printed, flags=re.M)
             self.assertEqual(run("bash", "-c", command, cwd=self.folder, env=environment)[0], wanted)
@@ -225,7 +227,7 @@ class Header(unittest.TestCase):
         version = ".".join(map(str, number.to_bytes(3, "big")))
         self.assertIn(f'#define PELTZIVAR_VERSION "{version}"\n#define PELTZIVAR_VERSION_NUMBER 0x{number:06x}\n', HEADER)
         self.assertIn(f'version = "{version}"\n', (C / "pyproject.toml").read_text())
-        self.assertIn(f"_VERSION = 0x{number:06x}\n", (C / "peltzivar/__init__.py").read_text())
+        self.assertEqual(run(sys.executable, "-c", "import peltzivar; print(peltzivar.__version__)", cwd=C), (f"{version}\n", 0))
         self.assertIn(f"libpeltzivar_c.so.{number >> 16}]", run("readelf", "-d", SHARED)[0])
         self.assertRegex((TOP / "CHANGELOG.md").read_text(), rf"\A# Changelog\n\n## {re.escape(version)}\b")
 

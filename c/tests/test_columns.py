@@ -12,6 +12,7 @@ import textwrap
 import timeit
 import unittest
 from array import array
+from decimal import Decimal
 from unittest import mock
 
 TESTS = pathlib.Path(__file__).resolve().parent
@@ -19,7 +20,7 @@ sys.path.insert(0, str(TESTS.parent))
 import peltzivar
 from peltzivar import Format, Language, LiteralError, Syntax
 
-PAGE = (TESTS.parent.parent / "docs/C-AND-PYTHON.md").read_text()
+PAGE = (TESTS.parent.parent / "docs/PYTHON.md").read_text()
 
 
 class Columns(unittest.TestCase):
@@ -74,6 +75,18 @@ class Columns(unittest.TestCase):
             self.assertRaisesRegex(ValueError, sentence, Language.TOML.parse, text, int)
         self.assertRaisesRegex(ValueError, "mantissa radix", Syntax(Format.of(radix=3)).parse, "12")
 
+    def test_columns_of_decimals_and_of_texts(self):
+        self.assertEqual(Language.CSV_DE.column(["1.234,50", b"2"[:0].decode() or "7"], Decimal).values, [Decimal("1234.50"), Decimal(7)])
+        cells = ["0,10", None, "x", "1,5"]
+        values, wrong, missing = Language.CSV_DE.column(cells, Decimal, errors="coerce", fill=Decimal("NaN"))
+        self.assertEqual((str(values), [it.index for it in wrong], missing), ("[Decimal('0.10'), Decimal('NaN'), Decimal('NaN'), Decimal('1.5')]", [2], (1,)))
+        offsets = Language.CSV_DE.column((b"1,5-7", array("i", [0, 3, 5])), Decimal).values
+        self.assertEqual(offsets, [Decimal("1.5"), Decimal(-7)])
+        for wishes, values in itertools.product(({}, {"group": 3}, {"decimals": 2}, {"exponent": 3, "point": True}), ([1234.5, 7, Decimal("-0.125"), 10**30], [1e16, -0.0])):
+            self.assertEqual(Language.JSON.format_column(values, **wishes), [Language.JSON.format_number(it, **wishes) for it in values])
+        self.assertEqual(Language.CSV_DE.format_column([math.nan, None, 1.5], fill="-"), ["-", "-", "1,5"])
+        self.assertRaisesRegex(ValueError, "NaN or infinity", Language.CSV_DE.format_column, [math.nan])
+
     @unittest.skipUnless(importlib.util.find_spec("pandas"), "pandas")
     def test_the_german_column_of_the_page(self):
         (code,) = re.findall(r"^(    import pandas.*\n(?:    .*\n)+)", PAGE, re.M)
@@ -84,6 +97,18 @@ class Columns(unittest.TestCase):
         table = ";name;price\n0;a;1.234,50\n1;b;\n2;c;\n"
         self.assertEqual(printed.getvalue(), f"row 2: 12,3x: unexpected character 'x'\n{table}\n")
 
+    @unittest.skipUnless(importlib.util.find_spec("pandas"), "pandas")
+    def test_german_prices_are_written_nearly_as_fast_as_by_pandas(self):
+        import pandas
+
+        frame, ratios = pandas.DataFrame({"name": "a", "price": [it / 7 for it in range(20_000)]}), []
+        own = lambda: frame.assign(price=Language.CSV_DE.format_column(frame["price"], decimals=2, group=0)).to_csv(sep=";")
+        theirs = lambda: frame.to_csv(sep=";", decimal=",", float_format="%.2f")
+        self.assertEqual(own(), theirs())
+        while min(ratios, default=math.inf) > 1.2:
+            ratios.append(operator.truediv(*(min(timeit.repeat(it, number=1, repeat=3)) for it in (own, theirs))))
+            self.assertLess(len(ratios), 30, f"{min(ratios):.1f} times that of pandas, above 1.2. Is the machine busy?")
+
     def test_times_of_a_cell_are_these_multiples_of_that_of_float(self):
         json, texts = Language.JSON, ["1", "-17", "1000", "3.25", "-12345.678e-9", "0.5", "1000.5e-3", "9007199254740993"] * 100
         data, offsets = "".join(texts).encode(), array("q", [0, *itertools.accumulate(map(len, texts))])
@@ -93,16 +118,20 @@ class Columns(unittest.TestCase):
             with contextlib.suppress(LiteralError):
                 json.read(text)
 
+        floats, german = [*map(float, texts)], Language.CSV_DE
         rows = {
-            "text": (2.7, lambda: json.column(texts)),
-            "missing": (3.8, lambda: json.column(gaps)),
-            "other characters": (3.8, lambda: json.column([it or "1\u00e9" for it in gaps], errors="coerce")),
-            "offsets": (1.2, lambda: json.column((data, offsets))),
-            "refused": (8, lambda: json.column(wrong, errors="coerce")),
-            "one": (12, lambda: [json.parse(it) for it in texts]),
-            "decimal": (12, lambda: [it.decimal() for it in literals]),
-            "fraction": (15, lambda: [it.fraction() for it in literals]),
-            "refused alone": (60, lambda: [refuse(it) for it in wrong]),
+            "parse": (2.5, lambda: [json.parse(it) for it in texts]),
+            "value": (5, lambda: [json.read(it).value for it in texts]),
+            "refused alone": (8, lambda: [refuse(it) for it in wrong]),
+            "decimal": (8, lambda: [it.decimal() for it in literals]),
+            "fraction": (12, lambda: [it.fraction() for it in literals]),
+            "written": (6, lambda: [german.format_number(it, decimals=2) for it in floats]),
+            "column written": (6, lambda: german.format_column(floats, decimals=2)),
+            "column": (0.9, lambda: json.column(texts)),
+            "missing": (0.9, lambda: json.column(gaps)),
+            "other characters": (1.5, lambda: json.column([it or "1\u00e9" for it in gaps], errors="coerce")),
+            "offsets": (0.9, lambda: json.column((data, offsets))),
+            "refused": (1.5, lambda: json.column(wrong, errors="coerce")),
         }
         for name, (limit, call) in rows.items():
             ratios = []

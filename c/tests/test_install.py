@@ -10,8 +10,8 @@ import unittest
 import zipfile
 
 C = pathlib.Path(__file__).resolve().parent.parent
-PAGE, README = ((C.parent / path).read_text() for path in ("docs/C-AND-PYTHON.md", "README.md"))
-INSTALL, BUILD, PACKAGES = re.findall(r"^```sh\n(.*?)^```", PAGE, re.M | re.S)
+PAGE, PYTHON, README = ((C.parent / path).read_text() for path in ("docs/C-AND-PYTHON.md", "docs/PYTHON.md", "README.md"))
+INSTALL, BUILD, PACKAGES = re.findall(r"^```sh\n(.*?)^```", PAGE + PYTHON, re.M | re.S)
 CMAKE = "cmake_minimum_required(VERSION 3.10)\nproject(it C)\nadd_executable(example example.c)\n"
 CMAKE += re.search(r"((?:^    (?:find_package|target_link).*\n)+)", PAGE, re.M)[1]
 VERSION = re.search('VERSION "(.*)"', (C / "peltzivar.h").read_text())[1]
@@ -101,7 +101,13 @@ endforeach()
         self.assertEqual(found["peltzivar"], found["other"])
         self.assertEqual((len(found["other"]), {it for it, _ in found["other"]}), (len(wanted), {"0", "1"}))
 
-    def test_python_finds_the_library_below_the_prefix(self):
+    def test_a_package_says_in_a_line_what_is_missing(self):
+        shutil.copytree(C.parent, top := self.folder / "copy", ignore=shutil.ignore_patterns(".git", "crates", "target", "*.so*"))
+        for variables, sentence in (({"PATH": "/none"}, "cargo is not found: install Rust"), ({"CC": "no-cc"}, "no-cc is not found: install a C compiler")):
+            ran = subprocess.run([sys.executable, "setup.py", "build_ext"], cwd=top / "c", env=self.environment | variables, capture_output=True, text=True)
+            self.assertRegex(ran.stderr.splitlines()[-1], f"^{sentence}")
+
+    def test_python_finds_the_module_below_the_prefix(self):
         self.make("install", f"PREFIX={self.prefix}")
         (module,) = self.prefix.glob("lib/python3.*/site-packages/peltzivar/__init__.py")
         self.assertTrue(module.with_name("py.typed").exists())
@@ -138,10 +144,11 @@ endforeach()
         self.assertEqual({it for it in root.rglob("*") if not it.is_dir()}, foreign)
 
     def test_without_python_the_rest_is_installed_and_tested(self):
-        line = r"^no-python is not found: .* left out[^\n]*\n$"
+        line = r"^no-python 3.11 or later with Python.h is not found: [^\n]* left out\n$"
         self.assertRegex(self.make("install", f"PREFIX={self.prefix}", "PYTHON=no-python"), line)
         self.assertEqual([*self.prefix.rglob("*.py")], [])
-        self.assertRegex(self.make("check", "PYTHON=no-python"), line)
+        ran = self.make("check", "PYTHON=no-python").replace("the Python module is", "tests/*.py are").splitlines()
+        self.assertRegex(f"{ran[0]}\n" * ({*ran} == {ran[0]}), line)
 
     def test_a_missing_or_old_library_is_built(self):
         library = self.folder / "build/release/libpeltzivar_c.so"
@@ -189,18 +196,18 @@ class Package(InFolder):
         with zipfile.ZipFile(wheel) as opened:
             files = {name.rpartition("/")[2]: opened.read(name) for name in opened.namelist()}
         self.assertEqual((files["py.typed"], files["LICENSE"]), (b"", (C.parent / "LICENSE").read_bytes()))
-        entries = ["License: MIT", "Classifier: Typing :: Typed", "Requires-Python: >=3.9", "", ".* >>> from peltzivar import Syntax, languages"]
+        entries = ["License: MIT", "Classifier: Typing :: Typed", "Requires-Python: >=3.11", "", ".* >>> from peltzivar import Syntax, languages"]
         self.assertRegex(files["METADATA"].decode(), "(?ms)" + ".*".join(f"^{it}$" for it in entries))
-        self.assertRegex(wheel.name, f"-py3-none-manylinux_2_17_{os.uname().machine}.whl$")
+        self.assertRegex(wheel.name, f"-cp311-abi3-manylinux_2_17_{os.uname().machine}.whl$")
         # Without a network, pip gets from the system what it would fetch.
         paths = f"{checkout.parent}/environment/bin:{os.environ['PATH']}"
         self.environment |= {"PIP_NO_INDEX": "1", "PIP_NO_BUILD_ISOLATION": "0", "PATH": paths}
-        for command in dict.fromkeys([PACKAGES, *re.findall("`(pip install .*?)`", README + PAGE)]):
+        for command in dict.fromkeys([PACKAGES, *re.findall("`(pip install .*?)`", README + PYTHON)]):
             self.run_in("bash", "-ec", f"python3() {{ '{PACKAGER}' \"$@\"; }}; {command}", cwd=checkout.parent)
             folder = checkout if "install -e" in command else ".*/site-packages"
             self.assertRegex(self.run_in("python", *IMPORT[1:]), f"^{WORD} {folder}/peltzivar/__init__.py$")
-            modules = "import pkgutil, peltzivar; print([*pkgutil.iter_modules(peltzivar.__path__)])"
-            self.assertEqual(self.run_in("python", "-B", "-c", modules), "[]\n")
+            modules = "import pkgutil, peltzivar; print(*(it.name for it in pkgutil.iter_modules(peltzivar.__path__)))"
+            self.assertEqual(self.run_in("python", "-B", "-c", modules), "_peltzivar\n")
         self.assertFalse([*checkout.parent.rglob("target")])
 
 

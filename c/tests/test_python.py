@@ -4,6 +4,7 @@ import concurrent.futures
 import contextlib
 import copy
 import doctest
+import gc
 import importlib.util
 import inspect
 import itertools
@@ -19,7 +20,10 @@ import shutil
 import struct
 import subprocess
 import sys
+import sysconfig
 import tempfile
+import time
+import tracemalloc
 import typing
 import unittest
 from array import array
@@ -29,7 +33,7 @@ from unittest import mock
 
 TESTS = pathlib.Path(__file__).resolve().parent
 TOP = TESTS.parent.parent
-sys.path.insert(0, str(TESTS.parent))
+sys.path.insert(0, os.environ.get("PELTZIVAR_PACKAGE", str(TESTS.parent)))
 import peltzivar
 from peltzivar import Edit, Error, Format, FormatError, FormatView, Forms, Kind, Language, LiteralError, OptionsError, Part, ReadErrorKind
 from peltzivar import Role, Rule, Setter, SettingsError, Special, Specials, Spelling, Suffixes, Syntax, Tokens, languages, notes_of
@@ -37,13 +41,14 @@ from peltzivar import Role, Rule, Setter, SettingsError, Special, Specials, Spel
 numpy = importlib.import_module("numpy") if importlib.util.find_spec("numpy") else None
 
 PAGE = (TOP / "docs/FORMAT.md").read_text()
+ANALYSTS = (TOP / "docs/PYTHON.md").read_text()
 EXPLANATIONS = (TOP / "docs/EXPLANATIONS.md").read_text()
 FLAGS = re.findall(r"^\| (\d+) \| `(\w+)` \| (?:true|false) \|", PAGE, re.M)
 GROUPS = re.findall(r"^\| `(\w+)` \| (\d[\d ]*) \|", PAGE, re.M)
 BYTES = re.findall(r"^\| (\d+) to \d+ \| `(\w+)` \|", PAGE, re.M)
 RULES = re.findall(r"^\| (\d+) \| (.*) \| `(Invalid\w+)` \| `+('.*')`+ \| `(\w+)` \| (.*) \|$", PAGE, re.M)
 CAUSES = re.findall(r"^\| (?:`(.*)` )?\| `(.*)` \| (\w+) ?(.*?) \| (\d+) \| (\d+)\.\.(\d+) \|$", EXPLANATIONS, re.M)
-CALLS = peltzivar._library
+CALLS = peltzivar._peltzivar
 OLDEST = re.search(r'requires-python = ">=(.*)"', (TESTS.parent / "pyproject.toml").read_text())[1]
 
 
@@ -136,7 +141,7 @@ class Words(unittest.TestCase):
         self.assertEqual((f"{Format():>36}", f"{Format():#034x}"), (f"  {Format()}", "0x00000a0000000000000000000000000c"))
         self.assertEqual((repr(Format.no_special), f"{Rule(7)}"), ("<field no_special>", "PUNCTUATION_DIFFERS"))
         self.assertEqual(doctest.testmod(peltzivar).failed, 0)
-        self.assertEqual(doctest.testfile(str(TOP / "docs/C-AND-PYTHON.md"), module_relative=False).failed, 0)
+        self.assertEqual(sum(doctest.testfile(str(TOP / "docs" / it), module_relative=False).failed for it in ("C-AND-PYTHON.md", "PYTHON.md")), 0)
 
     def test_options(self):
         self.assertIsNone(Format().check_options("e", "."))
@@ -439,7 +444,7 @@ class Literals(unittest.TestCase):
 
     def test_each_status_error_and_cause_has_a_sentence_of_its_own(self):
         header, causes = (TESTS.parent / "peltzivar.h").read_text(), set()
-        descriptions = [getattr(CALLS, f"{kind.lower()}_description")(int(number)) for kind, number in re.findall(r"PELTZIVAR_(VALUE|WRITE)_\w+ = ([1-9]\d*)", header)]
+        descriptions = [CALLS.describe(kind.lower(), int(number)) for kind, number in re.findall(r"PELTZIVAR_(VALUE|WRITE)_\w+ = ([1-9]\d*)", header)]
         names = {it.name.lower() for it in Setter if it.value < 64 and "SPECIAL" not in it.name} | {*peltzivar._CONDITIONS} - {"higher_group_size"}
         texts = ". + 01 1E5 1e5 1e+5 1e .5 1. +1 -1 01.5 _1 1_ 1__1 1_1 1._5 1.5_ 1.5__5 1e_5 1e5_ 1e5__5 0X1 1H 0x1 1e_ 1._"
         for name, internal, text in itertools.product(names, (False, True), texts.split()):
@@ -609,6 +614,17 @@ WRONG = [
     ("Forms({1: Syntax(Format())})", TypeError, "a name must be a str, not int"),
     ("Forms({'a': Syntax(Format())}, nan='a\\0')", ValueError, "a spelling has a null character: Specials(nan='a\\x00', inf=None, infinity=None)"),
     ("Language.JSON.parse('1', bool)", TypeError, "type must be float or int, not <class 'bool'>"),
+    ("Kind(True)", TypeError, "a number of bits must be a number from 0 to 255, not bool"),
+    ("Kind(8, modulo=1)", TypeError, "modulo must be a bool, not int"),
+    ("Suffixes(either_case='no')", TypeError, "either_case must be a bool, not str"),
+    ("Tokens(forms=5)", TypeError, "forms must be a Forms, not int"),
+    ("Tokens(gives_points_back=1)", TypeError, "gives_points_back must be a bool, not int"),
+    ("Special('x', Spelling.NAN)", ValueError, "sign must be '+', '-' or empty, not 'x'"),
+    ("Special('', 'nan')", TypeError, "spelling must be a Spelling, not str"),
+    ("Language.JSON.column(['1'], int, fill=2**63)", ValueError, "fill is not a value of the column: 9223372036854775808"),
+    ("Language.C.token('1', -1)", ValueError, "start must be an index of the text"),
+    ("Language.JSON.token('1')", ValueError, "these forms have no tokens"),
+    ("Language.CSV_DE.format_column([1], colour=7)", TypeError, "_style() got an unexpected keyword argument 'colour'"),
     ("Syntax(Format()).format_number(1, decimals=-1)", ValueError, "decimals must be a number from 0 to 255, not -1"),
     ("Syntax(Format()).format_number(1, decimals=300)", ValueError, "decimals must be a number from 0 to 255, not 300"),
     ("Language.JSON.column(['1'], 'float64')", TypeError, "type must be float, int, or one of the formats d, f, q and Q, not 'float64'"),
@@ -649,17 +665,35 @@ class Wrong(unittest.TestCase):
 
     @unittest.skipUnless(shutil.which("mypy"), "mypy")
     def test_a_type_checker_accepts_right_arguments_and_refuses_wrong_ones(self):
-        program = """from decimal import Decimal; from peltzivar import Format, Syntax, notes_of
+        program = """from decimal import Decimal; from peltzivar import Format, Kind, Special, Spelling, Suffixes, Syntax, Tokens, languages, notes_of
 Format.of(mantissa_radix="x", base_prefx=3)
 Format().edit(no_special=1)
 Syntax.of(radix=16, point=1.5).read("1").value.real
 notes_of(mantissa_radix=None)
 print(Format().no_special + "", Format().check_options("e", None))
 Syntax(Format()).format_number("1")
+languages.JSON.column(["1"], str)
+languages.JSON.column(["1"], errors="ignore")
+languages.JSON.column([1.5])
+languages.JSON.parse(1.5)
+languages.JSON.parse("1", complex)
+languages.JSN.read("1")
+languages.C.read("1").txt
+languages.C.token("1").literal.size
+Kind(at_most="8")
+Special("", "nan")
+Suffixes(either_case="no")
+Tokens(forms=5)
+Syntax.notes_of(radix="x")
+Syntax(Format()).format_number(1, exponent="often")
+Syntax(Format()).read("1").parts.whole
 """
+        page = re.findall(r"^    (?:>>>|\.\.\.) (.*)$", ANALYSTS, re.M)
+        program += "\n".join(it if it.startswith(("import", "from", " ")) else it for it in page) + "\n"
         command = ["mypy", "--strict", f"--python-version={OLDEST}", "--cache-dir=/dev/null", peltzivar.__file__, TESTS / "typed.py", "/dev/stdin"]
         ran = subprocess.run(command, env={**os.environ, "MYPYPATH": str(TESTS.parent)}, input=program, capture_output=True, text=True)
-        self.assertEqual(re.findall(r"^(.*):(\d+): error", ran.stdout, re.M), [("/dev/stdin", line) for line in "223456667"], ran)
+        wrong = [int(line) for path, line in re.findall(r"^(.*):(\d+): error", ran.stdout, re.M) if path == "/dev/stdin" or self.fail(ran)]
+        self.assertEqual(wrong, [2, 2, 3, 4, 5, 6, 6, 6, *range(7, 23)], ran)
 
     def test_values_have_the_types_of_a_typed_program(self):
         def fits(value, kind):
@@ -894,38 +928,133 @@ class Lists(unittest.TestCase):
                     self.assertEqual(eval(repr(token.literal)), token.literal)
 
 
-class Loading(unittest.TestCase):
-    """Each test imports a copy of the module in another process."""
+def halved(part):
+    """Returns what a pool of processes computes of a part of a column."""
+    column = Language.CSV_DE.column(part, errors="coerce")
+    own = Forms({"": SYNTAX}).column(("".join(part).encode(), array("q", [0, *itertools.accumulate(map(len, part))])), errors="coerce")
+    return column, own, Language.CSV_DE.column(part, Decimal, errors="coerce", fill=Decimal(0))
 
-    def setUp(self):
-        self.folder = pathlib.Path(tempfile.mkdtemp())
-        self.addCleanup(shutil.rmtree, self.folder)
-        shutil.copy(peltzivar.__file__, self.folder / "peltzivar.py")
 
-    def run_copy(self, python=sys.executable, **variables):
-        command = [python, "-B", "-W", "error", "-c", "import peltzivar; print(peltzivar._library.path)"]
-        return subprocess.run(command, cwd=self.folder, env=variables, capture_output=True, text=True)
+class Extension(unittest.TestCase):
+    """What is new with an extension module: memory, threads, processes and interpreters."""
 
-    def test_the_library_is_found(self):
-        library = os.path.abspath(CALLS.path)
-        self.assertEqual(self.run_copy(PELTZIVAR_LIBRARY=library).stdout, f"{library}\n")
-        beside = shutil.copy(library, self.folder.resolve() / "libpeltzivar_c.so")
-        self.assertEqual(self.run_copy().stdout, f"{beside}\n")
-        versioned = "libpeltzivar_c.so." + peltzivar.__version__.split(".")[0]
-        (self.folder / "lib").mkdir()
-        os.rename(beside, self.folder / "lib" / versioned)
-        self.assertEqual(self.run_copy(LD_LIBRARY_PATH=str(self.folder / "lib")).stdout, f"{versioned}\n")
-        self.assertRegex(self.run_copy(PELTZIVAR_LIBRARY="no.so").stderr, r"ImportError: .*no\.so.*: name its path in PELTZIVAR_LIBRARY")
+    def test_columns_and_their_errors_come_back_from_a_pool_of_processes(self):
+        parts = [["1,5", "x", "2"], ["3", "4,5", "-7x"]]
+        with concurrent.futures.ProcessPoolExecutor(2) as pool:
+            found = [*pool.map(halved, parts)]
+            with self.assertRaises(peltzivar.ColumnError) as caught:
+                pool.submit(Language.CSV_DE.column, parts[1]).result()
+        self.assertEqual([[str(it) for it in column.values] for column, *_ in found], [["1.5", "nan", "2.0"], ["3.0", "4.5", "nan"]])
+        self.assertEqual([(it.index, it.text, str(it)) for column, *_ in found for it in column.wrong],
+                         [(1, "x", "unexpected character 'x'"), (2, "-7x", "unexpected character 'x'")])  # fmt: skip
+        self.assertEqual([[it.text for it in own.wrong] for _, own, _ in found], [[b"1,5", b"x"], [b"4,5", b"-7x"]])
+        self.assertEqual([exact.values for *_, exact in found], [[Decimal("1.5"), 0, 2], [3, Decimal("4.5"), 0]])
+        self.assertEqual(str(caught.exception), "cell 2, '-7x': unexpected character 'x'")
 
-    @unittest.skipUnless(shutil.which(f"python{OLDEST}"), f"python{OLDEST}")
-    def test_the_oldest_python_that_is_promised(self):
-        variables = {"PELTZIVAR_LIBRARY": CALLS.path, "PATH": os.environ["PATH"], "PYENV_VERSION": OLDEST}
-        self.assertEqual(self.run_copy(f"python{OLDEST}", **variables).stdout, f"{CALLS.path}\n")
+    def test_what_a_language_reads_it_writes(self):
+        texts = {*re.findall(r"^\w+ [+-]!? +(\S+)", (TOP / "rust/tests/literals.txt").read_text(), re.M), "1" * 400, "9" * 50}
+        for language in Language:
+            spelled = {sign + it for it in vars(language.specials).values() if it for sign in ("", "-", "+")}
+            for it in filter(None, (outcome(language.read, text) for text in texts | spelled)):
+                value = outcome(lambda: it.value)
+                # The value of `0xffffffff` may be below 0, where numbers have no sign.
+                if value is not None and (not value < 0 or language.forms["decimal"].no_negative_mantissa_sign is False):
+                    again = language.read(language.format_number(it)).value
+                    self.assertIn(again, (value, again if value != value != again != again else value), (language, it))
 
-    def test_another_library_is_refused(self):
-        for code, version in [("", "0.0.0"), ("unsigned peltzivar_version(void) { return 0x7F0203; }", "127.2.3")]:
-            subprocess.run(["cc", "-shared", "-x", "c", "-", "-o", "other.so"], cwd=self.folder, input=code, text=True, check=True)
-            self.assertRegex(self.run_copy(PELTZIVAR_LIBRARY="other.so").stderr, f"other.so has version {version}, and this file 1")
+    def test_no_call_keeps_memory(self):
+        number, prices = Language.C.read("0x1F"), [1.5, None, Decimal("2.50")]
+
+        def calls():
+            forms = Forms({"a": SYNTAX}, nan="x", kinds={"a": Kind(8)}, suffixes={"a": Suffixes("u8", stops=[("", ".", "0")])}, tokens=Tokens())
+            calls = [lambda: forms.token("7u8;\u00e9"), lambda: forms.token("7u9"), lambda: forms.read("7x"), lambda: forms.parse("9" * 99, int), lambda: forms.read("x")]
+            calls += [lambda: Language.CSV_DE.column(["1,5", None, "x", "\ud800"], errors="coerce").wrong[0].error.span, lambda: Language.C.column([1.5])]
+            calls += [lambda: Language.CSV_DE.format_column(prices, fill="", decimals=2), lambda: number.decimal(), lambda: number.fraction(), lambda: number.parts]
+            calls += [lambda: SYNTAX.format_number(10**50, group=3), lambda: SYNTAX.format_number(1.5, decimals=300), lambda: Syntax.of("radix=40"), lambda: repr(SYNTAX)]
+            for call in calls:
+                with contextlib.suppress(ValueError, TypeError):
+                    call()
+
+        tracemalloc.start()
+        self.addCleanup(tracemalloc.stop)
+        used = []
+        for _ in range(4):
+            for _ in range(200):
+                calls()
+            gc.collect()
+            used.append(tracemalloc.get_traced_memory()[0])
+        self.assertLess(used[3] - used[1], 20_000, used)
+
+    def test_eight_threads_share_what_reads(self):
+        cells, data = ["1,5", "x", None] * 1000, b"12" * 3000
+
+        def work(_):
+            values, wrong, missing = Language.CSV_DE.column(cells, errors="coerce")
+            whole = Language.JSON.column((data, array("i", range(0, 6001, 2))), int, fill=0).values
+            return values[0], len(wrong), len(missing), sum(whole), SYNTAX.read("12").value, Language.C.token("\u00e912;"[1:]).end
+
+        with concurrent.futures.ThreadPoolExecutor(8) as threads:
+            self.assertEqual({*threads.map(work, range(64))}, {(1.5, 1000, 1000, 36000, 12, 2)})
+
+    def test_an_object_that_nothing_has_made_is_refused(self):
+        calls = [Language.C.parse, Language.C.format_number, Language.C.read, Language.C.read_prefix, Language.C.token]
+        for kind, call in itertools.product((Syntax, Forms, peltzivar._Reader), calls):
+            self.assertRaises((TypeError, AttributeError), lambda: getattr(kind.__new__(kind), call.__name__)("1"))
+        literal = peltzivar.Literal.__new__(peltzivar.Literal)
+        for call in (float, int, lambda it: it.value, lambda it: it.decimal(), lambda it: it.kind, hash):
+            self.assertRaises((TypeError, AttributeError, ValueError), call, literal)
+
+    def test_a_lexer_takes_time_for_its_tokens_alone(self):
+        def seconds(text):
+            at, start = 1, time.process_time()
+            while at < len(text):
+                at = Language.C.token(text, at).end + 1
+            return time.process_time() - start
+
+        for first in " \u00e9":
+            ratios = (seconds(first + "12345;" * 40_000) / seconds(first + "12345;" * 10_000) for _ in range(9))
+            self.assertTrue(any(it < 8 for it in ratios), first)
+        token = Language.C.token("\u00e9 0x1FuL;\u00e9", 2)
+        self.assertEqual((token.literal.text, token.suffix, token.end, token.rest), ("0x1F", "uL", 8, ";\u00e9"))
+        with self.assertRaisesRegex(LiteralError, "unknown suffix") as caught:
+            Language.C.token("\u00e9\ud800 12xy", 3)
+        self.assertEqual((caught.exception.span, caught.exception.valid_up_to), ((5, 7), 5))
+
+    def test_each_python_from_the_oldest_that_is_promised_on(self):
+        program = "import peltzivar as it; print(it.languages.C.read('0x1F').value, it.Syntax.of().format_number(1.5), it.languages.CSV_DE.column(['1,5']).values)"
+        installed = pathlib.Path(os.environ.get("PYENV_ROOT", os.path.expanduser("~/.pyenv")), "versions").glob("3.*/bin/python3")
+        minor = int(OLDEST.split(".")[1])
+        for python in [sys.executable, *(it for it in installed if int(it.parent.parent.name.split(".")[1]) >= minor)]:
+            ran = subprocess.run([python, "-B", "-W", "error", "-c", program], cwd=TESTS.parent, capture_output=True, text=True)
+            self.assertEqual((ran.stdout, ran.stderr), ("31 1.5 array('d', [1.5])\n", ""), python)
+
+    def test_other_interpreters_of_a_process_load_it_or_refuse_to(self):
+        interpreters = importlib.import_module("_interpreters" if sys.version_info >= (3, 13) else "_xxsubinterpreters")
+        code = f"import sys; sys.path.insert(0, {str(TESTS.parent)!r}); import peltzivar; assert peltzivar.languages.C.parse('0x1F') == 31"
+        for _ in range(2):
+            other, refused = interpreters.create(), ""
+            try:
+                refused = str(interpreters.run_string(other, code) or "")
+            except RuntimeError as error:
+                refused = str(error)
+            interpreters.destroy(other)
+            # From 3.12 on, an interpreter with a lock of its own takes no module of the stable ABI of 3.11.
+            self.assertRegex(refused, "does not support loading in subinterpreters" if sys.version_info >= (3, 12) else "^$")
+
+    @unittest.skipIf("PELTZIVAR_PACKAGE" in os.environ, "an address sanitizer runs")
+    def test_the_module_is_sound_with_an_address_sanitizer(self):
+        folder = pathlib.Path(tempfile.mkdtemp())
+        self.addCleanup(shutil.rmtree, folder)
+        shutil.copytree(TESTS.parent / "peltzivar", folder / "peltzivar", ignore=shutil.ignore_patterns("*.so", "__pycache__"))
+        archive = pathlib.Path(os.environ["PELTZIVAR_LIBRARY"]).with_suffix(".a")
+        command = ["cc", "-std=c11", "-g", "-O1", "-fPIC", "-shared", "-fsanitize=address,undefined", "-I", TESTS.parent, "-I", sysconfig.get_path("include")]
+        subprocess.run([*command, TESTS.parent / "peltzivar/_peltzivar.c", archive, "-o", folder / "peltzivar/_peltzivar.abi3.so"], check=True)
+        sanitizer = subprocess.run(["cc", "-print-file-name=libasan.so"], capture_output=True, text=True, check=True).stdout.strip()
+        variables = {"PELTZIVAR_PACKAGE": str(folder), "LD_PRELOAD": sanitizer, "PYTHONMALLOC": "malloc", "ASAN_OPTIONS": "detect_leaks=0", "PATH": os.environ["PATH"]}
+        tests = ["Words", "Literals", "Extension.test_no_call_keeps_memory", "Extension.test_eight_threads_share_what_reads"]
+        tests += ["Extension.test_an_object_that_nothing_has_made_is_refused", "Extension.test_a_lexer_takes_time_for_its_tokens_alone"]
+        ran = subprocess.run([sys.executable, "-B", __file__, *tests], env=variables, capture_output=True, text=True)
+        self.assertEqual((ran.returncode, re.findall("AddressSanitizer|runtime error", ran.stderr)), (0, []), ran.stderr[-3000:])
 
 
 if __name__ == "__main__":

@@ -3,7 +3,7 @@ with values."""
 from array import array
 from decimal import Decimal
 from fractions import Fraction
-from typing import Dict, Optional, Sequence, Tuple, Union
+from typing import Dict, List, Optional, Sequence, Tuple, Union
 
 from peltzivar import Column, ColumnError, Edit, Error, Format, FormatError, FormatView, Forms, Kind, Literal, LiteralError, Note
 from peltzivar import Suffixes, Token, Tokens
@@ -58,11 +58,13 @@ kinds: Dict[str, Kind] = forms.kinds
 suffixes: Suffixes = Suffixes(integers="u8", floats="f", any="_", kinds={"f": kind}, stops=[("", ".", "0")], either_case=True)
 rules: Tokens = Tokens(forms=None, following="if", gives_points_back=True)
 token: Token[str] = Forms({"": syntax}, suffixes={"": suffixes}, tokens=rules).token("1u8;")
-of_token: Tuple[Literal[str], str, str, bytes] = token.literal, token.suffix, token.rest, languages.C.token(b"1L").suffix
+of_token: Tuple[Literal[str], str, str, int, bytes] = token.literal, token.suffix, token.rest, token.end, languages.C.token(b" 1L", 1).suffix
 again: Forms = Forms({**languages.C.forms, "own": forms[""]})
 of_forms: Tuple[Union[Literal[bytes], Special], int, Literal[str]] = forms.read(b"1"), again.parse("1", int), again.read_prefix("1")[0]
 column: Column = languages.CSV_DE.column(["1,5", None, "x"], float, errors="coerce", fill=0.5, out=array("d", [7, 7, 7]))
 wrong: Sequence[WrongCell] = column.wrong
+exact: Column = languages.CSV_DE.column(["1,5", None], Decimal, errors="coerce")
+of_numbers: List[str] = languages.CSV_DE.format_column([1.5, None], fill="", decimals=2)
 cell: Tuple[int, Union[str, bytes], ValueError, Tuple[int, ...]] = wrong[0].index, wrong[0].text, wrong[0].error, column.missing
 total: float = sum(column.values)
 try:

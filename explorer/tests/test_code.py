@@ -191,5 +191,5 @@ class Code(Walk):
     def python(self, folder, codes):
         calls = ((code, "show(forms, read)\ntest_numbers()" if "def read" in code else "print(view, end='\\n\\n')") for code in codes)
         (folder / "main.py").write_text(PYTHON + "".join(f"{code}{call}\n" for code, call in calls))
-        variables = {"PELTZIVAR_LIBRARY": f"{BUILD}/release/libpeltzivar_c.so", "PYTHONPATH": str(TOP / "c"), "PYTHONDONTWRITEBYTECODE": "1"}
+        variables = {"PYTHONPATH": str(TOP / "c"), "PYTHONDONTWRITEBYTECODE": "1"}
         return run(sys.executable, "main.py", cwd=folder, env={**os.environ, **variables})

@@ -1,0 +1,960 @@
+/* The calls of both headers for Python, by its stable ABI. __init__.py has the classes and their documentation. It passes
+ * structures as tuples of their members, words as (low, high), and strings as bytes. */
+#define Py_LIMITED_API 0x030B0000
+#define PY_SSIZE_T_CLEAN
+#include <Python.h>
+#include <peltzivar.h>
+#include <peltzivar_words.h>
+#include <stddef.h>
+#include <stdlib.h>
+#include <string.h>
+#include <structmember.h>
+
+/* The classes of __init__.py, and its functions that do what `parse` and `format_number` leave. */
+typedef struct {
+    PyObject *literal, *refusal, *slow[3];
+    PyTypeObject *reader;
+} State;
+
+/* What reads texts by forms: those of a language, or its own, which are in `kept`. The character of `walked` with the
+ * index `characters` begins at `bytes`: a lexer goes on from there. */
+typedef struct {
+    PyObject_HEAD
+    State *state;
+    const peltzivar_forms *forms;
+    bool is_list;
+    PyObject *kept, *walked;
+    Py_ssize_t characters, bytes;
+} Reader;
+
+/* A literal of `text`, whose bytes `data` has. A token has a suffix. */
+typedef struct {
+    PyObject_HEAD
+    PyObject *owner, *text, *data, *suffix;
+    peltzivar_literal found;
+} Literal;
+
+/* STRUCTURES */
+
+/* A member: a byte, a number of 4 or 8 bytes, a string, a structure (>), a pointer to one (*), or to an array ([). */
+typedef struct Structure Structure;
+struct Structure {
+    size_t size;
+    struct {
+        char kind;
+        size_t at, count;
+        const Structure *of;
+    } members[16];
+};
+
+#define AT(type, member) offsetof(peltzivar_##type, member)
+#define IS(type) static const Structure type##_members = {sizeof(peltzivar_##type), {
+#define M(kind, type, member) {kind, AT(type, member), 0, NULL},
+IS(syntax) M('8', syntax, format.low) M('8', syntax, format.high) M('1', syntax, exponent) M('1', syntax, decimal_point)
+    M('1', syntax, required_base_prefix) M('1', syntax, required_base_suffix) M('1', syntax, no_negative_mantissa_sign)
+    M('1', syntax, integer_group_size) M('1', syntax, higher_group_size) M('1', syntax, fraction_group_size)
+    M('1', syntax, required_leading_zero) M('1', syntax, decimal_first_digit) }};
+IS(specials) M('s', specials, nan) M('s', specials, inf) M('s', specials, infinity) }};
+IS(suffix_kind) M('s', suffix_kind, word) M('1', suffix_kind, integer_kind) M('1', suffix_kind, integer_bits) M('1', suffix_kind, float_kind) }};
+IS(stop) M('s', stop, last) M('s', stop, next) M('s', stop, second) }};
+IS(suffixes) M('s', suffixes, integers) M('s', suffixes, floats) M('s', suffixes, any)
+    {'[', AT(suffixes, kinds), AT(suffixes, kind_count), &suffix_kind_members},
+    {'[', AT(suffixes, stops), AT(suffixes, stop_count), &stop_members}, M('1', suffixes, either_case) }};
+IS(form) M('s', form, name) {'>', AT(form, syntax), 0, &syntax_members}, M('1', form, integer_kind) M('1', form, integer_bits)
+    M('1', form, float_kind) {'*', AT(form, suffixes), 0, &suffixes_members} }};
+IS(tokens) {'[', AT(tokens, forms), AT(tokens, count), &form_members}, M('s', tokens, following) M('1', tokens, gives_points_back) }};
+IS(forms) {'[', AT(forms, forms), AT(forms, count), &form_members}, {'>', AT(forms, specials), 0, &specials_members},
+    {'*', AT(forms, tokens), 0, &tokens_members} }};
+IS(style) M('1', style, group) M('1', style, fraction_group) M('1', style, without_base) M('1', style, lowercase)
+    M('1', style, keep_leading_zeros) M('1', style, min_digits) M('1', style, exponent) M('4', style, exponent_from) M('1', style, point)
+    M('1', style, has_decimals) M('1', style, decimals) M('1', style, nearest) }};
+IS(fields) M('8', fields, flags) M('1', fields, digit_separator) M('1', fields, base_prefix) M('1', fields, base_suffix)
+    M('1', fields, mantissa_radix) M('1', fields, exponent_base) M('1', fields, exponent_radix) }};
+IS(edit) M('1', edit, setter) M('1', edit, value) }};
+IS(special) M('1', special, spelling) M('1', special, sign) }};
+
+static bool packed(const Structure *as, PyObject *from, char *to, PyObject *kept);
+
+/* Returns memory with the structures of a tuple, which `kept` owns. Equal ones have the same memory. */
+static char *packed_array(const Structure *of, PyObject *tuple, Py_ssize_t count, bool is_one, PyObject *kept) {
+    PyObject *memory = PyDict_GetItemWithError(kept, tuple);
+    if (memory || PyErr_Occurred()) return memory ? PyBytes_AsString(memory) : NULL;
+    if (!(memory = PyBytes_FromStringAndSize(NULL, (Py_ssize_t)of->size * count))) return NULL;
+    char *to = memset(PyBytes_AsString(memory), 0, of->size * (size_t)count);
+    bool is_done = !PyDict_SetItem(kept, tuple, memory);
+    Py_DECREF(memory);
+    for (Py_ssize_t i = 0; is_done && i < count; i++)
+        is_done = packed(of, is_one ? tuple : PyTuple_GetItem(tuple, i), to + of->size * (size_t)i, kept);
+    return is_done ? to : NULL;
+}
+
+/* Writes a tuple to a structure of zeros. Raises an error if its members do not fit. `kept` owns what it points to. */
+static bool packed(const Structure *as, PyObject *from, char *to, PyObject *kept) {
+    for (Py_ssize_t i = 0; as->members[i].kind && !PyErr_Occurred(); i++) {
+        PyObject *value = from ? PyTuple_GetItem(from, i) : NULL;
+        char *at = to + as->members[i].at, kind = as->members[i].kind;
+        Py_ssize_t size;
+        if (!value) return false;
+        if (kind == '1') *(uint8_t *)at = (uint8_t)PyLong_AsUnsignedLong(value);
+        if (kind == '4') *(uint32_t *)at = (uint32_t)PyLong_AsUnsignedLong(value);
+        if (kind == '8') *(uint64_t *)at = PyLong_AsUnsignedLongLong(value);
+        if (kind == '>') packed(as->members[i].of, value, at, kept);
+        if (value == Py_None || strchr("148>", kind)) continue;
+        if (kind == 's') *(char **)at = PyBytes_AsString(value);
+        if (kind == '*') *(char **)at = packed_array(as->members[i].of, value, 1, true, kept);
+        if (kind != '[' || (size = PyTuple_Size(value)) <= 0) continue;
+        *(size_t *)(to + as->members[i].count) = (size_t)size;
+        *(char **)at = packed_array(as->members[i].of, value, size, false, kept);
+    }
+    return !PyErr_Occurred();
+}
+
+/* Returns a structure as a tuple. */
+static PyObject *tuple_of(const Structure *as, const char *from) {
+    Py_ssize_t count = 0;
+    while (as->members[count].kind) count++;
+    PyObject *made = PyTuple_New(count);
+    for (Py_ssize_t i = 0; made && i < count; i++) {
+        const Structure *of = as->members[i].of;
+        const char kind = as->members[i].kind, *at = from + as->members[i].at, *pointed = strchr("s*[", kind) ? *(char *const *)at : NULL;
+        PyObject *value = NULL;
+        if (kind == '1') value = PyLong_FromLong(*(const uint8_t *)at);
+        else if (kind == '8') value = PyLong_FromUnsignedLongLong(*(const uint64_t *)at);
+        else if (kind == '>') value = tuple_of(of, at);
+        else if (kind == '[') {
+            size_t size = *(const size_t *)(from + as->members[i].count);
+            value = PyTuple_New((Py_ssize_t)size);
+            for (size_t j = 0; value && j < size; j++)
+                if (PyTuple_SetItem(value, (Py_ssize_t)j, tuple_of(of, pointed + j * of->size))) Py_CLEAR(value);
+        } else if (!pointed) value = Py_NewRef(Py_None);
+        else value = kind == 's' ? PyBytes_FromString(pointed) : tuple_of(of, pointed);
+        if (!value || PyTuple_SetItem(made, i, value)) Py_CLEAR(made);
+    }
+    return made;
+}
+
+/* TEXTS */
+
+typedef struct {
+    const char *bytes;
+    Py_ssize_t size;
+    PyObject *data; /* What has the bytes: the text, or its encoding if it has surrogates. */
+} Text;
+
+/* Finds the bytes of a str or of bytes. Otherwise, returns false, with an error unless it is of another type. */
+static bool opened(PyObject *text, Text *to) {
+    to->data = NULL;
+    if (PyUnicode_Check(text)) {
+        if ((to->bytes = PyUnicode_AsUTF8AndSize(text, &to->size))) return (to->data = Py_NewRef(text)) != NULL;
+        PyErr_Clear();
+        to->data = PyUnicode_AsEncodedString(text, "utf-8", "surrogatepass");
+    } else if (PyBytes_Check(text)) {
+        to->data = Py_NewRef(text);
+    }
+    return to->data && !PyBytes_AsStringAndSize(to->data, (char **)&to->bytes, &to->size);
+}
+
+/* Does the same, and raises a TypeError for another type. */
+static bool is_text(PyObject *text, Text *to) {
+    if (opened(text, to)) return true;
+    PyObject *name = PyErr_Occurred() ? NULL : PyType_GetName(Py_TYPE(text));
+    if (name) PyErr_Format(PyExc_TypeError, "a text must be a str or bytes, not %S", name);
+    Py_XDECREF(name);
+    return false;
+}
+
+/* Returns the number of characters that begin in some bytes of UTF-8. */
+static Py_ssize_t characters(const char *bytes, Py_ssize_t size) {
+    Py_ssize_t count = 0;
+    for (Py_ssize_t i = 0; i < size; i++) count += (bytes[i] & 0xC0) != 0x80;
+    return count;
+}
+
+/* Finds where the character with an index begins in a text that has others than ASCII. */
+static Py_ssize_t byte_of(Reader *reader, PyObject *text, const Text *in, Py_ssize_t index) {
+    if (reader->walked != text || reader->characters > index) {
+        PyObject *old = reader->walked;
+        reader->walked = Py_NewRef(text), reader->characters = reader->bytes = 0;
+        Py_XDECREF(old);
+    }
+    for (; reader->characters < index && reader->bytes < in->size; reader->characters++)
+        do reader->bytes++; while (reader->bytes < in->size && (in->bytes[reader->bytes] & 0xC0) == 0x80);
+    return reader->bytes;
+}
+
+static PyObject *shown(const char *text) { return PyUnicode_DecodeUTF8(text, (Py_ssize_t)strlen(text), "replace"); }
+static PyObject *halves(peltzivar_word word) { return Py_BuildValue("(KK)", word.low, word.high); }
+
+/* READING */
+
+/* Calls a function of Python with the arguments of a method. */
+static PyObject *by_python(PyObject *function, PyObject *self, PyObject *const *given, Py_ssize_t count, PyObject *names) {
+    PyObject *all = PyTuple_New(count + 1), *keywords = names ? PyDict_New() : NULL, *result = NULL;
+    for (Py_ssize_t i = -1; all && i < count; i++) PyTuple_SetItem(all, i + 1, Py_NewRef(i < 0 ? self : given[i]));
+    for (Py_ssize_t i = 0; keywords && i < PyTuple_Size(names); i++)
+        PyDict_SetItem(keywords, PyTuple_GetItem(names, i), given[count + i]);
+    if (all && !PyErr_Occurred()) result = PyObject_Call(function, all, keywords);
+    Py_XDECREF(all), Py_XDECREF(keywords);
+    return result;
+}
+
+static bool is_made(Reader *self) {
+    if (!self->state) PyErr_SetString(PyExc_TypeError, "__init__ has not made this object");
+    return self->state;
+}
+
+/* Parses a text as a double (d), a float (f), or an integer (q, Q), and a column of texts. */
+static peltzivar_value_status parse_as(char format, const peltzivar_forms *by, const Text *text, void *out) {
+    const size_t len = (size_t)text->size;
+    return format == 'd'   ? peltzivar_parse_f64(by, text->bytes, len, out, NULL)
+           : format == 'f' ? peltzivar_parse_f32(by, text->bytes, len, out, NULL)
+           : format == 'q' ? peltzivar_parse_i64(by, text->bytes, len, out, NULL)
+                           : peltzivar_parse_u64(by, text->bytes, len, out, NULL);
+}
+
+static size_t parse_column_as(char format, const peltzivar_forms *by, const void *data, const void *offsets, size_t count, void *out, uint8_t *status) {
+    return format == 'd'   ? peltzivar_parse_f64_column(by, data, offsets, count, out, status)
+           : format == 'f' ? peltzivar_parse_f32_column(by, data, offsets, count, out, status)
+           : format == 'q' ? peltzivar_parse_i64_column(by, data, offsets, count, out, status)
+                           : peltzivar_parse_u64_column(by, data, offsets, count, out, status);
+}
+
+static PyObject *refuse(Reader *self, PyObject *text, PyObject *start) {
+    PyObject *arguments = PyTuple_Pack(start ? 3 : 2, self, text, start);
+    if (arguments) PyErr_SetObject(self->state->refusal, arguments);
+    Py_XDECREF(arguments);
+    return NULL;
+}
+
+static PyObject *reader_parse(PyObject *self, PyObject *const *given, Py_ssize_t count, PyObject *names) {
+    Reader *by = (Reader *)self;
+    Text text;
+    double real;
+    int64_t whole;
+    bool is_int = count == 2 && given[1] == (PyObject *)&PyLong_Type;
+    peltzivar_value_status status = PELTZIVAR_VALUE_NO_LITERAL;
+    if (!is_made(by)) return NULL;
+    if (!names && (count == 1 || is_int || (count == 2 && given[1] == (PyObject *)&PyFloat_Type)) && opened(given[0], &text)) {
+        status = is_int ? parse_as('q', by->forms, &text, &whole) : parse_as('d', by->forms, &text, &real);
+        Py_DECREF(text.data);
+    }
+    if (status == PELTZIVAR_VALUE_REFUSED) return refuse(by, given[0], NULL);
+    if (status) return PyErr_Occurred() ? NULL : by_python(by->state->slow[0], self, given, count, names);
+    return is_int ? PyLong_FromLongLong(whole) : PyFloat_FromDouble(real);
+}
+
+static Literal *new_literal(Reader *self, const Text *text) {
+    Literal *it = (Literal *)PyType_GenericAlloc((PyTypeObject *)self->state->literal, 0);
+    if (it) it->owner = Py_NewRef((PyObject *)self), it->data = Py_NewRef(text->data);
+    return it;
+}
+
+/* Returns a part of a text: characters of a str, and bytes otherwise. */
+static PyObject *part_of(PyObject *text, Py_ssize_t start, Py_ssize_t end) {
+    if (start == 0 && end == PyObject_Size(text)) return Py_NewRef(text);
+    return PyUnicode_Check(text) ? PyUnicode_Substring(text, start, end) : PySequence_GetSlice(text, start, end);
+}
+
+/* _read(text, of_prefix): a literal, or the numbers of a special value, or raises a LiteralError. */
+static PyObject *reader_read(PyObject *self, PyObject *const *given, Py_ssize_t count) {
+    Reader *by = (Reader *)self;
+    bool of_prefix = count > 1;
+    Text text;
+    peltzivar_special special;
+    if (!is_made(by) || !is_text(given[0], &text)) return NULL;
+    Literal *it = new_literal(by, &text);
+    PyObject *result = NULL;
+    if (it && (of_prefix ? peltzivar_forms_read_prefix : peltzivar_forms_read)(by->forms, text.bytes, (size_t)text.size, &it->found, NULL)) {
+        result = (it->text = part_of(given[0], 0, (Py_ssize_t)it->found.size)) ? Py_NewRef((PyObject *)it) : NULL;
+    } else if (it && !of_prefix && peltzivar_forms_read_special(by->forms, text.bytes, (size_t)text.size, &special)) {
+        result = tuple_of(&special_members, (const char *)&special);
+    } else if (it) {
+        refuse(by, given[0], NULL);
+    }
+    Py_XDECREF((PyObject *)it), Py_DECREF(text.data);
+    return result;
+}
+
+/* Finds the bytes of a text from a character on. */
+static bool opened_from(Reader *self, PyObject *text, PyObject *start, Text *to, Text *rest) {
+    Py_ssize_t index = PyLong_AsSsize_t(start);
+    if (index < 0 && !PyErr_Occurred()) PyErr_SetString(PyExc_ValueError, "start must be an index of the text");
+    if (!is_made(self) || PyErr_Occurred() || !is_text(text, to)) return false;
+    Py_ssize_t length = PyObject_Size(text);
+    index = index < length ? index : length;
+    index = PyUnicode_Check(text) && length != to->size ? byte_of(self, text, to, index) : index;
+    rest->bytes = to->bytes + index, rest->size = to->size - index;
+    return true;
+}
+
+/* _token(text, start): the literal, its suffix, the index behind it, and the text. */
+static PyObject *reader_token(PyObject *self, PyObject *const *given, Py_ssize_t count) {
+    Reader *by = (Reader *)self;
+    Text text, rest;
+    peltzivar_token token;
+    peltzivar_read_error error = {0};
+    peltzivar_explanation why;
+    char sentence[PELTZIVAR_TEXT_SIZE];
+    if (count != 2 || !opened_from(by, given[0], given[1], &text, &rest)) return NULL;
+    PyObject *result = NULL;
+    Literal *it = NULL;
+    if (peltzivar_forms_token(by->forms, rest.bytes, (size_t)rest.size, &token, &error)) {
+        Py_ssize_t start = PyLong_AsSsize_t(given[1]), middle = start + (Py_ssize_t)token.literal.size;
+        Py_ssize_t end = start + (Py_ssize_t)token.size;
+        if (PyUnicode_Check(given[0])) end = start + characters(rest.bytes, (Py_ssize_t)token.size);
+        if ((it = new_literal(by, &text))) {
+            it->found = token.literal, it->text = part_of(given[0], start, middle), it->suffix = part_of(given[0], middle, end);
+            if (it->text && it->suffix) result = Py_BuildValue("(OOnO)", it, it->suffix, end, given[0]);
+        }
+        if ((size_t)rest.size == token.size) Py_CLEAR(by->walked);
+    } else if (peltzivar_explain(&error, &why)) {
+        refuse(by, given[0], given[1]);
+    } else {
+        peltzivar_read_error_text(&error, sentence, sizeof sentence);
+        PyErr_SetString(PyExc_ValueError, sentence);
+    }
+    Py_XDECREF((PyObject *)it), Py_DECREF(text.data);
+    return result;
+}
+
+/* _explain(text, start): why a text is refused, or None. A token is read from the index `start` on, if it is not -1. */
+static PyObject *reader_explain(PyObject *self, PyObject *const *given, Py_ssize_t count) {
+    Reader *by = (Reader *)self;
+    Text text, rest;
+    peltzivar_read_error error;
+    peltzivar_explanation why;
+    char sentence[PELTZIVAR_TEXT_SIZE], full[PELTZIVAR_TEXT_SIZE];
+    PyObject *result = NULL;
+    if (count != 2) return NULL;
+    bool is_token = PyObject_RichCompareBool(given[1], Py_False, Py_GE) > 0;
+    PyObject *start = is_token ? Py_NewRef(given[1]) : PyLong_FromLong(0);
+    if (!start || !opened_from(by, given[0], start, &text, &rest)) return NULL;
+    Py_DECREF(start);
+    memset(&error, 0, sizeof error);
+    bool is_right = is_token ? peltzivar_forms_token(by->forms, rest.bytes, (size_t)rest.size, NULL, &error)
+                             : peltzivar_forms_read(by->forms, rest.bytes, (size_t)rest.size, NULL, &error);
+    peltzivar_read_error_text(&error, sentence, sizeof sentence);
+    peltzivar_read_error_full_text(&error, full, sizeof full);
+    if (!is_right && !peltzivar_explain(&error, &why)) {
+        result = shown(sentence);
+    } else if (!is_right) {
+        if (is_token && why.kind == PELTZIVAR_KIND_SUFFIX) {
+            peltzivar_token_error_text(by->forms, rest.bytes, (size_t)rest.size, sentence, sizeof sentence);
+            strcpy(full, sentence);
+        }
+        size_t begin = why.span.start, end = why.span.end;
+        if (PyUnicode_Check(given[0])) end = begin + (size_t)characters(rest.bytes + begin, (Py_ssize_t)(end - begin));
+        result = Py_BuildValue("(NNnnniiNiiK)", shown(sentence), shown(full), (Py_ssize_t)error.valid_up_to, (Py_ssize_t)begin,
+            (Py_ssize_t)end, why.kind, why.part, halves(why.mask), (int)why.code, error.form, why.conditions);
+    }
+    Py_DECREF(text.data);
+    return is_right ? Py_NewRef(Py_None) : result;
+}
+
+/* COLUMNS */
+
+/* Returns 1 if a cell is missing: None, NaN or pandas.NA. Returns -1 with an error. */
+static int is_missing(PyObject *cell, PyObject *na) {
+    PyObject *differs = cell == Py_None || cell == na ? Py_NewRef(Py_True) : PyObject_RichCompare(cell, cell, Py_NE);
+    int result = differs ? PyObject_IsTrue(differs) : -1;
+    Py_XDECREF(differs);
+    return result;
+}
+
+/* _column(cells, data, offsets, format, values, status, fill, na): the indexes of missing cells. The cells are a tuple of
+ * texts, or () for data with offsets, whose memory nothing else changes. `fill` has the bytes of the value of cells without one. */
+static PyObject *reader_column(PyObject *self, PyObject *given) {
+    Reader *by = (Reader *)self;
+    PyObject *cells, *na, *missing = PyList_New(0), *kind = NULL;
+    Py_buffer data, offsets, values, status, fill;
+    int format;
+    if (!missing || !is_made(by) || !PyArg_ParseTuple(given, "O!y*y*Cw*w*y*O", &PyTuple_Type, &cells, &data, &offsets, &format,
+        &values, &status, &fill, &na)) return Py_XDECREF(missing), NULL;
+    Py_ssize_t size = fill.len, count = status.len, of_texts = PyTuple_Size(cells);
+    uint8_t *statuses = status.buf;
+    if (size != (format == 'f' ? 4 : 8) || values.len != count * size || (of_texts ? of_texts != count : offsets.len != 8 * (count + 1))) {
+        PyErr_SetString(PyExc_ValueError, "the sizes differ");
+    } else if (!of_texts) {
+        Py_BEGIN_ALLOW_THREADS
+        parse_column_as((char)format, by->forms, data.buf, offsets.buf, (size_t)count, values.buf, statuses);
+        Py_END_ALLOW_THREADS
+    }
+    for (Py_ssize_t i = 0; i < of_texts && !kind; i++) {
+        PyObject *it = PyTuple_GetItem(cells, i);
+        kind = PyUnicode_Check(it) ? (PyObject *)&PyUnicode_Type : PyBytes_Check(it) ? (PyObject *)&PyBytes_Type : NULL;
+    }
+    for (Py_ssize_t i = 0; i < of_texts && !PyErr_Occurred(); i++) {
+        PyObject *it = PyTuple_GetItem(cells, i), *name, *index;
+        Text text;
+        if ((kind == (PyObject *)&PyBytes_Type ? PyBytes_Check(it) : PyUnicode_Check(it)) && opened(it, &text)) {
+            statuses[i] = parse_as((char)format, by->forms, &text, (char *)values.buf + i * size);
+            Py_DECREF(text.data);
+        } else if (!PyErr_Occurred() && (statuses[i] = (uint8_t)is_missing(it, na)) == 1 && (index = PyLong_FromSsize_t(i))) {
+            statuses[i] = PyList_Append(missing, index) ? 1 : UINT8_MAX;
+            Py_DECREF(index);
+        } else if (!PyErr_Occurred() && (name = PyType_GetName(Py_TYPE(it)))) {
+            PyErr_Format(PyExc_TypeError, "cell %zd must be a %s, not %S", i, kind == (PyObject *)&PyBytes_Type ? "bytes" : "str", name);
+            Py_DECREF(name);
+        }
+    }
+    for (Py_ssize_t i = 0; i < count && !PyErr_Occurred(); i++)
+        if (statuses[i]) {
+            memcpy((char *)values.buf + i * size, fill.buf, (size_t)size);
+            if (statuses[i] == UINT8_MAX) statuses[i] = 0;
+        }
+    PyBuffer_Release(&data), PyBuffer_Release(&offsets), PyBuffer_Release(&values), PyBuffer_Release(&status), PyBuffer_Release(&fill);
+    PyObject *result = PyErr_Occurred() ? NULL : PyList_AsTuple(missing);
+    Py_DECREF(missing);
+    return result;
+}
+
+/* WRITING */
+
+/* The status of a number that is neither a float, a literal nor an int of 64 bits. */
+#define OTHER_NUMBER 255
+
+static peltzivar_write_status write_number(
+    Reader *by, PyObject *number, const peltzivar_style *style, char *text, size_t len, size_t *needed) {
+#define WRITE(call, value) (by->is_list ? peltzivar_forms_##call(by->forms, value, style, text, len, needed) \
+                                        : peltzivar_##call(&by->forms->forms->syntax, value, style, text, len, needed))
+    int is_long;
+    if (PyFloat_CheckExact(number)) {
+        double real = PyFloat_AsDouble(number);
+        return WRITE(format_f64, real == real ? real : Py_NAN);
+    }
+    if (PyObject_TypeCheck(number, (PyTypeObject *)by->state->literal)) return WRITE(format_literal, &((Literal *)number)->found);
+    if (!PyLong_CheckExact(number)) return OTHER_NUMBER;
+    long long whole = PyLong_AsLongLongAndOverflow(number, &is_long);
+    return is_long ? OTHER_NUMBER : WRITE(format_i64, whole);
+}
+
+/* Returns the text of a number, or NULL without an error and a status. */
+static PyObject *written(Reader *by, PyObject *number, const peltzivar_style *style, peltzivar_write_status *status) {
+    char text[PELTZIVAR_FLOAT_SIZE], *to = text;
+    size_t needed;
+    *status = by->forms ? write_number(by, number, style, text, sizeof text, &needed) : PELTZIVAR_WRITE_ARGUMENT;
+    if (*status == PELTZIVAR_WRITE_BUFFER && (to = PyMem_Malloc(needed))) *status = write_number(by, number, style, to, needed, &needed);
+    PyObject *result = *status ? NULL : PyUnicode_FromStringAndSize(to, (Py_ssize_t)needed - 1);
+    if (to != text) PyMem_Free(to);
+    return result;
+}
+
+/* Wishes: a group (g), a flag (b), or a number. */
+static const struct {
+    const char *name;
+    char kind;
+    size_t at;
+} WISHES[] = {{"decimals", 'd', AT(style, decimals)}, {"group", 'g', AT(style, group)}, {"fraction_group", 'g', AT(style, fraction_group)},
+    {"without_base", 'b', AT(style, without_base)}, {"lowercase", 'b', AT(style, lowercase)},
+    {"keep_leading_zeros", 'b', AT(style, keep_leading_zeros)}, {"min_digits", 'd', AT(style, min_digits)},
+    {"point", 'b', AT(style, point)}, {"nearest", 'b', AT(style, nearest)}};
+
+/* Finds a wish. Returns false for one that is left to Python. */
+static bool wished(PyObject *name, PyObject *value, peltzivar_style *style) {
+    for (size_t i = 0; i < sizeof WISHES / sizeof *WISHES; i++) {
+        if (PyUnicode_CompareWithASCIIString(name, WISHES[i].name)) continue;
+        int is_far = 0;
+        long number = PyLong_CheckExact(value) || PyBool_Check(value) ? PyLong_AsLongAndOverflow(value, &is_far) : -1;
+        if (number < 0 || number > 255 - (WISHES[i].kind == 'g') || is_far || PyBool_Check(value) != (WISHES[i].kind == 'b')) return false;
+        *((uint8_t *)style + WISHES[i].at) = (uint8_t)(WISHES[i].kind == 'g' && !number ? PELTZIVAR_NO_GROUPS : number);
+        style->has_decimals |= WISHES[i].at == AT(style, decimals);
+        return true;
+    }
+    return false;
+}
+
+static PyObject *reader_format_number(PyObject *self, PyObject *const *given, Py_ssize_t count, PyObject *names) {
+    Reader *by = (Reader *)self;
+    peltzivar_style style = {0};
+    peltzivar_write_status status;
+    if (!is_made(by)) return NULL;
+    bool is_plain = count == 1;
+    for (Py_ssize_t i = 0; is_plain && names && i < PyTuple_Size(names); i++)
+        is_plain = wished(PyTuple_GetItem(names, i), given[1 + i], &style);
+    if (is_plain && (PyFloat_CheckExact(given[0]) || (PyLong_CheckExact(given[0]) && !style.has_decimals))) {
+        PyObject *result = written(by, given[0], &style, &status);
+        if (result || PyErr_Occurred()) return result;
+    }
+    return by_python(by->state->slow[1], self, given, count, names);
+}
+
+/* _write(number, style): the text of a float, an int of 64 bits, or a literal. */
+static PyObject *reader_write(PyObject *self, PyObject *given) {
+    peltzivar_style style = {0};
+    peltzivar_write_status status;
+    PyObject *number, *wishes, *kept = PyDict_New(), *result = NULL;
+    if (kept && is_made((Reader *)self) && PyArg_ParseTuple(given, "OO", &number, &wishes) && packed(&style_members, wishes, (char *)&style, kept)) {
+        result = written((Reader *)self, number, &style, &status);
+        if (!result && !PyErr_Occurred()) PyErr_SetString(PyExc_ValueError, peltzivar_write_description(status));
+    }
+    Py_XDECREF(kept);
+    return result;
+}
+
+/* _write_column(numbers, style, other): a list of texts. `other` returns those of other numbers, and of those without one. */
+static PyObject *reader_write_column(PyObject *self, PyObject *given) {
+    peltzivar_style style = {0};
+    peltzivar_write_status status;
+    PyObject *numbers, *wishes, *other, *kept = PyDict_New(), *result = NULL;
+    if (kept && is_made((Reader *)self) && PyArg_ParseTuple(given, "O!OO", &PyTuple_Type, &numbers, &wishes, &other) &&
+        packed(&style_members, wishes, (char *)&style, kept)) result = PyList_New(PyTuple_Size(numbers));
+    for (Py_ssize_t i = 0; result && i < PyTuple_Size(numbers); i++) {
+        PyObject *it = PyTuple_GetItem(numbers, i), *text = NULL;
+        double real = PyFloat_CheckExact(it) ? PyFloat_AsDouble(it) : Py_NAN;
+        if (real == real || (PyLong_CheckExact(it) && !style.has_decimals)) text = written((Reader *)self, it, &style, &status);
+        if (!text && !PyErr_Occurred()) text = PyObject_CallFunctionObjArgs(other, it, NULL);
+        if (!text || PyList_SetItem(result, i, text)) Py_CLEAR(result);
+    }
+    Py_XDECREF(kept);
+    return result;
+}
+
+/* _special(text): the numbers of a special value, or None. _spelled(spelling, sign): its text. Spellings are those of the forms. */
+static PyObject *reader_special(PyObject *self, PyObject *given) {
+    Text text;
+    peltzivar_special special;
+    if (!is_made((Reader *)self) || !is_text(given, &text)) return NULL;
+    bool is_one = peltzivar_forms_read_special(((Reader *)self)->forms, text.bytes, (size_t)text.size, &special);
+    Py_DECREF(text.data);
+    return is_one ? tuple_of(&special_members, (const char *)&special) : Py_NewRef(Py_None);
+}
+
+static PyObject *reader_spelled(PyObject *self, PyObject *given) {
+    const peltzivar_forms *by = ((Reader *)self)->forms;
+    peltzivar_special special;
+    char text[PELTZIVAR_FLOAT_SIZE];
+    size_t needed = 0;
+    if (!is_made((Reader *)self) || !PyArg_ParseTuple(given, "bb", &special.spelling, &special.sign)) return NULL;
+    peltzivar_write_status status = peltzivar_format_special(&by->forms->syntax, &by->specials, special, text, sizeof text, &needed);
+    if (!status) return PyUnicode_FromStringAndSize(text, (Py_ssize_t)needed - 1);
+    return PyErr_SetString(PyExc_ValueError, peltzivar_write_description(status)), NULL;
+}
+
+/* _members(): the forms as a tuple. _notation(number): a sentence, a grammar, a regular expression, or why a syntax is refused. */
+static PyObject *reader_members(PyObject *self, PyObject *none) {
+    const char *forms = (const char *)((Reader *)self)->forms;
+    return (void)none, is_made((Reader *)self) ? tuple_of(&forms_members, forms) : NULL;
+}
+
+static PyObject *reader_notation(PyObject *self, PyObject *given) {
+    size_t (*const calls[])(const peltzivar_syntax *, char *, size_t) = {
+        peltzivar_sentence, peltzivar_grammar, peltzivar_regex, peltzivar_syntax_error_text};
+    char text[PELTZIVAR_SOURCE_SIZE];
+    size_t number = PyLong_AsSize_t(given);
+    if (!is_made((Reader *)self) || number > 3) return NULL;
+    calls[number](&((Reader *)self)->forms->forms->syntax, text, sizeof text);
+    return shown(text);
+}
+
+static PyMethodDef READER_METHODS[] = {
+    {"_read", (PyCFunction)(void (*)(void))reader_read, METH_FASTCALL, NULL},
+    {"_token", (PyCFunction)(void (*)(void))reader_token, METH_FASTCALL, NULL},
+    {"_explain", (PyCFunction)(void (*)(void))reader_explain, METH_FASTCALL, NULL},
+    {"_column", reader_column, METH_VARARGS, NULL},
+    {"_write", reader_write, METH_VARARGS, NULL},
+    {"_write_column", reader_write_column, METH_VARARGS, NULL},
+    {"_special", reader_special, METH_O, NULL},
+    {"_spelled", reader_spelled, METH_VARARGS, NULL},
+    {"_members", reader_members, METH_NOARGS, NULL},
+    {"_notation", reader_notation, METH_O, NULL},
+    {NULL, NULL, 0, NULL},
+};
+static PyObject *reader_read_fast(PyObject *self, PyObject *const *given, Py_ssize_t count, PyObject *names) {
+    Reader *by = (Reader *)self;
+    PyObject *result = NULL;
+    if (!is_made(by)) return NULL;
+    if (count == 1 && !names && ((result = reader_read(self, given, 1)) == NULL || !PyTuple_Check(result))) return result;
+    Py_XDECREF(result);
+    return by_python(by->state->slow[2], self, given, count, names);
+}
+
+static PyMethodDef FAST[] = {
+    {"parse", (PyCFunction)(void (*)(void))reader_parse, METH_FASTCALL | METH_KEYWORDS, NULL},
+    {"format_number", (PyCFunction)(void (*)(void))reader_format_number, METH_FASTCALL | METH_KEYWORDS, NULL},
+    {"read", (PyCFunction)(void (*)(void))reader_read_fast, METH_FASTCALL | METH_KEYWORDS, NULL},
+};
+
+static void freed(PyObject *self) {
+    PyTypeObject *type = Py_TYPE(self);
+    ((freefunc)PyType_GetSlot(type, Py_tp_free))(self);
+    Py_DECREF(type);
+}
+
+static void reader_free(PyObject *self) {
+    Py_XDECREF(((Reader *)self)->kept), Py_XDECREF(((Reader *)self)->walked);
+    freed(self);
+}
+static PyType_Slot READER_SLOTS[] = {{Py_tp_dealloc, (void *)reader_free}, {Py_tp_methods, READER_METHODS}, {0, NULL}};
+static PyType_Spec READER = {"peltzivar._peltzivar.Reader", sizeof(Reader), 0, Py_TPFLAGS_DEFAULT | Py_TPFLAGS_BASETYPE, READER_SLOTS};
+
+/* VALUES */
+
+/* _ends(): the ends of the nine parts, each of which begins where that before it ends. */
+static PyObject *literal_ends(PyObject *self, PyObject *none) {
+    const peltzivar_literal *it = &((Literal *)self)->found;
+    return (void)none, Py_BuildValue("(nnnnnnnnn)", it->sign.end, it->prefix.end, it->integer.end, it->point.end, it->fraction.end,
+        it->exponent_character.end, it->exponent_sign.end, it->exponent.end, it->suffix.end);
+}
+
+/* _int(): the value of an integer, or None if it is a float, or needs more than 128 bits or is too large. */
+static PyObject *literal_int(PyObject *self, PyObject *none) {
+    int64_t value;
+    peltzivar_i128 wide;
+    (void)none;
+    if (!peltzivar_to_i64(&((Literal *)self)->found, &value)) return PyLong_FromLongLong(value);
+    if (peltzivar_to_i128(&((Literal *)self)->found, &wide)) return Py_NewRef(Py_None);
+    return Py_BuildValue("(LK)", wide.high, wide.low);
+}
+
+static PyObject *literal_float(PyObject *self) {
+    double value;
+    peltzivar_value_status status = peltzivar_to_f64(&((Literal *)self)->found, &value);
+    if (!status) return PyFloat_FromDouble(value);
+    return PyErr_SetString(PyExc_ValueError, peltzivar_value_description(status)), NULL;
+}
+
+static PyObject *literal_value(PyObject *self, void *none) {
+    int64_t value;
+    if (((Literal *)self)->found.is_float) return literal_float(self);
+    return (void)none, peltzivar_to_i64(&((Literal *)self)->found, &value) ? PyNumber_Long(self) : PyLong_FromLongLong(value);
+}
+
+/* _plain(): the text as Python writes floats, or None if a radix is not 10, or if it is long. */
+static PyObject *literal_plain(PyObject *self, PyObject *none) {
+    const Literal *it = (Literal *)self;
+    const peltzivar_forms *by = it->owner ? ((Reader *)it->owner)->forms : NULL;
+    char plain[400], *to = plain;
+    (void)none;
+    if (!by || it->found.size > sizeof plain) return Py_NewRef(Py_None);
+    const peltzivar_form *behind = by->tokens ? by->tokens->forms : NULL;
+    const peltzivar_syntax *of = it->found.form < by->count ? &by->forms[it->found.form].syntax : &behind[it->found.form - by->count].syntax;
+    peltzivar_fields fields = peltzivar_fields_of(of->format);
+    if (fields.mantissa_radix != 10 || fields.exponent_base != 10 || fields.exponent_radix != 10 || fields.base_prefix || fields.base_suffix)
+        return Py_NewRef(Py_None);
+    for (size_t i = 0; i < it->found.size; i++) {
+        if (i == it->found.exponent_character.start && i < it->found.exponent_character.end) *to++ = 'e';
+        else if (i == it->found.point.start && i < it->found.point.end) *to++ = '.';
+        else if (!fields.digit_separator || it->found.text[i] != (char)fields.digit_separator) *to++ = it->found.text[i];
+    }
+    return PyUnicode_FromStringAndSize(plain, to - plain);
+}
+
+static PyMethodDef LITERAL_METHODS[] = {
+    {"_ends", literal_ends, METH_NOARGS, NULL},
+    {"_int", literal_int, METH_NOARGS, NULL},
+    {"_plain", literal_plain, METH_NOARGS, NULL},
+    {NULL, NULL, 0, NULL},
+};
+static PyMemberDef LITERAL_MEMBERS[] = {
+    {"_owner", T_OBJECT, offsetof(Literal, owner), READONLY, NULL},
+    {"_text", T_OBJECT, offsetof(Literal, text), READONLY, NULL},
+    {"_suffix", T_OBJECT, offsetof(Literal, suffix), READONLY, NULL},
+    {"_form", T_UBYTE, offsetof(Literal, found.form), READONLY, NULL},
+    {"_is_float", T_BOOL, offsetof(Literal, found.is_float), READONLY, NULL},
+    {NULL, 0, 0, 0, NULL},
+};
+static PyGetSetDef LITERAL_GETTERS[] = {{"_value", literal_value, NULL, NULL, NULL}, {NULL, NULL, NULL, NULL, NULL}};
+
+static void literal_free(PyObject *self) {
+    Literal *it = (Literal *)self;
+    Py_XDECREF(it->owner), Py_XDECREF(it->text), Py_XDECREF(it->data), Py_XDECREF(it->suffix);
+    freed(self);
+}
+static PyType_Slot LITERAL_SLOTS[] = {{Py_tp_dealloc, (void *)literal_free}, {Py_tp_methods, LITERAL_METHODS}, {Py_tp_members, LITERAL_MEMBERS},
+    {Py_tp_getset, LITERAL_GETTERS}, {Py_nb_float, (void *)literal_float}, {0, NULL}};
+static PyType_Spec LITERAL = {"peltzivar._peltzivar.Found", sizeof(Literal), 0, Py_TPFLAGS_DEFAULT | Py_TPFLAGS_BASETYPE, LITERAL_SLOTS};
+
+/* WORDS */
+
+/* A function of a word, up to three numbers and maybe a text. */
+#define CALL(name, result) \
+    static PyObject *word_##name(PyObject *self, PyObject *given) { \
+        peltzivar_word w; \
+        unsigned char a = 0, b = 0, c = 0; \
+        char text[PELTZIVAR_SOURCE_SIZE]; \
+        (void)self, (void)text; \
+        return PyArg_ParseTuple(given, "(KK)|bbb", &w.low, &w.high, &a, &b, &c) ? (result) : NULL; \
+    }
+#define ROW(name, result) {#name, word_##name, METH_VARARGS, NULL},
+#define TRUTH(it) PyBool_FromLong(it)
+#define WORDS(it) \
+    it(check, PyLong_FromUnsignedLong(peltzivar_check(w))) \
+    it(normal_form, halves(peltzivar_normal_form(w))) \
+    it(is_built, TRUTH(peltzivar_is_built(w))) \
+    it(flag, TRUTH(peltzivar_flag(w, a))) \
+    it(mantissa_digit, digit(peltzivar_mantissa_digit(w, a))) \
+    it(exponent_digit, digit(peltzivar_exponent_digit(w, a))) \
+    it(is_separator, TRUTH(peltzivar_is_separator(w, a))) \
+    it(is_base_prefix, TRUTH(peltzivar_is_base_prefix(w, a))) \
+    it(is_base_suffix, TRUTH(peltzivar_is_base_suffix(w, a))) \
+    it(role_of, PyLong_FromLong(peltzivar_role_of(w, a, b, c))) \
+    it(separators_of, separators(peltzivar_separators_of(w, a))) \
+    it(fields_of, fields(peltzivar_fields_of(w))) \
+    it(edits_of, edits(w)) \
+    it(word_text, (peltzivar_word_text(w, text, sizeof text), shown(text))) \
+    it(source, (peltzivar_source(w, text, sizeof text), shown(text))) \
+    it(reasons, reasons(w, false, 0, 0)) \
+    it(options_reasons, reasons(w, true, a, b))
+
+static PyObject *digit(uint32_t it) { return it == PELTZIVAR_NO_DIGIT ? Py_NewRef(Py_None) : PyLong_FromUnsignedLong(it); }
+static PyObject *fields(peltzivar_fields it) { return tuple_of(&fields_members, (const char *)&it); }
+static PyObject *separators(peltzivar_separators it) {
+    return Py_BuildValue("(NNNN)", TRUTH(it.internal), TRUTH(it.leading), TRUTH(it.trailing), TRUTH(it.consecutive));
+}
+
+/* Appends a new object to a list. */
+static void append(PyObject *list, PyObject *it) {
+    if (it) PyList_Append(list, it);
+    Py_XDECREF(it);
+}
+
+static PyObject *edits(peltzivar_word word) {
+    peltzivar_edit edits[PELTZIVAR_FIELD_COUNT];
+    size_t count = peltzivar_edits_of(word, edits, PELTZIVAR_FIELD_COUNT);
+    PyObject *list = PyList_New(0);
+    for (size_t i = 0; list && i < count; i++) append(list, tuple_of(&edit_members, (const char *)&edits[i]));
+    return list;
+}
+
+/* Returns the text, the mask, and the rules or options of each reason. */
+static PyObject *reasons(peltzivar_word word, bool of_options, uint8_t exponent, uint8_t point) {
+    char text[PELTZIVAR_TEXT_SIZE];
+    PyObject *list = PyList_New(0);
+#define OF(call, ...) (of_options ? peltzivar_options_reason_##call(word, exponent, point, __VA_ARGS__) : peltzivar_reason_##call(word, __VA_ARGS__))
+    for (size_t i = 0; list && OF(text, i, text, sizeof text); i++)
+        append(list, Py_BuildValue("(NNI)", shown(text), halves(OF(mask, i)),
+            of_options ? peltzivar_options_reason_roles(word, exponent, point, i) : peltzivar_reason_rules(word, i)));
+    return list;
+}
+WORDS(CALL)
+
+/* notes(fields): the text and the mask of each. */
+static PyObject *notes(PyObject *self, PyObject *given) {
+    peltzivar_fields fields = {0};
+    char text[PELTZIVAR_TEXT_SIZE];
+    PyObject *list = PyList_New(0);
+    (void)self;
+    if (list && !packed(&fields_members, given, (char *)&fields, NULL)) Py_CLEAR(list);
+    for (size_t i = 0; list && peltzivar_note_text(&fields, i, text, sizeof text); i++)
+        append(list, Py_BuildValue("(NN)", shown(text), halves(peltzivar_note_mask(&fields, i))));
+    return list;
+}
+
+/* pack(fields, edits): the fields with the edits, and their word. */
+static PyObject *pack(PyObject *self, PyObject *given) {
+    peltzivar_fields changed = {0};
+    PyObject *from, *list;
+    (void)self;
+    if (!PyArg_ParseTuple(given, "OO", &from, &list) || !packed(&fields_members, from, (char *)&changed, NULL)) return NULL;
+    for (Py_ssize_t i = 0; i < PyList_Size(list); i++) {
+        peltzivar_edit edit;
+        if (!packed(&edit_members, PyList_GetItem(list, i), (char *)&edit, NULL)) return NULL;
+        if (!peltzivar_edit_fields(&changed, &edit, 1)) return PyErr_Format(PyExc_ValueError, "no setter");
+    }
+    return PyErr_Occurred() ? NULL : Py_BuildValue("(NN)", fields(changed), halves(peltzivar_pack(&changed)));
+}
+
+/* SETTINGS AND SENTENCES */
+
+/* Functions of bytes, and maybe of an index. */
+#define TEXT_CALL(name, result) \
+    static PyObject *text_##name(PyObject *self, PyObject *given) { \
+        const char *from; \
+        Py_ssize_t len, index = 0; \
+        char text[PELTZIVAR_TEXT_SIZE]; \
+        (void)self, (void)text; \
+        return PyArg_ParseTuple(given, "y#|n", &from, &len, &index) ? (result) : NULL; \
+    }
+#define TEXT_ROW(name, result) {#name, text_##name, METH_VARARGS, NULL},
+#define TEXTS(it) \
+    it(parse_word, word_of(from, (size_t)len)) \
+    it(parse_edit, edit_of(from, (size_t)len)) \
+    it(setting_error, (peltzivar_setting_error_text(from, (size_t)len, text, sizeof text), shown(text))) \
+    it(settings_text, (peltzivar_settings_text(from, (size_t)len, (size_t)index, text, sizeof text), shown(text))) \
+    it(settings_lines, lines(from, (size_t)len, (size_t)index)) \
+    it(read_settings, settings(from, (size_t)len))
+
+static PyObject *word_of(const char *from, size_t len) {
+    peltzivar_word word = {0, 0};
+    peltzivar_error error = peltzivar_parse_word(from, len, &word, NULL);
+    return Py_BuildValue("(IN)", error, halves(word));
+}
+
+static PyObject *edit_of(const char *from, size_t len) {
+    peltzivar_edit edit;
+    return peltzivar_parse_edit(from, len, &edit) ? tuple_of(&edit_members, (const char *)&edit) : Py_NewRef(Py_None);
+}
+
+static PyObject *lines(const char *from, size_t len, size_t index) {
+    size_t lines[PELTZIVAR_FIELD_COUNT], count = peltzivar_settings_lines(from, len, index, lines, PELTZIVAR_FIELD_COUNT);
+    PyObject *list = PyList_New(0);
+    for (size_t i = 0; list && i < count && i < PELTZIVAR_FIELD_COUNT; i++) append(list, PyLong_FromSize_t(lines[i]));
+    return list;
+}
+
+/* Returns the number of problems, and the syntax. */
+static PyObject *settings(const char *from, size_t len) {
+    peltzivar_syntax syntax = {0};
+    size_t problems = peltzivar_read_settings(from, len, &syntax);
+    return Py_BuildValue("(nN)", (Py_ssize_t)problems, tuple_of(&syntax_members, (const char *)&syntax));
+}
+TEXTS(TEXT_CALL)
+
+/* describe(what, number, value): a sentence or a name, or of a setter its mask. */
+static PyObject *describe(PyObject *self, PyObject *given) {
+    const char *what;
+    unsigned char number, value = 0;
+    char text[PELTZIVAR_TEXT_SIZE];
+    (void)self;
+    if (!PyArg_ParseTuple(given, "sb|b", &what, &number, &value)) return NULL;
+    if (!strcmp(what, "mask")) return halves(peltzivar_setter_mask(number));
+    if (!strcmp(what, "edit")) return peltzivar_edit_text((peltzivar_edit){number, value}, text, sizeof text), shown(text);
+    if (!strcmp(what, "error")) return shown(peltzivar_description(number));
+    if (!strcmp(what, "rule")) return shown(peltzivar_rule_condition(number));
+    return shown(what[0] == 'v' ? peltzivar_value_description(number) : peltzivar_write_description(number));
+}
+
+/* THE MODULE */
+
+#define STATE(module) ((State *)PyModule_GetState(module))
+
+/* make(reader, members, is_list): gives it forms. language(reader, name): gives it those of a language. */
+static PyObject *make(PyObject *self, PyObject *given) {
+    Reader *to;
+    PyObject *members;
+    int is_list;
+    if (!PyArg_ParseTuple(given, "O!O!p", STATE(self)->reader, &to, &PyTuple_Type, &members, &is_list)) return NULL;
+    PyObject *kept = PyDict_New();
+    const char *forms = kept ? packed_array(&forms_members, members, 1, true, kept) : NULL;
+    if (!forms || to->state) {
+        if (forms) PyErr_SetString(PyExc_TypeError, "an object does not change");
+        return Py_XDECREF(kept), NULL;
+    }
+    to->state = STATE(self), to->forms = (const peltzivar_forms *)forms, to->kept = kept, to->is_list = is_list;
+    return Py_NewRef(Py_None);
+}
+
+static PyObject *language(PyObject *self, PyObject *given) {
+    Reader *to;
+    const char *name;
+    Py_ssize_t size;
+    if (!PyArg_ParseTuple(given, "O!s#", STATE(self)->reader, &to, &name, &size)) return NULL;
+    if (!to->state) to->state = STATE(self), to->forms = peltzivar_language(name, (size_t)size), to->is_list = true;
+    return Py_NewRef(Py_None);
+}
+
+/* fast(class, function, documentation): the method of C that calls the function for what it leaves. It lasts as long as the
+ * program. */
+static PyObject *fast(PyObject *self, PyObject *given) {
+    PyObject *type, *function;
+    const char *doc;
+    if (!PyArg_ParseTuple(given, "O!Os", &PyType_Type, &type, &function, &doc)) return NULL;
+    int index = *doc == 'p' ? 0 : *doc == 'f' ? 1 : 2;
+    Py_XDECREF(STATE(self)->slow[index]);
+    STATE(self)->slow[index] = Py_NewRef(function);
+    PyMethodDef *made = malloc(sizeof *made + strlen(doc) + 1);
+    if (!made) return PyErr_NoMemory();
+    *made = FAST[index];
+    made->ml_doc = strcpy((char *)(made + 1), doc);
+    return PyDescr_NewMethod((PyTypeObject *)type, made);
+}
+
+/* register(Literal, LiteralError): the classes of what is read, and of what is raised. */
+static PyObject *register_classes(PyObject *self, PyObject *given) {
+    PyObject *literal, *refusal;
+    if (!PyArg_ParseTuple(given, "O!O!", &PyType_Type, &literal, &PyType_Type, &refusal)) return NULL;
+    STATE(self)->literal = Py_NewRef(literal), STATE(self)->refusal = Py_NewRef(refusal);
+    return Py_NewRef(Py_None);
+}
+
+static PyMethodDef FUNCTIONS[] = {
+    WORDS(ROW) TEXTS(TEXT_ROW)
+    {"notes", notes, METH_O, NULL},
+    {"pack", pack, METH_VARARGS, NULL},
+    {"describe", describe, METH_VARARGS, NULL},
+    {"make", make, METH_VARARGS, NULL},
+    {"language", language, METH_VARARGS, NULL},
+    {"fast", fast, METH_VARARGS, NULL},
+    {"register", register_classes, METH_VARARGS, NULL},
+    {NULL, NULL, 0, NULL},
+};
+
+/* The members of enumerations that no call names. */
+static const struct {
+    const char *name, *members;
+    int first;
+} NAMES[] = {
+    {"Rule",
+     "MANTISSA_RADIX_IN_RANGE EXPONENT_BASE_IN_RANGE EXPONENT_RADIX_IN_RANGE DIGIT_SEPARATOR_IS_PUNCTUATION "
+     "BASE_PREFIX_IS_PUNCTUATION BASE_SUFFIX_IS_PUNCTUATION PUNCTUATION_DIFFERS EXPONENT_FLAGS_AGREE MANTISSA_SIGN_FLAGS_AGREE "
+     "EXPONENT_SIGN_FLAGS_AGREE SPECIAL_CASE_FLAGS_AGREE SPECIAL_SEPARATOR_FLAGS_AGREE INTEGER_CONSECUTIVE_IS_ALLOWED "
+     "FRACTION_CONSECUTIVE_IS_ALLOWED EXPONENT_CONSECUTIVE_IS_ALLOWED RESERVED_BITS_ARE_ZERO", PELTZIVAR_RULE_MANTISSA_RADIX_IN_RANGE},
+    /* Made by make_python.py: error_names */
+    {"Error",
+     "SUCCESS OVERFLOW UNDERFLOW INVALID_DIGIT EMPTY EMPTY_MANTISSA EMPTY_EXPONENT EMPTY_INTEGER EMPTY_FRACTION "
+     "INVALID_POSITIVE_MANTISSA_SIGN MISSING_MANTISSA_SIGN INVALID_EXPONENT INVALID_POSITIVE_EXPONENT_SIGN "
+     "MISSING_EXPONENT_SIGN EXPONENT_WITHOUT_FRACTION INVALID_LEADING_ZEROS MISSING_EXPONENT MISSING_SIGN "
+     "INVALID_POSITIVE_SIGN INVALID_NEGATIVE_SIGN INVALID_MANTISSA_RADIX INVALID_EXPONENT_BASE "
+     "INVALID_EXPONENT_RADIX INVALID_DIGIT_SEPARATOR INVALID_DECIMAL_POINT INVALID_EXPONENT_SYMBOL "
+     "INVALID_BASE_PREFIX INVALID_BASE_SUFFIX INVALID_PUNCTUATION INVALID_EXPONENT_FLAGS INVALID_MANTISSA_SIGN "
+     "INVALID_EXPONENT_SIGN INVALID_SPECIAL INVALID_CONSECUTIVE_INTEGER_DIGIT_SEPARATOR "
+     "INVALID_CONSECUTIVE_FRACTION_DIGIT_SEPARATOR INVALID_CONSECUTIVE_EXPONENT_DIGIT_SEPARATOR INVALID_FLAGS "
+     "INVALID_NAN_STRING NAN_STRING_TOO_LONG INVALID_INF_STRING INF_STRING_TOO_LONG INVALID_INFINITY_STRING "
+     "INFINITY_STRING_TOO_LONG INFINITY_STRING_TOO_SHORT INVALID_FLOAT_PARSE_ALGORITHM INVALID_RADIX "
+     "INVALID_FLOAT_PRECISION INVALID_NEGATIVE_EXPONENT_BREAK INVALID_POSITIVE_EXPONENT_BREAK "
+     , PELTZIVAR_SUCCESS},
+    /* End */
+    {"ReadErrorKind", "REQUIREMENT SEPARATOR CASE BYTE MISSING SUFFIX POINT STOP", PELTZIVAR_KIND_REQUIREMENT},
+    {"Spelling", "NAN INF INFINITY", PELTZIVAR_SPELLING_NAN},
+    {"Part", "INTEGER FRACTION EXPONENT", PELTZIVAR_PART_INTEGER},
+    {"Role", "DIGIT SIGN SEPARATOR PREFIX SUFFIX EXPONENT POINT", PELTZIVAR_ROLE_DIGIT},
+};
+
+/* Puts what is constant into the module: numbers, and the names of enumerations, setters and languages. */
+static int filled(PyObject *module) {
+    State *state = STATE(module);
+    PyObject *literal = PyType_FromModuleAndSpec(module, &LITERAL, NULL), *members = PyDict_New(), *setters = PyList_New(0), *languages = PyList_New(0);
+    state->reader = (PyTypeObject *)PyType_FromModuleAndSpec(module, &READER, NULL);
+    if (!literal || !state->reader || !members || !setters || !languages) return -1;
+    for (size_t i = 0; i < sizeof NAMES / sizeof *NAMES; i++) {
+        PyObject *names = Py_BuildValue("(si)", NAMES[i].members, NAMES[i].first);
+        if (!names || PyDict_SetItemString(members, NAMES[i].name, names)) return -1;
+        Py_DECREF(names);
+    }
+    for (int number = 0; number < PELTZIVAR_NO_SETTER; number++)
+        if (peltzivar_setter_name((peltzivar_setter)number)[0])
+            append(setters, Py_BuildValue("(si)", peltzivar_setter_name((peltzivar_setter)number), number));
+    for (size_t i = 0; peltzivar_language_name(i)[0]; i++) append(languages, shown(peltzivar_language_name(i)));
+    peltzivar_fields new = PELTZIVAR_NEW_FIELDS;
+    if (PyErr_Occurred() || PyModule_AddType(module, (PyTypeObject *)literal) || PyModule_AddType(module, state->reader)) return -1;
+    Py_DECREF(literal);
+    PyObject *conditions = Py_BuildValue("(ssssssss)", "required_base_prefix", "required_base_suffix", "no_negative_mantissa_sign",
+        "integer_group_size", "higher_group_size", "fraction_group_size", "required_leading_zero", "decimal_first_digit");
+    PyObject *values[] = {members, setters, languages, conditions, fields(new), halves(PELTZIVAR_STANDARD), shown(PELTZIVAR_VERSION)};
+    const char *names[] = {"MEMBERS", "SETTERS", "LANGUAGES", "CONDITIONS", "NEW_FIELDS", "STANDARD", "VERSION"};
+    for (int i = 0; i < 7; i++) {
+        if (PyModule_AddObjectRef(module, names[i], values[i])) return -1;
+        Py_DECREF(values[i]);
+    }
+    PyModule_AddIntConstant(module, "FORMS_MAX", PELTZIVAR_FORMS_MAX);
+    PyModule_AddIntConstant(module, "WORDS_MAX", PELTZIVAR_WORDS_MAX);
+    PyModule_AddIntConstant(module, "REFUSED", PELTZIVAR_VALUE_REFUSED);
+    PyModule_AddIntConstant(module, "SPECIAL", PELTZIVAR_VALUE_SPECIAL);
+    PyModule_AddIntConstant(module, "WRITE_SPECIAL", PELTZIVAR_WRITE_SPECIAL);
+    return PyErr_Occurred() ? -1 : 0;
+}
+
+static int cleared(PyObject *module) {
+    State *state = STATE(module);
+    Py_CLEAR(state->literal);
+    Py_CLEAR(state->refusal);
+    for (int i = 0; i < 3; i++) Py_CLEAR(state->slow[i]);
+    Py_CLEAR(state->reader);
+    return 0;
+}
+
+static PyModuleDef_Slot SLOTS[] = {{Py_mod_exec, (void *)filled}, {0, NULL}};
+static struct PyModuleDef MODULE = {PyModuleDef_HEAD_INIT, "peltzivar._peltzivar", NULL, sizeof(State), FUNCTIONS, SLOTS, NULL, cleared, NULL};
+
+PyMODINIT_FUNC PyInit__peltzivar(void);
+PyMODINIT_FUNC PyInit__peltzivar(void) { return PyModuleDef_Init(&MODULE); }
