@@ -2,6 +2,8 @@
 
 use core::{fmt, ops, ops::Range, slice};
 
+use crate::literal::token::has_letter_behind_zero;
+use crate::literal::value::Decimal;
 use crate::literal::{
     Form, FormError, Forms, FromLiteral, Literal, Number, ParseError, ReadError, ReadErrorKind, Special, Specials,
     Syntax,
@@ -57,6 +59,19 @@ impl<'a> Forms<'a> {
     /// If `text` is not a number, or if its value is not one of the type, returns why.
     pub fn parse<T: FromLiteral>(&self, text: impl AsRef<[u8]>) -> Result<T, ParseError> {
         let text = text.as_ref();
+        let Form { syntax, kind, .. } = self.as_slice()[0];
+        // A literal of the first form is the number. Texts such as `0x1F` are most often none.
+        if self.as_slice().len() == 1 || !has_letter_behind_zero(text) {
+            if let Decimal::Value(value) = syntax.parse_decimal(kind, text) {
+                return Ok(value);
+            }
+        }
+        self.parse_generally(text)
+    }
+
+    // Returns what `parse` returns for any text.
+    #[inline(never)]
+    fn parse_generally<T: FromLiteral>(&self, text: &[u8]) -> Result<T, ParseError> {
         self.read_bytes(text)?.value().map_err(|error| error.of_size(text.len()).into())
     }
 

@@ -110,7 +110,7 @@ impl Syntax {
 
     // Returns whether reading stops at `at`, where it has come in a usual syntax, and `text` is not a literal.
     #[inline(never)]
-    const fn is_refused(&self, text: &[u8], at: At) -> bool {
+    pub(crate) const fn is_refused(&self, text: &[u8], at: At) -> bool {
         let At { size, read } = at;
         if size < text.len() {
             step(self.as_grammar(), read, text[size]).is_none()
