@@ -54,18 +54,16 @@ mod conditions;
 #[allow(clippy::match_like_matches_macro, clippy::redundant_pattern_matching, reason = "as it is proved")]
 mod exclude;
 mod forms;
-mod groups;
+mod group_size;
 mod kind;
 mod language;
 #[allow(clippy::len_zero, clippy::exhaustive_enums, reason = "as it is proved, and numbers are of two kinds")]
 mod list;
-#[allow(clippy::module_inception, reason = "as it is proved")]
+#[allow(clippy::module_inception, clippy::needless_lifetimes, reason = "as it is proved")]
 mod literal;
 mod notation;
 mod number;
-mod plain;
-#[allow(clippy::needless_lifetimes, dead_code, reason = "as it is proved")]
-mod read;
+mod scan;
 mod sentence;
 #[allow(clippy::redundant_pattern_matching, reason = "as it is proved")]
 mod span;
@@ -76,7 +74,9 @@ mod span;
 )]
 mod specials;
 #[allow(clippy::redundant_pattern_matching, reason = "as it is proved")]
-mod steps;
+mod step;
+#[allow(dead_code, reason = "as it is proved")]
+mod stop;
 #[allow(clippy::collapsible_match, clippy::len_zero, reason = "as it is proved")]
 mod suffix;
 #[allow(clippy::redundant_pattern_matching, reason = "as it is proved")]

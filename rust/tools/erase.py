@@ -45,7 +45,7 @@ PLACES = {
 # turns into vectors, by derives, by absent bytes that are `None`, by a type of core, by literals with digits, and by errors
 # that name a type.
 BY_HAND = {
-    "ascii/slices.rt", "error/traits.rt", "feature_format/bytes.rt", "format_builder/non_zero.rt", "number.rt", "parse.rt",
+    "ascii/slices.rt", "error/traits.rt", "feature_format/bytes.rt", "format_builder/non_zero.rt", "parse.rt", "read.rt",
 }  # fmt: skip
 
 # Roots and tests, which are written by hand too, laws and examples.
@@ -99,7 +99,7 @@ REPLACED = [
 ]
 
 # Files in which each function is const in plain Rust. Rattle's `split_at` is not, nor is what calls it.
-CONST = ("lexical_literal/src/read.rt", "list.rt", "span.rt", "token.rt", "lexical_literal/src/literal.rt")
+CONST = ("lexical_literal/src/stop.rt", "list.rt", "span.rt", "token.rt", "lexical_literal/src/literal.rt")
 
 # Texts that plain Rust replaces in every file, wherever they occur.
 EVERYWHERE = [
@@ -168,21 +168,21 @@ REPLACED += [
     ("lexical_literal/src/literal.rt", "pub const fn places(&self)", "pub(crate) const fn places(&self)"),
     ("lexical_literal/src/literal.rt", "pub const fn scale(&self)", "pub(crate) const fn scale(&self)"),
     # A syntax that is not lawful can have any radix.
-    ("lexical_number/src/word.rt", "MOST[radix as usize] as usize", "if radix <= 36 { MOST[radix as usize] as usize } else { 0 }"),
+    ("lexical_number/src/small.rt", "MOST[radix as usize] as usize", "if radix <= 36 { MOST[radix as usize] as usize } else { 0 }"),
     # Programs have one copy of these.
-    ("lexical_forms/src/list.rt", "syntax.begin(false, text, false);\n                if syntax.is_whole(text, counted) {\n                    return Some", "syntax.begin_any(text, false);\n                if syntax.is_whole(text, counted) {\n                    return Some"),
-    ("lexical_literal/src/read.rt", "self.begin(false, text, false)", "self.begin_any(text, false)"),
-    ("lexical_literal/src/read.rt", "self.begin(false, text, true)", "self.begin_any(text, true)"),
+    ("lexical_forms/src/list.rt", "syntax.begin(false, text, false);\n                if begun.is_whole(syntax, text) {\n                    return Some", "syntax.begin_any(text, false);\n                if begun.is_whole(syntax, text) {\n                    return Some"),
+    ("lexical_literal/src/stop.rt", "self.begin(false, text, false)", "self.begin_any(text, false)"),
+    ("lexical_literal/src/stop.rt", "self.begin(false, text, true)", "self.begin_any(text, true)"),
     ("token.rt", "it.syntax.begin(false, text, true)", "it.syntax.begin_small(text, true)"),
     ("token.rt", "it.syntax.begin(false, front, true)", "it.syntax.begin_small(front, true)"),
     # The library for C has one copy of these.
     ("reasons.rt", "#[inline(always)]\n#[tactic(auto, unfolding(lexical_flags::specs::Roles::Disjoint))]\nconst fn clash(", "#[cfg_attr(not(peltzivar_small), inline(always))]\nconst fn clash("),
     ("reasons.rt", "#[inline(always)]\nconst fn reason_for(", "#[cfg_attr(not(peltzivar_small), inline(always))]\nconst fn reason_for("),
-    ("lexical_literal/src/read.rt", "self.step(text, stop, last)", "self.step_any(text, stop, last)"),
-    ("lexical_literal/src/read.rt", "self.step(text, at, last)", "self.step_any(text, at, last)"),
+    ("lexical_literal/src/stop.rt", "stop.step(syntax, text, last)", "stop.step_any(syntax, text, last)"),
+    ("lexical_literal/src/stop.rt", "at.step(self, text, last)", "at.step_any(self, text, last)"),
     # Texts that are refused need it alone, and one copy is enough for all calls.
-    ("lexical_literal/src/read.rt", "#[inline(always)]\n    const fn step(&self", "#[cfg_attr(not(peltzivar_small), inline(always))]\n    pub(crate) const fn step(&self"),
-    ("lexical_literal/src/read.rt", "#[inline(always)]\n    pub(crate) const fn stop(", "#[inline(never)]\n    pub(crate) const fn stop("),
+    ("lexical_literal/src/stop.rt", "#[inline(always)]\n    const fn step(", "#[cfg_attr(not(peltzivar_small), inline(always))]\n    pub(crate) const fn step("),
+    ("lexical_literal/src/stop.rt", "#[inline(always)]\n    pub(crate) const fn go_on(", "#[inline(never)]\n    pub(crate) const fn go_on("),
     # A decimal literal need not be in memory where another one would be.
     ("lexical_value/src/float.rt", "binary_size(F::DOUBLE, literal)", "binary_size(F::DOUBLE, &{ *literal })"),
     ("lexical_value/src/float.rt", "match nearest_single(literal)", "match nearest_single(&{ *literal })"),

@@ -6,9 +6,9 @@ pub use Rattle.lexical_forms.specs.Forms.{NoForm, ReadsForm, reach}
 pub use Rattle.lexical_forms.specs.Token.{IsAhead}
 pub use Rattle.lexical_forms.specs.declared.list.Form.{Form}
 pub use Rattle.lexical_forms.specs.declared.token.Candidate.{Candidate}
-pub use Rattle.lexical_literal.specs.Additions.Longest.{IsCountedFront, IsMeasured, IsStopped}
-pub use Rattle.lexical_literal.specs.Additions.Read.{AreSums, cut}
-pub use Rattle.lexical_literal.specs.Additions.Summary.{Cuts, HasLengths, cuts_of, role_at}
+pub use Rattle.lexical_literal.specs.Additions.Stop.{IsCountedFront, IsMeasured, IsStopped}
+pub use Rattle.lexical_literal.specs.Additions.Literal.{AreSums, cut}
+pub use Rattle.lexical_literal.specs.Additions.Step.{Cuts, HasLengths, cuts_of, role_at}
 pub use Rattle.lexical_literal.specs.Cause.{IsRefusal, bare, is_byte, is_stray, with_rules}
 pub use Rattle.lexical_literal.specs.Front.{IsFront, IsValidUpTo, NoFront, NoLiteral, ReadsFront}
 pub use Rattle.lexical_literal.specs.Literal.{Literal, Reads, is_absent, is_float, is_none_or_one, is_none_or_prefix, is_present, text_of}
@@ -17,8 +17,8 @@ pub use Rattle.lexical_literal.specs.Read.{Read}
 pub use Rattle.lexical_literal.specs.Readings.{AllIn, run_byte}
 pub use Rattle.lexical_literal.specs.declared.cause.ReadErrorKind.{ReadErrorKind}
 pub use Rattle.lexical_literal.specs.declared.cause.Refusal.{Refusal}
-pub use Rattle.lexical_literal.specs.declared.plain.At.{At}
-pub use Rattle.lexical_literal.specs.declared.read.Found.{Found}
+pub use Rattle.lexical_literal.specs.declared.stop.Stopped.{Stopped}
+pub use Rattle.lexical_literal.specs.declared.stop.Found.{Found}
 pub use Rattle.lexical_literal.specs.declared.syntax.Grammar.{Grammar}
 pub use Rattle.lexical_util.specs.Ascii.{ByteSet}
 pub use Rattle.lexical_util.specs.Layout.{Flag}

@@ -11,7 +11,7 @@ use Rattle.lexical_util.specs.declared.feature_format.roles.Role.TheVariants as 
 use Rattle.lexical_util.specs.declared.format_flags.Part.TheVariants as parts
 use Rattle.lexical_literal.specs.declared.syntax.Condition.TheVariants as conditions
 use Rattle.lexical_literal.proofs.PartLemmas.{parts_have_roles}
-use Rattle.lexical_literal.proofs.ScanLemmas.{no_role}
+use Rattle.lexical_literal.proofs.WalkLemmas.{no_role}
 
 module _ (m : Notation) where
   abbrev Play : List ℕ → Type 0

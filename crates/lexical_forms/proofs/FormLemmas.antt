@@ -3,7 +3,7 @@ use Rattle.lexical_forms.proofs.Common.{ℕ, ◌≡◌, ◌*◌, inl, inr, nat_l
 use Rattle.lexical_forms.proofs.Common.{◌∷◌, take, get_or, IfSome, IsNone, refl, sym, subst, ap, arith, nat_tests, cases_lt, false≢true, take_all, All-more}
 use Rattle.lexical_forms.proofs.Common.{slice_get-get_or, Literal, Reads, Notation, notation_of, common_steps, if◌then◌else◌, length, slice_get}
 use Rattle.lexical_forms.proofs.Common.{IsFurthestForm, sign_size, IsCountedFront, IsStopped, IsRefusal, Refusal, FormList, NoForm, ReadsForm, is_stray, reach}
-use Rattle.lexical_forms.proofs.Common.{IsValidUpTo, NoFront, ReadsFront, Read, Found, At, Form}
+use Rattle.lexical_forms.proofs.Common.{IsValidUpTo, NoFront, ReadsFront, Read, Found, Stopped, Form}
 use Rattle.lexical_forms.specs.Additions.Forms.{GoesTo, IsFoundForm, IsFoundFrontForm, IsNoBetter, bound, further, further_on, greater, longer}
 use Rattle.lexical_forms.specs.Forms.{HasFront, HasKind, IsErrorOfForm, IsFirst, IsFormError, IsGreatest, IsReadByForms, Reaches}
 use Rattle.std.specs.Option.{ForSome}
@@ -112,7 +112,7 @@ module _ {X : Type 0} (M : Measure X) (forms : List Form) where
   greatest i end form x is = grind (arith, take_all)
 
 -- How far each form goes, and the longest front that is a literal of each form.
-abbrev pub goes : List ℕ → Measure At
+abbrev pub goes : List ℕ → Measure Stopped
 goes text = record {
   size = λ stop. stop.size;
   IsSize = GoesTo text;
@@ -135,7 +135,7 @@ fronts text = record {
 }
 
 -- How far each form goes that goes beyond the first byte behind the sign.
-abbrev pub beyond : List ℕ → Measure At
+abbrev pub beyond : List ℕ → Measure Stopped
 beyond text = record {
   size = λ stop. stop.size;
   IsSize = λ g n. GoesTo text g n × (sign_size text + 1 < n);
@@ -148,7 +148,7 @@ beyond text = record {
 
 -- One form more, which stops at `stop`.
 pub beyond_more : (text : List ℕ) (forms : List Form) (i : ℕ) (d : Form) → i < length forms
-    → (furthest : Option (ℕ × At)) → IsBest (beyond text) forms i furthest → (stop : At) → IsStopped (notation_of (get_or forms i d).syntax) text stop
+    → (furthest : Option (ℕ × Stopped)) → IsBest (beyond text) forms i furthest → (stop : Stopped) → IsStopped (notation_of (get_or forms i d).syntax) text stop
     → IsBest (beyond text) forms (i + 1) (further_on (sign_size text) furthest i stop)
 beyond_more text forms i d inside furthest old stop is = go (nat_lt (sign_size text + 1) stop.size) refl where
   go : (b : Bool) → nat_lt (sign_size text + 1) stop.size ≡ b → IsBest (beyond text) forms (i + 1) (if b then further furthest i stop else furthest)
@@ -157,7 +157,7 @@ beyond_more text forms i d inside furthest old stop is = go (nat_lt (sign_size t
       (λ n goes. let most = one_size (notation_of (get_or forms i d).syntax) text n stop.size goes is.valid in grind (arith, nat_tests)) furthest old
 
 -- The best goes beyond that byte.
-pub best_far : (text : List ℕ) (forms : List Form) (i : ℕ) (furthest : Option (ℕ × At)) → IsBest (beyond text) forms i furthest
+pub best_far : (text : List ℕ) (forms : List Form) (i : ℕ) (furthest : Option (ℕ × Stopped)) → IsBest (beyond text) forms i furthest
     → IfSome furthest (λ best. sign_size text + 1 < best.1.size)
 best_far text forms i None is = tt
 best_far text forms i (Some best) is =
@@ -165,7 +165,7 @@ best_far text forms i (Some best) is =
 
 -- One form more, which goes no further.
 pub beyond_kept : (text : List ℕ) (forms : List Form) (i : ℕ) (d : Form) → i < length forms
-    → (furthest : Option (ℕ × At)) → IsBest (beyond text) forms i furthest
+    → (furthest : Option (ℕ × Stopped)) → IsBest (beyond text) forms i furthest
     → ((n : ℕ) → GoesTo text (get_or forms i d) n → n ≤ bound (sign_size text) furthest) → IsBest (beyond text) forms (i + 1) furthest
 beyond_kept text forms i d inside None old near = best_stays (beyond text) forms i d inside near None old
 beyond_kept text forms i d inside (Some best) old near = record {
@@ -212,7 +212,7 @@ number_is list text i d read own inside is format same kind = record {
 
 -- All forms have been tried.
 module _ (forms : List Form) (text : List ℕ) (i : ℕ) (end : length forms ≤ i) where
-  pub furthest_is : 0 < length forms → (furthest : Option (ℕ × At)) → IsBest (goes text) forms i furthest → IsFurthestForm forms text furthest
+  pub furthest_is : 0 < length forms → (furthest : Option (ℕ × Stopped)) → IsBest (goes text) forms i furthest → IsFurthestForm forms text furthest
   furthest_is some None is = none_of forms some (subst (All (λ g. ⊥)) (take_all i forms end) is) where
     none_of : (forms : List Form) → 0 < length forms → All (λ g. ⊥) forms → ⊥
     none_of [] some all = omega (arith, some)
@@ -220,7 +220,7 @@ module _ (forms : List Form) (text : List ℕ) (i : ℕ) (end : length forms ≤
   furthest_is some (Some best) is = (greatest (goes text) forms i end best.0 best.1 is, is.here)
 
   -- A form that goes beyond that byte goes furthest of all, if it does of those that go beyond it.
-  beyond_is : (best : ℕ × At) → IsBest (beyond text) forms i (Some best) → IsFurthestForm forms text (Some best)
+  beyond_is : (best : ℕ × Stopped) → IsBest (beyond text) forms i (Some best) → IsFurthestForm forms text (Some best)
   beyond_is best is =
       let here = some_of (λ g. IsStopped (notation_of g.syntax) text best.1 × (sign_size text + 1 < best.1.size)) (slice_get forms best.0) is.here in
       let all = greatest (beyond text) forms i end best.0 best.1 is in (
@@ -238,7 +238,7 @@ module _ (forms : List Form) (text : List ℕ) (i : ℕ) (end : length forms ≤
         subst (λ o. IsSomeAnd o (λ g. IsStopped (notation_of g.syntax) text best.1)) (sym here.1) here.2.0,
       )
 
-  pub beyond_if : (furthest : Option (ℕ × At)) → IsBest (beyond text) forms i furthest → IfSome furthest (λ best. IsFurthestForm forms text (Some best))
+  pub beyond_if : (furthest : Option (ℕ × Stopped)) → IsBest (beyond text) forms i furthest → IfSome furthest (λ best. IsFurthestForm forms text (Some best))
   beyond_if None is = tt
   beyond_if (Some best) is = beyond_is best is
 

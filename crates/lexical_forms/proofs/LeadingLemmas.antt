@@ -3,21 +3,21 @@ use Rattle.lexical_forms.proofs.Common.{ℕ, ◌≡◌, ◌&&◌, ◌||◌, Bool
 use Rattle.lexical_forms.proofs.Common.{IsSomeAnd, take, drop, get_or, append-nil, refl, sym, subst, ap, ◌∙◌, arith, cases_lt, false≢true, nat_tests}
 use Rattle.lexical_forms.proofs.Common.{length-take-le, All-more, slice_get-get_or, Literal, Reads, is_float, text_of, Notation, notation_of, Record, ◌==◌}
 use Rattle.lexical_forms.proofs.Common.{if◌then◌else◌, IsTrue, length, slice_get, sign_size, IsMeasured, IsStopped, AreSums, cut, Cuts, HasLengths, IsWithin}
-use Rattle.lexical_forms.proofs.Common.{FormList, ReadsForm, IsFront, IsValidUpTo, NoLiteral, IsAhead, Form, At, Candidate}
+use Rattle.lexical_forms.proofs.Common.{FormList, ReadsForm, IsFront, IsValidUpTo, NoLiteral, IsAhead, Form, Stopped, Candidate}
 use Rattle.lexical_forms.specs.Additions.Forms.{PlaysNoRole}
-use Rattle.lexical_literal.specs.Additions.Read.{HasSums, before_exponent}
+use Rattle.lexical_literal.specs.Additions.Literal.{HasSums, before_exponent}
 use Rattle.lexical_forms.specs.Additions.Token.{FrontsWithin, IsLeading, IsNear, IsPicked, has_float, has_prefix}
 use Rattle.lexical_forms.specs.Forms.{HasFront}
 use Rattle.lexical_forms.specs.Token.{IsCandidate, IsToken, gives_back, is_shorter}
 use Rattle.std.specs.Borrow.{Bor}
 use Rattle.std.proofs.lemmas.List.{drop-take, get_or-take, get_or_append_left, length-append, take-take}
 use Rattle.std.proofs.lemmas.Option.{slice_get_within}
-use Rattle.lexical_literal.specs.Additions.Sizes.{goes}
+use Rattle.lexical_literal.specs.Additions.GroupSize.{goes}
 use Rattle.lexical_literal.specs.Cause.{is_in}
 use Rattle.lexical_forms.specs.Suffix.{any_word_size, begins, byte_before, is_stopped, is_word_byte, kind_with, longest_word, suffix_size, word_size}
 use Rattle.lexical_forms.specs.declared.list.Tokens.{Tokens}
-use Rattle.lexical_literal.specs.declared.plain.Sums.{Sums}
-use Rattle.lexical_literal.specs.declared.steps.Piece.TheVariants as pieces
+use Rattle.lexical_literal.specs.declared.literal.Sums.{Sums}
+use Rattle.lexical_literal.specs.declared.step.Piece.TheVariants as pieces
 use Rattle.lexical_forms.specs.declared.suffix.Suffixes.{Suffixes}
 use Rattle.lexical_literal.specs.declared.syntax.Condition.TheVariants as conditions
 use Rattle.lexical_forms.specs.declared.token.Token.{Token}
@@ -206,7 +206,7 @@ abbrev HasLongest : Bool → List ℕ → Form → ℕ → Type 0
 HasLongest back text form size =
     (longest : ℕ) × HasFront text form longest × (size ≡ (if gives_back back (notation_of form.syntax) text longest then longest - 1 else longest))
 
-pub front_before : (back : Bool) (text : List ℕ) (form : Form) (stop : At) (size : ℕ) → IsStopped (notation_of form.syntax) text stop
+pub front_before : (back : Bool) (text : List ℕ) (form : Form) (stop : Stopped) (size : ℕ) → IsStopped (notation_of form.syntax) text stop
     → stop.size ≡ size + 1 → gives_back back (notation_of form.syntax) text stop.size ≡ true → gives_back back (notation_of form.syntax) text size ≡ false
     → (l : Literal) → Reads (notation_of form.syntax) l (take size text) → HasLongest back text form size
 front_before back text form stop size is stop_is gives kept l reads = go (goes (notation_of form.syntax) stop.read is.group None) refl where

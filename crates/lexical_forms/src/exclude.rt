@@ -6,8 +6,8 @@ ghost use Rattle.lexical_literal.specs.Front.{IsValidUpTo, NoLiteral};
 ghost use Rattle.lexical_literal.specs.Notation.{notation_of};
 
 use lexical_literal::cause::other_case;
-use lexical_literal::plain::At;
-use lexical_literal::steps::{is_digit, role_at};
+use lexical_literal::step::{is_digit, role_at};
+use lexical_literal::stop::Stopped;
 use lexical_literal::syntax::{Condition, Grammar};
 use lexical_util::format::{Part, Role};
 
@@ -34,7 +34,7 @@ pub(crate) const fn is_behind(
     grammar: Grammar,
     text: &[u8],
     sign: usize,
-    furthest: Option<(usize, At)>,
+    furthest: Option<(usize, Stopped)>,
 ) -> bool
     requires sign { sign ≡ sign_size text.now }
     requires far { IfSome furthest (λ best. sign + 1 < best.1.size) }

@@ -2,7 +2,7 @@
 
 ghost use Rattle.std.specs.Prelude.{◌≡◌, ◌<◌, ◌≤◌, IfSome, IsSomeAnd, None, Some, SomeIff, false, length, slice_get};
 ghost use Rattle.lexical_forms.specs.Additions.Forms.{IsFoundForm, IsFoundFrontForm, IsFurthestForm, further, further_on, longer, sign_size};
-ghost use Rattle.lexical_literal.specs.Additions.Longest.{IsStopped};
+ghost use Rattle.lexical_literal.specs.Additions.Stop.{IsStopped};
 ghost use Rattle.lexical_forms.specs.Forms.{HasKind, IsErrorOfForm, IsFormError, IsFrontByForms, IsReadByForms, NoForm, special_by};
 ghost use Rattle.lexical_literal.specs.Read.{exact};
 ghost use Rattle.lexical_literal.specs.Notation.{notation_of};
@@ -13,8 +13,7 @@ use crate::suffix::Suffixes;
 use lexical_literal::cause::ReadError;
 use lexical_literal::kind::Kind;
 use lexical_literal::literal::Literal;
-use lexical_literal::plain::At;
-use lexical_literal::read::Found;
+use lexical_literal::stop::{Found, Stopped};
 use lexical_literal::syntax::Syntax;
 use std::marker::Model;
 
@@ -330,14 +329,14 @@ impl<'a> Forms<'a> {
             let it = &self.forms[form];
             let syntax = &it.syntax;
             if !is_behind(syntax.grammar(), text, sign, furthest) {
-                let counted = syntax.begin(false, text, false);
-                if syntax.is_whole(text, counted) {
+                let begun = syntax.begin(false, text, false);
+                if begun.is_whole(syntax, text) {
                     let literal = syntax
-                        .literal(text, counted.counts, counted.sums)
+                        .literal(text, begun.counts, begun.sums)
                         .with_kind(it.kind);
                     return Ok(Number::Literal { literal, form });
                 }
-                let stop = match syntax.reached(text, counted) {
+                let stop = match begun.lengths(syntax, text) {
                     Ok(counts) => {
                         let literal = syntax.summed(text, counts).with_kind(it.kind);
                         return Ok(Number::Literal { literal, form });
@@ -389,7 +388,7 @@ impl<'a> Forms<'a> {
     fn without_literal<'t>(
         &self,
         text: &'t [u8],
-        furthest: Option<(usize, At)>,
+        furthest: Option<(usize, Stopped)>,
     ) -> Result<Number<'t>, FormError>
         requires furthest { IfSome furthest (λ best. IsFurthestForm self.now.forms text.now (Some best)) }
         requires none { NoForm self.now.forms text.now }
@@ -419,12 +418,12 @@ impl<'a> Forms<'a> {
         while form < self.forms.len() {
             let syntax = &self.forms[form].syntax;
             if !excludes(syntax.grammar(), text, sign_size(text)) {
-                let counted = syntax.begin(false, text, false);
-                if syntax.is_whole(text, counted) {
-                    return Some((form, syntax.literal(text, counted.counts, counted.sums)));
+                let begun = syntax.begin(false, text, false);
+                if begun.is_whole(syntax, text) {
+                    return Some((form, syntax.literal(text, begun.counts, begun.sums)));
                 }
-                let stop = syntax.reach(text, counted);
-                if let Some(counts) = syntax.lengths(text, stop) {
+                let stop = begun.stop(syntax, text);
+                if let Some(counts) = stop.lengths(syntax, text) {
                     return Some((form, syntax.summed(text, counts)));
                 }
             }
@@ -434,13 +433,13 @@ impl<'a> Forms<'a> {
     }
 
     // Returns the form that goes furthest in `text`, the first of equals, and where it stops.
-    pub(crate) fn furthest(&self, text: &[u8]) -> Option<(usize, At)>
+    pub(crate) fn furthest(&self, text: &[u8]) -> Option<(usize, Stopped)>
         ensures { IsFurthestForm self.now.forms text.now result }
     {
         let mut furthest = None;
         let mut form = 0;
         while form < self.forms.len() {
-            let stop = self.forms[form].syntax.stop_in(text);
+            let stop = self.forms[form].syntax.stop(text);
             furthest = further(furthest, form, stop);
             form += 1;
         }
@@ -470,7 +469,7 @@ impl<'a> Forms<'a> {
     // Returns why `text` is not a literal of the form that goes furthest, or, if the cause is a wrong byte or a required prefix is
     // not there, of the first that goes as far and has another cause.
     #[cold]
-    pub(crate) fn refuse(&self, text: &[u8], furthest: Option<(usize, At)>) -> FormError
+    pub(crate) fn refuse(&self, text: &[u8], furthest: Option<(usize, Stopped)>) -> FormError
         requires furthest { IsFurthestForm self.now.forms text.now furthest }
         requires none { NoForm self.now.forms text.now }
         ensures { IsFormError self.now.forms text.now result }
@@ -501,7 +500,7 @@ impl<'a> Forms<'a> {
 
     // Returns why `text` is not a literal of the form with the index `form`, which stops at `stop`.
     #[inline(always)]
-    fn error_at(&self, text: &[u8], form: usize, stop: At) -> FormError
+    fn error_at(&self, text: &[u8], form: usize, stop: Stopped) -> FormError
         requires inside { form < length self.now.forms }
         requires stopped { IsSomeAnd (slice_get self.now.forms form) (λ form. IsStopped (notation_of form.syntax) text.now stop) }
         requires none { NoForm self.now.forms text.now }
@@ -509,7 +508,7 @@ impl<'a> Forms<'a> {
         ensures error { IsSomeAnd (slice_get self.now.forms result.form) (IsErrorOfForm text.now result) }
     {
         let it = &self.as_slice()[form];
-        let Err(error) = it.syntax.refuse::<()>(text, stop) else {
+        let Err(error) = stop.refuse::<()>(&it.syntax, text) else {
             unreachable!()
         };
         FormError {
@@ -539,10 +538,10 @@ const fn longer(
 // Returns which of two forms goes further, the first of equals.
 #[inline(always)]
 pub(crate) const fn further(
-    furthest: Option<(usize, At)>,
+    furthest: Option<(usize, Stopped)>,
     form: usize,
-    stop: At,
-) -> Option<(usize, At)>
+    stop: Stopped,
+) -> Option<(usize, Stopped)>
     ensures { result ≡ further furthest form stop }
 {
     match furthest {
@@ -551,14 +550,14 @@ pub(crate) const fn further(
     }
 }
 
-// Returns the same, without a form that does not go beyond the first byte behind a sign of this length.
+// Returns which of two forms goes further, without one that does not go beyond the first byte behind a sign of this length.
 #[inline(always)]
 const fn further_on(
     sign: usize,
-    furthest: Option<(usize, At)>,
+    furthest: Option<(usize, Stopped)>,
     form: usize,
-    stop: At,
-) -> Option<(usize, At)>
+    stop: Stopped,
+) -> Option<(usize, Stopped)>
     requires { sign ≤ 1 }
     ensures { result ≡ further_on sign furthest form stop }
 {

@@ -8,7 +8,7 @@ ghost use Rattle.lexical_forms.specs.Suffix.{admits, any_word_size, begins, byte
 ghost use Rattle.lexical_forms.specs.Suffix.{longest_word, meets, suffix_size, suffix_words, word_size};
 
 use lexical_literal::kind::Kind;
-use lexical_literal::read::byte_at;
+use lexical_literal::stop::byte_at;
 
 /// Bytes that may not follow a number in source text, such as the `+` behind `0xe` in C.
 ///
@@ -335,7 +335,7 @@ pub(crate) const fn word_size(text: &[u8]) -> usize
     text.len()
 }
 
-// Returns the same if `text` begins with one of the bytes `begins`, or 0 otherwise.
+// Returns the number of bytes of a word with which `text` begins, if its first byte is one of `begins`, or 0 otherwise.
 const fn any_word_size(begins: &[u8], text: &[u8]) -> usize
     ensures size { result ≡ any_word_size begins.now text.now }
     ensures within { result ≤ length text.now }

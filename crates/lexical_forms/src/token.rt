@@ -3,9 +3,9 @@
 ghost use Rattle.std.specs.Prelude.{◌≡◌, ◌<◌, ◌≤◌, ◌+◌, ◌-◌, ◌==◌, ◌&&◌, ℕ, All, IsNone, IsSomeAnd, IsTrue, Some, drop, false, length, slice_get, take, true};
 ghost use Rattle.std.specs.Option.{ForSome};
 ghost use Rattle.lexical_forms.specs.Additions.Forms.{IsFurthestForm, PlaysNoRole, sign_size};
-ghost use Rattle.lexical_literal.specs.Additions.Longest.{HasBegun, IsCountedFront, IsMeasured, IsStopped};
-ghost use Rattle.lexical_literal.specs.Additions.Read.{AreSums, cut};
-ghost use Rattle.lexical_literal.specs.Additions.Summary.{cuts_of};
+ghost use Rattle.lexical_literal.specs.Additions.Stop.{HasBegun, IsCountedFront, IsMeasured, IsStopped};
+ghost use Rattle.lexical_literal.specs.Additions.Literal.{AreSums, cut};
+ghost use Rattle.lexical_literal.specs.Additions.Step.{cuts_of};
 ghost use Rattle.lexical_forms.specs.Additions.Token.{AreNear, FrontsWithin, IsBestOf, IsEnd, IsLeading, IsMade, IsNear, IsOwn, IsPicked, IsWithin, NoOwn, better};
 ghost use Rattle.lexical_forms.specs.Additions.Token.{goes_on};
 ghost use Rattle.lexical_forms.specs.Additions.Token.{has_float, has_prefix, suffixed, whole};
@@ -24,9 +24,8 @@ use crate::suffix::{
     suffix_words, word_size,
 };
 use lexical_literal::literal::Literal;
-use lexical_literal::plain::{At, Counted};
-use lexical_literal::read::{Found, byte_at};
-use lexical_literal::steps::{is_digit, is_point, role_at};
+use lexical_literal::step::{is_digit, is_point, role_at};
+use lexical_literal::stop::{Begun, Found, Stopped, byte_at};
 use lexical_literal::syntax::{Condition, Grammar, Syntax};
 use lexical_util::format::Part;
 
@@ -104,7 +103,7 @@ pub(crate) struct Candidate {
 // What one pass over forms finds: the form that goes furthest and where it stops, and the best candidate with the index of its form.
 #[derive(Clone, Copy)]
 pub(crate) struct Scanned {
-    pub(crate) furthest: Option<(usize, At)>,
+    pub(crate) furthest: Option<(usize, Stopped)>,
     pub(crate) best: Option<(usize, Candidate)>,
 }
 
@@ -174,17 +173,17 @@ impl<'a> Forms<'a> {
             if is_excluded(it.syntax.grammar(), text, sign, excluding) {
                 reached = larger(reached, sign + 1);
             } else {
-                let counted = it.syntax.begin(false, text, true);
-                let size = counted.at.size;
-                if counted.complete
+                let begun = it.syntax.begin(false, text, true);
+                let size = begun.at.size;
+                if begun.complete
                     && reached < size
-                    && it.ends(back, text, counted)
+                    && it.is_longest(back, text, begun)
                     && are_past(self.forms, form, back, text, size)
                     && are_past(tokens.forms, tokens.forms.len(), back, text, size)
                 {
-                    return self.behind(tokens, text, it, form, counted);
+                    return self.token_at(tokens, text, it, form, begun);
                 }
-                let stop = it.syntax.reach(text, counted);
+                let stop = begun.stop(&it.syntax, text);
                 if gives_back(it.syntax, back, text, stop.size) {
                     return self.before_point(tokens, text, it, form, stop, reached);
                 }
@@ -204,7 +203,7 @@ impl<'a> Forms<'a> {
         text: &'t [u8],
         it: &Form,
         form: usize,
-        stop: At,
+        stop: Stopped,
         reached: usize,
     ) -> Option<Token<'t>>
         requires at { slice_get self.now.forms form ≡ Some it.now }
@@ -217,42 +216,42 @@ impl<'a> Forms<'a> {
         let back = tokens.gives_points_back;
         let size = stop.size - 1;
         let (front, _) = text.split_at(size);
-        let counted = it.syntax.begin(false, front, true);
-        if counted.complete
-            && counted.at.size == size
+        let begun = it.syntax.begin(false, front, true);
+        if begun.complete
+            && begun.at.size == size
             && reached < size
             && !gives_back(it.syntax, back, text, size)
             && are_past(self.forms, form, back, text, size)
             && are_past(tokens.forms, tokens.forms.len(), back, text, size)
         {
-            self.behind(tokens, text, it, form, counted)
+            self.token_at(tokens, text, it, form, begun)
         } else {
             None
         }
     }
 
-    // Returns the token of which `counted` is the literal, of the form with this index, if nothing follows that may not.
+    // Returns the token of which `begun` is the literal, of the form with this index, if nothing follows that may not.
     #[inline(always)]
-    fn behind<'t>(
+    fn token_at<'t>(
         &self,
         _tokens: &Tokens,
         text: &'t [u8],
         it: &Form,
         form: usize,
-        counted: Counted,
+        begun: Begun,
     ) -> Option<Token<'t>>
-        requires within { counted.at.size ≤ length text.now }
-        requires measured { IsMeasured (notation_of it.now.syntax) (take counted.at.size text.now) counted.counts }
-        requires sums { AreSums (raw it.now.syntax.word) (cut (take counted.at.size text.now) (cuts_of counted.counts)) counted.sums }
-        requires leading { IsLeading self.now _tokens.now text.now form it.now counted.at.size }
+        requires within { begun.at.size ≤ length text.now }
+        requires measured { IsMeasured (notation_of it.now.syntax) (take begun.at.size text.now) begun.counts }
+        requires sums { AreSums (raw it.now.syntax.word) (cut (take begun.at.size text.now) (cuts_of begun.counts)) begun.sums }
+        requires leading { IsLeading self.now _tokens.now text.now form it.now begun.at.size }
         ensures { ForSome result (IsToken self.now _tokens.now text.now) }
     {
-        let Counted {
+        let Begun {
             at,
             counts,
             sums,
             ..
-        } = counted;
+        } = begun;
         let (front, rest) = text.split_at(at.size);
         let more = suffix_size(it.suffixes, is_float(counts), rest);
         if is_stopped(it.suffixes, text, at.size + more) {
@@ -302,7 +301,7 @@ impl<'a> Forms<'a> {
 
     // Returns why `text`, in which forms go as far as `furthest`, does not begin with a token.
     #[cold]
-    fn fail(&self, _tokens: &Tokens, text: &[u8], furthest: Option<(usize, At)>) -> TokenError
+    fn fail(&self, _tokens: &Tokens, text: &[u8], furthest: Option<(usize, Stopped)>) -> TokenError
         requires furthest { IsFurthestForm self.now.forms text.now furthest }
         requires refused { IsRefused self.now _tokens.now text.now }
         ensures { IsTokenError self.now _tokens.now text.now result }
@@ -430,14 +429,13 @@ fn made<'t>(it: &Form, text: &'t [u8], form: usize, candidate: Candidate) -> Tok
 impl Form {
     // Returns whether the front that has been read, which is a literal, is the longest, and does not end in a point that is given back.
     #[inline(always)]
-    fn ends(&self, back: bool, text: &[u8], counted: Counted) -> bool
-        requires { HasBegun (notation_of self.now.syntax) text.now counted }
-        ensures within { IsTrue result → IsWithin (notation_of self.now.syntax) text.now counted.at.size }
-        ensures kept { IsTrue result → gives_back back (notation_of self.now.syntax) text.now counted.at.size ≡ false }
+    fn is_longest(&self, back: bool, text: &[u8], begun: Begun) -> bool
+        requires { HasBegun (notation_of self.now.syntax) text.now begun }
+        ensures within { IsTrue result → IsWithin (notation_of self.now.syntax) text.now begun.at.size }
+        ensures kept { IsTrue result → gives_back back (notation_of self.now.syntax) text.now begun.at.size ≡ false }
     {
-        let size = counted.at.size;
-        (is_over(self.syntax.grammar(), text, size)
-            || self.syntax.reach(text, counted).size == size)
+        let size = begun.at.size;
+        (is_over(self.syntax.grammar(), text, size) || begun.stop(&self.syntax, text).size == size)
             && !gives_back(self.syntax, back, text, size)
     }
 
@@ -452,24 +450,25 @@ impl Form {
         lacks_prefix(grammar, text) || is_over(grammar, text, size) || self.stops(back, text, size)
     }
 
-    // Returns the same by reading.
+    // Returns by reading whether no literal begins with more than the first `size` bytes of `text`, or only with a point more that is
+    // given back.
     #[inline(never)]
     fn stops(&self, back: bool, text: &[u8], size: usize) -> bool
         requires { size ≤ length text.now }
         ensures { IsTrue result → IsNear back (notation_of self.now.syntax) text.now size }
     {
-        let stop = self.syntax.stop_in(text);
+        let stop = self.syntax.stop(text);
         stop.size <= size
             || (stop.size == size + 1 && gives_back(self.syntax, back, text, size + 1))
     }
 
     // Returns a size that no front of `text` that is a literal exceeds, where reading stops at `stop`.
     #[inline(always)]
-    fn bound(&self, text: &[u8], stop: At) -> usize
+    fn bound(&self, text: &[u8], stop: Stopped) -> usize
         requires { IsStopped (notation_of self.now.syntax) text.now stop }
         ensures { FrontsWithin text.now result self.now }
     {
-        if stop.size == 0 || self.syntax.is_literal_up_to(text, stop) {
+        if stop.size == 0 || stop.is_literal(&self.syntax, text) {
             stop.size
         } else {
             stop.size - 1
@@ -478,7 +477,7 @@ impl Form {
 
     // Returns where reading `text` stops, and the candidate, if there is one.
     #[inline(always)]
-    fn candidate(&self, back: bool, needs: bool, text: &[u8]) -> (At, Option<Candidate>)
+    fn candidate(&self, back: bool, needs: bool, text: &[u8]) -> (Stopped, Option<Candidate>)
         ensures stop { IsStopped (notation_of self.now.syntax) text.now result.0 }
         ensures some { ForSome result.1 (IsMade back needs text.now self.now) }
         ensures none { IsNone result.1 → NoCandidate back needs text.now self.now }
@@ -486,14 +485,14 @@ impl Form {
         let (stop, found) = self.syntax.front(text);
         let candidate = match found {
             None => None,
-            Some(found) => self.behind(back, needs, text, found),
+            Some(found) => self.candidate_of(back, needs, text, found),
         };
         (stop, candidate)
     }
 
     // Returns the candidate of which `found` is the longest front, if there is one.
     #[inline(always)]
-    fn behind(&self, back: bool, needs: bool, text: &[u8], found: Found) -> Option<Candidate>
+    fn candidate_of(&self, back: bool, needs: bool, text: &[u8], found: Found) -> Option<Candidate>
         requires { IsCountedFront (notation_of self.now.syntax) text.now found }
         ensures some { ForSome result (IsMade back needs text.now self.now) }
         ensures none { IsNone result → NoCandidate back needs text.now self.now }
@@ -677,7 +676,7 @@ fn is_one_ahead(forms: &[Form], back: bool, text: &[u8], end: usize) -> bool
     let mut form = 0;
     while form < forms.len() {
         let it = &forms[form];
-        let stop = it.syntax.stop_in(text);
+        let stop = it.syntax.stop(text);
         if goes_on(it.syntax, back, text, end, stop.size) {
             return true;
         }

@@ -3,20 +3,20 @@ use Rattle.lexical_literal.proofs.Common.{ℕ, ◌≡◌, ◌≤◌, ◌↔◌, 
 use Rattle.lexical_literal.proofs.Common.{subst, ◌∙◌, arith, false≢true, and_parts, and_from, cases_Bool, length-take-le, Flag, raw, Role, Part, all_conditions}
 use Rattle.lexical_literal.proofs.Common.{Notation, has, notation_of, Condition, Grammar, ◌==◌, IsTrue, if◌then◌else◌, length, has_size, Allows, IsRefusal}
 use Rattle.lexical_literal.proofs.Common.{adding, bare, is_one_of, marks_of, number_separator_flags, requirement_flags, span_of, with_rules, IsValidUpTo}
-use Rattle.lexical_literal.proofs.Common.{IsWeaker, lets, place_of, blame, mask_of, unmet, fits, unsized, no_condition, role_at, part_of, Blame, ReadErrorKind}
+use Rattle.lexical_literal.proofs.Common.{IsWeaker, lets, place_of, blame, mask_of, unmet, group_allows, unsized, no_condition, role_at, part_of, Blame, ReadErrorKind}
 use Rattle.lexical_literal.proofs.Common.{Group, Summary, sum_by}
 use Rattle.lexical_literal.specs.Cause.{IsCaseFlag, IsCause, IsRequirement, IsUnmet, Permits, RefusesAlone, binds, case_set, error_of, first_unmet}
 use Rattle.lexical_literal.specs.Cause.{is_at, lowest, requiring, tail_of}
 use Rattle.lexical_literal.specs.Additions.Causes.{is_at_gap}
-use Rattle.lexical_literal.specs.Additions.Explained.{alone, cases, group_at, otherwise, refusal_of, requirements, separators, some_unmet, zeros}
-use Rattle.lexical_literal.specs.Additions.Sizes.{IsReadOf, goes, role_next}
+use Rattle.lexical_literal.specs.Additions.Explained.{alone, cases, group_at, otherwise, refusal_of, requirements, separators, some_unmet, spot_of, zeros}
+use Rattle.lexical_literal.specs.Additions.GroupSize.{IsReadOf, goes, role_next}
 use Rattle.std.specs.Prelude.{slice_get}
 use Rattle.lexical_util.specs.Record.{flag_bits}
 use Rattle.lexical_util.specs.Layout as layout
 use Rattle.lexical_util.specs.Roles.{other_case}
 use Rattle.lexical_util.specs.declared.format_flags.Part.TheVariants as parts
 use Rattle.lexical_literal.specs.Notation.{kept}
-use Rattle.lexical_literal.specs.declared.cause.Marks.{Marks}
+use Rattle.lexical_literal.specs.Cause.{Marks}
 use Rattle.lexical_literal.specs.declared.cause.ReadErrorKind.TheVariants as causes
 use Rattle.lexical_literal.specs.declared.cause.Spot.{Spot}
 use Rattle.lexical_literal.specs.declared.syntax.Condition.TheVariants as conditions
@@ -84,7 +84,7 @@ module _ (m : Notation) (s : Summary) (g : Group) (next : Option ℕ) (allowed :
       → (free_allows m (unsized (sizing m C)) s next ≡ true) × (passes m (unsized (sizing m C)).condition s next ≡ true)
   parts_with C is = and_parts _ _ (sym (split m (unsized (sizing m C)).flag (unsized (sizing m C)).condition s next) ∙ (and_parts _ _ is).0)
 
-  fit : fits m g role ≡ true
+  fit : group_allows m g role ≡ true
   fit = grind (arith, and_parts, goes_with)
 
   flags_refuse : free_allows m (unsized m) s next ≡ false
@@ -281,37 +281,31 @@ module _ (m : Notation) (s : Summary) (g : Group) (front : List ℕ) (read : IsR
 
 -- THE REFUSAL
 
-module _ (g : Grammar) (text : List ℕ) (s : Summary) (separated : Bool) (tail : List ℕ) (k : Marks) (size : ℕ) (within : size ≤ length text) where
+module _ (g : Grammar) (text : List ℕ) (s : Summary) (separated : Bool) (tail : List ℕ) (size : ℕ) (within : size ≤ length text) where
   abbrev n : Notation
   n = notation_of g
 
+  abbrev k : Marks
+  k = marks_of n (take size text)
+
   abbrev spot : Option ℕ → Spot
-  spot next = record {
-    word = g.word;
-    options = g.options;
-    conditions = g.conditions;
-    read = s;
-    byte = next;
-    tail = tail;
-    marks = k;
-    separated = separated;
-  }
+  spot next = spot_of g (take size text) s next tail separated
 
   abbrev last : Group
   last = group_at (spot None)
 
   pub refusal_at : IsValidUpTo n text size → IsReadOf n s last (take size text) → goes n s last (slice_get text size) ≡ false
-      → (next : Option ℕ) → next ≡ slice_get text size → tail ≡ tail_of text size → k ≡ marks_of n (take size text)
+      → (next : Option ℕ) → next ≡ slice_get text size → tail ≡ tail_of text size
       → IsRefusal n text (refusal_of n (spot next))
-  refusal_at valid read refused next is_next is_tail is_marks =
+  refusal_at valid read refused next is_next is_tail =
       let b = blame n s last next in
       let C = unmet n s last next in
       let set = kept C n.number in
       let c = first_unmet b.mask set in
       let has_unmet : (c : Condition) → has set c ≡ C c =
       has_kept g.conditions (λ c. goes (bare n) s last next && not (goes (requiring c (bare n)) s last next)) in
-      let is_size : size ≡ k.size = sym (length-take-le size text within) ∙ sym (ap (λ (k : Marks). k.size) is_marks) in
-      let same : k ≡ marks_of n (take k.size text) = is_marks ∙ (λ j. marks_of n (take (is_size j) text)) in
+      let is_size : size ≡ k.size = sym (length-take-le size text within) in
+      let same : k ≡ marks_of n (take k.size text) = λ j. marks_of n (take (is_size j) text) in
       let byte = is_next ∙ ap (slice_get text) is_size in
       record {
         valid_up_to = subst (IsValidUpTo n text) is_size valid;

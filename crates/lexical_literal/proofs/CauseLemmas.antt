@@ -1,7 +1,7 @@
 -- The flags of masks, and the bytes to show.
 use Rattle.lexical_literal.proofs.Common.{ℕ, ◌≡◌, ◌<◌, ◌+◌, ◌^◌, ◌&&◌, ◌||◌, not, Bool, true, false, bit_and, bit_or, inl, inr, List, [], ◌∷◌, ◌++◌, sum_by}
 use Rattle.lexical_literal.proofs.Common.{refl, sym, ap, ◌∙◌, arith, nat_tests, false≢true, cases_Bool, eqb-true, ByteSet, Flag, bit, raw, Record, list_any}
-use Rattle.lexical_literal.proofs.Common.{Notation, ◌==◌, if◌then◌else◌, length, mask_of, no_condition, bare, behind, is_one_of, number_separator_flags}
+use Rattle.lexical_literal.proofs.Common.{Notation, ◌==◌, if◌then◌else◌, length, mask_of, no_condition, bare, index_behind, is_one_of, number_separator_flags}
 use Rattle.lexical_literal.proofs.Common.{requirement_flags, with_rules}
 use Rattle.lexical_literal.specs.Cause.{flag_at, leading_zero_flags}
 use Rattle.std.proofs.lemmas.List.Folds.{list_any-append}
@@ -149,6 +149,6 @@ as_bare m mask each = λ j. with_rules m (λ f. each f j) no_condition
 -- THE BYTES TO SHOW
 
 module _ (A : ByteSet) where
-  pub behind_more : (text : List ℕ) (byte : ℕ) → behind A (text ++ byte ∷ []) ≡ (if A byte then length text + 1 else behind A text)
+  pub behind_more : (text : List ℕ) (byte : ℕ) → index_behind A (text ++ byte ∷ []) ≡ (if A byte then length text + 1 else index_behind A text)
   behind_more [] byte = grind arith
   behind_more (b ∷ text) byte = let more = behind_more text byte in let any = list_any-append A text (byte ∷ []) in grind arith

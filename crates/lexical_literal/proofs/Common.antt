@@ -1,15 +1,15 @@
 -- The names that most proofs of this crate cite, passed on from one place. Declares nothing.
 pub use Rattle.lexical_literal.specs.Additions.Causes.{IsWeaker, kind_set, lets, place_of}
-pub use Rattle.lexical_literal.specs.Additions.Explained.{blame, mask_of, unmet}
-pub use Rattle.lexical_literal.specs.Additions.Longest.{IsCountedFront, IsMeasured, IsStopped}
-pub use Rattle.lexical_literal.specs.Additions.Plain.{HasRoles, HasSizes, IsAt, IsBegun, IsReadOn, IsReady, IsRunOn, at_stage}
-pub use Rattle.lexical_literal.specs.Additions.Read.{AreSums, cut}
-pub use Rattle.lexical_literal.specs.Additions.Sizes.{first_group, fits, group_after, grow, grown, steps_of, unsized}
-pub use Rattle.lexical_literal.specs.Additions.Summary.{Cuts, HasLengths, add, admits, after, after_digit, after_mark, after_point, awaits_integer}
-pub use Rattle.lexical_literal.specs.Additions.Summary.{continues, count, cuts_of, digits_piece, digits_suffice, forbids_plus, gap_fits, has_digit}
-pub use Rattle.lexical_literal.specs.Additions.Summary.{implies, is_accepted, is_fresh, is_open, is_signed, lacks_prefix, may_follow, no_condition}
-pub use Rattle.lexical_literal.specs.Additions.Summary.{no_cuts, part_of, role_at, scan, start, step, takes, takes_in, with_prefix}
-pub use Rattle.lexical_literal.specs.Cause.{Allows, IsRefusal, adding, bare, behind, is_byte, is_one_of, marks_of, number_separator_flags}
+pub use Rattle.lexical_literal.specs.Additions.Explained.{blame, grammar_at, group_at, mask_of, unmet}
+pub use Rattle.lexical_literal.specs.Additions.Stop.{IsCountedFront, IsMeasured, IsStopped}
+pub use Rattle.lexical_literal.specs.Additions.Scan.{HasRoles, HasSizes, IsAt, IsBegun, IsReadOn, IsReady, IsRunOn, at_stage}
+pub use Rattle.lexical_literal.specs.Additions.Literal.{AreSums, cut}
+pub use Rattle.lexical_literal.specs.Additions.GroupSize.{first_group, group_allows, group_after, grow, grown, steps_of, unsized}
+pub use Rattle.lexical_literal.specs.Additions.Step.{Cuts, HasLengths, add, admits, after, after_digit, after_mark, after_point, awaits_integer}
+pub use Rattle.lexical_literal.specs.Additions.Step.{continues, count, cuts_of, digits_piece, digits_suffice, forbids_plus, gap_fits, has_digit}
+pub use Rattle.lexical_literal.specs.Additions.Step.{implies, is_accepted, is_fresh, is_open, is_signed, lacks_prefix, may_follow, no_condition}
+pub use Rattle.lexical_literal.specs.Additions.Step.{no_cuts, part_of, role_at, walk, start, step, takes, takes_in, with_prefix}
+pub use Rattle.lexical_literal.specs.Cause.{Allows, IsRefusal, adding, bare, index_behind, is_byte, is_one_of, marks_of, number_separator_flags}
 pub use Rattle.lexical_literal.specs.Cause.{requirement_flags, span_of, with_rules}
 pub use Rattle.lexical_literal.specs.Front.{IsFront, IsValidUpTo, NoFront, NoLiteral, ReadsFront}
 pub use Rattle.lexical_literal.specs.Groups.{has_size, has_sizes}
@@ -21,13 +21,13 @@ pub use Rattle.lexical_literal.specs.Readings.{AllIn, run_byte}
 pub use Rattle.lexical_literal.specs.declared.cause.Blame.{Blame}
 pub use Rattle.lexical_literal.specs.declared.cause.ReadErrorKind.{ReadErrorKind}
 pub use Rattle.lexical_literal.specs.declared.cause.Refusal.{Refusal}
-pub use Rattle.lexical_literal.specs.declared.groups.Group.{Group}
-pub use Rattle.lexical_literal.specs.declared.plain.At.{At}
-pub use Rattle.lexical_literal.specs.declared.plain.Run.{Run}
-pub use Rattle.lexical_literal.specs.declared.read.Found.{Found}
-pub use Rattle.lexical_literal.specs.declared.steps.Piece.{Piece}
-pub use Rattle.lexical_literal.specs.declared.steps.Stage.{Stage}
-pub use Rattle.lexical_literal.specs.declared.steps.Summary.{Summary}
+pub use Rattle.lexical_literal.specs.declared.group_size.Group.{Group}
+pub use Rattle.lexical_literal.specs.declared.stop.Stopped.{Stopped}
+pub use Rattle.lexical_literal.specs.declared.scan.Reading.{Reading}
+pub use Rattle.lexical_literal.specs.declared.stop.Found.{Found}
+pub use Rattle.lexical_literal.specs.declared.step.Piece.{Piece}
+pub use Rattle.lexical_literal.specs.declared.step.Stage.{Stage}
+pub use Rattle.lexical_literal.specs.declared.step.Summary.{Summary}
 pub use Rattle.lexical_literal.specs.declared.syntax.Condition.{Condition}
 pub use Rattle.lexical_literal.specs.declared.syntax.Conditions.{Conditions}
 pub use Rattle.lexical_literal.specs.declared.syntax.Grammar.{Grammar}

@@ -5,16 +5,16 @@ use Rattle.lexical_literal.proofs.Common.{signs, Role, Part, Notation, Literal, 
 use Rattle.lexical_literal.proofs.Common.{is_present, text_of, Condition, ◌==◌, if◌then◌else◌, length, HasRoles, has_sizes, Cuts, HasLengths, add, admits}
 use Rattle.lexical_literal.proofs.Common.{after, count, is_fresh, role_at, part_of, digits_piece, lacks_prefix, no_condition, no_cuts, start, takes}
 use Rattle.lexical_literal.proofs.Common.{awaits_integer, Piece, Stage, Summary}
-use Rattle.lexical_literal.specs.Additions.Plain.{is_first, needs_first}
-use Rattle.lexical_literal.specs.Additions.Summary.{is_negative, piece_of, step_by, tally_by}
+use Rattle.lexical_literal.specs.Additions.Scan.{is_first, needs_first}
+use Rattle.lexical_literal.specs.Additions.Step.{is_negative, piece_of, step_by, tally_by}
 use Rattle.lexical_util.specs.declared.feature_format.roles.Role.TheVariants as roles
 use Rattle.lexical_util.specs.declared.format_flags.Part.TheVariants as parts
 use Rattle.lexical_literal.specs.Literal.{begins_with, condition, is_plus, may_begin}
-use Rattle.lexical_literal.specs.declared.steps.Piece.TheVariants as pieces
-use Rattle.lexical_literal.specs.declared.steps.Stage.TheVariants as stages
+use Rattle.lexical_literal.specs.declared.step.Piece.TheVariants as pieces
+use Rattle.lexical_literal.specs.declared.step.Stage.TheVariants as stages
 use Rattle.lexical_literal.specs.declared.syntax.Condition.TheVariants as conditions
 use Rattle.lexical_literal.proofs.LiteralLemmas.{all_cuts, spelled_arrives, spelled_from}
-use Rattle.lexical_literal.proofs.ScanLemmas.{Accepts, Arrives, Took, added, arrives_byte, as_digit, digit_role, is_role, none_accepts, took}
+use Rattle.lexical_literal.proofs.WalkLemmas.{Accepts, Arrives, Took, added, arrives_byte, as_digit, digit_role, is_role, none_accepts, took}
 use Rattle.lexical_literal.proofs.StepLemmas.{awaited_part, reading}
 
 -- LENGTHS

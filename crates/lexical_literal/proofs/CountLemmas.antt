@@ -1,7 +1,7 @@
 -- The lengths of parts.
 use Rattle.lexical_literal.proofs.Common.{ℕ, ◌≡◌, ◌+◌, List, [], ◌∷◌, get_or, set, arith, length, cuts_of, with_prefix, Piece}
-use Rattle.lexical_literal.specs.Additions.Summary.{add_more, piece_number}
-use Rattle.lexical_literal.specs.Additions.Plain.{counts_of, integer_sizes}
+use Rattle.lexical_literal.specs.Additions.Step.{add_more, piece_number}
+use Rattle.lexical_literal.specs.Additions.Scan.{integer_counts}
 
 -- More bytes of a piece.
 pub count_more : (counts : List ℕ) → length counts ≡ 9 → (piece : Piece) (n : ℕ)
@@ -11,5 +11,5 @@ count_more counts nine piece n = absurd (omega (arith, nine))
 
 -- A base prefix behind a sign.
 pub count_prefix : (sign : ℕ) (other : Piece)
-    → with_prefix (cuts_of (counts_of (integer_sizes sign 0 0) 0 0 0 0)) other ≡ cuts_of (counts_of (integer_sizes sign 2 0) 0 0 0 0) other
+    → with_prefix (cuts_of (integer_counts sign 0 0)) other ≡ cuts_of (integer_counts sign 2 0) other
 count_prefix sign x1 = grind arith

@@ -2,8 +2,8 @@
 use Rattle.lexical_literal.proofs.Common.{ℕ, ◌≡◌, ◌↔◌, inl, inr, Bool, true, false, not, ◌&&◌, ◌||◌, List, [], ◌∷◌, ◌++◌, Option, Some, None, refl, sym, ap}
 use Rattle.lexical_literal.proofs.Common.{subst, ◌∙◌, arith, false≢true, and_parts, and_from, cases_Bool, or_left, Flag, Role, Part, Notation, Condition}
 use Rattle.lexical_literal.proofs.Common.{Allows, is_one_of, requirement_flags, with_rules, has_size, has_sizes, IsWeaker, lets, HasRoles, HasSizes, IsReady}
-use Rattle.lexical_literal.proofs.Common.{first_group, fits, group_after, grow, grown, unsized, is_accepted, role_at, scan, start, step, Group, Summary}
-use Rattle.lexical_literal.specs.Additions.Sizes.{goes, is_size, makes_empty, role_next}
+use Rattle.lexical_literal.proofs.Common.{first_group, group_allows, group_after, grow, grown, unsized, is_accepted, role_at, walk, start, step, Group, Summary}
+use Rattle.lexical_literal.specs.Additions.GroupSize.{goes, is_size, makes_empty, role_next}
 use Rattle.std.proofs.Common.{if◌then◌else◌}
 use Rattle.std.specs.Prelude.{is_some}
 use Rattle.lexical_util.specs.declared.format_flags.Part.TheVariants as parts
@@ -11,7 +11,7 @@ use Rattle.lexical_literal.specs.declared.syntax.Condition.TheVariants as condit
 use Rattle.lexical_literal.proofs.ConditionLemmas.{literal_arrives, literal_from}
 use Rattle.lexical_literal.proofs.FitLemmas.{front_fits, front_is_read_of, front_of}
 use Rattle.lexical_literal.proofs.RefusalLemmas.{other_ready, other_roles, read_too}
-use Rattle.lexical_literal.proofs.ScanLemmas.{scan_append}
+use Rattle.lexical_literal.proofs.WalkLemmas.{walk_append}
 use Rattle.lexical_literal.proofs.SizeLemmas.{all_end, as_sized, as_unsized, ends, group_append, group_none, required}
 
 some_of : {X : Type 0} (o : Option X) → (o ≡ None → ⊥) → (x : X) × (o ≡ Some x)
@@ -21,29 +21,29 @@ no_size : (m : Notation) → has_sizes m ≡ false → (part : Part) → has_siz
 no_size m none x2 = grind arith
 
 module _ (m : Notation) (ready : IsReady (unsized m)) (sizes : HasSizes m) (front : List ℕ) (s : Summary) (g : Group)
-    (read : scan (unsized m) (Some start) front ≡ Some s) (grouped : group_after m (Some first_group) front ≡ Some g) where
+    (read : walk (unsized m) (Some start) front ≡ Some s) (grouped : group_after m (Some first_group) front ≡ Some g) where
   abbrev u : Notation
   u = unsized m
 
   h : HasRoles m
   h = other_roles u m.flag m.condition ready.roles
 
-  one_more : (b : ℕ) → scan u (Some start) (front ++ b ∷ []) ≡ step u s b
-  one_more b = scan_append u.condition u (Some start) front (b ∷ []) ∙ ap (λ o. scan u o (b ∷ [])) read
+  one_more : (b : ℕ) → walk u (Some start) (front ++ b ∷ []) ≡ step u s b
+  one_more b = walk_append u.condition u (Some start) front (b ∷ []) ∙ ap (λ o. walk u o (b ∷ [])) read
 
   one_group : (b : ℕ) → group_after m (Some first_group) (front ++ b ∷ []) ≡ grow m g (role_at m g.part b)
   one_group b = group_append m (Some first_group) front (b ∷ []) ∙ ap (λ o. group_after m o (b ∷ [])) grouped
 
-  pub grows : (r : Option Role) → fits m g r ≡ true → grow m g r ≡ None → ⊥
+  pub grows : (r : Option Role) → group_allows m g r ≡ true → grow m g r ≡ None → ⊥
   grows r fit none = grind arith
 
-  fitting : (r : Option Role) → (grow m g r ≡ None → ⊥) → fits m g r ≡ true
+  fitting : (r : Option Role) → (grow m g r ≡ None → ⊥) → group_allows m g r ≡ true
   fitting r some = grind arith
 
   pub decides_there : (next : Option ℕ) → (goes m s g next ≡ true) ↔ Allows m front next
   decides_there None = (
     λ is.
-        let both = and_parts (is_accepted u (Some s)) (fits m g None) is in
+        let both = and_parts (is_accepted u (Some s)) (group_allows m g None) is in
         let l = literal_from u ready.roles ready.no_sizes front (ap (is_accepted u) read ∙ both.0) in
         (l.0, as_sized m h sizes l.0 front l.1 (ap (ends m) grouped ∙ both.1)),
     λ l.
@@ -53,7 +53,7 @@ module _ (m : Notation) (ready : IsReady (unsized m)) (sizes : HasSizes m) (fron
   )
   decides_there (Some b) = (
     λ is.
-        let both = and_parts (is_some (step u s b)) (fits m g (role_at m g.part b)) is in
+        let both = and_parts (is_some (step u s b)) (group_allows m g (role_at m g.part b)) is in
         let t = some_of (step u s b) (λ none. false≢true (sym (ap is_some none) ∙ both.0)) in
         let next = some_of (grow m g (role_at m g.part b)) (grows (role_at m g.part b) both.1) in
         front_of m ready sizes (front ++ b ∷ []) t.0 next.0 (one_more b ∙ t.1) (one_group b ∙ next.1),
@@ -87,22 +87,22 @@ module _ (m : Notation) (A : Flag → Bool) (D : Condition → Bool) (weaker : I
   other_sizes = grind arith
 
   -- Groups that fit still do.
-  still : (g : Group) (r : Option Role) → fits m g r ≡ true → fits n g r ≡ true
+  still : (g : Group) (r : Option Role) → group_allows m g r ≡ true → group_allows n g r ≡ true
   still g r fit = grind arith
 
   same_groups : has_sizes n ≡ true → has_sizes m ≡ true → (g : Group) (text : List ℕ) (last : Group) → group_after m (Some g) text ≡ Some last
       → group_after n (Some g) text ≡ Some last
   same_groups less more g [] last is = is
-  same_groups less more g (b ∷ text) last is = go (fits m g (role_at m g.part b)) refl (rw (more) at is)
+  same_groups less more g (b ∷ text) last is = go (group_allows m g (role_at m g.part b)) refl (rw (more) at is)
       (same_groups less more (grown g (role_at m g.part b)) text last) where
-        go : (f : Bool) → fits m g (role_at m g.part b) ≡ f → group_after m (if f then Some (grown g (role_at m g.part b)) else None) text ≡ Some last
+        go : (f : Bool) → group_allows m g (role_at m g.part b) ≡ f → group_after m (if f then Some (grown g (role_at m g.part b)) else None) text ≡ Some last
             → (group_after m (Some (grown g (role_at m g.part b))) text ≡ Some last → group_after n (Some (grown g (role_at m g.part b))) text ≡ Some last)
             → group_after n (grow n g (role_at n g.part b)) text ≡ Some last
         go true fit is rest = rw (less, still g (role_at m g.part b) fit) (rest is)
         go false fit is rest = absurd (let none = group_none m text in cc)
 
   -- What has been read decides what is allowed.
-  pub decided_of : (front : List ℕ) (s : Summary) (g : Group) → scan (unsized m) (Some start) front ≡ Some s
+  pub decided_of : (front : List ℕ) (s : Summary) (g : Group) → walk (unsized m) (Some start) front ≡ Some s
       → group_after m (Some first_group) front ≡ Some g → (next : Option ℕ) → (goes n s g next ≡ true) ↔ Allows n front next
   decided_of front s g read grouped next = elim (cases_Bool (has_sizes n)) [
     | inl less ↦ decides_there n ready_there other_sizes front s g read_there (same_groups less (some_sizes less) first_group front g grouped) next
@@ -110,10 +110,10 @@ module _ (m : Notation) (A : Flag → Bool) (D : Condition → Bool) (weaker : I
         (free none first_group (role_next n parts.Integer next) ∙ sym (free none g (role_next n g.part next)))
         (decides_there n ready_there other_sizes front s first_group read_there (all_end n none first_group front) next)
   ] where
-    free : has_sizes n ≡ false → (g : Group) (r : Option Role) → fits n g r ≡ true
+    free : has_sizes n ≡ false → (g : Group) (r : Option Role) → group_allows n g r ≡ true
     free none g r = or_left _ _ (ap not (no_size n none g.part))
 
-    read_there : scan (unsized n) (Some start) front ≡ Some s
+    read_there : walk (unsized n) (Some start) front ≡ Some s
     read_there = read_too (unsized m) (unsized n).flag (unsized n).condition ready unsized_weaker front s read
 
     ready_there : IsReady (unsized n)

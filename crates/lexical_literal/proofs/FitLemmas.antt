@@ -2,23 +2,23 @@
 use Rattle.lexical_literal.proofs.Common.{ℕ, ◌≡◌, ◌≤◌, ◌+◌, ◌-◌, inl, inr, Bool, true, false, not, ◌&&◌, ◌||◌, nat_lt, List, [], ◌∷◌, ◌++◌, Option, Some, None}
 use Rattle.lexical_literal.proofs.Common.{refl, sym, ap, subst, ◌∙◌, arith, zero, suc, false≢true, and_parts, and_from, cases_Bool, or_left, or_right}
 use Rattle.lexical_literal.proofs.Common.{nat_tests, list_any, separators_in, Role, Part, Literal, Reads, Notation, ◌==◌, if◌then◌else◌, nat_le, append_assoc}
-use Rattle.lexical_literal.proofs.Common.{IsFront, has_size, has_sizes, HasRoles, HasSizes, IsReady, first_group, fits, group_after, grow, grown, unsized}
-use Rattle.lexical_literal.proofs.Common.{admits, after, after_mark, gap_fits, has_digit, is_open, is_signed, lacks_prefix, may_follow, part_of, role_at, scan}
+use Rattle.lexical_literal.proofs.Common.{IsFront, has_size, has_sizes, HasRoles, HasSizes, IsReady, first_group, group_allows, group_after, grow, grown, unsized}
+use Rattle.lexical_literal.proofs.Common.{admits, after, after_mark, gap_fits, has_digit, is_open, is_signed, lacks_prefix, may_follow, part_of, role_at, walk}
 use Rattle.lexical_literal.proofs.Common.{start, takes, takes_in, Group, Stage, Summary}
 use Rattle.lexical_literal.specs.Groups.{higher, inner_fits, last_fits}
-use Rattle.lexical_literal.specs.Additions.Sizes.{follows, most}
-use Rattle.lexical_literal.specs.Additions.Summary.{is_run}
+use Rattle.lexical_literal.specs.Additions.GroupSize.{follows, most}
+use Rattle.lexical_literal.specs.Additions.Step.{is_run}
 use Rattle.std.proofs.lemmas.Bool.{or_parts}
 use Rattle.lexical_util.specs.declared.feature_format.roles.Role.TheVariants as roles
 use Rattle.lexical_util.specs.declared.format_flags.Part.TheVariants as parts
 use Rattle.lexical_literal.specs.Run.{is_place}
 use Rattle.lexical_literal.specs.declared.syntax.Condition.TheVariants as conditions
 use Rattle.lexical_literal.proofs.FrontLemmas.{begins, completed_there, ended_there, front_is_read, goes_on_there, literal_there}
-use Rattle.lexical_literal.proofs.PlainLemmas.{admits_settled}
+use Rattle.lexical_literal.proofs.ScanLemmas.{admits_settled}
 use Rattle.lexical_literal.proofs.GroupLemmas.{not_empty}
 use Rattle.lexical_literal.proofs.RefusalLemmas.{other_roles}
 use Rattle.lexical_literal.proofs.PartOfLemmas.{none_after}
-use Rattle.lexical_literal.proofs.ScanLemmas.{as_role, digit_role, is_role, scan_append, took}
+use Rattle.lexical_literal.proofs.WalkLemmas.{as_role, digit_role, is_role, walk_append, took}
 use Rattle.lexical_literal.proofs.SizeLemmas.{as_sized, as_unsized, ends, group_append, group_none, same_internal}
 use Rattle.lexical_literal.proofs.StepLemmas.{mark_part}
 
@@ -57,7 +57,7 @@ module _ (m : Notation) where
         (fit g.separated (has_size m g.part) _ calm) (rest g calm) (rest (grown g o) refl)
 
   -- Behind a full group, all but digits and separators fit.
-  full_ends : (g : Group) (text : List ℕ) → fits m g None ≡ true → begins m (m.digit g.part) text ≡ false → list_any m.separator text ≡ false
+  full_ends : (g : Group) (text : List ℕ) → group_allows m g None ≡ true → begins m (m.digit g.part) text ≡ false → list_any m.separator text ≡ false
       → ends m (group_after m (Some g) text) ≡ true
   full_ends g x1 full begun joined = grind (arith, ends, no_separator, calm_ends)
 
@@ -92,7 +92,7 @@ module _ (m : Notation) where
         go false next none is = absurd (false≢true (sym (rw (none) refl) ∙ is))
 
   linked_after : (s : Summary) (g : Group) (plus naught : Bool) (r : Role) → Linked s g → s.ended ≡ false → takes u s plus r ≡ true
-      → fits m g (Some r) ≡ true → Linked (after s naught r) (grown g (Some r))
+      → group_allows m g (Some r) ≡ true → Linked (after s naught r) (grown g (Some r))
   linked_after s g plus naught roles.Digit linked going taken fit = grind arith
   linked_after s g plus naught roles.Separator linked going taken fit = record {
     part = linked.part ∙ sym (mark_part s.stage);
@@ -118,12 +118,12 @@ module _ (m : Notation) where
   fit_of x0 next text last is = grind (arith, group_none)
 
   linked_all : has_sizes m ≡ true → (s : Summary) (g : Group) (text : List ℕ) (t : Summary) (last : Group) → Linked s g
-      → scan u (Some s) text ≡ Some t → group_after m (Some g) text ≡ Some last → Linked t last
+      → walk u (Some s) text ≡ Some t → group_after m (Some g) text ≡ Some last → Linked t last
   linked_all sized s g [] t last linked read grouped = grind arith
   linked_all sized s g (b ∷ text) t last linked read grouped =
-      let one = took u.condition u s b (λ o. scan u o text ≡ Some t) (none_after u text t) read in
+      let one = took u.condition u s b (λ o. walk u o text ≡ Some t) (none_after u text t) read in
       let role = ap (λ part. role_at m part b) linked.part ∙ one.plays in
-      let fit = fit_of (fits m g (Some one.role)) (grown g (Some one.role)) text last (rw (sized, role) at grouped) in
+      let fit = fit_of (group_allows m g (Some one.role)) (grown g (Some one.role)) text last (rw (sized, role) at grouped) in
       linked_all sized (after s (b == 48) one.role) (grown g (Some one.role)) text t last
       (linked_after s g (b == 43) (b == 48) one.role linked one.going one.taken fit.0) one.rest fit.1
 
@@ -131,7 +131,7 @@ module _ (m : Notation) where
   first_linked = record { part = refl; sized = λ sized. absurd (false≢true sized) }
 
   -- What has been read is in the part of its last group.
-  pub linked_there : has_sizes m ≡ true → (text : List ℕ) (s : Summary) (g : Group) → scan u (Some start) text ≡ Some s
+  pub linked_there : has_sizes m ≡ true → (text : List ℕ) (s : Summary) (g : Group) → walk u (Some start) text ≡ Some s
       → group_after m (Some first_group) text ≡ Some g → g.part ≡ part_of s.stage
   linked_there sized text s g read grouped = (linked_all sized start first_group text s g first_linked read grouped).part
 
@@ -143,7 +143,7 @@ module _ (m : Notation) where
 
     -- `Filling text s g` holds if `text` ends in the group `g` behind a separator, of a part that has a size.
     record Filling (text : List ℕ) (s : Summary) (g : Group) : Type 0 where
-      read : scan u (Some start) text ≡ Some s
+      read : walk u (Some start) text ≡ Some s
       grouped : group_after m (Some first_group) text ≡ Some g
       separated : g.separated ≡ true
       sized : has_size m g.part ≡ true
@@ -162,7 +162,7 @@ module _ (m : Notation) where
       one_more : (b : ℕ) (r : Role) → role_at m g.part b ≡ Some r → takes u s (b == 43) r ≡ true → admits u.condition s b r ≡ true
           → follows m g (Some r) ≡ true → (grown g (Some r)).separated ≡ true → (grown g (Some r)).part ≡ g.part
           → Filling (text ++ b ∷ []) (after s (b == 48) r) (grown g (Some r))
-      one_more b r role taken admitted follow separated part = grind (arith, scan_append, linked, group_append)
+      one_more b r role taken admitted follow separated part = grind (arith, walk_append, linked, group_append)
 
       internal : u.flag (separators_in (part_of s.stage)).internal ≡ true
       internal = same_internal m (part_of s.stage) (sizes.internal (part_of s.stage) (ap (has_size m) (sym linked.part) ∙ is.sized))
@@ -280,7 +280,7 @@ module _ (m : Notation) where
     close_group text s g parts.Exponent part is = absurd (false≢true (sym (ap (has_size m) part) ∙ is.sized))
 
     -- What has been read, and whose groups fit, is a front.
-    pub front_of : (text : List ℕ) (s : Summary) (g : Group) → scan u (Some start) text ≡ Some s → group_after m (Some first_group) text ≡ Some g
+    pub front_of : (text : List ℕ) (s : Summary) (g : Group) → walk u (Some start) text ≡ Some s → group_after m (Some first_group) text ≡ Some g
         → IsFront m text
     front_of text s g read grouped = let is = completed in record { more = is.0; literal = is.1; reads = is.2 } where
       completed : Closable text
@@ -299,7 +299,7 @@ module _ (m : Notation) where
       ]
 
     -- A front has been read, and its groups fit.
-    pub front_is_read_of : (text : List ℕ) → IsFront m text → scan u (Some start) text ≡ None → ⊥
+    pub front_is_read_of : (text : List ℕ) → IsFront m text → walk u (Some start) text ≡ None → ⊥
     front_is_read_of text is = front_is_read u ready text (record {
       more = is.more;
       literal = is.literal;

@@ -3,17 +3,17 @@ use Rattle.lexical_literal.proofs.Common.{ℕ, ◌≡◌, Bool, true, false, not
 use Rattle.lexical_literal.proofs.Common.{arith, false≢true, and_parts, and_from, cases_Bool, false_from_ne_true, list_any, ByteSet, Role, Part, Notation}
 use Rattle.lexical_literal.proofs.Common.{set_of_role, Literal, Reads, Condition, ◌==◌, IsReady, HasRoles, IsFront, admits, continues, implies, has_digit}
 use Rattle.lexical_literal.proofs.Common.{is_fresh, after_digit, after_mark, after_point, lacks_prefix, may_follow, gap_fits, is_open, is_signed, takes, after}
-use Rattle.lexical_literal.proofs.Common.{scan, is_accepted, start, no_cuts, role_at, part_of, awaits_integer, digits_suffice, takes_in, forbids_plus, Stage}
+use Rattle.lexical_literal.proofs.Common.{walk, is_accepted, start, no_cuts, role_at, part_of, awaits_integer, digits_suffice, takes_in, forbids_plus, Stage}
 use Rattle.lexical_literal.proofs.Common.{Summary}
-use Rattle.lexical_literal.specs.Additions.Summary.{is_led, may_lead, is_negative, leads_to_prefix, needs_exponent, ends, is_run}
+use Rattle.lexical_literal.specs.Additions.Step.{is_led, may_lead, is_negative, leads_to_prefix, needs_exponent, ends, is_run}
 use Rattle.std.proofs.lemmas.Bool.{or_from}
 use Rattle.lexical_util.specs.Layout as layout
 use Rattle.lexical_util.specs.declared.feature_format.roles.Role.TheVariants as roles
 use Rattle.lexical_util.specs.declared.format_flags.Part.TheVariants as parts
-use Rattle.lexical_literal.specs.declared.steps.Stage.TheVariants as stages
+use Rattle.lexical_literal.specs.declared.step.Stage.TheVariants as stages
 use Rattle.lexical_literal.specs.declared.syntax.Condition.TheVariants as conditions
 use Rattle.lexical_literal.proofs.ConditionLemmas.{literal_from, literal_arrives}
-use Rattle.lexical_literal.proofs.ScanLemmas.{Accepts, scan_none, scan_append, took, arrives_byte, as_role, digit_role, is_role}
+use Rattle.lexical_literal.proofs.WalkLemmas.{Accepts, walk_none, walk_append, took, arrives_byte, as_role, digit_role, is_role}
 use Rattle.lexical_literal.proofs.StepLemmas.{digit_part, digit_seen, mark_part, point_part, reading}
 
 -- `CanGoOn m s` holds if a gap, where there is one, can be closed, if there is a leading zero only where one may be, and if a
@@ -36,10 +36,10 @@ module _ (m : Notation) where
       → implies (C conditions.BasePrefix && lacks_prefix s.stage) (leads_to_prefix s.stage zero r) ≡ true → CanGoOn m (after s zero r)
   goes_on s plus x2 x3 can is admitted = grind arith
 
-  all_go_on : HasRoles m → (s : Summary) (text : List ℕ) (last : Summary) → CanGoOn m s → scan m (Some s) text ≡ Some last → CanGoOn m last
+  all_go_on : HasRoles m → (s : Summary) (text : List ℕ) (last : Summary) → CanGoOn m s → walk m (Some s) text ≡ Some last → CanGoOn m last
   all_go_on h s [] last can is = let same : s ≡ last = cc in subst (CanGoOn m) same can
   all_go_on h s (b ∷ text) last can is =
-      let t = took C m s b (λ o. scan m o text ≡ Some last) (λ is. let none = sym (scan_none C m text) ∙ is in cc) is in
+      let t = took C m s b (λ o. walk m o text ≡ Some last) (λ is. let none = sym (walk_none C m text) ∙ is in cc) is in
       all_go_on h (after s (b == 48) t.role) text last (goes_on s (b == 43) (b == 48) t.role can t.taken (and_parts _ _ t.admitted).0) t.rest
 
   -- WAYS TO GO ON
@@ -225,7 +225,7 @@ module _ (m : Notation) where
       | inr settled ↦ part_completed stage gap (ap not settled) can (finishes_in (part_of stage))
     ]
 
-    module _ (text : List ℕ) (s : Summary) (is : scan m (Some start) text ≡ Some s) where
+    module _ (text : List ℕ) (s : Summary) (is : walk m (Some start) text ≡ Some s) where
       pub goes_on_there : CanGoOn m s
       goes_on_there = all_go_on ready.roles start text s (record { closes = refl; led = refl; prefixed = grind arith }) is
 
@@ -234,7 +234,7 @@ module _ (m : Notation) where
 
       -- What has been read and is completed is a literal.
       pub literal_there : (more : List ℕ) → Accepts C m (Some s) more → (l : Literal) × Reads m l (text ++ more)
-      literal_there more accepts = literal_from m ready.roles ready.no_sizes (text ++ more) (rw (scan_append C m (Some start) text more, is) accepts)
+      literal_there more accepts = literal_from m ready.roles ready.no_sizes (text ++ more) (rw (walk_append C m (Some start) text more, is) accepts)
 
       -- What has been read is a front of a literal.
       pub front_from : IsFront m text
@@ -255,7 +255,7 @@ module _ (m : Notation) where
             signed stage run = grind arith
 
     -- A front of a literal is read.
-    pub front_is_read : (text : List ℕ) → IsFront m text → scan m (Some start) text ≡ None → ⊥
+    pub front_is_read : (text : List ℕ) → IsFront m text → walk m (Some start) text ≡ None → ⊥
     front_is_read text is none = false≢true (
-        sym (ap (is_accepted m) (scan_append C m (Some start) text is.more ∙ ap (λ o. scan m o is.more) none ∙ scan_none C m is.more))
-        ∙ ap (λ t. is_accepted m (scan m (Some start) t)) is.reads.whole ∙ (literal_arrives m ready.roles is.literal is.reads.literal).0)
+        sym (ap (is_accepted m) (walk_append C m (Some start) text is.more ∙ ap (λ o. walk m o is.more) none ∙ walk_none C m is.more))
+        ∙ ap (λ t. is_accepted m (walk m (Some start) t)) is.reads.whole ∙ (literal_arrives m ready.roles is.literal is.reads.literal).0)

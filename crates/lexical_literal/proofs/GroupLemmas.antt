@@ -4,10 +4,10 @@ use Rattle.lexical_literal.proofs.Common.{subst, ◌∙◌, arith, false≢true,
 use Rattle.lexical_literal.proofs.Common.{Flag, separators_in, Part, Notation, Condition, ◌==◌, if◌then◌else◌, has_size, gap_fits, grown, unsized, Group}
 use Rattle.lexical_literal.proofs.Common.{HasRoles, HasSizes, with_rules}
 use Rattle.lexical_literal.specs.Groups.{all_fit, first_fits, group_sizes, inner_fits, is_grouped, last_fits, one_more, rest_fits}
-use Rattle.lexical_literal.specs.Additions.Sizes.{follows, is_size, most}
+use Rattle.lexical_literal.specs.Additions.GroupSize.{follows, is_size, most}
 use Rattle.lexical_util.specs.declared.feature_format.roles.Role.TheVariants as roles
 use Rattle.lexical_literal.proofs.RunLemmas.{is_rest}
-use Rattle.lexical_literal.proofs.ScanLemmas.{as_role, digit_role}
+use Rattle.lexical_literal.proofs.WalkLemmas.{as_role, digit_role}
 
 -- `group part separated digits` is a group of `part`.
 abbrev pub group : Part → Bool → ℕ → Group

@@ -1,19 +1,18 @@
 -- What has been read where one part ends and the next one begins.
 use Rattle.lexical_literal.proofs.Common.{ℕ, ◌≡◌, ◌<◌, ◌+◌, ◌-◌, true, false, List, get_or, refl, ap, subst, ◌∙◌, arith, set, Notation, length, HasRoles, IsAt}
 use Rattle.lexical_literal.proofs.Common.{IsBegun, IsReadOn, at_stage, Cuts, after_point, cuts_of, has_digit, awaits_integer, is_signed, takes, part_of}
-use Rattle.lexical_literal.proofs.Common.{with_prefix, At, Piece, Stage}
-use Rattle.lexical_literal.specs.Additions.Plain.{IsOpened, IsSign, behind_sign, counts_of, has_first, integer_sizes, is_free}
-use Rattle.lexical_literal.specs.Additions.Summary.{piece_number}
+use Rattle.lexical_literal.proofs.Common.{with_prefix, Stopped, Piece, Stage}
+use Rattle.lexical_literal.specs.Additions.Scan.{IsOpened, IsSign, behind_sign, counts_of, has_first, integer_counts, is_free}
+use Rattle.lexical_literal.specs.Additions.Step.{piece_number}
 use Rattle.lexical_util.specs.declared.feature_format.roles.Role.TheVariants as roles
 use Rattle.lexical_util.specs.declared.format_flags.Part.TheVariants as parts
-use Rattle.lexical_literal.specs.declared.plain.Opening.{Opening}
-use Rattle.lexical_literal.specs.declared.plain.Sizes.{Sizes}
-use Rattle.lexical_literal.specs.declared.steps.Piece.TheVariants as pieces
-use Rattle.lexical_literal.specs.declared.steps.Stage.TheVariants as stages
+use Rattle.lexical_literal.specs.declared.scan.Reading.{Reading}
+use Rattle.lexical_literal.specs.declared.step.Piece.TheVariants as pieces
+use Rattle.lexical_literal.specs.declared.step.Stage.TheVariants as stages
 use Rattle.lexical_literal.specs.declared.syntax.Condition.TheVariants as conditions
 use Rattle.lexical_literal.proofs.CountLemmas.{count_more, count_prefix}
-use Rattle.lexical_literal.proofs.PlainLemmas.{read_free, read_zero}
-use Rattle.lexical_literal.proofs.ScanLemmas.{is_role}
+use Rattle.lexical_literal.proofs.ScanLemmas.{read_free, read_zero}
+use Rattle.lexical_literal.proofs.WalkLemmas.{is_role}
 
 -- Stages behind a sign.
 begun_behind : (sign : ℕ) → awaits_integer (behind_sign parts.Integer sign) ≡ true
@@ -21,7 +20,7 @@ begun_behind sign = grind arith
 
 module _ (m : Notation) (text : List ℕ) where
   -- Bytes of one part, which has none yet, are read.
-  at_more : (at next : At) (p : Piece) (counts : List ℕ) (n : ℕ) → next.size - at.size ≡ n → length counts ≡ 9 → get_or counts (piece_number p) 0 ≡ 0
+  at_more : (at next : Stopped) (p : Piece) (counts : List ℕ) (n : ℕ) → next.size - at.size ≡ n → length counts ≡ 9 → get_or counts (piece_number p) 0 ≡ 0
       → IsReadOn m text at p next → IsAt m text at (cuts_of counts) → IsAt m text next (cuts_of (set counts (piece_number p) n))
   at_more at next p counts n more nine none on is =
       let sum : get_or counts (piece_number p) 0 + (next.size - at.size) ≡ n = omega (arith, none, more) in
@@ -30,21 +29,20 @@ module _ (m : Notation) (text : List ℕ) where
 
   -- The sign of the mantissa.
   sign_at : (sign : ℕ) → IsSign m text parts.Integer 0 sign → IsAt m text (at_stage sign (behind_sign parts.Integer sign))
-      (cuts_of (counts_of (integer_sizes sign 0 0) 0 0 0 0))
+      (cuts_of (integer_counts sign 0 0))
   sign_at sign is = grind arith
 
   -- Without a base prefix.
   pub opened : (sign : ℕ) → IsSign m text parts.Integer 0 sign → m.condition conditions.BasePrefix ≡ false → has_first m text sign ≡ true
-      → IsOpened m text (record { sign = sign; prefix = 0; size = sign; stage = behind_sign parts.Integer sign })
+      → IsOpened m text sign 0 (behind_sign parts.Integer sign)
   opened sign is free first = grind arith
 
   -- Behind a base prefix.
   pub opened_prefix : HasRoles m → (sign : ℕ) → IsSign m text parts.Integer 0 sign
       → ((stage : Stage) (c : Cuts) → awaits_integer stage ≡ true → is_signed m parts.Integer stage ≡ true → IsAt m text (at_stage sign stage) c
       → IsAt m text (at_stage (sign + 2) stages.Prefixed) (with_prefix c))
-      → IsOpened m text (record { sign = sign; prefix = 2; size = sign + 2; stage = stages.Prefixed })
+      → IsOpened m text sign 2 stages.Prefixed
   opened_prefix h sign is prefix = record {
-    size = refl;
     at = subst (IsAt m text (at_stage (sign + 2) stages.Prefixed))
         (λ j other. count_prefix sign other j)
         (prefix (behind_sign parts.Integer sign) _ (begun_behind sign) is.signed (sign_at sign is));
@@ -61,18 +59,20 @@ module _ (m : Notation) (text : List ℕ) where
       ((read_zero m text h sign (behind_sign parts.Integer sign) inside naught (begun_behind sign) is.signed).reads _ (sign_at sign is)).begun
 
   -- The digits of the integer.
-  pub integer_at : (o : Opening) → IsOpened m text o → (size : ℕ) (stage : Stage) → IsReadOn m text (at_stage o.size o.stage) pieces.Integer
-      (at_stage size stage) → IsAt m text (at_stage size stage) (cuts_of (counts_of (integer_sizes o.sign o.prefix (size - o.size)) 0 0 0 0))
-  integer_at o is size stage on = at_more _ _ pieces.Integer (counts_of (integer_sizes o.sign o.prefix 0) 0 0 0 0) (size - o.size) refl refl refl on is.at
+  pub integer_at : (sign prefix : ℕ) (first : Stage) → IsOpened m text sign prefix first → (size : ℕ) (stage : Stage)
+      → IsReadOn m text (at_stage (sign + prefix) first) pieces.Integer (at_stage size stage)
+      → IsAt m text (at_stage size stage) (cuts_of (integer_counts sign prefix (size - (sign + prefix))))
+  integer_at sign prefix first is size stage on =
+      at_more _ _ pieces.Integer (integer_counts sign prefix 0) (size - (sign + prefix)) refl refl refl on is.at
 
   -- The digits of the fraction.
-  pub fraction_at : (s : Sizes) (from size : ℕ) (first stage : Stage) → s.fraction ≡ 0 → IsAt m text (at_stage from first) (cuts_of (counts_of s 0 0 0 0))
+  pub fraction_at : (s : Reading) (from size : ℕ) (first stage : Stage) → s.fraction ≡ 0 → IsAt m text (at_stage from first) (cuts_of (counts_of s 0 0 0 0))
       → IsReadOn m text (at_stage from first) pieces.Fraction (at_stage size stage)
       → IsAt m text (at_stage size stage) (cuts_of (counts_of (record s { fraction = size - from }) 0 0 0 0))
   fraction_at s from size first stage none is on = at_more _ _ pieces.Fraction (counts_of s 0 0 0 0) (size - from) refl refl none on is
 
   -- The sign and the digits of the exponent.
-  pub exponent_at : (s : Sizes) (size sign end : ℕ) (stage : Stage) → IsAt m text (at_stage size stages.Mark) (cuts_of (counts_of s 1 0 0 0))
+  pub exponent_at : (s : Reading) (size sign end : ℕ) (stage : Stage) → IsAt m text (at_stage size stages.Mark) (cuts_of (counts_of s 1 0 0 0))
       → IsSign m text parts.Exponent size sign
       → IsReadOn m text (at_stage (size + sign) (behind_sign parts.Exponent sign)) pieces.Exponent (at_stage end stage)
       → IsAt m text (at_stage end stage) (cuts_of (counts_of s 1 sign (end - (size + sign)) 0))
@@ -82,7 +82,7 @@ module _ (m : Notation) (text : List ℕ) where
 
   module _ (h : HasRoles m) where
     -- The decimal point.
-    pub point_at : (s : Sizes) (size : ℕ) (stage : Stage) → s.point ≡ 0 → size < length text → m.point (get_or text size 0) ≡ true
+    pub point_at : (s : Reading) (size : ℕ) (stage : Stage) → s.point ≡ 0 → size < length text → m.point (get_or text size 0) ≡ true
         → takes m (at_stage size stage).read false roles.Point ≡ true → is_free m stage ≡ true
         → IsAt m text (at_stage size stage) (cuts_of (counts_of s 0 0 0 0))
         → IsAt m text (at_stage (size + 1) (after_point (has_digit stage))) (cuts_of (counts_of (record s { point = 1 }) 0 0 0 0))
@@ -93,7 +93,7 @@ module _ (m : Notation) (text : List ℕ) where
         (is_role m (part_of stage) b h roles.Point (λ same. cc) point) refl taken free _ is)
 
     -- The exponent character.
-    pub mark_at : (s : Sizes) (size : ℕ) (stage : Stage) → size < length text → m.exponent_character (get_or text size 0) ≡ true
+    pub mark_at : (s : Reading) (size : ℕ) (stage : Stage) → size < length text → m.exponent_character (get_or text size 0) ≡ true
         → takes m (at_stage size stage).read false roles.Exponent ≡ true → is_free m stage ≡ true
         → IsAt m text (at_stage size stage) (cuts_of (counts_of s 0 0 0 0))
         → IsAt m text (at_stage (size + 1) stages.Mark) (cuts_of (counts_of s 1 0 0 0))
@@ -103,7 +103,7 @@ module _ (m : Notation) (text : List ℕ) where
         (is_role m (part_of stage) b h roles.Exponent (λ same. cc) mark) refl taken free _ is)
 
     -- The suffix.
-    pub suffix_at : (s : Sizes) (a b c : ℕ) (at : At) → at.size < length text → m.suffix (get_or text at.size 0) ≡ true
+    pub suffix_at : (s : Reading) (a b c : ℕ) (at : Stopped) → at.size < length text → m.suffix (get_or text at.size 0) ≡ true
         → at.read.ended ≡ false → takes m at.read false roles.Suffix ≡ true → is_free m at.read.stage ≡ true
         → IsAt m text at (cuts_of (counts_of s a b c 0))
         → IsAt m text (record { size = at.size + 1; read = record at.read { ended = true } }) (cuts_of (counts_of s a b c 1))

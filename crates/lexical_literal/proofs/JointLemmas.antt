@@ -5,12 +5,12 @@ use Rattle.lexical_literal.proofs.Common.{is_one_of, number_separator_flags, wit
 use Rattle.lexical_literal.proofs.Common.{gap_fits, is_open, is_signed, no_condition, role_at, takes, part_of, takes_in, Stage, Summary}
 use Rattle.lexical_literal.specs.Cause.{binds, is_at}
 use Rattle.lexical_literal.specs.Additions.Causes.{is_separator}
-use Rattle.lexical_literal.specs.Additions.Summary.{complete_by, ends, finishes, move_by}
+use Rattle.lexical_literal.specs.Additions.Step.{complete_by, ends, finishes, move_by}
 use Rattle.std.specs.Prelude.{is_some}
 use Rattle.lexical_util.specs.Layout as layout
 use Rattle.lexical_util.specs.declared.feature_format.roles.Role.TheVariants as roles
 use Rattle.lexical_util.specs.declared.format_flags.Part.TheVariants as parts
-use Rattle.lexical_literal.specs.declared.steps.Stage.TheVariants as stages
+use Rattle.lexical_literal.specs.declared.step.Stage.TheVariants as stages
 use Rattle.lexical_literal.specs.declared.syntax.Condition.TheVariants as conditions
 use Rattle.lexical_literal.proofs.RefusalLemmas.{KeepsPlaces}
 

@@ -1,13 +1,13 @@
 -- Lemmas.
 mod Common
 pub mod RunLemmas
-pub mod ScanLemmas
+pub mod WalkLemmas
 mod StepLemmas
 mod CutLemmas
 mod LiteralLemmas
 mod ConditionLemmas
 mod FrontLemmas
-mod LongestLemmas
+mod StoppedLemmas
 mod RoleLemmas
 mod SameLemmas
 pub mod PartLemmas
@@ -16,7 +16,7 @@ pub mod MadeLemmas
 mod WriterLemmas
 mod ExampleLemmas
 mod CountLemmas
-mod PlainLemmas
+mod ScanLemmas
 mod SumLemmas
 mod MantissaLemmas
 pub mod PieceLemmas

@@ -5,17 +5,17 @@ use Rattle.lexical_literal.proofs.Common.{Literal, IsSpelled, text_of, is_presen
 use Rattle.lexical_literal.proofs.Common.{HasRoles, Cuts, implies, has_digit, after_digit, after_mark, after_point, may_follow, is_signed, part_of}
 use Rattle.lexical_literal.proofs.Common.{forbids_plus, gap_fits, digits_suffice, continues, add, digits_piece, no_condition, start, no_cuts, with_prefix}
 use Rattle.lexical_literal.proofs.Common.{Piece, Stage}
-use Rattle.lexical_literal.specs.Additions.Summary.{is_lone, is_led, may_lead, ends, piece_of}
+use Rattle.lexical_literal.specs.Additions.Step.{is_lone, is_led, may_lead, ends, piece_of}
 use Rattle.std.proofs.lemmas.Bool.{and_right}
 use Rattle.lexical_util.specs.Layout as layout
 use Rattle.lexical_util.specs.declared.feature_format.roles.Role.TheVariants as roles
 use Rattle.lexical_util.specs.declared.format_flags.Part.TheVariants as parts
 use Rattle.lexical_literal.specs.Run.{is_run}
 use Rattle.lexical_literal.specs.Literal.{is_zero_led}
-use Rattle.lexical_literal.specs.declared.steps.Piece.TheVariants as pieces
-use Rattle.lexical_literal.specs.declared.steps.Stage.TheVariants as stages
+use Rattle.lexical_literal.specs.declared.step.Piece.TheVariants as pieces
+use Rattle.lexical_literal.specs.declared.step.Stage.TheVariants as stages
 use Rattle.lexical_literal.proofs.RunLemmas.{is_rest, rest_of_none, digits_present, opens}
-use Rattle.lexical_literal.proofs.ScanLemmas.{Accepts, Arrives, add_all, added, free_byte, digit_role, is_role}
+use Rattle.lexical_literal.proofs.WalkLemmas.{Accepts, Arrives, add_all, added, free_byte, digit_role, is_role}
 use Rattle.lexical_literal.proofs.StepLemmas.{reading, digit_part, exponent_part, integer_part, mark_part, point_part, run_part, led_after, stage_after, passed}
 use Rattle.lexical_literal.proofs.StepLemmas.{stage_at, sign_fits, prefix_fits, digits_fit, ends_exponent, ends_mantissa, fraction_fits, stops, scales}
 use Rattle.lexical_literal.proofs.StepLemmas.{ends_part, text_after}

@@ -1,14 +1,14 @@
 -- The sums of the digits of the integer and the fraction.
 use Rattle.lexical_literal.proofs.Common.{ℕ, ◌≡◌, ◌+◌, ◌-◌, ◌%◌, ◌^◌, List, ◌++◌, arith, filter_map-append, Record, Literal, Notation, radix_of}
-use Rattle.lexical_literal.proofs.Common.{number_from_digits_after, IsRunOn, AreSums, Run, Stage, digits_in, number, places}
-use Rattle.lexical_literal.specs.Additions.Read.{IsMantissa, IsSum}
+use Rattle.lexical_literal.proofs.Common.{number_from_digits_after, IsRunOn, AreSums, Reading, Stage, digits_in, number, places}
+use Rattle.lexical_literal.specs.Additions.Literal.{IsMantissa, IsSum}
 use Rattle.std.proofs.lemmas.Int.Digits.{number_after_append}
 use lib.ListN.{length-append}
 use Rattle.lexical_util.specs.Layout as layout
 use Rattle.lexical_util.specs.Record.{effective_exponent_radix}
 use Rattle.lexical_util.specs.declared.format_flags.Part.TheVariants as parts
-use Rattle.lexical_literal.specs.declared.plain.Sizes.{Sizes}
-use Rattle.lexical_literal.specs.declared.plain.Sums.{Sums}
+use Rattle.lexical_literal.specs.declared.scan.Reading.{Reading}
+use Rattle.lexical_literal.specs.declared.literal.Sums.{Sums}
 use Rattle.lexical_literal.proofs.SumLemmas.{after_same}
 
 -- Digits of one run, and then of another.
@@ -22,10 +22,17 @@ both_sums radix xs ys first second F S = grind (arith, after_same, number_after_
 
 module _ (m : Notation) (r : Record) (text : List ℕ) where
   -- The fraction behind the integer and its point.
-  pub fraction_sum : (s : Sizes) (stage : Stage) (integer run : Run) → s.point ≡ 0 → s.fraction ≡ 0 → IsMantissa r text s integer
+  pub fraction_sum : (stage : Stage) (integer run : Reading) → integer.point ≡ 0 → integer.fraction ≡ 0 → IsMantissa r text integer
       → IsRunOn m (radix_of r parts.Fraction) text parts.Fraction (record integer { size = integer.size + 1; stage = stage }) run
-      → IsMantissa r text (record s { point = 1; fraction = run.size - (integer.size + 1); places = run.digits - integer.digits }) run
-  fraction_sum s stage integer run no_point none before is = grind (arith, both_digits, both_sums)
+      → IsMantissa r text (record integer {
+        size = run.size;
+        stage = run.stage;
+        sum = run.sum;
+        point = 1;
+        fraction = run.size - (integer.size + 1);
+        places = run.sum.digits - integer.sum.digits;
+      })
+  fraction_sum stage integer run no_point none before is = grind (arith, both_digits, both_sums)
 
 -- The sums of parts are those of the literal with these parts.
 pub made_sums : (r : Record) (radix e : ℕ) (l k : Literal) (sums : Sums) → radix ≡ r.byte layout.mantissa_radix → e ≡ effective_exponent_radix r → l ≡ k

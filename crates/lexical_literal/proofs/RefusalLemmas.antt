@@ -1,10 +1,10 @@
 -- What has been read decides what a notation allows, with other flags too.
 use Rattle.lexical_literal.proofs.Common.{ℕ, ◌≡◌, Bool, true, false, ◌&&◌, ◌||◌, List, [], ◌∷◌, ◌++◌, Option, Some, None, refl, sym, ap, subst, ◌∙◌, arith}
 use Rattle.lexical_literal.proofs.Common.{and_parts, and_from, Flag, separators_in, Part, Notation, Literal, IsLiteral, IsSpelled, Condition, ◌==◌, IsTrue}
-use Rattle.lexical_literal.proofs.Common.{IsReady, HasRoles, IsFront, is_one_of, requirement_flags, number_separator_flags, with_rules, IsWeaker, after, scan}
+use Rattle.lexical_literal.proofs.Common.{IsReady, HasRoles, IsFront, is_one_of, requirement_flags, number_separator_flags, with_rules, IsWeaker, after, walk}
 use Rattle.lexical_literal.proofs.Common.{start, Summary}
 use Rattle.lexical_literal.specs.Run.{is_place, is_fit, are_fit}
-use Rattle.lexical_literal.proofs.ScanLemmas.{took}
+use Rattle.lexical_literal.proofs.WalkLemmas.{took}
 use Rattle.lexical_literal.proofs.FrontLemmas.{front_from, front_is_read}
 use Rattle.lexical_literal.proofs.PartOfLemmas.{none_after}
 
@@ -62,20 +62,20 @@ module _ (m : Notation) (A : Flag → Bool) (D : Condition → Bool) where
 
   -- THE SAME SUMMARY
 
-  same_last : HasRoles m → (t : Summary) (text : List ℕ) (s r : Summary) → scan m (Some t) text ≡ Some s → scan n (Some t) text ≡ Some r → s ≡ r
+  same_last : HasRoles m → (t : Summary) (text : List ℕ) (s r : Summary) → walk m (Some t) text ≡ Some s → walk n (Some t) text ≡ Some r → s ≡ r
   same_last h t [] s r is_s is_r = cc
   same_last h t (b ∷ text) s r is_s is_r =
-      let one = took m.condition m t b (λ o. scan m o text ≡ Some s) (none_after m text s) is_s in
-      let two = took D n t b (λ o. scan n o text ≡ Some r) (none_after n text r) is_r in
+      let one = took m.condition m t b (λ o. walk m o text ≡ Some s) (none_after m text s) is_s in
+      let two = took D n t b (λ o. walk n o text ≡ Some r) (none_after n text r) is_r in
       let same : two.role ≡ one.role = let first = one.plays in let second = two.plays in cc in
-      same_last h (after t (b == 48) one.role) text s r one.rest (subst (λ x. scan n (Some (after t (b == 48) x)) text ≡ Some r) same two.rest)
+      same_last h (after t (b == 48) one.role) text s r one.rest (subst (λ x. walk n (Some (after t (b == 48) x)) text ≡ Some r) same two.rest)
 
   some_of : (o : Option Summary) → (o ≡ None → ⊥) → (u : Summary) × (o ≡ Some u)
   some_of x0 some = grind arith
 
-  module _ (ready : IsReady m) (weaker : IsWeaker m A D) (front : List ℕ) (s : Summary) (read : scan m (Some start) front ≡ Some s) where
-    pub read_too : scan n (Some start) front ≡ Some s
+  module _ (ready : IsReady m) (weaker : IsWeaker m A D) (front : List ℕ) (s : Summary) (read : walk m (Some start) front ≡ Some s) where
+    pub read_too : walk n (Some start) front ≡ Some s
     read_too =
         let front_is = front_too weaker front (front_from m ready front s read) in
-        let some = some_of (scan n (Some start) front) (front_is_read n (other_ready weaker ready) front front_is) in
+        let some = some_of (walk n (Some start) front) (front_is_read n (other_ready weaker ready) front front_is) in
         some.1 ∙ ap Some (sym (same_last ready.roles start front s some.0 read some.1))

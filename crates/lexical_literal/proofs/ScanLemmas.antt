@@ -1,104 +1,237 @@
--- How a text is read, byte by byte.
-use Rattle.lexical_literal.proofs.Common.{ℕ, ◌≡◌, Bool, true, false, not, ◌+◌, ◌&&◌, List, [], ◌∷◌, ◌++◌, Option, Some, None, refl, sym, ap, ◌∙◌, arith}
-use Rattle.lexical_literal.proofs.Common.{false≢true, false_from_ne_true, nat_tests, Role, Part, Notation, set_of_role, Condition, ◌==◌, if◌then◌else◌, length}
-use Rattle.lexical_literal.proofs.Common.{HasRoles, Cuts, add, admits, role_at, takes, after, part_of, takes_in, count, no_condition, Piece, Stage, Summary}
-use Rattle.lexical_literal.specs.Additions.Summary.{move_by, piece_number, scan_by, step_by, accepted_by, tally_by}
+-- What is read of a text part after part.
+use Rattle.lexical_literal.proofs.Common.{ℕ, ◌≡◌, ◌<◌, ◌≤◌, ◌+◌, ◌-◌, ◌&&◌, ◌||◌, Bool, true, false, not, List, Some, get_or, refl, sym, ap, subst, ◌∙◌, arith}
+use Rattle.lexical_literal.proofs.Common.{false≢true, and_from, and_parts, or_left, take_more, separators_in, Role, Part, Notation, common_steps, ◌==◌, IsTrue}
+use Rattle.lexical_literal.proofs.Common.{if◌then◌else◌, length, HasRoles, IsAt, IsReadOn, at_stage, Cuts, add, admits, after, after_digit, after_mark}
+use Rattle.lexical_literal.proofs.Common.{digits_piece, forbids_plus, has_digit, awaits_integer, is_signed, lacks_prefix, may_follow, takes, role_at, part_of}
+use Rattle.lexical_literal.proofs.Common.{takes_in, count, with_prefix, Stopped, Piece, Stage, Summary}
+use Rattle.lexical_literal.specs.Additions.Scan.{fresh, is_free, may_read}
+use Rattle.lexical_literal.specs.Additions.Step.{add_more, is_negative, is_run, piece_of, digits_of}
+use Rattle.lexical_literal.proofs.StepLemmas.{awaited_part}
 use Rattle.lexical_util.specs.declared.feature_format.roles.Role.TheVariants as roles
+use Rattle.lexical_util.specs.declared.format_flags.Part.TheVariants as parts
+use Rattle.lexical_literal.specs.declared.step.Piece.TheVariants as pieces
+use Rattle.lexical_literal.specs.declared.step.Stage.TheVariants as stages
+use Rattle.lexical_literal.specs.declared.syntax.Condition.TheVariants as conditions
+use Rattle.lexical_literal.proofs.WalkLemmas.{digit_role, is_role, moved, walk_append, tally_append}
 
--- `Accepts C m o text` holds if `text` is accepted with the conditions `C`.
-abbrev pub Accepts : (Condition → Bool) → Notation → Option Summary → List ℕ → Type 0
-Accepts C m o text = accepted_by C m (scan_by C m o text) ≡ true
+sum_more : (c : Cuts) (p other : Piece) (k n l : ℕ) → k ≤ n → n ≤ l → add_more (add_more c p (n - k)) p (l - n) other ≡ add_more c p (l - k) other
+sum_more c p other k n l low high = let same : n - k + (l - n) ≡ l - k = omega arith in grind arith
 
--- `Arrives C m o c text d` holds if `text` is accepted, and has the parts with the lengths `d`, begun with `c`.
-abbrev pub Arrives : (Condition → Bool) → Notation → Option Summary → Cuts → List ℕ → Cuts → Type 0
-Arrives C m o c text d = Accepts C m o text × (tally_by C m o c text ≡ d)
+-- A stage before the first digit of the integer has none.
+pub none_begun : (stage : Stage) → awaits_integer stage ≡ true → has_digit stage ≡ false
+none_begun x0 is = grind arith
 
--- `add_all c piece bytes` counts `bytes`, which belong to `piece`.
-abbrev pub add_all : Cuts → Piece → List ℕ → Cuts
-add_all c piece [] = c
-add_all c piece (b ∷ bytes) = add_all (add c piece) piece bytes
+-- What a digit makes of a stage without digits.
+first_follows : (m : Notation) (stage : Stage) → has_digit stage ≡ false → may_follow m stage ≡ true
+first_follows m x1 none = grind arith
 
-pub added : (c : Cuts) (piece other : Piece) (bytes : List ℕ)
-    → add_all c piece bytes other ≡ (if piece_number other == piece_number piece then c other + length bytes else c other)
-added c piece other [] = grind (arith, nat_tests)
-added c piece other (b ∷ bytes) = let rest = added (add c piece) piece other bytes in grind (arith, nat_tests)
+after_first : (stage : Stage) (zero : Bool) → has_digit stage ≡ false
+    → after_digit stage false zero ≡ (if zero && awaits_integer stage then stages.Bare else digits_of (part_of stage))
+after_first stage zero none = grind arith
 
-module _ (C : Condition → Bool) (m : Notation) where
-  pub scan_none : (text : List ℕ) → scan_by C m None text ≡ None
-  scan_none [] = refl
-  scan_none (b ∷ text) = refl
+no_minus : (part : Part) (c plus : Bool) (r : Role) → (roles.Sign ≡ r → ⊥) → not (c && is_negative part plus r) ≡ true
+no_minus part c plus r other = grind arith
 
-  pub scan_append : (o : Option Summary) (x y : List ℕ) → scan_by C m o (x ++ y) ≡ scan_by C m (scan_by C m o x) y
-  scan_append o [] y = refl
-  scan_append None (b ∷ x) y = sym (scan_none y)
-  scan_append (Some s) (b ∷ x) y = scan_append (step_by C m s b) x y
+neither : (x y a : Bool) → not ((x || y) && a) ≡ true → (not (x && a) ≡ true) × (not (y && a) ≡ true)
+neither x y a none = (grind arith, grind arith)
 
-  pub tally_append : (o : Option Summary) (c : Cuts) (x y : List ℕ) → tally_by C m o c (x ++ y) ≡ tally_by C m (scan_by C m o x) (tally_by C m o c x) y
-  tally_append o c [] y = refl
-  tally_append None c (b ∷ x) [] = refl
-  tally_append None c (b ∷ x) (a ∷ y) = refl
-  tally_append (Some s) c (b ∷ x) y = tally_append (step_by C m s b) (count (part_of s.stage) (role_at m (part_of s.stage) b) c) x y
+pub admits_free : (m : Notation) (s : Summary) (b : ℕ) (r : Role) → (roles.Sign ≡ r → ⊥) → is_free m s.stage ≡ true
+    → admits m.condition s b r ≡ true
+admits_free m s b r other free =
+    let both = and_parts (not (m.condition conditions.BasePrefix && lacks_prefix s.stage)) _ free in
+    let first = neither (m.condition conditions.LeadingZero) (m.condition conditions.DecimalFirstDigit) (awaits_integer s.stage) both.1 in
+    and_from _ _ (or_left _ _ both.0) (and_from _ _ (no_minus (part_of s.stage) (m.condition conditions.NegativeSign) (b == 43) r other)
+    (and_from _ _ (or_left _ _ first.0) (or_left _ _ first.1)))
 
-  pub none_accepts : (text : List ℕ) → Accepts C m None text → ⊥
-  none_accepts text is = false≢true (sym (ap (accepted_by C m) (scan_none text)) ∙ is)
+-- Behind the first digit and the prefix, nothing is missing.
+settled_free : (m : Notation) (stage : Stage) → lacks_prefix stage ≡ false → is_free m stage ≡ true
+settled_free m stage settled = grind arith
 
--- `Took C m s b P` holds if `b` is taken after `s` with the conditions `C`, and `P` holds of what it makes of `s`.
-pub record Took (C : Condition → Bool) (m : Notation) (s : Summary) (b : ℕ) (P : Option Summary → Type 0) : Type 0 where
-  pub role : Role
-  pub plays : role_at m (part_of s.stage) b ≡ Some role
-  pub going : s.ended ≡ false
-  pub taken : takes m s (b == 43) role ≡ true
-  pub admitted : admits C s b role ≡ true
-  pub rest : P (Some (after s (b == 48) role))
+pub admits_settled : (m : Notation) (s : Summary) (b : ℕ) (r : Role) → lacks_prefix s.stage ≡ false → (roles.Sign ≡ r → ⊥)
+    → admits m.condition s b r ≡ true
+admits_settled m s b r settled other = admits_free m s b r other (settled_free m s.stage settled)
 
--- What a role says of a byte.
-module _ (m : Notation) (part : Part) (b : ℕ) where
-  pub digit_role : m.digit part b ≡ true → role_at m part b ≡ Some roles.Digit
-  digit_role is = grind arith
+-- What the conditions let begin is admitted, and nothing is missing behind it.
+pub admits_first : (m : Notation) (text : List ℕ) (size : ℕ) (stage : Stage) → may_read m text size stage ≡ true
+    → admits m.condition (at_stage size stage).read (get_or text size 0) roles.Digit ≡ true
+admits_first m text size stage first = grind arith
 
-  pub as_digit : role_at m part b ≡ Some roles.Digit → m.digit part b ≡ true
-  as_digit role = grind arith
+-- A stage that another digit does not change.
+module _ (m : Notation) (stage : Stage) (run : is_run stage ≡ true) where
+  run_is_free : is_free m stage ≡ true
+  run_is_free = grind arith
 
-  pub no_digit : role_at m part b ≡ Some roles.Separator → m.digit part b ≡ false
-  no_digit role = false_from_ne_true _ (λ is. let same = sym role ∙ digit_role is in cc)
+  same_digit : (gap zero : Bool) → after_digit stage gap zero ≡ stage
+  same_digit gap zero = grind arith
 
-  pub as_role : (r : Role) → role_at m part b ≡ Some r → set_of_role m r b ≡ true
-  as_role x0 role = grind arith
+  same_mark : after_mark stage ≡ stage
+  same_mark = grind arith
 
-  pub no_role : (r : Role) → (roles.Digit ≡ r → ⊥) → role_at m part b ≡ None → set_of_role m r b ≡ false
-  no_role x0 other none = grind arith
+  takes_more : (part : Part) (plus gap : Bool) → (gap ≡ true → m.flag (separators_in part).internal ≡ true)
+      → takes_in m part stage gap plus roles.Digit ≡ true
+  takes_more part plus gap allowed = grind arith
 
-  -- A byte has no other role.
-  pub is_role : HasRoles m → (r : Role) → (roles.Digit ≡ r → ⊥) → set_of_role m r b ≡ true → role_at m part b ≡ Some r
-  is_role h r other is = go (role_at m part b) refl where
-    go : (o : Option Role) → role_at m part b ≡ o → o ≡ Some r
-    go None none = absurd (false≢true (sym (no_role r other none) ∙ is))
-    go (Some found) some = ap Some (h.one found r b (as_role found some) is)
+  takes_separator : (part : Part) (plus : Bool) → m.flag (separators_in part).internal ≡ true → takes_in m part stage false plus roles.Separator ≡ true
+  takes_separator part plus allowed = grind arith
 
-module _ (C : Condition → Bool) (m : Notation) where
-  pub took : (s : Summary) (b : ℕ) (P : Option Summary → Type 0) → (P None → ⊥) → P (step_by C m s b) → Took C m s b P
-  took s b P none is = go (role_at m (part_of s.stage) b) refl is where
-    go : (o : Option Role) → role_at m (part_of s.stage) b ≡ o → P (move_by C m s b o) → Took C m s b P
-    go None plays is = absurd (none is)
-    go (Some r) plays is = take s.ended (takes m s (b == 43) r) (admits C s b r) refl refl refl is where
-      take : (e t a : Bool) → s.ended ≡ e → takes m s (b == 43) r ≡ t → admits C s b r ≡ a
-          → P (if not e && (t && a) then Some (after s (b == 48) r) else None) → Took C m s b P
-      take false true true going taken admitted is =
-          record { role = r; plays = plays; going = going; taken = taken; admitted = admitted; rest = is }
-      take _ _ _ going taken admitted is = absurd (none is)
+module _ (m : Notation) (text : List ℕ) where
+  -- More is read.
+  pub go_on : (at mid next : Stopped) (p : Piece) → IsReadOn m text at p mid → IsReadOn m text mid p next → IsReadOn m text at p next
+  go_on at mid next p first second = record {
+    more = omega (arith, first.more, second.more);
+    reads = λ c is. subst (IsAt m text next) (λ j other. sum_more c p other at.size mid.size next.size first.more second.more j)
+        (second.reads (add_more c p (mid.size - at.size)) (first.reads c is));
+  }
 
-  -- What a byte makes of a summary.
-  pub moved : (s : Summary) (b : ℕ) (r : Role) → role_at m (part_of s.stage) b ≡ Some r → s.ended ≡ false → takes m s (b == 43) r ≡ true
-      → admits C s b r ≡ true → step_by C m s b ≡ Some (after s (b == 48) r)
-  moved s b r plays going taken admitted = grind arith
+  -- One more byte of a piece is a byte of it.
+  one_on : (at next : Stopped) (p : Piece) → next.size ≡ at.size + 1 → ((c : Cuts) → IsAt m text at c → IsAt m text next (add c p)) → IsReadOn m text at p next
+  one_on at next p one is = let same : 1 ≡ next.size - at.size = omega (arith, one) in record {
+    more = omega (arith, one);
+    reads = λ c begun. subst (λ n. IsAt m text next (add_more c p n)) same (is c begun);
+  }
 
-  pub arrives_byte : (s : Summary) (b : ℕ) (r : Role) (c : Cuts) (text : List ℕ) (d : Cuts) → s.ended ≡ false → role_at m (part_of s.stage) b ≡ Some r
-      → takes m s (b == 43) r ≡ true → admits C s b r ≡ true
-      → Arrives C m (Some (after s (b == 48) r)) (count (part_of s.stage) (Some r) c) text d → Arrives C m (Some s) c (b ∷ text) d
-  arrives_byte s b r c text d going plays taken admitted more = grind arith
+  module _ (h : HasRoles m) where
+    -- One byte is read.
+    pub read_one : (at : Stopped) (r : Role) → at.size < length text → role_at m (part_of at.read.stage) (get_or text at.size 0) ≡ Some r → at.read.ended ≡ false
+        → takes m at.read (get_or text at.size 0 == 43) r ≡ true
+        → admits m.condition at.read (get_or text at.size 0) r ≡ true → (c : Cuts) → IsAt m text at c
+        → IsAt m text (record { size = at.size + 1; read = after at.read (get_or text at.size 0 == 48) r }) (count (part_of at.read.stage) (Some r) c)
+    read_one at r inside plays going taken admitted c is = grind (arith, common_steps, take_more, walk_append, moved, tally_append)
 
--- Without conditions, what is taken arrives.
-pub free_byte : (m : Notation) (part : Part) (stage : Stage) (gap : Bool) (b : ℕ) (r : Role) (c : Cuts) (text : List ℕ) (d : Cuts) → part_of stage ≡ part
-    → role_at m part b ≡ Some r → takes_in m part stage gap (b == 43) r ≡ true → let s : Summary = record { stage = stage; gap = gap; ended = false } in
-    Arrives no_condition m (Some (after s (b == 48) r)) (count part (Some r) c) text d → Arrives no_condition m (Some s) c (b ∷ text) d
-free_byte m part stage gap b r c text d at = grind arith
+    -- One byte of a part is read, and one that is no sign where nothing is missing.
+    read_in : (part : Part) (at : Stopped) (r : Role) → part_of at.read.stage ≡ part → at.size < length text
+        → role_at m part (get_or text at.size 0) ≡ Some r → at.read.ended ≡ false
+        → takes_in m part at.read.stage at.read.gap (get_or text at.size 0 == 43) r ≡ true
+        → admits m.condition at.read (get_or text at.size 0) r ≡ true → (c : Cuts) → IsAt m text at c
+        → IsAt m text (record { size = at.size + 1; read = after at.read (get_or text at.size 0 == 48) r }) (count part (Some r) c)
+    read_in part at r in_part inside plays going taken admitted = let b = get_or text at.size 0 in
+        let next : Stopped = record { size = at.size + 1; read = after at.read (b == 48) r } in
+        subst (λ part. (c : Cuts) → IsAt m text at c → IsAt m text next (count part (Some r) c)) in_part
+        (read_one at r inside (subst (λ part. role_at m part b ≡ Some r) (sym in_part) plays) going
+        (subst (λ part. takes_in m part at.read.stage at.read.gap (b == 43) r ≡ true) (sym in_part) taken)
+        admitted)
+
+    pub read_free : (part : Part) (at : Stopped) (r : Role) → part_of at.read.stage ≡ part → (roles.Sign ≡ r → ⊥) → at.size < length text
+        → role_at m part (get_or text at.size 0) ≡ Some r → at.read.ended ≡ false
+        → takes_in m part at.read.stage at.read.gap (get_or text at.size 0 == 43) r ≡ true → is_free m at.read.stage ≡ true → (c : Cuts) → IsAt m text at c
+        → IsAt m text (record { size = at.size + 1; read = after at.read (get_or text at.size 0 == 48) r }) (count part (Some r) c)
+    read_free part at r in_part other inside plays going taken free =
+        read_in part at r in_part inside plays going taken (admits_free m at.read (get_or text at.size 0) r other free)
+
+    -- The first digit of a part.
+    pub read_first : (part : Part) (size : ℕ) (stage : Stage) → part_of stage ≡ part → size < length text → m.digit part (get_or text size 0) ≡ true
+        → has_digit stage ≡ false → is_signed m part stage ≡ true → may_read m text size stage ≡ true
+        → IsReadOn m text (at_stage size stage) (digits_piece part)
+        (at_stage (size + 1) (if (get_or text size 0 == 48) && awaits_integer stage then stages.Bare else digits_of part))
+    read_first part size stage in_part inside digit none signed first = let b = get_or text size 0 in
+        subst (λ after. IsReadOn m text (at_stage size stage) (digits_piece part) (at_stage (size + 1) after))
+        (after_first stage (b == 48) none ∙ ap (λ part. if (b == 48) && awaits_integer stage then stages.Bare else digits_of part) in_part)
+        (one_on _ _ (digits_piece part) refl (read_in part (at_stage size stage) roles.Digit in_part inside (digit_role m part b digit) refl
+        (and_from _ _ signed (and_from _ _ refl (first_follows m stage none))) (admits_first m text size stage first)))
+
+    -- A digit that changes no stage.
+    pub read_digit : (part : Part) (size : ℕ) (stage : Stage) → part_of stage ≡ part → is_run stage ≡ true → size < length text
+        → m.digit part (get_or text size 0) ≡ true → IsReadOn m text (at_stage size stage) (digits_piece part) (at_stage (size + 1) stage)
+    read_digit part size stage in_part run inside digit = let b = get_or text size 0 in
+        subst (λ after. IsReadOn m text (at_stage size stage) (digits_piece part) (at_stage (size + 1) after)) (same_digit m stage run false (b == 48))
+        (one_on _ _ (digits_piece part) refl (read_free part (at_stage size stage) roles.Digit in_part (λ same. cc) inside (digit_role m part b digit) refl
+        (takes_more m stage run part (b == 43) false (λ gap. absurd (false≢true gap))) (run_is_free m stage run)))
+
+    -- A separator and a digit behind it, which change no stage.
+    pub read_separated : (part : Part) (size : ℕ) (stage : Stage) → part_of stage ≡ part → is_run stage ≡ true → size + 1 < length text
+        → m.separator (get_or text size 0) ≡ true → m.digit part (get_or text (size + 1) 0) ≡ true → m.flag (separators_in part).internal ≡ true
+        → IsReadOn m text (at_stage size stage) (digits_piece part) (at_stage (size + 2) stage)
+    read_separated part size stage in_part run inside separator digit allowed =
+        let b = get_or text size 0 in
+        let d = get_or text (size + 1) 0 in
+        let gap : Stopped = record { size = size + 1; read = record { stage = stage; gap = true; ended = false } } in
+        let two : size + 1 + 1 ≡ size + 2 = omega arith in
+        let first : IsReadOn m text (at_stage size stage) (digits_piece part) gap =
+        subst (λ after. IsReadOn m text (at_stage size stage) (digits_piece part)
+        (record { size = size + 1; read = record { stage = after; gap = true; ended = false } })) (same_mark m stage run)
+        (one_on _ _ (digits_piece part) refl (read_free part (at_stage size stage) roles.Separator in_part (λ same. cc) (omega (arith, inside))
+        (is_role m part b h roles.Separator (λ same. cc) separator) refl (takes_separator m stage run part (b == 43) allowed) (run_is_free m stage run))) in
+        let second : IsReadOn m text gap (digits_piece part) (at_stage (size + 1 + 1) stage) =
+        subst (λ after. IsReadOn m text gap (digits_piece part) (at_stage (size + 1 + 1) after)) (same_digit m stage run true (d == 48))
+        (one_on _ _ (digits_piece part) refl (read_free part gap roles.Digit in_part (λ same. cc) inside (digit_role m part d digit) refl
+        (takes_more m stage run part (d == 43) true (λ _. allowed)) (run_is_free m stage run))) in
+        go_on (at_stage size stage) gap (at_stage (size + 2) stage) (digits_piece part) first
+        (subst (λ n. IsReadOn m text gap (digits_piece part) (at_stage n stage)) two second)
+
+    -- The sign of the mantissa, or of the exponent.
+    pub read_sign : (part : Part) (size : ℕ) → size < length text → IsTrue (((get_or text size 0 == 43) && not (forbids_plus m part))
+        || ((get_or text size 0 == 45) && not (m.condition conditions.NegativeSign && is_negative part false roles.Sign)))
+        → IsReadOn m text (at_stage size (fresh part)) (piece_of part roles.Sign) (at_stage (size + 1) (after_mark (fresh part)))
+    read_sign part size inside allowed = let b = get_or text size 0 in
+        subst (λ piece. IsReadOn m text (at_stage size (fresh part)) piece (at_stage (size + 1) (after_mark (fresh part)))) (sign_piece part)
+        (one_on _ _ (piece_of (part_of (fresh part)) roles.Sign) refl (read_one (at_stage size (fresh part)) roles.Sign inside
+        (is_role m _ b h roles.Sign (λ same. cc) (some_sign part b allowed)) refl (sign_taken part b allowed) (sign_admitted part b allowed))) where
+          allows : Part → ℕ → Bool
+          allows part b = ((b == 43) && not (forbids_plus m part)) || ((b == 45) && not (m.condition conditions.NegativeSign && is_negative part false
+              roles.Sign))
+
+          sign_piece : (part : Part) → piece_of (part_of (fresh part)) roles.Sign ≡ piece_of part roles.Sign
+          sign_piece parts.Exponent = refl
+          sign_piece _ = refl
+
+          some_sign : (part : Part) (b : ℕ) → allows part b ≡ true → ((b == 43) || (b == 45)) ≡ true
+          some_sign part b is = grind arith
+
+          sign_taken : (part : Part) (b : ℕ) → allows part b ≡ true → takes m (at_stage 0 (fresh part)).read (b == 43) roles.Sign ≡ true
+          sign_taken parts.Exponent b is = grind arith
+          sign_taken _ b is = grind arith
+
+          sign_admitted : (part : Part) (b : ℕ) → allows part b ≡ true → admits m.condition (at_stage 0 (fresh part)).read b roles.Sign ≡ true
+          sign_admitted parts.Exponent b is = grind arith
+          sign_admitted _ b is = grind arith
+
+    -- The digit behind a zero that begins the integer.
+    pub read_led : (size : ℕ) → size < length text → m.digit parts.Integer (get_or text size 0) ≡ true → may_follow m stages.Bare ≡ true
+        → is_free m stages.Bare ≡ true → IsReadOn m text (at_stage size stages.Bare) pieces.Integer (at_stage (size + 1) stages.Led)
+    read_led size inside digit may free = let b = get_or text size 0 in
+        one_on _ _ pieces.Integer refl
+        (read_free parts.Integer (at_stage size stages.Bare) roles.Digit refl (λ same. cc) inside (digit_role m parts.Integer b digit) refl may free)
+
+    -- The zero that begins the integer.
+    pub read_zero : (size : ℕ) (stage : Stage) → size < length text → get_or text size 0 ≡ 48 → awaits_integer stage ≡ true
+        → is_signed m parts.Integer stage ≡ true
+        → IsReadOn m text (at_stage size stage) pieces.Integer (at_stage (size + 1) stages.Bare)
+    read_zero size stage inside naught begun signed =
+        let b = get_or text size 0 in
+        let is_zero : (b == 48) ≡ true = grind arith in
+        let in_part = awaited_part stage begun in
+        subst (λ piece. IsReadOn m text (at_stage size stage) piece (at_stage (size + 1) stages.Bare)) (ap digits_piece in_part)
+        (subst (λ after. IsReadOn m text (at_stage size stage) (digits_piece (part_of stage)) (at_stage (size + 1) after))
+        (ap (after_digit stage false) is_zero ∙ bare stage begun)
+        (one_on _ _ (digits_piece (part_of stage)) refl (read_one (at_stage size stage) roles.Digit inside
+        (digit_role m (part_of stage) b (ap (m.digit (part_of stage)) naught ∙ h.zero_is_digit (part_of stage))) refl
+        (subst (λ part. takes_in m part stage false (b == 43) roles.Digit ≡ true) (sym in_part)
+        (and_from _ _ signed (and_from _ _ refl (first_follows m stage (none_begun stage begun)))))
+        (ap (λ b. admits m.condition (at_stage size stage).read b roles.Digit) naught ∙ admitted stage begun)))) where
+          bare : (stage : Stage) → awaits_integer stage ≡ true → after_digit stage false true ≡ stages.Bare
+          bare stages.Start is = refl
+          bare stages.Empty is = refl
+          bare _ is = absurd (false≢true is)
+
+          admitted : (stage : Stage) → awaits_integer stage ≡ true → admits m.condition (at_stage 0 stage).read 48 roles.Digit ≡ true
+          admitted stages.Start is = grind arith
+          admitted stages.Empty is = grind arith
+          admitted _ is = absurd (false≢true is)
+
+    -- The base prefix, with its zero.
+    pub read_prefix : (size : ℕ) (stage : Stage) → size + 1 < length text → get_or text size 0 ≡ 48 → m.prefix (get_or text (size + 1) 0) ≡ true
+        → awaits_integer stage ≡ true → is_signed m parts.Integer stage ≡ true
+        → (c : Cuts) → IsAt m text (at_stage size stage) c → IsAt m text (at_stage (size + 2) stages.Prefixed) (with_prefix c)
+    read_prefix size stage inside naught prefix first signed c begun =
+        let b = get_or text (size + 1) 0 in
+        let two : size + 1 + 1 ≡ size + 2 = omega arith in
+        subst (λ c. IsAt m text (at_stage (size + 2) stages.Prefixed) c) (λ j other. same_prefix c (size + 1 - size) other j)
+        (subst (λ n. IsAt m text (at_stage n stages.Prefixed) (with_prefix (add_more c pieces.Integer (size + 1 - size)))) two
+        (read_one (at_stage (size + 1) stages.Bare) roles.Prefix inside (is_role m parts.Integer b h roles.Prefix (λ same. cc) prefix) refl refl
+        (prefix_admitted b) _ ((read_zero size stage (omega (arith, inside)) naught first signed).reads c begun))) where
+          same_prefix : (c : Cuts) (n : ℕ) (other : Piece) → with_prefix (add_more c pieces.Integer n) other ≡ with_prefix c other
+          same_prefix c n pieces.Integer = refl
+          same_prefix c n _ = refl
+
+          prefix_admitted : (b : ℕ) → admits m.condition (at_stage 0 stages.Bare).read b roles.Prefix ≡ true
+          prefix_admitted b = grind arith

@@ -3,9 +3,9 @@ use Rattle.lexical_literal.proofs.Common.{ℕ, ◌≡◌, ◌+◌, inl, inr, Boo
 use Rattle.lexical_literal.proofs.Common.{get_or, take, refl, sym, ap, subst, ◌∙◌, arith, false≢true, and_parts, cases_Bool, eqb-true, or_left, or_right}
 use Rattle.lexical_literal.proofs.Common.{length-take-le, Flag, separators_in, signs, Role, Part, Literal, IsSpelled, Reads, is_absent, is_none_or_one}
 use Rattle.lexical_literal.proofs.Common.{is_none_or_prefix, text_of, Notation, ◌==◌, if◌then◌else◌, IsTrue, length, is_one_of, requirement_flags, has_size}
-use Rattle.lexical_literal.proofs.Common.{has_sizes, AllIn, run_byte, HasRoles, HasSizes, first_group, fits, group_after, grow, grown, unsized, role_at, Group}
+use Rattle.lexical_literal.proofs.Common.{has_sizes, AllIn, run_byte, HasRoles, HasSizes, first_group, group_allows, group_after, grow, grown, unsized, role_at, Group}
 use Rattle.lexical_literal.specs.Groups.{is_grouped}
-use Rattle.lexical_literal.specs.Additions.Sizes.{follows, is_idle, next_part}
+use Rattle.lexical_literal.specs.Additions.GroupSize.{follows, is_idle, next_part}
 use Rattle.std.proofs.lemmas.List.{drop_more, get_or-take}
 use Rattle.lexical_util.specs.declared.feature_format.roles.Role.TheVariants as roles
 use Rattle.lexical_util.specs.declared.format_flags.Part.TheVariants as parts
@@ -14,7 +14,7 @@ use Rattle.lexical_literal.proofs.GroupLemmas.{group, grouped_is, one_role, run_
 use Rattle.lexical_literal.proofs.PartLemmas.{parts_have_roles}
 use Rattle.lexical_literal.proofs.RefusalLemmas.{KeepsPlaces, all_fit, spelled_too}
 use Rattle.lexical_literal.proofs.RunLemmas.{rest_of_none}
-use Rattle.lexical_literal.proofs.ScanLemmas.{digit_role, is_role}
+use Rattle.lexical_literal.proofs.WalkLemmas.{digit_role, is_role}
 use Rattle.lexical_literal.proofs.StepLemmas.{text_after}
 
 and_true : (t : Bool) → (t && true) ≡ t
@@ -53,7 +53,7 @@ module _ (m : Notation) where
   -- `ends o` is true if what has been read, with the last group `o`, may end.
   abbrev pub ends : Option Group → Bool
   ends None = false
-  ends (Some g) = fits m g None
+  ends (Some g) = group_allows m g None
 
   -- Without sizes, each text fits.
   pub all_end : has_sizes m ≡ false → (g : Group) (text : List ℕ) → group_after m (Some g) text ≡ Some g
@@ -70,11 +70,11 @@ module _ (m : Notation) where
 
     -- `Closes part rest fit` holds if `rest` ends the digits of `part`, and what follows them fits if `fit` is true.
     abbrev Closes : Part → List ℕ → Bool → Type 0
-    Closes part rest fit = (separated : Bool) (digits : ℕ) → at part separated digits rest ≡ (fits m (group part separated digits) None && fit)
+    Closes part rest fit = (separated : Bool) (digits : ℕ) → at part separated digits rest ≡ (group_allows m (group part separated digits) None && fit)
 
     byte_after : (part : Part) (separated : Bool) (digits b : ℕ) (text : List ℕ) (r : Role) → role_at m part b ≡ Some r
         → at part separated digits (b ∷ text)
-        ≡ ends (group_after m (if fits m (group part separated digits) (Some r) then Some (grown (group part separated digits) (Some r)) else None) text)
+        ≡ ends (group_after m (if group_allows m (group part separated digits) (Some r) then Some (grown (group part separated digits) (Some r)) else None) text)
     byte_after part separated digits b text r plays = rw (sized, plays) refl
 
     chosen : (t : Bool) (g : Group) (text : List ℕ) → ends (group_after m (if t then Some g else None) text) ≡ (t && ends (group_after m (Some g) text))
@@ -86,7 +86,7 @@ module _ (m : Notation) where
     closes part b text r other apart plays = grind (arith, chosen)
 
     nothing : (part : Part) → Closes part [] true
-    nothing part separated digits = sym (and_true (fits m (group part separated digits) None))
+    nothing part separated digits = sym (and_true (group_allows m (group part separated digits) None))
 
     -- The digits of a part, and what ends them.
     run_at : (part : Part) (separated : Bool) (digits : ℕ) (run rest : List ℕ) (fit : Bool) → AllIn (run_byte m part) run → Closes part rest fit
@@ -96,15 +96,15 @@ module _ (m : Notation) where
       | inl digit ↦
           let no = one_role m h part b digit in
           byte_after part separated digits b (run ++ rest) roles.Digit (digit_role m part b digit)
-          ∙ chosen (fits m (group part separated digits) (Some roles.Digit)) (group part separated (digits + 1)) (run ++ rest)
-          ∙ ap (λ t. fits m (group part separated digits) (Some roles.Digit) && t) (run_at part separated (digits + 1) run rest fit all.1 closed)
+          ∙ chosen (group_allows m (group part separated digits) (Some roles.Digit)) (group part separated (digits + 1)) (run ++ rest)
+          ∙ ap (λ t. group_allows m (group part separated digits) (Some roles.Digit) && t) (run_at part separated (digits + 1) run rest fit all.1 closed)
           ∙ rw (no) (both (has_size m part) (follows m (group part separated digits) (Some roles.Digit))
           (run_fits m (group part separated (digits + 1)) run) fit)
       | inr other ↦
           let is : m.separator b ≡ true = let one = all.0 in grind arith in
           byte_after part separated digits b (run ++ rest) roles.Separator (is_role m part b h roles.Separator (λ e. cc) is)
-          ∙ chosen (fits m (group part separated digits) (Some roles.Separator)) (group part true 0) (run ++ rest)
-          ∙ ap (λ t. fits m (group part separated digits) (Some roles.Separator) && t) (run_at part true 0 run rest fit all.1 closed)
+          ∙ chosen (group_allows m (group part separated digits) (Some roles.Separator)) (group part true 0) (run ++ rest)
+          ∙ ap (λ t. group_allows m (group part separated digits) (Some roles.Separator) && t) (run_at part true 0 run rest fit all.1 closed)
           ∙ rw (is) (both (has_size m part) (follows m (group part separated digits) (Some roles.Separator)) (run_fits m (group part true 0) run) fit)
     ] where
       both : (size a b fit : Bool) → ((not size || a) && ((not size || b) && fit)) ≡ ((not size || (a && b)) && fit)
@@ -113,7 +113,7 @@ module _ (m : Notation) where
       both false a b fit = refl
 
     -- A part without a separator may end.
-    free_end : (part : Part) → fits m (group part false 0) None ≡ true
+    free_end : (part : Part) → group_allows m (group part false 0) None ≡ true
     free_end part = or_right (not (has_size m part)) true refl
 
     sign_at : (part : Part) (sign rest : List ℕ) → is_none_or_one signs sign ≡ true → at part false 0 (sign ++ rest) ≡ at part false 0 rest

@@ -1,22 +1,22 @@
 -- The bytes to show for a text that is refused are of the text.
 use Rattle.lexical_literal.proofs.Common.{ℕ, ◌≡◌, ◌≤◌, ◌+◌, List, [], ◌∷◌, take, Option, None, Some, get_or, sym, subst, arith, length-take-le, take_more}
-use Rattle.lexical_literal.proofs.Common.{ByteSet, Flag, Notation, notation_of, Condition, Grammar, common_steps, length, if◌then◌else◌, IsRefusal, behind}
+use Rattle.lexical_literal.proofs.Common.{ByteSet, Flag, Notation, notation_of, Condition, Grammar, common_steps, length, if◌then◌else◌, IsRefusal, index_behind}
 use Rattle.lexical_literal.proofs.Common.{marks_of, span_of, ReadErrorKind, Refusal}
 use Rattle.lexical_literal.specs.Cause.{first_in, wrong_end}
 use Rattle.std.proofs.Math.Seq.{take-length}
 use Rattle.std.proofs.lemmas.Option.{slice_get_within}
 use Rattle.std.specs.Prelude.{slice_get}
-use Rattle.lexical_literal.specs.declared.cause.Marks.{Marks}
+use Rattle.lexical_literal.specs.Cause.{Marks}
 use Rattle.lexical_literal.proofs.CauseLemmas.{behind_more}
 
 module _ (A : ByteSet) where
-  pub behind_within : (text : List ℕ) → behind A text ≤ length text
+  pub behind_within : (text : List ℕ) → index_behind A text ≤ length text
   behind_within [] = omega arith
   behind_within (b ∷ text) = let more = behind_within text in grind arith
 
   -- The last byte decides.
   pub behind_last : (text : List ℕ) (k : ℕ) → length text ≡ k + 1
-      → behind A text ≡ (if A (get_or text k 0) then length text else behind A (take k text))
+      → index_behind A text ≡ (if A (get_or text k 0) then length text else index_behind A (take k text))
   behind_last text k size = grind (arith, common_steps, length-take-le, take-length, take_more, behind_more)
 
   first_within : (text : List ℕ) → first_in A text ≤ length text

@@ -1,10 +1,10 @@
 -- The last group before the bytes that cannot follow, and what it allows.
 use Rattle.lexical_literal.proofs.Common.{ℕ, ◌≡◌, ◌+◌, ◌-◌, ◌↔◌, inl, inr, Bool, true, false, not, ◌&&◌, ◌||◌, List, [], ◌∷◌, ◌++◌, append-nil, Option, Some}
 use Rattle.lexical_literal.proofs.Common.{None, refl, sym, ap, subst, ◌∙◌, arith, cases_Bool, false_from_ne_true, ByteSet, Flag, Role, Part, Notation}
-use Rattle.lexical_literal.proofs.Common.{Condition, if◌then◌else◌, length, length-append, append_assoc, Allows, behind, marks_of, with_rules, has_size}
-use Rattle.lexical_literal.proofs.Common.{has_sizes, IsWeaker, lets, HasRoles, HasSizes, IsReady, first_group, fits, group_after, grown, unsized, part_of}
-use Rattle.lexical_literal.proofs.Common.{role_at, scan, start, Group, Summary}
-use Rattle.lexical_literal.specs.Additions.Sizes.{IsReadOf, goes, role_next}
+use Rattle.lexical_literal.proofs.Common.{Condition, if◌then◌else◌, length, length-append, append_assoc, Allows, index_behind, marks_of, with_rules, has_size}
+use Rattle.lexical_literal.proofs.Common.{has_sizes, IsWeaker, lets, HasRoles, HasSizes, IsReady, first_group, group_allows, group_after, grown, unsized, part_of}
+use Rattle.lexical_literal.proofs.Common.{role_at, walk, start, Group, Summary}
+use Rattle.lexical_literal.specs.Additions.GroupSize.{IsReadOf, goes, role_next}
 use Rattle.lexical_util.specs.declared.feature_format.roles.Role.TheVariants as roles
 use Rattle.lexical_util.specs.declared.format_flags.Part.TheVariants as parts
 use Rattle.lexical_literal.proofs.BlameLemmas.{own_weaker}
@@ -13,7 +13,7 @@ use Rattle.lexical_literal.proofs.DecideLemmas.{decided_of}
 use Rattle.lexical_literal.proofs.FitLemmas.{linked_there}
 use Rattle.lexical_literal.proofs.PartOfLemmas.{ends_in}
 use Rattle.lexical_literal.proofs.RefusalLemmas.{other_roles}
-use Rattle.lexical_literal.proofs.ScanLemmas.{as_role, digit_role}
+use Rattle.lexical_literal.proofs.WalkLemmas.{as_role, digit_role}
 use Rattle.lexical_literal.proofs.SizeLemmas.{group_none}
 
 module _ (m : Notation) (h : HasRoles m) where
@@ -22,15 +22,15 @@ module _ (m : Notation) (h : HasRoles m) where
 
   -- `Counts text g` holds if the digits of the group `g`, of a part that has a size, are those that `text` ends in.
   abbrev Counts : List ℕ → Group → Type 0
-  Counts text g = has_size m g.part ≡ true → g.digits + behind no_digit text ≡ length text
+  Counts text g = has_size m g.part ≡ true → g.digits + index_behind no_digit text ≡ length text
 
   a_digit : (part : Part) (b : ℕ) → has_size m part ≡ true → m.digit part b ≡ m.digit parts.Integer b
   a_digit x0 b sized = grind arith
 
-  behind_digit : (text : List ℕ) (b : ℕ) → m.digit parts.Integer b ≡ true → behind no_digit (text ++ b ∷ []) ≡ behind no_digit text
-  behind_digit text b is = behind_more no_digit text b ∙ ap (λ t. if not t then length text + 1 else behind no_digit text) is
+  behind_digit : (text : List ℕ) (b : ℕ) → m.digit parts.Integer b ≡ true → index_behind no_digit (text ++ b ∷ []) ≡ index_behind no_digit text
+  behind_digit text b is = behind_more no_digit text b ∙ ap (λ t. if not t then length text + 1 else index_behind no_digit text) is
 
-  behind_other : (text : List ℕ) (b : ℕ) → m.digit parts.Integer b ≡ false → 0 + behind no_digit (text ++ b ∷ []) ≡ length (text ++ b ∷ [])
+  behind_other : (text : List ℕ) (b : ℕ) → m.digit parts.Integer b ≡ false → 0 + index_behind no_digit (text ++ b ∷ []) ≡ length (text ++ b ∷ [])
   behind_other text b other = grind (arith, behind_more, length-append)
 
   other_role : (part : Part) (b : ℕ) (r : Role) → (roles.Digit ≡ r → ⊥) → role_at m part b ≡ Some r → m.digit parts.Integer b ≡ false
@@ -44,14 +44,14 @@ module _ (m : Notation) (h : HasRoles m) where
   counts_all sized x [] g last counts is = let same : g ≡ last = cc in subst (λ x. Counts x last) (sym (append-nil x)) (subst (Counts x) same counts)
   counts_all sized x (b ∷ text) g last counts is = subst (λ x. Counts x last) (append_assoc x (b ∷ []) text)
       (counts_all sized (x ++ b ∷ []) text (grown g (role_at m g.part b)) last (counts_more x b g (role_at m g.part b) refl counts)
-      (go (fits m g (role_at m g.part b)) (rw (sized) at is))) where
+      (go (group_allows m g (role_at m g.part b)) (rw (sized) at is))) where
         go : (t : Bool) → group_after m (if t then Some (grown g (role_at m g.part b)) else None) text ≡ Some last
             → group_after m (Some (grown g (role_at m g.part b))) text ≡ Some last
         go true is = is
         go false is = absurd (let none = group_none m text in cc)
 
 module _ (m : Notation) (ready : IsReady (unsized m)) (sizes : HasSizes m) (front : List ℕ) (s : Summary) (g : Group)
-    (read : scan (unsized m) (Some start) front ≡ Some s) (grouped : group_after m (Some first_group) front ≡ Some g) where
+    (read : walk (unsized m) (Some start) front ≡ Some s) (grouped : group_after m (Some first_group) front ≡ Some g) where
   h : HasRoles m
   h = other_roles (unsized m) m.flag m.condition ready.roles
 
@@ -79,9 +79,9 @@ module _ (m : Notation) (ready : IsReady (unsized m)) (sizes : HasSizes m) (fron
     free : (part : Part) (t : Bool) → has_size m part ≡ false → (not (has_size n part) || t) ≡ true
     free x0 t none = grind arith
 
-    same_fit : (next : Option ℕ) → fits n g (role_next n g.part next) ≡ fits n last (role_next n last.part next)
+    same_fit : (next : Option ℕ) → group_allows n g (role_next n g.part next) ≡ group_allows n last (role_next n last.part next)
     same_fit next = elim (cases_Bool (has_size m g.part)) [
-      | inl is ↦ ap (λ (g : Group). fits n g (role_next n g.part next)) (same_group is)
+      | inl is ↦ ap (λ (g : Group). group_allows n g (role_next n g.part next)) (same_group is)
       | inr none ↦ free g.part _ none ∙ sym (free last.part _ (no_group none))
     ]
 

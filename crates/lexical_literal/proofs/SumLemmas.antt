@@ -2,9 +2,9 @@
 use Rattle.lexical_literal.proofs.Common.{ℕ, ◌≡◌, ◌<◌, ◌≤◌, ◌+◌, ◌-◌, ◌*◌, ◌%◌, ◌^◌, ◌∙◌, true, false, List, [], ◌∷◌, ◌++◌, Option, Some, None, nat_lt, cond}
 use Rattle.lexical_literal.proofs.Common.{get_or, take, drop, sym, ap, subst, arith, filter_map-append, take_more, raw, Part, Notation, radix_of, Grammar}
 use Rattle.lexical_literal.proofs.Common.{common_steps, length, number_from_digits_after, steps_of, HasRoles, IsReadOn, IsRunOn, at_stage, digits_in}
-use Rattle.lexical_literal.proofs.Common.{digits_piece, part_of, Run, Stage}
-use Rattle.lexical_literal.specs.Additions.Plain.{IsDigitAt, IsSeparated, between}
-use Rattle.lexical_literal.specs.Additions.Summary.{is_run}
+use Rattle.lexical_literal.proofs.Common.{digits_piece, part_of, Cuts, IsAt, Piece, Reading, Stage}
+use Rattle.lexical_literal.specs.Additions.Scan.{IsDigitAt, IsSeparated, between, up_to}
+use Rattle.lexical_literal.specs.Additions.Step.{add_more, is_run}
 use Rattle.std.proofs.lemmas.Int.Digits.{number_after_append}
 use Rattle.std.proofs.lemmas.List.{drop-drop, length-drop}
 use Rattle.std.proofs.Math.Nat.{mod-add-mod, mod-mod}
@@ -12,9 +12,9 @@ use Rattle.std.proofs.Math.Seq.{take-add}
 use Rattle.std.specs.List.{cons_option}
 use lib.ListN.{length-append}
 use Rattle.lexical_util.specs.Digits.{byte_value, digit_of}
-use Rattle.lexical_number.proofs.WordLemmas.{push_same}
-use Rattle.lexical_literal.proofs.PlainLemmas.{go_on, read_digit, read_separated}
-use Rattle.lexical_literal.proofs.ScanLemmas.{is_role, no_digit}
+use Rattle.lexical_number.proofs.SmallLemmas.{push_same}
+use Rattle.lexical_literal.proofs.ScanLemmas.{go_on, read_digit, read_separated}
+use Rattle.lexical_literal.proofs.WalkLemmas.{is_role, no_digit}
 use Rattle.lexical_util.specs.declared.feature_format.roles.Role.TheVariants as roles
 
 -- The value of a digit.
@@ -45,8 +45,27 @@ module _ (radix : ℕ) (text : List ℕ) where
   byte_between n o inside is = grind (arith, common_steps, length-drop, take_more)
 
 module _ (m : Notation) (radix : ℕ) (text : List ℕ) (part : Part) where
+  -- No bytes.
+  pub same_run : (run : Reading) → IsRunOn m radix text part run run
+  same_run run =
+      let nothing : run.size - run.size ≡ 0 = omega arith in
+      let none : digits_in radix (between text run.size run.size) ≡ [] = ap (λ n. digits_in radix (take n (drop run.size text))) nothing in
+      let few = ap length none in
+      let same : (c : Cuts) (other : Piece) → c other ≡ add_more c (digits_piece part) (run.size - run.size) other = λ c other. grind arith in
+      record {
+        on = record { more = omega arith; reads = λ c is. subst (IsAt m text (at_stage run.size run.stage)) (λ j other. same c other j) is };
+        within = λ is. is;
+        digits = omega (arith, few);
+        sum = ap (λ ds. number_from_digits_after radix run.sum.value ds % 2 ^ 64) (sym none);
+      }
+
+  pub no_run : (run : Reading) → IsRunOn m radix text part run (up_to run run.size run.sum.value)
+  no_run run =
+      let same : run.sum.digits ≡ run.sum.digits + (run.size - run.size) = omega arith in
+      subst (λ (n : ℕ). IsRunOn m radix text part run (record run { sum = record { digits = n; value = run.sum.value } })) same (same_run run)
+
   -- Two runs that follow one another.
-  pub both_runs : (a b c : Run) → IsRunOn m radix text part a b → IsRunOn m radix text part b c → IsRunOn m radix text part a c
+  pub both_runs : (a b c : Reading) → IsRunOn m radix text part a b → IsRunOn m radix text part b c → IsRunOn m radix text part a c
   both_runs a b c first second =
       let low = first.on.more in
       let high = second.on.more in
@@ -61,39 +80,37 @@ module _ (m : Notation) (radix : ℕ) (text : List ℕ) (part : Part) where
           ap length all,
           length-append (digits_in radix (between text a.size b.size)) (digits_in radix (between text b.size c.size)),
         );
-        sum = second.sum ∙ after_same radix b.sum _ (digits_in radix (between text b.size c.size)) first.sum
-            ∙ ap (λ n. n % 2 ^ 64) (sym (number_after_append radix a.sum (digits_in radix (between text a.size b.size)) (digits_in radix (between text
+        sum = second.sum ∙ after_same radix b.sum.value _ (digits_in radix (between text b.size c.size)) first.sum
+            ∙ ap (λ n. n % 2 ^ 64) (sym (number_after_append radix a.sum.value (digits_in radix (between text a.size b.size)) (digits_in radix (between text
             b.size c.size))))
-            ∙ ap (λ ds. number_from_digits_after radix a.sum ds % 2 ^ 64) (sym all);
+            ∙ ap (λ ds. number_from_digits_after radix a.sum.value ds % 2 ^ 64) (sym all);
       }
 
 -- `pushed radix run value bytes` is the run with one more digit, the last of so many bytes.
-abbrev pub pushed : ℕ → Run → ℕ → ℕ → Run
-pushed radix run value bytes = record {
+abbrev pub pushed : ℕ → Reading → ℕ → ℕ → Reading
+pushed radix run value bytes = record run {
   size = run.size + bytes;
-  stage = run.stage;
-  digits = run.digits + 1;
-  sum = (run.sum * radix % 2 ^ 64 + value) % 2 ^ 64;
+  sum = record { digits = run.sum.digits + 1; value = (run.sum.value * radix % 2 ^ 64 + value) % 2 ^ 64 };
 }
 
 pushed_sum : (radix s v : ℕ) → (s * radix % 2 ^ 64 + v) % 2 ^ 64 % 2 ^ 64 ≡ (s * radix + v) % 2 ^ 64
 pushed_sum radix s v = mod-mod (s * radix % 2 ^ 64 + v) (2 ^ 64) ∙ mod-add-mod (s * radix) (2 ^ 64) v
 
 -- One digit, wherever it leads.
-one_digit : (m : Notation) (radix : ℕ) (text : List ℕ) (part : Part) (run : Run) (stage : Stage) (v : ℕ) → IsDigitAt radix text run.size v
+one_digit : (m : Notation) (radix : ℕ) (text : List ℕ) (part : Part) (run : Reading) (stage : Stage) (v : ℕ) → IsDigitAt radix text run.size v
     → IsReadOn m text (at_stage run.size run.stage) (digits_piece part) (at_stage (run.size + 1) stage)
     → IsRunOn m radix text part run (record (pushed radix run v 1) { stage = stage })
 one_digit m radix text part run stage v digit on = grind (arith, byte_between)
 
 -- One digit, and those behind it.
-pub behind_digit : (m : Notation) (radix : ℕ) (text : List ℕ) (part : Part) (run : Run) (stage : Stage) (v : ℕ) (one last : Run)
+pub behind_digit : (m : Notation) (radix : ℕ) (text : List ℕ) (part : Part) (run : Reading) (stage : Stage) (v : ℕ) (one last : Reading)
     → IsDigitAt radix text run.size v → one ≡ pushed radix run v 1
     → IsReadOn m text (at_stage run.size run.stage) (digits_piece part) (at_stage (run.size + 1) stage)
     → IsRunOn m radix text part (record one { stage = stage }) last → IsRunOn m radix text part run last
 behind_digit m radix text part run stage v one last digit same on = both_runs m radix text part run (record one { stage = stage }) last
-    (subst (λ (one : Run). IsRunOn m radix text part run (record one { stage = stage })) (sym same) (one_digit m radix text part run stage v digit on))
+    (subst (λ (one : Reading). IsRunOn m radix text part run (record one { stage = stage })) (sym same) (one_digit m radix text part run stage v digit on))
 
-module _ (g : Grammar) (text : List ℕ) (part : Part) (run : Run) (v : ℕ) (h : HasRoles (steps_of g)) (is : is_run run.stage ≡ true)
+module _ (g : Grammar) (text : List ℕ) (part : Part) (run : Reading) (v : ℕ) (h : HasRoles (steps_of g)) (is : is_run run.stage ≡ true)
     (in_part : part_of run.stage ≡ part) where
   abbrev m : Notation
   m = steps_of g
@@ -121,6 +138,6 @@ module _ (g : Grammar) (text : List ℕ) (part : Part) (run : Run) (v : ℕ) (h 
         on = read_separated m text h part run.size run.stage in_part is separated.digit.0 separated.separator
             (is_digit radix (get_or text (run.size + 1) 0) v separated.digit.1) separated.allowed;
         within = λ is. omega (arith, separated.digit.0);
-        digits = sym (ap (λ ds. run.digits + length ds) one);
-        sum = pushed_sum radix run.sum v ∙ sym (ap (λ ds. number_from_digits_after radix run.sum ds % 2 ^ 64) one);
+        digits = sym (ap (λ ds. run.sum.digits + length ds) one);
+        sum = pushed_sum radix run.sum.value v ∙ sym (ap (λ ds. number_from_digits_after radix run.sum.value ds % 2 ^ 64) one);
       }

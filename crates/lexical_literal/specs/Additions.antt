@@ -1,7 +1,7 @@
-pub mod Summary
-pub mod Plain
-pub mod Read
-pub mod Longest
+pub mod Step
+pub mod Scan
+pub mod Literal
+pub mod Stop
 pub mod Causes
-pub mod Sizes
+pub mod GroupSize
 pub mod Explained

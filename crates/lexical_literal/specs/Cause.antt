@@ -20,7 +20,6 @@ use Rattle.lexical_literal.specs.Notation.{all_conditions, Notation, has, is_sam
 use Rattle.lexical_literal.specs.declared.syntax.Condition.{Condition}
 use Rattle.lexical_literal.specs.declared.syntax.Condition.TheVariants as conditions
 use Rattle.lexical_literal.specs.declared.syntax.Conditions.{Conditions}
-use Rattle.lexical_literal.specs.declared.cause.Marks.{Marks}
 use Rattle.lexical_literal.specs.declared.cause.Place.{Place}
 use Rattle.lexical_literal.specs.declared.cause.Place.TheVariants as places
 use Rattle.lexical_literal.specs.declared.cause.ReadErrorKind.{ReadErrorKind}
@@ -168,10 +167,10 @@ IsCause _ _ _ _ _ = ⊥
 
 -- THE BYTES TO SHOW, AND THE ERROR
 
--- `behind A text` is the index behind the last byte of `text` that is in `A`, or 0 if none is.
-abbrev pub behind : ByteSet → List ℕ → ℕ
-behind A [] = 0
-behind A (byte ∷ text) = if A byte || list_any A text then 1 + behind A text else 0
+-- `index_behind A text` is the index behind the last byte of `text` that is in `A`, or 0 if none is.
+abbrev pub index_behind : ByteSet → List ℕ → ℕ
+index_behind A [] = 0
+index_behind A (byte ∷ text) = if A byte || list_any A text then 1 + index_behind A text else 0
 
 -- `first_in A text` is the index of the first byte of `text` that is in `A`, or the length of `text` if none is.
 abbrev pub first_in : ByteSet → List ℕ → ℕ
@@ -185,15 +184,23 @@ flag_at number = unwrap_or (find (λ f. bit f == number) layout.flags) layout.sp
 abbrev pub lowest : ℕ → Flag
 lowest mask = flag_at (trailing_zeros w128 mask)
 
+-- `Marks` has the length of a text, and the indexes at which parts of it begin, of which spans and errors are made.
+pub record Marks : Type 0 where
+  pub size : ℕ
+  pub exponent : ℕ
+  pub first : ℕ
+  pub run : ℕ
+  pub group : ℕ
+
 -- `marks_of m front` has the length of `front`, the index behind the last byte that is neither a separator nor a sign, that of the first digit, or
--- else `run`, and those behind the last byte that is not a separator and, where groups have sizes, not a digit. Spans and errors are made of these.
+-- else `run`, and those behind the last byte that is not a separator and, where groups have sizes, not a digit.
 abbrev pub marks_of : Notation → List ℕ → Marks
 marks_of m front = record {
   size = length front;
-  exponent = behind (λ byte. not (m.separator byte || signs byte)) front;
-  first = first_in (m.digit parts.Integer) (take (behind (λ byte. not (m.separator byte)) front) front);
-  run = behind (λ byte. not (m.separator byte)) front;
-  group = if has_sizes m then behind (λ byte. not (m.digit parts.Integer byte)) front else 0;
+  exponent = index_behind (λ byte. not (m.separator byte || signs byte)) front;
+  first = first_in (m.digit parts.Integer) (take (index_behind (λ byte. not (m.separator byte)) front) front);
+  run = index_behind (λ byte. not (m.separator byte)) front;
+  group = if has_sizes m then index_behind (λ byte. not (m.digit parts.Integer byte)) front else 0;
 }
 
 -- `is_in A next` is true if `next` is a byte of `A`.

@@ -7,8 +7,8 @@ use Rattle.lexical_literal.specs.Literal.{Literal, Reads}
 use Rattle.lexical_literal.specs.Notation.{notation_of}
 use Rattle.lexical_literal.specs.Read.{Read}
 use Rattle.lexical_literal.specs.declared.syntax.Grammar.{Grammar}
-use Rattle.lexical_literal.specs.declared.number.Front.{Front}
-use Rattle.lexical_literal.specs.declared.read.Parts.{Parts}
+use Rattle.lexical_literal.specs.declared.read.Front.{Front}
+use Rattle.lexical_literal.specs.declared.literal.Parts.{Parts}
 
 -- `literal_of parts` is the literal with the bytes of the slices `parts`.
 abbrev pub literal_of : Parts → Literal

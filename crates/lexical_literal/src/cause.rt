@@ -7,16 +7,16 @@ ghost use Rattle.lexical_util.specs.Roles.{other_case};
 ghost use Rattle.lexical_literal.specs.Additions.Causes.{is_at_gap, lets, place_of};
 ghost use Rattle.lexical_literal.specs.Additions.Explained.{alone, blame, cases, grammar_at, group_at, mask_of, refusal_of, requirements, separators, unmet};
 ghost use Rattle.lexical_literal.specs.Additions.Explained.{zeros};
-ghost use Rattle.lexical_literal.specs.Additions.Sizes.{fits, goes, role_next, unsized};
-ghost use Rattle.lexical_literal.specs.Additions.Summary.{part_of, role_at};
+ghost use Rattle.lexical_literal.specs.Additions.GroupSize.{goes, group_allows, role_next, unsized};
+ghost use Rattle.lexical_literal.specs.Additions.Step.{part_of, role_at};
 ghost use Rattle.lexical_literal.specs.Cause.{adding, bare, binds, case_set, first_unmet, with_rules};
 ghost use Rattle.lexical_literal.specs.Cause.{is_byte, is_stray};
 ghost use Rattle.lexical_literal.specs.Notation.{has, kept, notation_of, number_of};
 
-use crate::groups::{Group, follows, has_size};
-use crate::span::{error, span};
-use crate::steps::{
-    Summary, has_digit, is_complete, is_exponent_character, moved, needs_exponent, part_of, role_at,
+use crate::group_size::{Group, follows, has_size};
+use crate::step::{
+    Summary, has_digit, is_complete, is_exponent_character, needs_exponent, part_of, role_at,
+    step_as,
 };
 use crate::syntax::{CONDITIONS, Condition, Conditions, Grammar, Options};
 use lexical_util::error::Error;
@@ -51,20 +51,10 @@ pub enum ReadErrorKind {
     Missing(Part),
 }
 
-// What spans and errors are made of: the number of bytes that are right, and the indexes at which the exponent, the
-// integer digits, the last separators and, where groups have sizes, the last group of digits begin.
-#[derive(Debug, Clone, Copy, PartialEq, Eq, Hash)]
-pub struct Marks {
-    pub(crate) size: usize,
-    pub(crate) exponent: usize,
-    pub(crate) first: usize,
-    pub(crate) run: usize,
-    pub(crate) group: usize,
-}
-
-// Where reading stopped: what has been read, the byte that cannot follow, or `None` if bytes are missing, the bytes that
-// follow it in its character, or 0 for each that does not, and whether a separator is before the last group of digits. The
-// fields of the grammar are apart, which takes 16 bytes less.
+// Where reading stopped: what has been read, the byte that cannot follow, or `None` if bytes are missing, the bytes that follow it in
+// its character, or 0 for each that does not, and whether a separator is before the last group of digits. What spans and errors are
+// made of: the number of bytes that are right, and the indexes at which the exponent, the integer digits, the last separators and,
+// where groups have sizes, the last group of digits begin. The fields of the grammar are apart, which takes 16 bytes less.
 #[derive(Debug, Clone, Copy, PartialEq, Eq, Hash)]
 pub struct Spot {
     pub(crate) word: u128,
@@ -73,7 +63,11 @@ pub struct Spot {
     pub(crate) read: Summary,
     pub(crate) byte: Option<u8>,
     pub(crate) tail: [u8; 3],
-    pub(crate) marks: Marks,
+    pub(crate) size: usize,
+    pub(crate) exponent: usize,
+    pub(crate) first: usize,
+    pub(crate) run: usize,
+    pub(crate) group: usize,
     pub(crate) separated: bool,
 }
 
@@ -113,7 +107,7 @@ impl Model for ReadError {
 
     ghost view = { λ error. explained error.spot };
 
-    ghost invariant = { λ error. error.spot.marks.size < 2 ^ 63 };
+    ghost invariant = { λ error. error.spot.size < 2 ^ 63 };
 
     ghost inverse = { λ error. record { spot = error.spot } };
 }
@@ -126,7 +120,7 @@ impl ReadError {
     pub const fn valid_up_to(&self) -> usize
         ensures { result ≡ self.now.refusal.valid_up_to }
     {
-        self.spot.marks.size
+        self.spot.size
     }
 
     /// Returns the byte that cannot follow, or `None` if bytes are missing.
@@ -195,82 +189,6 @@ impl ReadError {
     }
 }
 
-impl Spot {
-    // Returns the grammar.
-    pub(crate) const fn grammar(self) -> Grammar
-        ensures { result ≡ grammar_at self }
-    {
-        Grammar {
-            word: self.word,
-            options: self.options,
-            conditions: self.conditions,
-        }
-    }
-
-    // Returns whether the cause is a wrong byte, or a required prefix is not there. It takes less time than all answers.
-    #[inline(always)]
-    const fn is_stray(self) -> bool
-        ensures { result ≡ is_stray (refusal_of (notation_of (grammar_at self)) self) }
-    {
-        let stop = self.stop();
-        stop.is_byte() || stop.is_unmet(Condition::BasePrefix)
-    }
-
-    // Returns what has been read, and the byte that cannot follow.
-    const fn stop(self) -> Stop
-        ensures { result ≡ record { grammar = grammar_at self; read = self.read; group = group_at self; byte = self.byte } }
-    {
-        let Spot {
-            read,
-            byte,
-            separated,
-            marks,
-            ..
-        } = self;
-        Stop {
-            grammar: self.grammar(),
-            read,
-            group: Group {
-                part: part_of(read.stage),
-                separated,
-                digits: marks.size.saturating_sub(marks.group),
-            },
-            byte,
-        }
-    }
-
-    // Returns the answers of a text with which no literal goes on.
-    const fn refusal(self) -> Refusal
-        requires { self.marks.size < 2 ^ 63 }
-        ensures { result ≡ refusal_of (notation_of (grammar_at self)) self }
-    {
-        let Spot {
-            byte,
-            tail,
-            marks,
-            ..
-        } = self;
-        let grammar = self.grammar();
-        let stop = self.stop();
-        let Blame { kind, mask } = stop.blame();
-        let conditions = stop.unmet();
-        let number = mask.trailing_zeros();
-        let unmet = first_unmet(mask, conditions);
-        let (start, end) = span(grammar, marks, byte, kind, number, unmet);
-        Refusal {
-            valid_up_to: marks.size,
-            byte,
-            tail,
-            kind,
-            mask,
-            conditions,
-            start,
-            end,
-            code: error(grammar, marks, kind, number, unmet, start),
-        }
-    }
-}
-
 // Returns the first of the conditions `unmet` if no flag of `mask` is to blame.
 pub(crate) const fn first_unmet(mask: u128, unmet: Conditions) -> Option<Condition>
     ensures { result ≡ first_unmet mask unmet }
@@ -290,7 +208,7 @@ const REQUIREMENTS: u128 = masks::REQUIRED_DIGITS
     | masks::NO_FLOAT_LEADING_ZEROS
     | masks::REQUIRED_EXPONENT_NOTATION;
 
-// Those that bind where each literal has an exponent, and none is an integer.
+// The flags of `REQUIREMENTS` that bind where each literal has an exponent, and none is an integer.
 const FLOAT_REQUIREMENTS: u128 = REQUIREMENTS & !masks::NO_INTEGER_LEADING_ZEROS;
 
 // The flags on leading zeros.
@@ -306,66 +224,116 @@ struct Blame {
     mask: u128,
 }
 
-// What has been read of a text, its last group of digits, and the byte that cannot follow, or `None` if bytes are missing.
-#[derive(Clone, Copy)]
-struct Stop {
-    grammar: Grammar,
-    read: Summary,
-    group: Group,
-    byte: Option<u8>,
-}
+impl Spot {
+    // Returns the grammar.
+    pub(crate) const fn grammar(self) -> Grammar
+        ensures { result ≡ grammar_at self }
+    {
+        Grammar {
+            word: self.word,
+            options: self.options,
+            conditions: self.conditions,
+        }
+    }
 
-impl Stop {
+    // Returns whether the cause is a wrong byte, or a required prefix is not there. It takes less time than all answers.
+    #[inline(always)]
+    const fn is_stray(self) -> bool
+        ensures { result ≡ is_stray (refusal_of (notation_of (grammar_at self)) self) }
+    {
+        self.is_byte() || self.is_unmet(Condition::BasePrefix)
+    }
+
+    // Returns the last group of digits.
+    const fn last_group(self) -> Group
+        ensures { result ≡ group_at self }
+    {
+        Group {
+            part: part_of(self.read.stage),
+            separated: self.separated,
+            digits: self.size.saturating_sub(self.group),
+        }
+    }
+
+    // Returns the answers of a text with which no literal goes on.
+    const fn refusal(self) -> Refusal
+        requires { self.size < 2 ^ 63 }
+        ensures { result ≡ refusal_of (notation_of (grammar_at self)) self }
+    {
+        let Spot {
+            byte,
+            tail,
+            size,
+            ..
+        } = self;
+        let Blame { kind, mask } = self.blame();
+        let conditions = self.unmet();
+        let number = mask.trailing_zeros();
+        let unmet = first_unmet(mask, conditions);
+        let (start, end) = self.span(kind, number, unmet);
+        Refusal {
+            valid_up_to: size,
+            byte,
+            tail,
+            kind,
+            mask,
+            conditions,
+            start,
+            end,
+            code: self.error(kind, number, unmet, start),
+        }
+    }
+
     // Returns whether the text could go on if the flags of the format were those of `word`, with other conditions.
     const fn allows(self, word: u128, conditions: Conditions) -> bool
-        ensures { result ≡ goes (with_rules (notation_of self.grammar) (raw word).flag (has conditions)) self.read self.group self.byte }
+        ensures { result ≡ goes (with_rules (notation_of (grammar_at self)) (raw word).flag (has conditions)) self.read (group_at self) self.byte }
     {
         let other = Grammar {
             word,
-            options: self.grammar.options,
+            options: self.options,
             conditions,
         };
-        self.goes_on(other) && self.fits(other)
+        self.goes_on(other) && self.group_goes_on(other)
     }
 
-    // Returns whether it could by the steps of `other`.
+    // Returns whether the text could go on by the steps of `other`.
     const fn goes_on(self, other: Grammar) -> bool
-        requires { other.options ≡ self.grammar.options }
-        ensures { result ≡ lets (unsized (with_rules (notation_of self.grammar) (raw other.word).flag (has other.conditions))) self.read self.byte }
+        requires { other.options ≡ (grammar_at self).options }
+        ensures { result ≡ lets (unsized (with_rules (notation_of (grammar_at self)) (raw other.word).flag (has other.conditions))) self.read self.byte }
     {
         match self.byte {
             None => is_complete(other, self.read),
-            Some(byte) => match role_at(self.grammar, part_of(self.read.stage), byte) {
+            Some(byte) => match role_at(self.grammar(), part_of(self.read.stage), byte) {
                 None => false,
-                Some(role) => matches!(moved(other, self.read, byte, role), Some(_)),
+                Some(role) => matches!(step_as(other, self.read, byte, role), Some(_)),
             },
         }
     }
 
-    // Returns whether it could behind the last group, with the conditions of `other`.
-    const fn fits(self, other: Grammar) -> bool
-        ensures { result ≡ fits (with_rules (notation_of self.grammar) (raw other.word).flag (has other.conditions)) self.group
-            (role_next (notation_of self.grammar) self.group.part self.byte) }
+    // Returns whether the text could go on behind the last group of digits, with the conditions of `other`.
+    const fn group_goes_on(self, other: Grammar) -> bool
+        ensures { result ≡ group_allows (with_rules (notation_of (grammar_at self)) (raw other.word).flag (has other.conditions)) (group_at self)
+            (role_next (notation_of (grammar_at self)) (group_at self).part self.byte) }
     {
-        let Group { part, .. } = self.group;
+        let group = self.last_group();
         let role = match self.byte {
             None => None,
-            Some(byte) => role_at(self.grammar, part, byte),
+            Some(byte) => role_at(self.grammar(), group.part, byte),
         };
-        !has_size(other, part) || follows(self.grammar, self.group, role)
+        !has_size(other, group.part) || follows(self.grammar(), group, role)
     }
 
     // Returns the word without the flags that require something.
     #[tactic(auto, using(crate::proofs::CauseLemmas::bare_flags))]
     const fn bare(self) -> u128
-        ensures { (f : Flag) → (raw result).flag f ≡ (bare (notation_of self.grammar)).flag f }
+        ensures { (f : Flag) → (raw result).flag f ≡ (bare (notation_of (grammar_at self))).flag f }
     {
-        self.grammar.word & !REQUIREMENTS
+        self.word & !REQUIREMENTS
     }
 
     // Returns whether the text could go on without requirements.
     const fn is_free(self) -> bool
-        ensures { result ≡ goes (bare (notation_of self.grammar)) self.read self.group self.byte }
+        ensures { result ≡ goes (bare (notation_of (grammar_at self))) self.read (group_at self) self.byte }
     {
         self.allows(self.bare(), Conditions::NONE)
     }
@@ -373,14 +341,14 @@ impl Stop {
     // Returns whether the text could go on with the flag that has the number `number`, and no other requirement.
     const fn is_permitted(self, number: u32) -> bool
         requires { number < 45 }
-        ensures { (f : Flag) → bit f ≡ number → result ≡ goes (adding f (bare (notation_of self.grammar))) self.read self.group self.byte }
+        ensures { (f : Flag) → bit f ≡ number → result ≡ goes (adding f (bare (notation_of (grammar_at self)))) self.read (group_at self) self.byte }
     {
         self.allows((1 << number) | self.bare(), Conditions::NONE)
     }
 
     // Returns those of `flags` each of which, as the only requirement, refuses what cannot follow.
     const fn refusing(self, flags: u128) -> u128
-        ensures { result ≡ mask_of (λ f. (raw flags).flag f && not (goes (adding f (bare (notation_of self.grammar))) self.read self.group self.byte)) }
+        ensures { result ≡ mask_of (λ f. (raw flags).flag f && not (goes (adding f (bare (notation_of (grammar_at self)))) self.read (group_at self) self.byte)) }
     {
         let mut mask = flags;
         let mut number = 0;
@@ -395,18 +363,18 @@ impl Stop {
     // Returns the flags that are set and require something.
     #[tactic(auto, using(crate::proofs::CauseLemmas::flag_and, crate::proofs::CauseLemmas::float_mask, crate::proofs::CauseLemmas::requirement_mask))]
     const fn binding(self) -> u128
-        ensures { (f : Flag) → (raw result).flag f ≡ binds (notation_of self.grammar) f }
+        ensures { (f : Flag) → (raw result).flag f ≡ binds (notation_of (grammar_at self)) f }
     {
-        if needs_exponent(self.grammar) {
-            self.grammar.word & FLOAT_REQUIREMENTS
+        if needs_exponent(self.grammar()) {
+            self.word & FLOAT_REQUIREMENTS
         } else {
-            self.grammar.word & REQUIREMENTS
+            self.word & REQUIREMENTS
         }
     }
 
     // Returns the flags that refuse alone.
     const fn alone(self) -> u128
-        ensures { result ≡ mask_of (alone (notation_of self.grammar) self.read self.group self.byte) }
+        ensures { result ≡ mask_of (alone (notation_of (grammar_at self)) self.read (group_at self) self.byte) }
     {
         self.refusing(self.binding())
     }
@@ -414,14 +382,14 @@ impl Stop {
     // Returns the flags on leading zeros that require something.
     #[tactic(auto, using(crate::proofs::CauseLemmas::flag_and, crate::proofs::CauseLemmas::masked_by, crate::proofs::CauseLemmas::zeros_mask))]
     const fn zeros(self) -> u128
-        ensures { result ≡ mask_of (zeros (notation_of self.grammar)) }
+        ensures { result ≡ mask_of (zeros (notation_of (grammar_at self))) }
     {
         self.binding() & ZEROS
     }
 
     // Returns the flags to blame for a requirement: those that refuse alone, or else those on leading zeros.
     const fn requirements(self) -> u128
-        ensures { result ≡ requirements (notation_of self.grammar) self.read self.group self.byte }
+        ensures { result ≡ requirements (notation_of (grammar_at self)) self.read (group_at self) self.byte }
     {
         let alone = self.alone();
         if alone == 0 && self.unmet().is_none() {
@@ -433,14 +401,14 @@ impl Stop {
 
     // Returns the conditions to blame for a requirement: those that refuse alone.
     const fn unmet(self) -> Conditions
-        ensures { result ≡ kept (unmet (notation_of self.grammar) self.read self.group self.byte) (number_of self.grammar.conditions) }
+        ensures { result ≡ kept (unmet (notation_of (grammar_at self)) self.read (group_at self) self.byte) (number_of (grammar_at self).conditions) }
     {
         let mut unmet = Conditions::NONE;
         let mut index = 0;
         while index < CONDITIONS.len() {
             let condition = CONDITIONS[index];
             if self.is_unmet(condition) {
-                unmet = unmet.with(condition, self.grammar.conditions.number(condition));
+                unmet = unmet.with(condition, self.conditions.number(condition));
             }
             index += 1;
         }
@@ -449,17 +417,17 @@ impl Stop {
 
     // Returns whether the syntax has a condition that alone refuses what cannot follow.
     const fn is_unmet(self, condition: Condition) -> bool
-        ensures { result ≡ unmet (notation_of self.grammar) self.read self.group self.byte condition }
+        ensures { result ≡ unmet (notation_of (grammar_at self)) self.read (group_at self) self.byte condition }
     {
-        self.grammar.conditions.has(condition)
+        self.conditions.has(condition)
             && self.is_free()
-            && !self.allows(self.bare(), self.grammar.conditions.only(condition))
+            && !self.allows(self.bare(), self.conditions.only(condition))
     }
 
     // Returns the flags each of which would allow a separator that is not allowed.
     #[tactic(auto, using(crate::proofs::CauseLemmas::no_mask))]
     const fn separators(self) -> u128
-        ensures { result ≡ mask_of (separators (notation_of self.grammar) self.read self.group self.byte) }
+        ensures { result ≡ mask_of (separators (notation_of (grammar_at self)) self.read (group_at self) self.byte) }
     {
         if self.is_at_gap() {
             SEPARATORS & !self.refusing(SEPARATORS)
@@ -470,12 +438,12 @@ impl Stop {
 
     // Returns whether what cannot follow is a separator, or follows one.
     const fn is_at_gap(self) -> bool
-        ensures { result ≡ is_at_gap (notation_of self.grammar) self.read self.byte }
+        ensures { result ≡ is_at_gap (notation_of (grammar_at self)) self.read self.byte }
     {
         match self.byte {
             None => self.read.gap,
             Some(byte) => {
-                let role = role_at(self.grammar, part_of(self.read.stage), byte);
+                let role = role_at(self.grammar(), part_of(self.read.stage), byte);
                 self.read.gap || matches!(role, Some(Role::Separator))
             }
         }
@@ -483,13 +451,13 @@ impl Stop {
 
     // Returns where a separator is not allowed, before or after `byte`.
     const fn place(self, byte: u8) -> Place
-        ensures { result ≡ place_of (notation_of self.grammar) (part_of self.read.stage) self.read.stage self.read.gap
-            (role_at (notation_of self.grammar) (part_of self.read.stage) byte) }
+        ensures { result ≡ place_of (notation_of (grammar_at self)) (part_of self.read.stage) self.read.stage self.read.gap
+            (role_at (notation_of (grammar_at self)) (part_of self.read.stage) byte) }
     {
-        let role = role_at(self.grammar, part_of(self.read.stage), byte);
+        let role = role_at(self.grammar(), part_of(self.read.stage), byte);
         let is_consecutive = self.read.gap
             && !self
-                .grammar
+                .grammar()
                 .view()
                 .separators(part_of(self.read.stage))
                 .consecutive;
@@ -504,15 +472,15 @@ impl Stop {
 
     // Returns the flags by which the case of `byte` counts, if its other case may be next.
     const fn case_flags(self, byte: u8) -> u128
-        ensures { result ≡ mask_of (cases (notation_of self.grammar) self.read self.group byte) }
+        ensures { result ≡ mask_of (cases (notation_of (grammar_at self)) self.read (group_at self) byte) }
     {
         let other = other_case(byte);
-        let stop = Stop {
+        let spot = Spot {
             byte: Some(other),
             ..self
         };
-        if stop.is_free() {
-            case_mask(self.grammar, other)
+        if spot.is_free() {
+            case_mask(self.grammar(), other)
         } else {
             0
         }
@@ -520,7 +488,7 @@ impl Stop {
 
     // Returns whether the cause is a wrong byte.
     const fn is_byte(self) -> bool
-        ensures { result ≡ is_byte (blame (notation_of self.grammar) self.read self.group self.byte).kind }
+        ensures { result ≡ is_byte (blame (notation_of (grammar_at self)) self.read (group_at self) self.byte).kind }
     {
         match self.byte {
             None => false,
@@ -532,7 +500,7 @@ impl Stop {
 
     // Returns the kind, and the flags that are to blame.
     const fn blame(self) -> Blame
-        ensures { result ≡ blame (notation_of self.grammar) self.read self.group self.byte }
+        ensures { result ≡ blame (notation_of (grammar_at self)) self.read (group_at self) self.byte }
     {
         if self.is_free() {
             return Blame {

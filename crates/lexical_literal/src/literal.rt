@@ -1,28 +1,73 @@
-//! Literals that were read, and the numbers that their digits represent.
+//! Literals that were read, their parts, and the numbers that their digits represent.
 
-ghost use Rattle.std.specs.Prelude.{◌≡◌, ◌++◌, ◌%◌, ◌^◌, [], ℕ, IfSome, IsFalse, IsSome, List};
-ghost use Rattle.lexical_literal.specs.Additions.Read.{AreSums, IsCut, IsSum, cut, given};
-ghost use Rattle.lexical_literal.specs.Additions.Summary.{cuts_of};
+ghost use Rattle.std.specs.Prelude.{◌≡◌, ◌≤◌, ◌++◌, ◌%◌, ◌^◌, [], ℕ, IfSome, IsFalse, IsSome, List, length, take};
+ghost use Rattle.lexical_literal.specs.Additions.Literal.{AreSums, IsCut, IsSum, cut, given};
+ghost use Rattle.lexical_literal.specs.Additions.Step.{HasLengths, cuts_of};
 ghost use Rattle.lexical_literal.specs.Read.{exact};
-ghost use Rattle.lexical_literal.specs.Literal.{Reads, is_float, is_minus};
+ghost use Rattle.lexical_literal.specs.Literal.{Literal as Parted, Reads, is_float, is_minus, text_of};
 ghost use Rattle.lexical_literal.specs.Notation.{Notation, notation_of};
 ghost use Rattle.lexical_literal.specs.Parts.{literal_of};
 ghost use Rattle.lexical_literal.specs.Read.{exponent, mantissa};
 ghost use Rattle.lexical_literal.specs.Syntax.{IsSyntax};
 ghost use Rattle.lexical_literal.specs.declared.syntax.Grammar.{Grammar};
 ghost use Rattle.lexical_number.specs.Number.{number, places};
-ghost use Rattle.lexical_number.specs.Word.{IsShort, IsWord};
+ghost use Rattle.lexical_number.specs.Small.{IsShort, IsSmall};
 ghost use Rattle.lexical_util.specs.Layout as layout;
 ghost use Rattle.lexical_util.specs.Record.{bytes_of, effective, raw};
 ghost use Rattle.lexical_util.specs.Rules.{IsRadix};
 
 use crate::kind::Kind;
-use crate::plain::{Sum, Sums};
-use crate::read::{Parts, cut};
 use crate::syntax::Syntax;
-use lexical_number::word::{add_all, count, fits, word};
+use lexical_number::small::{add_all, count, fits, small};
 use lexical_util::format::NumberFormat;
 use std::marker::Model;
+
+/// The parts of a literal, in the order of the text. An absent part has no bytes.
+#[derive(Debug, Clone, Copy, PartialEq, Eq, Hash)]
+pub struct Parts<'a> {
+    /// The sign, `+` or `-`.
+    pub sign: &'a [u8],
+    /// The base prefix, with the zero before it.
+    pub prefix: &'a [u8],
+    /// The integer digits, with their separators.
+    pub integer: &'a [u8],
+    /// The decimal point.
+    pub point: &'a [u8],
+    /// The fraction digits, with their separators.
+    pub fraction: &'a [u8],
+    /// The exponent character.
+    pub exponent_character: &'a [u8],
+    /// The sign of the exponent, `+` or `-`.
+    pub exponent_sign: &'a [u8],
+    /// The exponent digits, with their separators.
+    pub exponent: &'a [u8],
+    /// The base suffix.
+    pub suffix: &'a [u8],
+}
+
+// The number of digits, and the number that they represent, modulo `2 ^ 64`.
+#[derive(Clone, Copy)]
+#[doc(hidden)]
+pub struct Sum {
+    pub(crate) digits: usize,
+    pub(crate) value: u64,
+}
+
+// The sums of the digits of a literal: of those of the integer and the fraction together, and of those of the exponent. There are
+// `places` digits of the fraction.
+#[derive(Clone, Copy)]
+#[doc(hidden)]
+pub struct Sums {
+    pub(crate) mantissa: Sum,
+    pub(crate) places: usize,
+    pub(crate) exponent: Sum,
+}
+
+// The sum of no digits.
+pub(crate) const NOTHING: Sum = Sum {
+    digits: 0,
+    value: 0,
+};
 
 /// A text that was read as a literal: its parts, and the numbers that its digits represent.
 #[derive(Drop)]
@@ -43,8 +88,8 @@ impl<'a> Model for Literal<'a> {
 
     ghost Value = { Read };
 
-    ghost use Rattle.lexical_literal.specs.Additions.Read.{IsMade, cut, given};
-    ghost use Rattle.lexical_literal.specs.Additions.Summary.{cuts_of};
+    ghost use Rattle.lexical_literal.specs.Additions.Literal.{IsMade, cut, given};
+    ghost use Rattle.lexical_literal.specs.Additions.Step.{HasLengths, cuts_of};
 
     ghost view = { λ it. record { format = it.view; literal = cut it.text.now (cuts_of it.counts); kind = it.kind } };
 
@@ -89,7 +134,7 @@ impl<'a> Literal<'a> {
         // They are those of a literal of a syntax with this format.
         ensures literal { (g : Grammar) × IsSyntax g × (g.word ≡ self.now.format) × (text : List ℕ) × Reads (notation_of g) self.now.literal text }
     {
-        cut(self.text, self.counts)
+        parts_of(self.text, self.counts)
     }
 
     /// Returns whether the sign is `-`.
@@ -186,7 +231,7 @@ impl Syntax {
                 value: exponent_value,
             },
         } = sums;
-        let (has_exponent, exponent) = split(exponent(
+        let (has_exponent, exponent) = split(small_exponent(
             view.exponent_radix(),
             text,
             counts,
@@ -197,7 +242,7 @@ impl Syntax {
             text,
             counts,
             view,
-            mantissa: mantissa(view.mantissa_radix(), text, counts, digits, value),
+            mantissa: small_mantissa(view.mantissa_radix(), text, counts, digits, value),
             places,
             exponent,
             has_exponent,
@@ -215,7 +260,7 @@ impl Syntax {
         let sums = sums_of(
             view.mantissa_radix(),
             view.exponent_radix(),
-            &cut(text, counts),
+            &parts_of(text, counts),
         );
         self.literal(text, counts, sums)
     }
@@ -248,6 +293,43 @@ const fn is_minus(sign: &[u8]) -> bool
     matches!(sign, [b'-', ..])
 }
 
+// Splits off the first `size` bytes.
+#[inline(always)]
+fn split_front<'a>(text: &'a [u8], size: usize) -> (&'a [u8], &'a [u8])
+    requires { (x : List ℕ) × (rest : List ℕ) × (text.now ≡ x ++ rest) × (length x ≡ size) }
+    ensures { (x rest : List ℕ) → text.now ≡ x ++ rest → length x ≡ size
+        → (result.0.now ≡ x) × (result.1.now ≡ rest) }
+{
+    text.split_at(size)
+}
+
+// Returns the parts of `text`, which have the lengths `counts`.
+#[inline(always)]
+fn parts_of<'a>(text: &'a [u8], counts: [usize; 9]) -> Parts<'a>
+    requires { (l : Parted) × (text.now ≡ text_of l) × HasLengths l (cuts_of counts) }
+    ensures { (l : Parted) → text.now ≡ text_of l → HasLengths l (cuts_of counts) → literal_of result ≡ l }
+{
+    let (sign, after_sign) = split_front(text, counts[0]);
+    let (prefix, after_prefix) = split_front(after_sign, counts[1]);
+    let (integer, after_integer) = split_front(after_prefix, counts[2]);
+    let (point, after_point) = split_front(after_integer, counts[3]);
+    let (fraction, after_fraction) = split_front(after_point, counts[4]);
+    let (exponent_character, after_character) = split_front(after_fraction, counts[5]);
+    let (exponent_sign, after_exponent_sign) = split_front(after_character, counts[6]);
+    let (exponent, suffix) = split_front(after_exponent_sign, counts[7]);
+    Parts {
+        sign,
+        prefix,
+        integer,
+        point,
+        fraction,
+        exponent_character,
+        exponent_sign,
+        exponent,
+        suffix,
+    }
+}
+
 // Returns the sums of the digits of `parts`.
 fn sums_of(radix: u32, exponent_radix: u32, parts: &Parts) -> Sums
     ensures mantissa { IsSum radix (parts.now.integer.now ++ parts.now.fraction.now) result.mantissa }
@@ -271,31 +353,43 @@ fn sums_of(radix: u32, exponent_radix: u32, parts: &Parts) -> Sums
 // Returns the number that the digits of the integer and the fraction represent together, if they are few. There are `digits` of
 // them, and `sum` is the number modulo `2 ^ 64`.
 #[inline(always)]
-fn mantissa(radix: u32, text: &[u8], counts: [usize; 9], digits: usize, sum: u64) -> Option<u64>
+fn small_mantissa(
+    radix: u32,
+    text: &[u8],
+    counts: [usize; 9],
+    digits: usize,
+    sum: u64,
+) -> Option<u64>
     requires radix { IsRadix radix }
     requires cut { (m : Notation) × IsCut m text.now (cuts_of counts) }
     requires digits { digits ≡ places radix ((cut text.now (cuts_of counts)).integer ++ (cut text.now (cuts_of counts)).fraction) }
     requires sum { sum % 2 ^ 64 ≡ number radix ((cut text.now (cuts_of counts)).integer ++ (cut text.now (cuts_of counts)).fraction) % 2 ^ 64 }
-    ensures { IsWord radix (number radix ((cut text.now (cuts_of counts)).integer ++ (cut text.now (cuts_of counts)).fraction)) result }
+    ensures { IsSmall radix (number radix ((cut text.now (cuts_of counts)).integer ++ (cut text.now (cuts_of counts)).fraction)) result }
 {
     if fits(radix, digits) {
         return Some(sum);
     }
-    let parts = cut(text, counts);
-    word(radix, parts.integer, parts.fraction, digits, sum)
+    let parts = parts_of(text, counts);
+    small(radix, parts.integer, parts.fraction, digits, sum)
 }
 
-// Returns the number that the digits of the exponent represent, if they are few, as `mantissa` does.
+// Returns the number that the digits of the exponent represent, if they are few, as `small_mantissa` does.
 #[inline(always)]
-fn exponent(radix: u32, text: &[u8], counts: [usize; 9], digits: usize, sum: u64) -> Option<u64>
+fn small_exponent(
+    radix: u32,
+    text: &[u8],
+    counts: [usize; 9],
+    digits: usize,
+    sum: u64,
+) -> Option<u64>
     requires radix { IsRadix radix }
     requires cut { (m : Notation) × IsCut m text.now (cuts_of counts) }
     requires digits { digits ≡ places radix (cut text.now (cuts_of counts)).exponent }
     requires sum { sum % 2 ^ 64 ≡ number radix (cut text.now (cuts_of counts)).exponent % 2 ^ 64 }
-    ensures { IsWord radix (number radix (cut text.now (cuts_of counts)).exponent) result }
+    ensures { IsSmall radix (number radix (cut text.now (cuts_of counts)).exponent) result }
 {
     if fits(radix, digits) {
         return Some(sum);
     }
-    word(radix, cut(text, counts).exponent, &[], digits, sum)
+    small(radix, parts_of(text, counts).exponent, &[], digits, sum)
 }

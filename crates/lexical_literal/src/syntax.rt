@@ -7,15 +7,15 @@ ghost use Rattle.std.specs.Result.{OkIff};
 ghost use Rattle.lexical_util.specs.NormalForm.{normal_form_of};
 ghost use Rattle.lexical_util.specs.Options.{OptionsFit, IsOptionsError};
 ghost use Rattle.lexical_util.specs.declared.lawful.Rejected.TheVariants as rejected;
-ghost use Rattle.lexical_literal.specs.Additions.Plain.{HasSizes, IsReady, IsUsual};
-ghost use Rattle.lexical_literal.specs.Additions.Sizes.{steps_of};
+ghost use Rattle.lexical_literal.specs.Additions.Scan.{HasSizes, IsReady, IsUsual};
+ghost use Rattle.lexical_literal.specs.Additions.GroupSize.{steps_of};
 ghost use Rattle.lexical_literal.specs.declared.syntax.Condition.{Condition};
 ghost use Rattle.lexical_literal.specs.declared.syntax.Condition.TheVariants as conditions;
 ghost use Rattle.lexical_literal.specs.declared.syntax.Options.{Options};
 ghost use Rattle.lexical_literal.specs.Notation.{all_conditions, has, is_same, kept, no_conditions, notation_of, number_of, IsOnlyRole};
 ghost use Rattle.lexical_literal.specs.Syntax.{IsSyntax, contradiction, fault, limits, missing};
 
-use crate::steps::role_at;
+use crate::step::role_at;
 use lexical_util::format::{Format, FormatError, NumberFormat, Part, Role};
 use lexical_util::format_flags::{
     BASE_PREFIX, EXPONENT_BASE, EXPONENT_RADIX, MANTISSA_RADIX, REQUIRED_EXPONENT_NOTATION,
@@ -145,7 +145,7 @@ impl Conditions {
         matches!(self.first(), None)
     }
 
-    // Returns whether there are none but `NegativeSign`, of which the number is the third.
+    // Returns whether there are no conditions but `NegativeSign`, of which the number is the third.
     #[inline(always)]
     const fn are_usual(self) -> bool
         ensures { IsTrue result → self ≡ kept (is_same conditions.NegativeSign) (number_of self) }
@@ -153,7 +153,7 @@ impl Conditions {
         matches!(self.numbers, [0, 0, _, 0, 0, 0, 0, 0])
     }
 
-    // Returns the first of them.
+    // Returns the first of the conditions, in the order in which they are checked.
     pub(crate) const fn first(self) -> Option<Condition>
         ensures { result ≡ find (has self) all_conditions }
     {
@@ -428,7 +428,8 @@ pub(crate) const fn is_usual(grammar: Grammar) -> bool
 }
 
 impl Syntax {
-    // Returns the same of a usual syntax, of which the compiler then knows the bits and the conditions.
+    // Returns the format, the options and the conditions of a usual syntax, of which the compiler then knows the bits and the
+    // conditions.
     #[inline(always)]
     pub(crate) const fn usual_grammar(&self) -> Grammar
         requires { IsUsual self.now }

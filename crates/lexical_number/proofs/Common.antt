@@ -8,7 +8,7 @@ pub use Rattle.lexical_number.specs.Float.{format_of, raised_down, raised_up}
 pub use Rattle.lexical_number.specs.Leading.{IsCutTo, Leads}
 pub use Rattle.lexical_number.specs.Nearest.{LiesAround}
 pub use Rattle.lexical_number.specs.Number.{digits_in, number, number_after, places}
-pub use Rattle.lexical_number.specs.Word.{leading_zeros}
+pub use Rattle.lexical_number.specs.Small.{leading_zeros}
 pub use Rattle.std.proofs.Common.{Bool, Equal, Greater, IsTrue, Less, List, None, Option, Some, [], ap, arith, cond, drop, drop-cons, eq-zero-or-pos}
 pub use Rattle.std.proofs.Common.{false, get_or, if◌then◌else◌, inl, inr, le_of_eq, le_trans, length, lt_of_mul-lt-mul_right, lt_of_not-le, min}
 pub use Rattle.std.proofs.Common.{mod-eq_of_lt, mul-le-mul, mul-le-mul_left, mul-le-mul_right, mul-lt-mul_of_pos_right, mul-pos, nat_cmp, nat_le}

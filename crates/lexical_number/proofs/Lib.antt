@@ -1,5 +1,5 @@
 mod Common
-pub mod WordLemmas
+pub mod SmallLemmas
 pub mod DigitLemmas
 mod BigLemmas
 mod BinaryLemmas

@@ -1,5 +1,5 @@
 pub mod Number
-pub mod Word
+pub mod Small
 pub mod Float
 pub mod Numeral
 pub mod Leading

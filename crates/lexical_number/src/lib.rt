@@ -18,4 +18,4 @@ mod powers;
 pub mod scaling;
 pub mod shortest;
 #[doc(hidden)]
-pub mod word;
+pub mod small;

@@ -5,7 +5,7 @@ ghost use Rattle.std.specs.Option.{SomeIff};
 ghost use Rattle.lexical_number.specs.Number.{number};
 ghost use Rattle.lexical_number.specs.Numeral.{Fits, size_of, value_of, with_sign};
 
-use crate::word::add_all;
+use crate::small::add_all;
 use lexical_base::digit::char_to_digit;
 
 /// A number without a sign.

@@ -207,7 +207,7 @@ pub(crate) fn binary_size(double: bool, literal: &Literal) -> Option<u64>
     Some(long_binary_size(double, literal, radix_bits, base_bits))
 }
 
-// Returns the same where the mantissa or the exponent has many digits.
+// Returns what `binary_size` returns, of a literal whose mantissa or exponent has many digits.
 #[cold]
 fn long_binary_size(double: bool, literal: &Literal, radix_bits: u32, base_bits: u32) -> u64
     requires radix { (1 ≤ radix_bits) × (radix_bits ≤ 5) × ((raw literal.now.format).byte layout.mantissa_radix ≡ 2 ^ radix_bits) }

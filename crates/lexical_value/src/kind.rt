@@ -66,7 +66,7 @@ pub(crate) const fn counted<'a>(kind: IntegerKind, numeral: Numeral<'a>) -> Opti
     }
 }
 
-// Returns the same for a kind that is not exact.
+// Returns what an integer is worth by a kind that is not exact, or `None` if it is too large.
 #[cold]
 #[inline(never)]
 pub(crate) const fn fewer(kind: IntegerKind, numeral: &Numeral) -> Option<Worth>

@@ -3,7 +3,7 @@ pub use Rattle.lexical_literal.specs.Literal.{Literal, Reads, is_absent, is_minu
 pub use Rattle.lexical_literal.specs.Notation.{has, lacks_options, notation_of}
 pub use Rattle.lexical_number.specs.Number.{digits_in, number, number_after, places}
 pub use Rattle.lexical_literal.specs.Syntax.{IsSyntax}
-pub use Rattle.lexical_literal.specs.declared.read.Parts.{Parts}
+pub use Rattle.lexical_literal.specs.declared.literal.Parts.{Parts}
 pub use Rattle.lexical_literal.specs.declared.syntax.Grammar.{Grammar}
 pub use Rattle.lexical_util.specs.Ascii.{ByteSet}
 pub use Rattle.lexical_util.specs.Digits.{digit_of}

@@ -11,7 +11,7 @@ use Rattle.lexical_literal.specs.Notation.{has, lacks_options}
 use Rattle.lexical_literal.specs.declared.syntax.Condition.TheVariants as conditions
 use Rattle.lexical_literal.specs.Parts.{literal_of}
 use Rattle.lexical_literal.specs.Read.{Read}
-use Rattle.lexical_literal.specs.declared.read.Parts.{Parts}
+use Rattle.lexical_literal.specs.declared.literal.Parts.{Parts}
 use Rattle.lexical_literal.specs.declared.syntax.Grammar.{Grammar}
 use Rattle.lexical_number.specs.Number.{number}
 use Rattle.lexical_value.specs.Float.{nearest}

@@ -6,7 +6,7 @@ use Rattle.std.specs.Int.Digits.{number_from_digits}
 use Rattle.lexical_util.specs.Layout as layout
 use Rattle.lexical_util.specs.Record.{Record, effective_exponent_base, effective_exponent_radix}
 use Rattle.lexical_literal.specs.Literal.{is_absent, is_present, is_minus}
-use Rattle.lexical_literal.specs.declared.read.Parts.{Parts}
+use Rattle.lexical_literal.specs.declared.literal.Parts.{Parts}
 use Rattle.lexical_number.specs.Number.{digits_in, number}
 use Rattle.lexical_writer.specs.Digits.{values_of}
 use Rattle.lexical_writer.specs.Layout.{given_fraction}

@@ -10,7 +10,7 @@ ghost use Rattle.lexical_writer.specs.Digits.{run_text, separated, values_of};
 use crate::run::{Padded, Pattern, Run, Source};
 use crate::sink::Sink;
 use lexical_base::digit::{char_to_digit, digit_to_char, digit_to_char_const};
-use lexical_number::word::count;
+use lexical_number::small::count;
 
 // Returns what follows the zeros that the digits among bytes begin with.
 pub(crate) fn without_zeros(bytes: &[u8], radix: u32) -> &[u8]

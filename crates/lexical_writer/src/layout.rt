@@ -18,7 +18,7 @@ use crate::patterns::{fraction_pattern, integer_pattern, no_groups};
 use crate::run::{Run, Source};
 use crate::sink::{Sink, Window};
 use lexical_literal::syntax::{Condition, Conditions, Options, Syntax};
-use lexical_number::word::count;
+use lexical_number::small::count;
 use lexical_util::format::{NumberFormat, base_prefix, base_suffix};
 use lexical_util::laws::byte_facts;
 

@@ -18,8 +18,7 @@ use crate::layout::{
 };
 use crate::moved::{exponent_of, moved, moved_by};
 use crate::run::Source;
-use lexical_literal::literal::Literal;
-use lexical_literal::read::Parts;
+use lexical_literal::literal::{Literal, Parts};
 use lexical_literal::syntax::{Condition, Syntax};
 use lexical_number::numeral::{Magnitude, Numeral};
 use lexical_util::format::NumberFormat;

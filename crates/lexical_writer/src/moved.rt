@@ -16,9 +16,9 @@ use crate::layout::{Amount, WriteError};
 use crate::literal::is_minus;
 use crate::run::{Padded, Source};
 use lexical_base::digit::char_to_digit;
-use lexical_literal::read::Parts;
+use lexical_literal::literal::Parts;
 use lexical_number::numeral::{Magnitude, Numeral};
-use lexical_number::word::count;
+use lexical_number::small::count;
 use lexical_util::format::NumberFormat;
 
 // Returns bytes up to a place among their digits, and the others. Before the place are at most `places` digits.

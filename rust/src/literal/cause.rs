@@ -3,10 +3,9 @@
 //! Why a text is not a literal.
 
 use crate::error::Error;
-use crate::literal::groups::{follows, has_size, Group};
-use crate::literal::span::{error, span};
-use crate::literal::steps::{
-    has_digit, is_complete, is_exponent_character, moved, needs_exponent, part_of, role_at, Summary,
+use crate::literal::group_size::{follows, has_size, Group};
+use crate::literal::step::{
+    has_digit, is_complete, is_exponent_character, needs_exponent, part_of, role_at, step_as, Summary,
 };
 use crate::literal::syntax::{Condition, Conditions, Grammar, Options, CONDITIONS};
 use crate::word as masks;
@@ -41,20 +40,10 @@ pub enum ReadErrorKind {
     Missing(Part),
 }
 
-// What spans and errors are made of: the number of bytes that are right, and the indexes at which the exponent, the
-// integer digits, the last separators and, where groups have sizes, the last group of digits begin.
-#[derive(Debug, Clone, Copy, PartialEq, Eq, Hash)]
-pub struct Marks {
-    pub(crate) size: usize,
-    pub(crate) exponent: usize,
-    pub(crate) first: usize,
-    pub(crate) run: usize,
-    pub(crate) group: usize,
-}
-
-// Where reading stopped: what has been read, the byte that cannot follow, or `None` if bytes are missing, the bytes that
-// follow it in its character, or 0 for each that does not, and whether a separator is before the last group of digits. The
-// fields of the grammar are apart, which takes 16 bytes less.
+// Where reading stopped: what has been read, the byte that cannot follow, or `None` if bytes are missing, the bytes that follow it in
+// its character, or 0 for each that does not, and whether a separator is before the last group of digits. What spans and errors are
+// made of: the number of bytes that are right, and the indexes at which the exponent, the integer digits, the last separators and,
+// where groups have sizes, the last group of digits begin. The fields of the grammar are apart, which takes 16 bytes less.
 #[derive(Debug, Clone, Copy, PartialEq, Eq, Hash)]
 pub struct Spot {
     pub(crate) word: u128,
@@ -63,7 +52,11 @@ pub struct Spot {
     pub(crate) read: Summary,
     pub(crate) byte: Option<u8>,
     pub(crate) tail: [u8; 3],
-    pub(crate) marks: Marks,
+    pub(crate) size: usize,
+    pub(crate) exponent: usize,
+    pub(crate) first: usize,
+    pub(crate) run: usize,
+    pub(crate) group: usize,
     pub(crate) separated: bool,
 }
 
@@ -99,7 +92,7 @@ impl ReadError {
     /// Rattle, `is_incomplete` is `true`.
     #[must_use]
     pub const fn valid_up_to(&self) -> usize {
-        self.spot.marks.size
+        self.spot.size
     }
 
     /// Returns the byte that cannot follow, or `None` if bytes are missing.
@@ -152,54 +145,6 @@ impl ReadError {
     }
 }
 
-impl Spot {
-    // Returns the grammar.
-    pub(crate) const fn as_grammar(self) -> Grammar {
-        Grammar { word: self.word, options: self.options, conditions: self.conditions }
-    }
-
-    // Returns whether the cause is a wrong byte, or a required prefix is not there. It takes less time than all answers.
-    #[inline(always)]
-    const fn is_stray(self) -> bool {
-        let stop = self.stop();
-        stop.is_byte() || stop.is_unmet(Condition::BasePrefix)
-    }
-
-    // Returns what has been read, and the byte that cannot follow.
-    const fn stop(self) -> Stop {
-        let Spot { read, byte, separated, marks, .. } = self;
-        Stop {
-            grammar: self.as_grammar(),
-            read,
-            group: Group { part: part_of(read.stage), separated, digits: marks.size.saturating_sub(marks.group) },
-            byte,
-        }
-    }
-
-    // Returns the answers of a text with which no literal goes on.
-    const fn refusal(self) -> Refusal {
-        let Spot { byte, tail, marks, .. } = self;
-        let grammar = self.as_grammar();
-        let stop = self.stop();
-        let Blame { kind, mask } = stop.blame();
-        let conditions = stop.unmet();
-        let number = mask.trailing_zeros();
-        let unmet = first_unmet(mask, conditions);
-        let (start, end) = span(grammar, marks, byte, kind, number, unmet);
-        Refusal {
-            valid_up_to: marks.size,
-            byte,
-            tail,
-            kind,
-            mask,
-            conditions,
-            start,
-            end,
-            code: error(grammar, marks, kind, number, unmet, start),
-        }
-    }
-}
-
 // Returns the first of the conditions `unmet` if no flag of `mask` is to blame.
 pub(crate) const fn first_unmet(mask: u128, unmet: Conditions) -> Option<Condition> {
     if mask == 0 {
@@ -221,7 +166,7 @@ const REQUIREMENTS: u128 = masks::REQUIRED_DIGITS
     | masks::NO_FLOAT_LEADING_ZEROS
     | masks::REQUIRED_EXPONENT_NOTATION;
 
-// Those that bind where each literal has an exponent, and none is an integer.
+// The flags of `REQUIREMENTS` that bind where each literal has an exponent, and none is an integer.
 const FLOAT_REQUIREMENTS: u128 = REQUIREMENTS & !masks::NO_INTEGER_LEADING_ZEROS;
 
 // The flags on leading zeros.
@@ -237,46 +182,78 @@ struct Blame {
     mask: u128,
 }
 
-// What has been read of a text, its last group of digits, and the byte that cannot follow, or `None` if bytes are missing.
-#[derive(Clone, Copy)]
-struct Stop {
-    grammar: Grammar,
-    read: Summary,
-    group: Group,
-    byte: Option<u8>,
-}
-
-impl Stop {
-    // Returns whether the text could go on if the flags of the format were those of `word`, with other conditions.
-    const fn allows(self, word: u128, conditions: Conditions) -> bool {
-        let other = Grammar { word, options: self.grammar.options, conditions };
-        self.goes_on(other) && self.fits(other)
+impl Spot {
+    // Returns the grammar.
+    pub(crate) const fn as_grammar(self) -> Grammar {
+        Grammar { word: self.word, options: self.options, conditions: self.conditions }
     }
 
-    // Returns whether it could by the steps of `other`.
+    // Returns whether the cause is a wrong byte, or a required prefix is not there. It takes less time than all answers.
+    #[inline(always)]
+    const fn is_stray(self) -> bool {
+        self.is_byte() || self.is_unmet(Condition::BasePrefix)
+    }
+
+    // Returns the last group of digits.
+    const fn last_group(self) -> Group {
+        Group {
+            part: part_of(self.read.stage),
+            separated: self.separated,
+            digits: self.size.saturating_sub(self.group),
+        }
+    }
+
+    // Returns the answers of a text with which no literal goes on.
+    const fn refusal(self) -> Refusal {
+        let Spot { byte, tail, size, .. } = self;
+        let Blame { kind, mask } = self.blame();
+        let conditions = self.unmet();
+        let number = mask.trailing_zeros();
+        let unmet = first_unmet(mask, conditions);
+        let (start, end) = self.span(kind, number, unmet);
+        Refusal {
+            valid_up_to: size,
+            byte,
+            tail,
+            kind,
+            mask,
+            conditions,
+            start,
+            end,
+            code: self.error(kind, number, unmet, start),
+        }
+    }
+
+    // Returns whether the text could go on if the flags of the format were those of `word`, with other conditions.
+    const fn allows(self, word: u128, conditions: Conditions) -> bool {
+        let other = Grammar { word, options: self.options, conditions };
+        self.goes_on(other) && self.group_goes_on(other)
+    }
+
+    // Returns whether the text could go on by the steps of `other`.
     const fn goes_on(self, other: Grammar) -> bool {
         match self.byte {
             None => is_complete(other, self.read),
-            Some(byte) => match role_at(self.grammar, part_of(self.read.stage), byte) {
+            Some(byte) => match role_at(self.as_grammar(), part_of(self.read.stage), byte) {
                 None => false,
-                Some(role) => matches!(moved(other, self.read, byte, role), Some(_)),
+                Some(role) => matches!(step_as(other, self.read, byte, role), Some(_)),
             },
         }
     }
 
-    // Returns whether it could behind the last group, with the conditions of `other`.
-    const fn fits(self, other: Grammar) -> bool {
-        let Group { part, .. } = self.group;
+    // Returns whether the text could go on behind the last group of digits, with the conditions of `other`.
+    const fn group_goes_on(self, other: Grammar) -> bool {
+        let group = self.last_group();
         let role = match self.byte {
             None => None,
-            Some(byte) => role_at(self.grammar, part, byte),
+            Some(byte) => role_at(self.as_grammar(), group.part, byte),
         };
-        !has_size(other, part) || follows(self.grammar, self.group, role)
+        !has_size(other, group.part) || follows(self.as_grammar(), group, role)
     }
 
     // Returns the word without the flags that require something.
     const fn bare(self) -> u128 {
-        self.grammar.word & !REQUIREMENTS
+        self.word & !REQUIREMENTS
     }
 
     // Returns whether the text could go on without requirements.
@@ -303,10 +280,10 @@ impl Stop {
 
     // Returns the flags that are set and require something.
     const fn binding(self) -> u128 {
-        if needs_exponent(self.grammar) {
-            self.grammar.word & FLOAT_REQUIREMENTS
+        if needs_exponent(self.as_grammar()) {
+            self.word & FLOAT_REQUIREMENTS
         } else {
-            self.grammar.word & REQUIREMENTS
+            self.word & REQUIREMENTS
         }
     }
 
@@ -337,7 +314,7 @@ impl Stop {
         while index < CONDITIONS.len() {
             let condition = CONDITIONS[index];
             if self.is_unmet(condition) {
-                unmet = unmet.with(condition, self.grammar.conditions.number(condition));
+                unmet = unmet.with(condition, self.conditions.number(condition));
             }
             index += 1;
         }
@@ -346,9 +323,7 @@ impl Stop {
 
     // Returns whether the syntax has a condition that alone refuses what cannot follow.
     const fn is_unmet(self, condition: Condition) -> bool {
-        self.grammar.conditions.has(condition)
-            && self.is_free()
-            && !self.allows(self.bare(), self.grammar.conditions.only(condition))
+        self.conditions.has(condition) && self.is_free() && !self.allows(self.bare(), self.conditions.only(condition))
     }
 
     // Returns the flags each of which would allow a separator that is not allowed.
@@ -365,7 +340,7 @@ impl Stop {
         match self.byte {
             None => self.read.gap,
             Some(byte) => {
-                let role = role_at(self.grammar, part_of(self.read.stage), byte);
+                let role = role_at(self.as_grammar(), part_of(self.read.stage), byte);
                 self.read.gap || matches!(role, Some(Role::Separator))
             }
         }
@@ -373,8 +348,9 @@ impl Stop {
 
     // Returns where a separator is not allowed, before or after `byte`.
     const fn place(self, byte: u8) -> Place {
-        let role = role_at(self.grammar, part_of(self.read.stage), byte);
-        let is_consecutive = self.read.gap && !self.grammar.view().separators(part_of(self.read.stage)).consecutive;
+        let role = role_at(self.as_grammar(), part_of(self.read.stage), byte);
+        let is_consecutive =
+            self.read.gap && !self.as_grammar().view().separators(part_of(self.read.stage)).consecutive;
         if is_consecutive && matches!(role, Some(Role::Separator)) {
             Place::Consecutive
         } else if has_digit(self.read.stage) {
@@ -387,9 +363,9 @@ impl Stop {
     // Returns the flags by which the case of `byte` counts, if its other case may be next.
     const fn case_flags(self, byte: u8) -> u128 {
         let other = other_case(byte);
-        let stop = Stop { byte: Some(other), ..self };
-        if stop.is_free() {
-            case_mask(self.grammar, other)
+        let spot = Spot { byte: Some(other), ..self };
+        if spot.is_free() {
+            case_mask(self.as_grammar(), other)
         } else {
             0
         }

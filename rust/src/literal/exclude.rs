@@ -3,8 +3,8 @@
 //! What excludes that a text is a literal of a form: its first bytes, or a byte that plays no role in the form.
 
 use crate::literal::cause::other_case;
-use crate::literal::plain::At;
-use crate::literal::steps::{is_digit, role_at};
+use crate::literal::step::{is_digit, role_at};
+use crate::literal::stop::Stopped;
 use crate::literal::syntax::{Condition, Grammar};
 use crate::word::{Part, Role};
 
@@ -23,7 +23,7 @@ pub(crate) const fn excludes(grammar: Grammar, text: &[u8], sign: usize) -> bool
 // Returns whether a form need not be asked whether `text` is a literal of it: its first bytes exclude that, or the byte where the
 // furthest form stops is a stranger. Then it goes no further.
 #[inline(always)]
-pub(crate) const fn is_behind(grammar: Grammar, text: &[u8], sign: usize, furthest: Option<(usize, At)>) -> bool {
+pub(crate) const fn is_behind(grammar: Grammar, text: &[u8], sign: usize, furthest: Option<(usize, Stopped)>) -> bool {
     excludes(grammar, text, sign)
         || match furthest {
             None => false,

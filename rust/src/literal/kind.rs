@@ -14,7 +14,7 @@ pub enum IntegerKind {
     /// An integer of so many bits, one of which is its sign: from `2 ^ (bits - 1)` on, `2 ^ bits` less than the number. From
     /// `2 ^ bits` on, the number is too large.
     Wraps(u8),
-    /// The same, by the lowest bits of the number, however large it is.
+    /// An integer of so many bits, one of which is its sign: the lowest bits of the number, however large it is.
     WrapsModulo(u8),
 }
 

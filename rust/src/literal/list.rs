@@ -6,9 +6,8 @@ use crate::literal::cause::ReadError;
 use crate::literal::exclude::{excludes, is_behind, is_settled, sign_size};
 use crate::literal::kind::Kind;
 use crate::literal::literal::Literal;
-use crate::literal::plain::At;
-use crate::literal::read::Found;
 use crate::literal::specials::{Special, Specials};
+use crate::literal::stop::{Found, Stopped};
 use crate::literal::suffix::Suffixes;
 use crate::literal::syntax::Syntax;
 
@@ -224,12 +223,12 @@ impl<'a> Forms<'a> {
             let it = &self.forms[form];
             let syntax = &it.syntax;
             if !is_behind(syntax.as_grammar(), text, sign, furthest) {
-                let counted = syntax.begin(false, text, false);
-                if syntax.is_whole(text, counted) {
-                    let literal = syntax.literal(text, counted.counts, counted.sums).with_kind(it.kind);
+                let begun = syntax.begin(false, text, false);
+                if begun.is_whole(syntax, text) {
+                    let literal = syntax.literal(text, begun.counts, begun.sums).with_kind(it.kind);
                     return Ok(Number::Literal { literal, form });
                 }
-                let stop = match syntax.reached(text, counted) {
+                let stop = match begun.lengths(syntax, text) {
                     Ok(counts) => {
                         let literal = syntax.summed(text, counts).with_kind(it.kind);
                         return Ok(Number::Literal { literal, form });
@@ -274,7 +273,7 @@ impl<'a> Forms<'a> {
     const fn without_literal<'t>(
         &self,
         text: &'t [u8],
-        furthest: Option<(usize, At)>,
+        furthest: Option<(usize, Stopped)>,
     ) -> Result<Number<'t>, FormError> {
         match self.special(text) {
             Some(special) => Ok(Number::Special(special)),
@@ -296,12 +295,12 @@ impl<'a> Forms<'a> {
         while form < self.forms.len() {
             let syntax = &self.forms[form].syntax;
             if !excludes(syntax.as_grammar(), text, sign_size(text)) {
-                let counted = syntax.begin_any(text, false);
-                if syntax.is_whole(text, counted) {
-                    return Some((form, syntax.literal(text, counted.counts, counted.sums)));
+                let begun = syntax.begin_any(text, false);
+                if begun.is_whole(syntax, text) {
+                    return Some((form, syntax.literal(text, begun.counts, begun.sums)));
                 }
-                let stop = syntax.reach(text, counted);
-                if let Some(counts) = syntax.lengths(text, stop) {
+                let stop = begun.stop(syntax, text);
+                if let Some(counts) = stop.lengths(syntax, text) {
                     return Some((form, syntax.summed(text, counts)));
                 }
             }
@@ -311,11 +310,11 @@ impl<'a> Forms<'a> {
     }
 
     // Returns the form that goes furthest in `text`, the first of equals, and where it stops.
-    pub(crate) const fn furthest(&self, text: &[u8]) -> Option<(usize, At)> {
+    pub(crate) const fn furthest(&self, text: &[u8]) -> Option<(usize, Stopped)> {
         let mut furthest = None;
         let mut form = 0;
         while form < self.forms.len() {
-            let stop = self.forms[form].syntax.stop_in(text);
+            let stop = self.forms[form].syntax.stop(text);
             furthest = further(furthest, form, stop);
             form += 1;
         }
@@ -343,7 +342,7 @@ impl<'a> Forms<'a> {
     // Returns why `text` is not a literal of the form that goes furthest, or, if the cause is a wrong byte or a required prefix is
     // not there, of the first that goes as far and has another cause.
     #[cold]
-    pub(crate) const fn refuse(&self, text: &[u8], furthest: Option<(usize, At)>) -> FormError {
+    pub(crate) const fn refuse(&self, text: &[u8], furthest: Option<(usize, Stopped)>) -> FormError {
         let Some((first, stop)) = furthest else { unreachable!() };
         let error = self.error_at(text, first, stop);
         let forms = self.as_slice();
@@ -368,9 +367,9 @@ impl<'a> Forms<'a> {
 
     // Returns why `text` is not a literal of the form with the index `form`, which stops at `stop`.
     #[inline(always)]
-    const fn error_at(&self, text: &[u8], form: usize, stop: At) -> FormError {
+    const fn error_at(&self, text: &[u8], form: usize, stop: Stopped) -> FormError {
         let it = &self.as_slice()[form];
-        let Err(error) = it.syntax.refuse::<()>(text, stop) else { unreachable!() };
+        let Err(error) = stop.refuse::<()>(&it.syntax, text) else { unreachable!() };
         FormError { form, name: it.name, error }
     }
 }
@@ -387,16 +386,25 @@ const fn longer(longest: Option<(usize, Found)>, form: usize, found: Option<Foun
 
 // Returns which of two forms goes further, the first of equals.
 #[inline(always)]
-pub(crate) const fn further(furthest: Option<(usize, At)>, form: usize, stop: At) -> Option<(usize, At)> {
+pub(crate) const fn further(
+    furthest: Option<(usize, Stopped)>,
+    form: usize,
+    stop: Stopped,
+) -> Option<(usize, Stopped)> {
     match furthest {
         Some((_, best)) if best.size >= stop.size => furthest,
         _ => Some((form, stop)),
     }
 }
 
-// Returns the same, without a form that does not go beyond the first byte behind a sign of this length.
+// Returns which of two forms goes further, without one that does not go beyond the first byte behind a sign of this length.
 #[inline(always)]
-const fn further_on(sign: usize, furthest: Option<(usize, At)>, form: usize, stop: At) -> Option<(usize, At)> {
+const fn further_on(
+    sign: usize,
+    furthest: Option<(usize, Stopped)>,
+    form: usize,
+    stop: Stopped,
+) -> Option<(usize, Stopped)> {
     if stop.size > sign + 1 {
         further(furthest, form, stop)
     } else {

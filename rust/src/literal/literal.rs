@@ -1,13 +1,53 @@
 // Made by rust/tools/erase.py from crates/lexical_literal/src/literal.rt: change that file.
 
-//! Literals that were read, and the numbers that their digits represent.
+//! Literals that were read, their parts, and the numbers that their digits represent.
 
 use crate::literal::kind::Kind;
-use crate::literal::plain::{Sum, Sums};
-use crate::literal::read::{cut, Parts};
 use crate::literal::syntax::Syntax;
-use crate::literal::value::number::word::{add_all, count, fits, word};
+use crate::literal::value::number::small::{add_all, count, fits, small};
 use crate::word::FormatView;
+
+/// The parts of a literal, in the order of the text. An absent part has no bytes.
+#[derive(Debug, Clone, Copy, PartialEq, Eq, Hash)]
+pub struct Parts<'a> {
+    /// The sign, `+` or `-`.
+    pub sign: &'a [u8],
+    /// The base prefix, with the zero before it.
+    pub prefix: &'a [u8],
+    /// The integer digits, with their separators.
+    pub integer: &'a [u8],
+    /// The decimal point.
+    pub point: &'a [u8],
+    /// The fraction digits, with their separators.
+    pub fraction: &'a [u8],
+    /// The exponent character.
+    pub exponent_character: &'a [u8],
+    /// The sign of the exponent, `+` or `-`.
+    pub exponent_sign: &'a [u8],
+    /// The exponent digits, with their separators.
+    pub exponent: &'a [u8],
+    /// The base suffix.
+    pub suffix: &'a [u8],
+}
+
+// The number of digits, and the number that they represent, modulo `2 ^ 64`.
+#[derive(Clone, Copy)]
+pub(crate) struct Sum {
+    pub(crate) digits: usize,
+    pub(crate) value: u64,
+}
+
+// The sums of the digits of a literal: of those of the integer and the fraction together, and of those of the exponent. There are
+// `places` digits of the fraction.
+#[derive(Clone, Copy)]
+pub(crate) struct Sums {
+    pub(crate) mantissa: Sum,
+    pub(crate) places: usize,
+    pub(crate) exponent: Sum,
+}
+
+// The sum of no digits.
+pub(crate) const NOTHING: Sum = Sum { digits: 0, value: 0 };
 
 /// A text that was read as a literal: its parts, and the numbers that its digits represent.
 #[derive(Clone, Copy, PartialEq, Eq, Hash)]
@@ -49,7 +89,7 @@ impl<'a> Literal<'a> {
     #[must_use]
     #[inline(always)]
     pub(crate) const fn cut(&self) -> Parts<'a> {
-        cut(self.text, self.counts)
+        parts_of(self.text, self.counts)
     }
 
     /// Returns whether the sign is `-`.
@@ -108,12 +148,12 @@ impl Syntax {
             exponent: Sum { digits: exponent_digits, value: exponent_value },
         } = sums;
         let (has_exponent, exponent) =
-            split(exponent(view.exponent_radix(), text, counts, exponent_digits, exponent_value));
+            split(small_exponent(view.exponent_radix(), text, counts, exponent_digits, exponent_value));
         Literal {
             text,
             counts,
             view,
-            mantissa: mantissa(view.mantissa_radix(), text, counts, digits, value),
+            mantissa: small_mantissa(view.mantissa_radix(), text, counts, digits, value),
             places,
             exponent,
             has_exponent,
@@ -125,7 +165,7 @@ impl Syntax {
     #[cold]
     pub(crate) const fn summed<'a>(&self, text: &'a [u8], counts: [usize; 9]) -> Literal<'a> {
         let view = self.format().view();
-        let sums = sums_of(view.mantissa_radix(), view.exponent_radix(), &cut(text, counts));
+        let sums = sums_of(view.mantissa_radix(), view.exponent_radix(), &parts_of(text, counts));
         self.literal(text, counts, sums)
     }
 }
@@ -155,6 +195,26 @@ const fn is_minus(sign: &[u8]) -> bool {
     matches!(sign, [b'-', ..])
 }
 
+// Splits off the first `size` bytes.
+#[inline(always)]
+const fn split_front<'a>(text: &'a [u8], size: usize) -> (&'a [u8], &'a [u8]) {
+    text.split_at(size)
+}
+
+// Returns the parts of `text`, which have the lengths `counts`.
+#[inline(always)]
+const fn parts_of<'a>(text: &'a [u8], counts: [usize; 9]) -> Parts<'a> {
+    let (sign, after_sign) = split_front(text, counts[0]);
+    let (prefix, after_prefix) = split_front(after_sign, counts[1]);
+    let (integer, after_integer) = split_front(after_prefix, counts[2]);
+    let (point, after_point) = split_front(after_integer, counts[3]);
+    let (fraction, after_fraction) = split_front(after_point, counts[4]);
+    let (exponent_character, after_character) = split_front(after_fraction, counts[5]);
+    let (exponent_sign, after_exponent_sign) = split_front(after_character, counts[6]);
+    let (exponent, suffix) = split_front(after_exponent_sign, counts[7]);
+    Parts { sign, prefix, integer, point, fraction, exponent_character, exponent_sign, exponent, suffix }
+}
+
 // Returns the sums of the digits of `parts`.
 const fn sums_of(radix: u32, exponent_radix: u32, parts: &Parts) -> Sums {
     let places = count(parts.fraction, radix);
@@ -174,19 +234,19 @@ const fn sums_of(radix: u32, exponent_radix: u32, parts: &Parts) -> Sums {
 // Returns the number that the digits of the integer and the fraction represent together, if they are few. There are `digits` of
 // them, and `sum` is the number modulo `2 ^ 64`.
 #[inline(always)]
-const fn mantissa(radix: u32, text: &[u8], counts: [usize; 9], digits: usize, sum: u64) -> Option<u64> {
+const fn small_mantissa(radix: u32, text: &[u8], counts: [usize; 9], digits: usize, sum: u64) -> Option<u64> {
     if fits(radix, digits) {
         return Some(sum);
     }
-    let parts = cut(text, counts);
-    word(radix, parts.integer, parts.fraction, digits, sum)
+    let parts = parts_of(text, counts);
+    small(radix, parts.integer, parts.fraction, digits, sum)
 }
 
-// Returns the number that the digits of the exponent represent, if they are few, as `mantissa` does.
+// Returns the number that the digits of the exponent represent, if they are few, as `small_mantissa` does.
 #[inline(always)]
-const fn exponent(radix: u32, text: &[u8], counts: [usize; 9], digits: usize, sum: u64) -> Option<u64> {
+const fn small_exponent(radix: u32, text: &[u8], counts: [usize; 9], digits: usize, sum: u64) -> Option<u64> {
     if fits(radix, digits) {
         return Some(sum);
     }
-    word(radix, cut(text, counts).exponent, &[], digits, sum)
+    small(radix, parts_of(text, counts).exponent, &[], digits, sum)
 }

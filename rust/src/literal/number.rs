@@ -5,10 +5,9 @@ use core::{iter::FusedIterator, slice};
 
 use crate::digit::char_to_valid_digit_const;
 use crate::format_flags::Part;
-use crate::literal::groups::Group;
-use crate::literal::plain::{At, Counted};
-use crate::literal::read::Found;
-use crate::literal::steps::{is_complete, step};
+use crate::literal::group_size::Group;
+use crate::literal::step::{is_complete, step};
+use crate::literal::stop::{Begun, Found, Stopped};
 use crate::literal::{Literal, ReadError, Syntax};
 use crate::word::Role;
 
@@ -60,12 +59,12 @@ impl Syntax {
     /// ```
     pub const fn read_bytes<'t>(&self, text: &'t [u8]) -> Result<Literal<'t>, ReadError> {
         if self.is_decimal() {
-            let counted = self.begin(true, text, false);
-            if self.is_whole(text, counted) {
-                return Ok(self.literal(text, counted.counts, counted.sums));
+            let begun = self.begin(true, text, false);
+            if begun.is_whole(self, text) {
+                return Ok(self.literal(text, begun.counts, begun.sums));
             }
-            if counted.exact || self.is_refused(text, counted.at) {
-                return self.refuse(text, counted.at);
+            if begun.exact || begun.at.is_refused(self, text) {
+                return begun.at.refuse(self, text);
             }
         }
         self.read_generally(text)
@@ -77,57 +76,46 @@ impl Syntax {
     pub fn read_then<'t, R>(&self, text: &'t [u8], then: impl FnOnce(Result<Literal<'t>, ReadError>) -> R) -> R {
         let mut refused = None;
         if self.is_decimal() {
-            let counted = self.begin(true, text, false);
-            if self.is_whole(text, counted) {
-                return then(Ok(self.literal(text, counted.counts, counted.sums)));
+            let begun = self.begin(true, text, false);
+            if begun.is_whole(self, text) {
+                return then(Ok(self.literal(text, begun.counts, begun.sums)));
             }
-            refused = counted.exact.then_some(counted.at);
+            refused = begun.exact.then_some(begun.at);
         }
         then(match refused {
-            Some(at) => self.refuse_literal(text, at),
+            Some(stop) => self.refuse_literal(text, stop),
             None => self.read_generally(text),
         })
     }
 
-    // Returns why `text`, of which reading stopped at `at`, is not a literal, for the call above, in one copy.
+    // Returns why `text`, of which reading stopped at `stop`, is not a literal, in one copy.
     #[inline(never)]
-    const fn refuse_literal<'t>(&self, text: &'t [u8], at: At) -> Result<Literal<'t>, ReadError> {
-        self.refuse(text, at)
+    const fn refuse_literal<'t>(&self, text: &'t [u8], stop: Stopped) -> Result<Literal<'t>, ReadError> {
+        stop.refuse(self, text)
     }
 
     // Returns what `read` returns for any syntax.
     #[inline(never)]
     pub(crate) const fn read_generally<'t>(&self, text: &'t [u8]) -> Result<Literal<'t>, ReadError> {
-        let counted = self.begin_small(text, false);
-        if self.is_whole(text, counted) {
-            Ok(self.literal(text, counted.counts, counted.sums))
-        } else if counted.exact {
-            self.refuse(text, counted.at)
+        let begun = self.begin_small(text, false);
+        if begun.is_whole(self, text) {
+            Ok(self.literal(text, begun.counts, begun.sums))
+        } else if begun.exact {
+            begun.at.refuse(self, text)
         } else {
-            self.read_slowly(text, counted.at)
-        }
-    }
-
-    // Returns whether reading stops at `at`, where it has come in a usual syntax, and `text` is not a literal.
-    #[inline(never)]
-    pub(crate) const fn is_refused(&self, text: &[u8], at: At) -> bool {
-        let At { size, read } = at;
-        if size < text.len() {
-            step(self.as_grammar(), read, text[size]).is_none()
-        } else {
-            !is_complete(self.as_grammar(), read)
+            self.read_slowly(text, begun.at)
         }
     }
 
     // Returns what `begin` returns for any syntax, in one copy.
     #[inline(never)]
-    pub(crate) const fn begin_any(&self, text: &[u8], fronts: bool) -> Counted {
+    pub(crate) const fn begin_any(&self, text: &[u8], fronts: bool) -> Begun {
         self.begin(false, text, fronts)
     }
 
-    // Returns the same, from that copy only in the library for C, which sets `peltzivar_small`.
+    // Returns what `begin` returns for any syntax, from one copy only in the library for C, which sets `peltzivar_small`.
     #[inline(always)]
-    pub(crate) const fn begin_small(&self, text: &[u8], fronts: bool) -> Counted {
+    pub(crate) const fn begin_small(&self, text: &[u8], fronts: bool) -> Begun {
         if cfg!(peltzivar_small) {
             self.begin_any(text, fronts)
         } else {
@@ -135,19 +123,13 @@ impl Syntax {
         }
     }
 
-    // Returns what `step` returns, in one copy.
-    #[inline(never)]
-    pub(crate) const fn step_any(&self, text: &[u8], at: At, group: Group) -> Option<(Role, At, Group)> {
-        self.step(text, at, group)
-    }
-
     // Returns what `read` returns, where `at` has been read.
     #[inline(never)]
-    const fn read_slowly<'t>(&self, text: &'t [u8], at: At) -> Result<Literal<'t>, ReadError> {
-        let stop = self.stop(text, at);
-        match self.lengths(text, stop) {
+    const fn read_slowly<'t>(&self, text: &'t [u8], at: Stopped) -> Result<Literal<'t>, ReadError> {
+        let stop = at.go_on(self, text);
+        match stop.lengths(self, text) {
             Some(counts) => Ok(self.summed(text, counts)),
-            None => self.refuse(text, stop),
+            None => stop.refuse(self, text),
         }
     }
 
@@ -182,12 +164,31 @@ impl Syntax {
     /// Returns what [`read_prefix`][Self::read_prefix] returns, also in a constant.
     pub const fn read_prefix_bytes<'t>(&self, text: &'t [u8]) -> Result<(Literal<'t>, &'t [u8]), ReadError> {
         match self.front(text) {
-            (stop, None) => self.refuse(text, stop),
+            (stop, None) => stop.refuse(self, text),
             (_, Some(Found { size, counts })) => {
                 let (text, rest) = text.split_at(size);
                 Ok((self.summed(text, counts), rest))
             }
         }
+    }
+}
+
+impl Stopped {
+    // Returns whether reading stops for good where it has come in a usual syntax, and `text` is not a literal.
+    #[inline(never)]
+    pub(crate) const fn is_refused(self, syntax: &Syntax, text: &[u8]) -> bool {
+        let Stopped { size, read } = self;
+        if size < text.len() {
+            step(syntax.as_grammar(), read, text[size]).is_none()
+        } else {
+            !is_complete(syntax.as_grammar(), read)
+        }
+    }
+
+    // Returns what `step` returns, in one copy.
+    #[inline(never)]
+    pub(crate) const fn step_any(self, syntax: &Syntax, text: &[u8], group: Group) -> Option<(Role, Stopped, Group)> {
+        self.step(syntax, text, group)
     }
 }
 

@@ -3,18 +3,19 @@
 //! The bytes to show for a cause, and the error of `lexical-util`.
 
 use crate::error::Error;
-use crate::literal::cause::{Marks, Place, ReadErrorKind};
-use crate::literal::groups::has_sizes;
-use crate::literal::read::front_of;
-use crate::literal::steps::is_digit;
+use crate::literal::cause::{Place, ReadErrorKind, Spot};
+use crate::literal::group_size::has_sizes;
+use crate::literal::step::{is_digit, Summary};
+use crate::literal::stop::front_of;
 use crate::literal::syntax::{Condition, Grammar};
 use crate::word::Part;
 
-// A set of bytes.
+// A kind of bytes.
 #[derive(Clone, Copy)]
-enum Kind {
+enum ByteKind {
     Digit,
     NotDigit,
+    Separator,
     NotSeparator,
     // Neither a separator nor a sign.
     Body,
@@ -22,19 +23,19 @@ enum Kind {
 
 // Returns whether `byte` is of a kind.
 #[inline(always)]
-const fn is_kind(grammar: Grammar, kind: Kind, byte: u8) -> bool {
+const fn is_kind(grammar: Grammar, kind: ByteKind, byte: u8) -> bool {
     let separator = grammar.view().is_separator(byte);
     match kind {
-        Kind::Digit => is_digit(grammar, Part::Integer, byte),
-        Kind::NotDigit => !is_digit(grammar, Part::Integer, byte),
-        Kind::NotSeparator => !separator,
-        Kind::Body => !(separator || byte == b'+' || byte == b'-'),
+        ByteKind::Digit => is_digit(grammar, Part::Integer, byte),
+        ByteKind::NotDigit => !is_digit(grammar, Part::Integer, byte),
+        ByteKind::Separator => separator,
+        ByteKind::NotSeparator => !separator,
+        ByteKind::Body => !(separator || byte == b'+' || byte == b'-'),
     }
 }
 
 // Returns the index behind the last byte of a kind, or 0 if there is none.
-#[inline(always)]
-const fn behind(grammar: Grammar, kind: Kind, text: &[u8]) -> usize {
+const fn index_behind(grammar: Grammar, kind: ByteKind, text: &[u8]) -> usize {
     let mut front = text;
     while let [rest @ .., byte] = front {
         if is_kind(grammar, kind, *byte) {
@@ -47,7 +48,7 @@ const fn behind(grammar: Grammar, kind: Kind, text: &[u8]) -> usize {
 
 // Returns the index of the first byte of a kind, or the length of `text` if there is none.
 #[inline(always)]
-const fn first(grammar: Grammar, kind: Kind, text: &[u8]) -> usize {
+const fn first(grammar: Grammar, kind: ByteKind, text: &[u8]) -> usize {
     let mut rest = text;
     while let [byte, more @ ..] = rest {
         if is_kind(grammar, kind, *byte) {
@@ -58,33 +59,42 @@ const fn first(grammar: Grammar, kind: Kind, text: &[u8]) -> usize {
     text.len()
 }
 
-// Returns what spans and errors of a text are made of, the right bytes of which are `front`. Most fronts end neither in a
-// separator nor in a sign.
+// Returns where reading stopped, behind the right bytes `front`.
 #[inline(always)]
-pub(crate) const fn marks(grammar: Grammar, front: &[u8]) -> Marks {
+pub(crate) const fn spot(
+    grammar: Grammar,
+    front: &[u8],
+    read: Summary,
+    byte: Option<u8>,
+    tail: [u8; 3],
+    separated: bool,
+) -> Spot {
+    let Grammar { word, options, conditions } = grammar;
     let size = front.len();
-    match front {
-        [.., last] if is_kind(grammar, Kind::Body, *last) => Marks {
-            size,
-            exponent: size,
-            first: first(grammar, Kind::Digit, front),
-            run: size,
-            group: group_start(grammar, front),
-        },
-        _ => marks_before(grammar, front),
+    let (exponent, run) = body_ends(grammar, front);
+    Spot {
+        word,
+        options,
+        conditions,
+        read,
+        byte,
+        tail,
+        size,
+        exponent,
+        first: first(grammar, ByteKind::Digit, front_of(front, run)),
+        run,
+        group: group_start(grammar, front),
+        separated,
     }
 }
 
-// Returns the same for any front.
-#[cold]
-const fn marks_before(grammar: Grammar, front: &[u8]) -> Marks {
-    let run = behind(grammar, Kind::NotSeparator, front);
-    Marks {
-        size: front.len(),
-        exponent: behind(grammar, Kind::Body, front),
-        first: first(grammar, Kind::Digit, front_of(front, run)),
-        run,
-        group: group_start(grammar, front),
+// Returns the indexes behind the last byte that is neither a separator nor a sign, and behind the last that is not a separator. Most
+// fronts end in neither.
+#[inline(always)]
+const fn body_ends(grammar: Grammar, front: &[u8]) -> (usize, usize) {
+    match front {
+        [.., last] if is_kind(grammar, ByteKind::Body, *last) => (front.len(), front.len()),
+        _ => (index_behind(grammar, ByteKind::Body, front), index_behind(grammar, ByteKind::NotSeparator, front)),
     }
 }
 
@@ -92,122 +102,102 @@ const fn marks_before(grammar: Grammar, front: &[u8]) -> Marks {
 #[inline(always)]
 const fn group_start(grammar: Grammar, front: &[u8]) -> usize {
     if has_sizes(grammar) {
-        behind(grammar, Kind::NotDigit, front)
+        index_behind(grammar, ByteKind::NotDigit, front)
     } else {
         0
     }
 }
 
-// Returns the index behind the byte that cannot follow, or the end of the text if bytes are missing.
-const fn wrong_end(marks: Marks, next: Option<u8>) -> usize {
-    match next {
-        None => marks.size,
-        Some(_) => marks.size + 1,
+impl Spot {
+    // Returns the index behind the byte that cannot follow, or the end of the text if bytes are missing.
+    const fn wrong_end(self) -> usize {
+        match self.byte {
+            None => self.size,
+            Some(_) => self.size + 1,
+        }
     }
-}
 
-// Returns whether the byte that cannot follow is a digit of the integer.
-const fn is_digit_next(grammar: Grammar, next: Option<u8>) -> bool {
-    match next {
-        None => false,
-        Some(byte) => is_digit(grammar, Part::Integer, byte),
+    // Returns whether the byte that cannot follow is of a kind.
+    const fn is_at(self, kind: ByteKind) -> bool {
+        match self.byte {
+            None => false,
+            Some(byte) => is_kind(self.as_grammar(), kind, byte),
+        }
     }
-}
 
-// Returns whether the byte that cannot follow is a separator.
-const fn is_separator_next(grammar: Grammar, next: Option<u8>) -> bool {
-    match next {
-        None => false,
-        Some(byte) => grammar.view().is_separator(byte),
+    // Returns the first index and the end of the bytes to show for the flag with the number `number`.
+    const fn requirement_span(self, number: u32) -> (usize, usize) {
+        let (size, end) = (self.size, self.wrong_end());
+        match number {
+            2 => (self.exponent, size),
+            12 | 13 if self.is_at(ByteKind::Digit) => (self.first, end),
+            12 | 13 if self.is_at(ByteKind::Separator) => (size, end),
+            12 | 13 => (self.first, self.run),
+            4 | 6 | 7 | 9 => (size, end),
+            _ => (size, size),
+        }
     }
-}
 
-// Returns the first index and the end of the bytes to show for the flag with the number `number`.
-const fn requirement_span(grammar: Grammar, marks: Marks, next: Option<u8>, number: u32) -> (usize, usize) {
-    let (size, end) = (marks.size, wrong_end(marks, next));
-    match number {
-        2 => (marks.exponent, size),
-        12 | 13 if is_digit_next(grammar, next) => (marks.first, end),
-        12 | 13 if is_separator_next(grammar, next) => (size, end),
-        12 | 13 => (marks.first, marks.run),
-        4 | 6 | 7 | 9 => (size, end),
-        _ => (size, size),
+    // Returns the first index and the end of the bytes to show for a condition.
+    const fn condition_span(self, condition: Condition) -> (usize, usize) {
+        let (size, end) = (self.size, self.wrong_end());
+        match condition {
+            Condition::BasePrefix => (self.first, self.first),
+            Condition::BaseSuffix => (size, size),
+            Condition::NegativeSign | Condition::LeadingZero | Condition::DecimalFirstDigit => (size, end),
+            _ if self.is_at(ByteKind::Digit) => (self.group, end),
+            _ => (self.group, size),
+        }
     }
-}
 
-// Returns the first index and the end of the bytes to show for a condition.
-const fn condition_span(grammar: Grammar, marks: Marks, next: Option<u8>, condition: Condition) -> (usize, usize) {
-    let (size, end) = (marks.size, wrong_end(marks, next));
-    match condition {
-        Condition::BasePrefix => (marks.first, marks.first),
-        Condition::BaseSuffix => (size, size),
-        Condition::NegativeSign | Condition::LeadingZero | Condition::DecimalFirstDigit => (size, end),
-        _ if is_digit_next(grammar, next) => (marks.group, end),
-        _ => (marks.group, size),
+    // Returns the first index and the end of the bytes to show for a kind of error and its lowest flag, or its first condition if
+    // no flag is to blame.
+    pub(crate) const fn span(self, kind: ReadErrorKind, number: u32, unmet: Option<Condition>) -> (usize, usize) {
+        let (size, end) = (self.size, self.wrong_end());
+        match kind {
+            ReadErrorKind::Requirement => match unmet {
+                None => self.requirement_span(number),
+                Some(condition) => self.condition_span(condition),
+            },
+            ReadErrorKind::Separator(_, Place::Consecutive) | ReadErrorKind::Case | ReadErrorKind::Byte => (size, end),
+            ReadErrorKind::Separator(_, _) if self.is_at(ByteKind::Separator) => (self.run, end),
+            ReadErrorKind::Separator(_, _) => (self.run, size),
+            ReadErrorKind::Missing(_) => (size, size),
+        }
     }
-}
 
-// Returns the first index and the end of the bytes to show for a kind of error and its lowest flag, or its first condition if
-// no flag is to blame.
-pub(crate) const fn span(
-    grammar: Grammar,
-    marks: Marks,
-    next: Option<u8>,
-    kind: ReadErrorKind,
-    number: u32,
-    unmet: Option<Condition>,
-) -> (usize, usize) {
-    let (size, end) = (marks.size, wrong_end(marks, next));
-    match kind {
-        ReadErrorKind::Requirement => match unmet {
-            None => requirement_span(grammar, marks, next, number),
-            Some(condition) => condition_span(grammar, marks, next, condition),
-        },
-        ReadErrorKind::Separator(_, Place::Consecutive) | ReadErrorKind::Case | ReadErrorKind::Byte => (size, end),
-        ReadErrorKind::Separator(_, _) if is_separator_next(grammar, next) => (marks.run, end),
-        ReadErrorKind::Separator(_, _) => (marks.run, size),
-        ReadErrorKind::Missing(_) => (size, size),
+    // Returns the error for the flag with the number `number`.
+    const fn requirement_error(self, number: u32, start: usize) -> Error {
+        let integers = matches!(self.options, None);
+        match number {
+            0 => Error::EmptyInteger(start),
+            1 => Error::EmptyFraction(start),
+            2 => Error::EmptyExponent(self.size),
+            3 => Error::EmptyMantissa(start),
+            4 if integers => Error::InvalidPositiveSign(start),
+            4 => Error::InvalidPositiveMantissaSign(start),
+            5 if integers => Error::MissingSign(start),
+            5 => Error::MissingMantissaSign(start),
+            6 => Error::InvalidExponent(start),
+            7 => Error::InvalidPositiveExponentSign(start),
+            8 => Error::MissingExponentSign(start),
+            9 => Error::ExponentWithoutFraction(start),
+            14 => Error::MissingExponent(start),
+            _ => Error::InvalidLeadingZeros(start),
+        }
     }
-}
 
-// Returns the error for the flag with the number `number`.
-const fn requirement_error(grammar: Grammar, number: u32, start: usize, size: usize) -> Error {
-    let integers = matches!(grammar.options, None);
-    match number {
-        0 => Error::EmptyInteger(start),
-        1 => Error::EmptyFraction(start),
-        2 => Error::EmptyExponent(size),
-        3 => Error::EmptyMantissa(start),
-        4 if integers => Error::InvalidPositiveSign(start),
-        4 => Error::InvalidPositiveMantissaSign(start),
-        5 if integers => Error::MissingSign(start),
-        5 => Error::MissingMantissaSign(start),
-        6 => Error::InvalidExponent(start),
-        7 => Error::InvalidPositiveExponentSign(start),
-        8 => Error::MissingExponentSign(start),
-        9 => Error::ExponentWithoutFraction(start),
-        14 => Error::MissingExponent(start),
-        _ => Error::InvalidLeadingZeros(start),
-    }
-}
-
-// Returns the error for a kind of error and its lowest flag, or its first condition if no flag is to blame, where the bytes to
-// show begin at `start`.
-pub(crate) const fn error(
-    grammar: Grammar,
-    marks: Marks,
-    kind: ReadErrorKind,
-    number: u32,
-    unmet: Option<Condition>,
-    start: usize,
-) -> Error {
-    match kind {
-        ReadErrorKind::Requirement => match unmet {
-            None => requirement_error(grammar, number, start, marks.size),
-            Some(Condition::NegativeSign) => Error::InvalidNegativeSign(start),
-            Some(_) => Error::InvalidDigit(start),
-        },
-        ReadErrorKind::Missing(Part::Integer) if marks.run == marks.size => Error::Empty(start),
-        _ => Error::InvalidDigit(start),
+    // Returns the error for a kind of error and its lowest flag, or its first condition if no flag is to blame, where the bytes to
+    // show begin at `start`.
+    pub(crate) const fn error(self, kind: ReadErrorKind, number: u32, unmet: Option<Condition>, start: usize) -> Error {
+        match kind {
+            ReadErrorKind::Requirement => match unmet {
+                None => self.requirement_error(number, start),
+                Some(Condition::NegativeSign) => Error::InvalidNegativeSign(start),
+                Some(_) => Error::InvalidDigit(start),
+            },
+            ReadErrorKind::Missing(Part::Integer) if self.run == self.size => Error::Empty(start),
+            _ => Error::InvalidDigit(start),
+        }
     }
 }

@@ -3,7 +3,7 @@
 //! Words that stand directly behind a number, such as `u8`, and bytes that may not follow it.
 
 use crate::literal::kind::Kind;
-use crate::literal::read::byte_at;
+use crate::literal::stop::byte_at;
 
 /// Bytes that may not follow a number in source text, such as the `+` behind `0xe` in C.
 ///
@@ -253,7 +253,7 @@ pub(crate) const fn word_size(text: &[u8]) -> usize {
     text.len()
 }
 
-// Returns the same if `text` begins with one of the bytes `begins`, or 0 otherwise.
+// Returns the number of bytes of a word with which `text` begins, if its first byte is one of `begins`, or 0 otherwise.
 const fn any_word_size(begins: &[u8], text: &[u8]) -> usize {
     match text {
         [byte, ..] if has_byte(begins, *byte) => word_size(text),

@@ -6,7 +6,7 @@ use crate::format_flags::{
     base_prefix, base_suffix, digit_separator, BASE_PREFIX, EXPONENT_BASE, EXPONENT_RADIX, MANTISSA_RADIX,
     REQUIRED_EXPONENT_NOTATION, REQUIRED_MANTISSA_SIGN,
 };
-use crate::literal::steps::role_at;
+use crate::literal::step::role_at;
 use crate::word::{Format, FormatError, FormatView, Part, Role};
 
 /// The bytes of numbers that a format does not define.
@@ -116,13 +116,13 @@ impl Conditions {
         matches!(self.first(), None)
     }
 
-    // Returns whether there are none but `NegativeSign`, of which the number is the third.
+    // Returns whether there are no conditions but `NegativeSign`, of which the number is the third.
     #[inline(always)]
     const fn are_usual(self) -> bool {
         matches!(self.numbers, [0, 0, _, 0, 0, 0, 0, 0])
     }
 
-    // Returns the first of them.
+    // Returns the first of the conditions, in the order in which they are checked.
     pub(crate) const fn first(self) -> Option<Condition> {
         let mut index = 0;
         while index < CONDITIONS.len() {
@@ -327,7 +327,8 @@ pub(crate) const fn is_usual(grammar: Grammar) -> bool {
 }
 
 impl Syntax {
-    // Returns the same of a usual syntax, of which the compiler then knows the bits and the conditions.
+    // Returns the format, the options and the conditions of a usual syntax, of which the compiler then knows the bits and the
+    // conditions.
     #[inline(always)]
     pub(crate) const fn usual_grammar(&self) -> Grammar {
         let Grammar { word, options, conditions } = self.as_grammar();

@@ -5,9 +5,8 @@
 use crate::literal::exclude::sign_size;
 use crate::literal::list::{further, Form, FormError, Forms, Tokens};
 use crate::literal::literal::Literal;
-use crate::literal::plain::{At, Counted};
-use crate::literal::read::{byte_at, Found};
-use crate::literal::steps::{is_digit, is_point, role_at};
+use crate::literal::step::{is_digit, is_point, role_at};
+use crate::literal::stop::{byte_at, Begun, Found, Stopped};
 use crate::literal::suffix::{
     byte_before, has_word_byte, is_followed, is_stopped, is_word_byte, kind_with, suffix_size, suffix_words, word_size,
 };
@@ -90,7 +89,7 @@ pub(crate) struct Candidate {
 // What one pass over forms finds: the form that goes furthest and where it stops, and the best candidate with the index of its form.
 #[derive(Clone, Copy)]
 pub(crate) struct Scanned {
-    pub(crate) furthest: Option<(usize, At)>,
+    pub(crate) furthest: Option<(usize, Stopped)>,
     pub(crate) best: Option<(usize, Candidate)>,
 }
 
@@ -153,17 +152,17 @@ impl<'a> Forms<'a> {
             if is_excluded(it.syntax.as_grammar(), text, sign, excluding) {
                 reached = larger(reached, sign + 1);
             } else {
-                let counted = it.syntax.begin_small(text, true);
-                let size = counted.at.size;
-                if counted.complete
+                let begun = it.syntax.begin_small(text, true);
+                let size = begun.at.size;
+                if begun.complete
                     && reached < size
-                    && it.ends(back, text, counted)
+                    && it.is_longest(back, text, begun)
                     && are_past(self.forms, form, back, text, size)
                     && are_past(tokens.forms, tokens.forms.len(), back, text, size)
                 {
-                    return self.behind(tokens, text, it, form, counted);
+                    return self.token_at(tokens, text, it, form, begun);
                 }
-                let stop = it.syntax.reach(text, counted);
+                let stop = begun.stop(&it.syntax, text);
                 if gives_back(it.syntax, back, text, stop.size) {
                     return self.before_point(tokens, text, it, form, stop, reached);
                 }
@@ -183,37 +182,37 @@ impl<'a> Forms<'a> {
         text: &'t [u8],
         it: &Form,
         form: usize,
-        stop: At,
+        stop: Stopped,
         reached: usize,
     ) -> Option<Token<'t>> {
         let back = tokens.gives_points_back;
         let size = stop.size - 1;
         let (front, _) = text.split_at(size);
-        let counted = it.syntax.begin_small(front, true);
-        if counted.complete
-            && counted.at.size == size
+        let begun = it.syntax.begin_small(front, true);
+        if begun.complete
+            && begun.at.size == size
             && reached < size
             && !gives_back(it.syntax, back, text, size)
             && are_past(self.forms, form, back, text, size)
             && are_past(tokens.forms, tokens.forms.len(), back, text, size)
         {
-            self.behind(tokens, text, it, form, counted)
+            self.token_at(tokens, text, it, form, begun)
         } else {
             None
         }
     }
 
-    // Returns the token of which `counted` is the literal, of the form with this index, if nothing follows that may not.
+    // Returns the token of which `begun` is the literal, of the form with this index, if nothing follows that may not.
     #[inline(always)]
-    const fn behind<'t>(
+    const fn token_at<'t>(
         &self,
         _tokens: &Tokens,
         text: &'t [u8],
         it: &Form,
         form: usize,
-        counted: Counted,
+        begun: Begun,
     ) -> Option<Token<'t>> {
-        let Counted { at, counts, sums, .. } = counted;
+        let Begun { at, counts, sums, .. } = begun;
         let (front, rest) = text.split_at(at.size);
         let more = suffix_size(it.suffixes, is_float(counts), rest);
         if is_stopped(it.suffixes, text, at.size + more) {
@@ -253,7 +252,7 @@ impl<'a> Forms<'a> {
 
     // Returns why `text`, in which forms go as far as `furthest`, does not begin with a token.
     #[cold]
-    const fn fail(&self, _tokens: &Tokens, text: &[u8], furthest: Option<(usize, At)>) -> TokenError {
+    const fn fail(&self, _tokens: &Tokens, text: &[u8], furthest: Option<(usize, Stopped)>) -> TokenError {
         let Some((_, stop)) = furthest else { unreachable!() };
         let (_, rest) = text.split_at(stop.size);
         let end = stop.size + word_size(rest);
@@ -345,9 +344,9 @@ const fn made<'t>(it: &Form, text: &'t [u8], form: usize, candidate: Candidate) 
 impl Form {
     // Returns whether the front that has been read, which is a literal, is the longest, and does not end in a point that is given back.
     #[inline(always)]
-    const fn ends(&self, back: bool, text: &[u8], counted: Counted) -> bool {
-        let size = counted.at.size;
-        (is_over(self.syntax.as_grammar(), text, size) || self.syntax.reach(text, counted).size == size)
+    const fn is_longest(&self, back: bool, text: &[u8], begun: Begun) -> bool {
+        let size = begun.at.size;
+        (is_over(self.syntax.as_grammar(), text, size) || begun.stop(&self.syntax, text).size == size)
             && !gives_back(self.syntax, back, text, size)
     }
 
@@ -359,17 +358,18 @@ impl Form {
         lacks_prefix(grammar, text) || is_over(grammar, text, size) || self.stops(back, text, size)
     }
 
-    // Returns the same by reading.
+    // Returns by reading whether no literal begins with more than the first `size` bytes of `text`, or only with a point more that is
+    // given back.
     #[inline(never)]
     const fn stops(&self, back: bool, text: &[u8], size: usize) -> bool {
-        let stop = self.syntax.stop_in(text);
+        let stop = self.syntax.stop(text);
         stop.size <= size || (stop.size == size + 1 && gives_back(self.syntax, back, text, size + 1))
     }
 
     // Returns a size that no front of `text` that is a literal exceeds, where reading stops at `stop`.
     #[inline(always)]
-    const fn bound(&self, text: &[u8], stop: At) -> usize {
-        if stop.size == 0 || self.syntax.is_literal_up_to(text, stop) {
+    const fn bound(&self, text: &[u8], stop: Stopped) -> usize {
+        if stop.size == 0 || stop.is_literal(&self.syntax, text) {
             stop.size
         } else {
             stop.size - 1
@@ -378,18 +378,18 @@ impl Form {
 
     // Returns where reading `text` stops, and the candidate, if there is one.
     #[inline(always)]
-    const fn candidate(&self, back: bool, needs: bool, text: &[u8]) -> (At, Option<Candidate>) {
+    const fn candidate(&self, back: bool, needs: bool, text: &[u8]) -> (Stopped, Option<Candidate>) {
         let (stop, found) = self.syntax.front(text);
         let candidate = match found {
             None => None,
-            Some(found) => self.behind(back, needs, text, found),
+            Some(found) => self.candidate_of(back, needs, text, found),
         };
         (stop, candidate)
     }
 
     // Returns the candidate of which `found` is the longest front, if there is one.
     #[inline(always)]
-    const fn behind(&self, back: bool, needs: bool, text: &[u8], found: Found) -> Option<Candidate> {
+    const fn candidate_of(&self, back: bool, needs: bool, text: &[u8], found: Found) -> Option<Candidate> {
         match self.own(back, text, found) {
             None => None,
             Some(own) => self.suffixed(needs, text, own),
@@ -533,7 +533,7 @@ const fn is_one_ahead(forms: &[Form], back: bool, text: &[u8], end: usize) -> bo
     let mut form = 0;
     while form < forms.len() {
         let it = &forms[form];
-        let stop = it.syntax.stop_in(text);
+        let stop = it.syntax.stop(text);
         if goes_on(it.syntax, back, text, end, stop.size) {
             return true;
         }

@@ -3,7 +3,8 @@
 use core::fmt::{self, Write};
 
 use crate::format_flags::Part;
-use crate::literal::plain::{At, Sums};
+use crate::literal::literal::Sums;
+use crate::literal::stop::Stopped;
 use crate::literal::{FloatKind, IntegerKind, Kind, Literal, Number, Sign, Special, Spelling, Syntax};
 
 mod error;
@@ -25,7 +26,7 @@ pub(crate) mod number {
     pub(crate) mod powers;
     pub(crate) mod scaling;
     pub(crate) mod shortest;
-    pub(crate) mod word;
+    pub(crate) mod small;
 }
 
 pub use error::{ParseError, Target, ValueError};
@@ -132,7 +133,7 @@ impl fmt::Display for Plain<'_> {
 /// What is known at once of a text: its value, or where reading stops if it is not a literal.
 pub(crate) enum Decimal<T> {
     Value(T),
-    Stopped(At),
+    Stopped(Stopped),
     Unknown,
 }
 
@@ -363,20 +364,20 @@ impl Syntax {
         if !self.is_decimal() {
             return Decimal::Unknown;
         }
-        let counted = self.begin(true, text, false);
-        if self.is_whole(text, counted) {
-            if counted.sums.mantissa.digits <= 19 && counted.sums.exponent.digits <= 19 {
-                let literal = self.literal(text, counted.counts, counted.sums).with_kind(kind);
+        let begun = self.begin(true, text, false);
+        if begun.is_whole(self, text) {
+            if begun.sums.mantissa.digits <= 19 && begun.sums.exponent.digits <= 19 {
+                let literal = self.literal(text, begun.counts, begun.sums).with_kind(kind);
                 if let Ok(value) = T::from_literal(literal) {
                     return Decimal::Value(value);
                 }
             } else if T::TARGET.has_long_values() {
-                if let Ok(value) = self.long_value(kind, text, counted.counts, counted.sums) {
+                if let Ok(value) = self.long_value(kind, text, begun.counts, begun.sums) {
                     return Decimal::Value(value);
                 }
             }
-        } else if counted.exact || self.is_refused(text, counted.at) {
-            return Decimal::Stopped(counted.at);
+        } else if begun.exact || begun.at.is_refused(self, text) {
+            return Decimal::Stopped(begun.at);
         }
         Decimal::Unknown
     }
@@ -426,10 +427,10 @@ impl Syntax {
         Ok((Number::Literal { literal, form: 0 }.value()?, rest))
     }
 
-    // Returns why `text`, of which reading stopped at `at`, is not a literal.
+    // Returns why `text`, of which reading stopped at `stop`, is not a literal.
     #[cold]
-    fn refuse_value<T>(&self, text: &[u8], at: At) -> Result<T, ParseError> {
-        Ok(self.refuse(text, at)?)
+    fn refuse_value<T>(&self, text: &[u8], stop: Stopped) -> Result<T, ParseError> {
+        Ok(stop.refuse(self, text)?)
     }
 
     /// Returns whether literals have values of float types: whether the mantissa radix and the exponent base of the format

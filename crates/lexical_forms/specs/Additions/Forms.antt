@@ -4,7 +4,7 @@ use Rattle.std.specs.Prelude.{Some, None, Result, All, slice_get}
 use Rattle.lexical_util.specs.Roles.{other_case, signs}
 use Rattle.lexical_util.specs.declared.feature_format.roles.Role.{Role}
 use Rattle.lexical_util.specs.declared.feature_format.roles.Role.TheVariants as roles
-use Rattle.lexical_literal.specs.Additions.Longest.{IsCountedFront, IsStopped}
+use Rattle.lexical_literal.specs.Additions.Stop.{IsCountedFront, IsStopped}
 use Rattle.lexical_literal.specs.Cause.{IsRefusal}
 use Rattle.lexical_forms.specs.Forms.{HasFront, IsFirst, IsFormError, IsGreatest, NoForm, reach}
 use Rattle.lexical_literal.specs.Front.{IsValidUpTo, NoFront}
@@ -12,8 +12,8 @@ use Rattle.lexical_literal.specs.Read.{Read}
 use Rattle.lexical_literal.specs.Notation.{Notation, notation_of, set_of_role}
 use Rattle.lexical_literal.specs.declared.cause.Refusal.{Refusal}
 use Rattle.lexical_forms.specs.declared.list.FormError.{FormError}
-use Rattle.lexical_literal.specs.declared.read.Found.{Found}
-use Rattle.lexical_literal.specs.declared.plain.At.{At}
+use Rattle.lexical_literal.specs.declared.stop.Found.{Found}
+use Rattle.lexical_literal.specs.declared.stop.Stopped.{Stopped}
 use Rattle.lexical_forms.specs.declared.list.Form.{Form}
 
 -- `sign_size text` is the length of the sign with which `text` begins.
@@ -27,12 +27,12 @@ greater size None form found = Some (form, found)
 greater size (Some best) form found = if nat_lt (size best.1) (size found) then Some (form, found) else Some best
 
 -- `further furthest form stop` is `furthest`, or the form with the index `form` if it goes further, to `stop`.
-abbrev pub further : Option (ℕ × At) → ℕ → At → Option (ℕ × At)
-further furthest form stop = greater (λ (stop : At). stop.size) furthest form stop
+abbrev pub further : Option (ℕ × Stopped) → ℕ → Stopped → Option (ℕ × Stopped)
+further furthest form stop = greater (λ (stop : Stopped). stop.size) furthest form stop
 
 -- `further_on sign furthest form stop` is the same, but `furthest` where `stop` is not beyond the first byte behind a sign with the
 -- length `sign`.
-abbrev pub further_on : ℕ → Option (ℕ × At) → ℕ → At → Option (ℕ × At)
+abbrev pub further_on : ℕ → Option (ℕ × Stopped) → ℕ → Stopped → Option (ℕ × Stopped)
 further_on sign furthest form stop = if nat_lt (sign + 1) stop.size then further furthest form stop else furthest
 
 -- `longer longest form found` is the front `longest`, or that of the form with the index `form` if it has a longer one.
@@ -64,7 +64,7 @@ abbrev pub IsNoBetter : Notation → List ℕ → ℕ → Type 0
 IsNoBetter m text size = (error : Refusal) → IsRefusal m text error → reach error ≤ 2 * size
 
 -- `bound sign furthest` is the number of bytes up to which `furthest` goes, or up to the first byte behind a sign with the length `sign`.
-abbrev pub bound : ℕ → Option (ℕ × At) → ℕ
+abbrev pub bound : ℕ → Option (ℕ × Stopped) → ℕ
 bound sign None = sign + 1
 bound sign (Some best) = best.1.size
 
@@ -82,6 +82,6 @@ GoesTo text g size = IsValidUpTo (notation_of g.syntax) text size
 
 -- `IsFurthestForm forms text furthest` holds if `furthest` has the index of the form that goes furthest in `text`, the first of
 -- equals, and where it stops.
-abbrev pub IsFurthestForm : List Form → List ℕ → Option (ℕ × At) → Type 0
+abbrev pub IsFurthestForm : List Form → List ℕ → Option (ℕ × Stopped) → Type 0
 IsFurthestForm forms text furthest = IsSomeAnd furthest (λ best.
     IsGreatest (GoesTo text) forms best.0 best.1.size × IsSomeAnd (slice_get forms best.0) (λ g. IsStopped (notation_of g.syntax) text best.1))

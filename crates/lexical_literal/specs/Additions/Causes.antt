@@ -9,14 +9,14 @@ use Rattle.lexical_util.specs.declared.format_flags.Part.{Part}
 use Rattle.lexical_util.specs.declared.format_flags.Part.TheVariants as parts
 use Rattle.lexical_literal.specs.Cause.{is_one_of, requirement_flags}
 use Rattle.lexical_literal.specs.Notation.{Notation}
-use Rattle.lexical_literal.specs.Additions.Summary.{has_digit, is_complete, part_of, role_at, step}
-use Rattle.lexical_literal.specs.declared.span.Kind.{Kind}
-use Rattle.lexical_literal.specs.declared.span.Kind.TheVariants as kinds
+use Rattle.lexical_literal.specs.Additions.Step.{has_digit, is_complete, part_of, role_at, step}
+use Rattle.lexical_literal.specs.declared.span.ByteKind.{ByteKind}
+use Rattle.lexical_literal.specs.declared.span.ByteKind.TheVariants as kinds
 use Rattle.lexical_literal.specs.declared.cause.Place.{Place}
 use Rattle.lexical_literal.specs.declared.cause.Place.TheVariants as places
 use Rattle.lexical_literal.specs.declared.syntax.Condition.{Condition}
-use Rattle.lexical_literal.specs.declared.steps.Stage.{Stage}
-use Rattle.lexical_literal.specs.declared.steps.Summary.{Summary}
+use Rattle.lexical_literal.specs.declared.step.Stage.{Stage}
+use Rattle.lexical_literal.specs.declared.step.Summary.{Summary}
 
 -- `lets m s next` is true if the byte `next` may follow, or if a literal has been read, where `next` is `None`.
 abbrev pub lets : Notation → Summary → Option ℕ → Bool
@@ -24,9 +24,10 @@ lets m s None = is_complete m s
 lets m s (Some byte) = is_some (step m s byte)
 
 -- `kind_set m kind` is the set of the bytes of `kind`.
-abbrev pub kind_set : Notation → Kind → ByteSet
+abbrev pub kind_set : Notation → ByteKind → ByteSet
 kind_set m kinds.Digit byte = m.digit parts.Integer byte
 kind_set m kinds.NotDigit byte = not (m.digit parts.Integer byte)
+kind_set m kinds.Separator byte = m.separator byte
 kind_set m kinds.NotSeparator byte = not (m.separator byte)
 kind_set m kinds.Body byte = not (m.separator byte || signs byte)
 

@@ -5,10 +5,10 @@ use Rattle.lexical_util.specs.Layout.{Flag}
 use Rattle.lexical_util.specs.Record.{word_of}
 use Rattle.lexical_util.specs.Roles.{other_case}
 use Rattle.lexical_literal.specs.Additions.Causes.{is_at_gap, place_of}
-use Rattle.lexical_literal.specs.Additions.Sizes.{goes}
-use Rattle.lexical_literal.specs.Additions.Summary.{part_of, role_at}
-use Rattle.lexical_literal.specs.Cause.{Explained, adding, bare, binds, case_set, error_of, first_unmet, is_one_of}
-use Rattle.lexical_literal.specs.Cause.{leading_zero_flags, lowest, number_separator_flags, requiring, span_of}
+use Rattle.lexical_literal.specs.Additions.GroupSize.{goes}
+use Rattle.lexical_literal.specs.Additions.Step.{part_of, role_at}
+use Rattle.lexical_literal.specs.Cause.{Explained, Marks, adding, bare, binds, case_set, error_of, first_unmet, is_one_of}
+use Rattle.lexical_literal.specs.Cause.{leading_zero_flags, lowest, marks_of, number_separator_flags, requiring, span_of}
 use Rattle.lexical_literal.specs.Notation.{all_conditions, Notation, kept, notation_of}
 use Rattle.lexical_literal.specs.declared.cause.Blame.{Blame}
 use Rattle.lexical_literal.specs.declared.cause.ReadErrorKind.TheVariants as causes
@@ -16,8 +16,8 @@ use Rattle.lexical_literal.specs.declared.cause.Refusal.{Refusal}
 use Rattle.lexical_literal.specs.declared.cause.Spot.{Spot}
 use Rattle.lexical_literal.specs.declared.syntax.Condition.{Condition}
 use Rattle.lexical_literal.specs.declared.syntax.Grammar.{Grammar}
-use Rattle.lexical_literal.specs.declared.groups.Group.{Group}
-use Rattle.lexical_literal.specs.declared.steps.Summary.{Summary}
+use Rattle.lexical_literal.specs.declared.group_size.Group.{Group}
+use Rattle.lexical_literal.specs.declared.step.Summary.{Summary}
 
 -- `mask_of flag` is the mask of the flags for which `flag` is true.
 abbrev pub mask_of : (Flag → Bool) → ℕ
@@ -73,7 +73,28 @@ grammar_at spot = record { word = spot.word; options = spot.options; conditions 
 
 -- `group_at spot` is the last group of digits before `spot`.
 abbrev pub group_at : Spot → Group
-group_at spot = record { part = part_of spot.read.stage; separated = spot.separated; digits = spot.marks.size - spot.marks.group }
+group_at spot = record { part = part_of spot.read.stage; separated = spot.separated; digits = spot.size - spot.group }
+
+-- `marks_at spot` has the indexes that `spot` has.
+abbrev pub marks_at : Spot → Marks
+marks_at spot = record { size = spot.size; exponent = spot.exponent; first = spot.first; run = spot.run; group = spot.group }
+
+-- `spot_of g front s byte tail separated` is where reading stopped behind `front` with the summary `s`.
+abbrev pub spot_of : Grammar → List ℕ → Summary → Option ℕ → List ℕ → Bool → Spot
+spot_of g front s byte tail separated = let k = marks_of (notation_of g) front in record {
+  word = g.word;
+  options = g.options;
+  conditions = g.conditions;
+  read = s;
+  byte = byte;
+  tail = tail;
+  size = k.size;
+  exponent = k.exponent;
+  first = k.first;
+  run = k.run;
+  group = k.group;
+  separated = separated;
+}
 
 -- `refusal_of m spot` is what an error answers that was made at `spot` since no literal goes on there.
 abbrev pub refusal_of : Notation → Spot → Refusal
@@ -82,8 +103,8 @@ refusal_of m spot =
     let unmet = kept (unmet m spot.read (group_at spot) spot.byte) m.number in
     let f = lowest b.mask in
     let c = first_unmet b.mask unmet in
-    let span = span_of m spot.marks spot.byte b.kind f c in record {
-      valid_up_to = spot.marks.size;
+    let span = span_of m (marks_at spot) spot.byte b.kind f c in record {
+      valid_up_to = spot.size;
       byte = spot.byte;
       tail = spot.tail;
       kind = b.kind;
@@ -91,7 +112,7 @@ refusal_of m spot =
       conditions = unmet;
       start = span.0;
       end = span.1;
-      code = error_of m spot.marks b.kind f c span.0;
+      code = error_of m (marks_at spot) b.kind f c span.0;
     }
 
 -- `explained spot` is the error that was made at `spot`.

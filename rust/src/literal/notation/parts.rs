@@ -1,7 +1,7 @@
 //! The parts of a literal as expressions.
 
 use super::expression::{Expression, Pool};
-use crate::literal::steps::{self, allows_minus, allows_plus, is_digit, is_separator, needs_exponent};
+use crate::literal::step::{self, allows_minus, allows_plus, is_digit, is_separator, needs_exponent};
 use crate::literal::syntax::{Condition, Conditions, Grammar};
 use crate::word::Part;
 
@@ -35,7 +35,7 @@ pub(super) fn literal(pool: &Pool, grammar: Grammar) -> Expression<'_> {
         true => digit,
         false => pool.byte(|it| is_digit(grammar, Part::Exponent, it)).when(has_exponent).named("ExponentDigit"),
     };
-    let mark = pool.byte(|it| steps::is_exponent_character(grammar, it)).when(has_exponent);
+    let mark = pool.byte(|it| step::is_exponent_character(grammar, it)).when(has_exponent);
     let prefix = (pool.byte(|it| it == b'0') + pool.byte(|it| view.is_base_prefix(it))).named("Prefix");
     let front = prefix.required(conditions.has(Condition::BasePrefix));
     let [exponent, ..] = runs(pool, grammar, Part::Exponent, [prefix, exponent_digit]);
@@ -44,7 +44,7 @@ pub(super) fn literal(pool: &Pool, grammar: Grammar) -> Expression<'_> {
     let exponent = (mark + exponent).named("Exponent");
     let [fraction, ..] = runs(pool, grammar, Part::Fraction, [prefix, digit]);
     let fraction = fraction.when(is_float).named("Fraction");
-    let point = pool.byte(|it| steps::is_point(grammar, it));
+    let point = pool.byte(|it| step::is_point(grammar, it));
     let [integer, strict, led, begun] = runs(pool, grammar, Part::Integer, [prefix, digit]);
     let is_first = |it| conditions.has(it) && !conditions.has(Condition::BasePrefix);
     let number = match leading_zeros(grammar) {

@@ -140,7 +140,7 @@ pub(crate) const fn binary_size(double: bool, literal: &Literal) -> Option<u64> 
     Some(long_binary_size(double, literal, radix_bits, base_bits))
 }
 
-// Returns the same where the mantissa or the exponent has many digits.
+// Returns what `binary_size` returns, of a literal whose mantissa or exponent has many digits.
 #[cold]
 const fn long_binary_size(double: bool, literal: &Literal, radix_bits: u32, base_bits: u32) -> u64 {
     let leading = leading_of(literal, literal.format().mantissa_radix());

@@ -3,7 +3,7 @@
 //! Runs of digits are written.
 
 use crate::digit::{char_to_digit, digit_to_char, digit_to_char_const};
-use crate::literal::value::number::word::count;
+use crate::literal::value::number::small::count;
 use crate::literal::writer::run::{Padded, Pattern, Run, Source};
 use crate::literal::writer::sink::Sink;
 

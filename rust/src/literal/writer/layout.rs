@@ -3,7 +3,7 @@
 //! Numbers are laid out as literals.
 
 use crate::literal::syntax::{Condition, Conditions, Options, Syntax};
-use crate::literal::value::number::word::count;
+use crate::literal::value::number::small::count;
 use crate::literal::writer::digits::{only_if, put_if_any, without_zeros};
 use crate::literal::writer::patterns::{fraction_pattern, integer_pattern, no_groups};
 use crate::literal::writer::run::{Run, Source};

@@ -2,8 +2,7 @@
 
 //! Literals are written as literals of another syntax.
 
-use crate::literal::literal::Literal;
-use crate::literal::read::Parts;
+use crate::literal::literal::{Literal, Parts};
 use crate::literal::syntax::{Condition, Syntax};
 use crate::literal::value::number::numeral::{Magnitude, Numeral};
 use crate::literal::writer::layout::{

@@ -3,9 +3,9 @@
 //! The point of a number moves, so that the number needs no exponent.
 
 use crate::digit::char_to_digit;
-use crate::literal::read::Parts;
+use crate::literal::literal::Parts;
 use crate::literal::value::number::numeral::{Magnitude, Numeral};
-use crate::literal::value::number::word::count;
+use crate::literal::value::number::small::count;
 use crate::literal::writer::layout::{Amount, WriteError};
 use crate::literal::writer::literal::is_minus;
 use crate::literal::writer::run::{Padded, Source};

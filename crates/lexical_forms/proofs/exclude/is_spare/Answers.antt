@@ -1,7 +1,7 @@
 use Rattle.lexical_forms.proofs.Common.{◌≡◌, Some, arith, nat_tests, notation_of}
 use Rattle.lexical_util.specs.declared.feature_format.roles.Role.TheVariants as roles
 use Rattle.lexical_util.specs.declared.format_flags.Part.TheVariants as parts
-use Rattle.lexical_literal.specs.Additions.Summary.{role_at}
+use Rattle.lexical_literal.specs.Additions.Step.{role_at}
 use Rattle.lexical_forms.proofs.StrangerLemmas.{spare_prefix}
 use Rattle.lexical_forms.proofs.exclude.is_spare.Goals as goal
 

@@ -10,7 +10,7 @@ returns-then-goes_on-clause-ahead c _ =
     let P = IsAhead c.args.back c.args.text.now c.args.end in (
       c.loop-form.form,
       at_index P c.args.forms.now c.args.forms.now it c.loop-form.form refl c.loop-form-test.true (subst P c.index-forms-form.is
-          (ahead c.args.back c.args.text.now c.args.end it c.stop_in-stop.result.size c.stop_in-stop.ensures.valid (sym c.if-goes_on.ensures))),
+          (ahead c.args.back c.args.text.now c.args.end it c.stop-stop.result.size c.stop-stop.ensures.valid (sym c.if-goes_on.ensures))),
     )
 
 pub loop-form-preserved : goal.loop-form-preserved
@@ -18,7 +18,7 @@ loop-form-preserved c =
     let it = c.index-forms-form.result in
     All-more (λ form. IsAhead c.args.back c.args.text.now c.args.end form → ⊥) c.args.forms.now c.loop-form.form it c.loop-form-test.true
     c.loop-form.invariant (subst (λ form. IsAhead c.args.back c.args.text.now c.args.end form → ⊥) c.index-forms-form.is
-    (not_ahead c.args.back c.args.text.now c.args.end it c.stop_in-stop.result.size c.stop_in-stop.ensures.valid
+    (not_ahead c.args.back c.args.text.now c.args.end it c.stop-stop.result.size c.stop-stop.ensures.valid
     (sym c.if-goes_on.ensures)))
 
 pub returns-clause-over : goal.returns-clause-over

@@ -1,6 +1,6 @@
 -- What is true of every literal of a syntax.
 use Rattle.lexical_literal.proofs.Common.{notation_of}
-use Rattle.lexical_literal.proofs.LongestLemmas.{one_sized_reading}
+use Rattle.lexical_literal.proofs.StoppedLemmas.{one_sized_reading}
 use Rattle.lexical_literal.proofs.PartLemmas.{parts_have_roles}
 use Rattle.lexical_literal.proofs.RoleLemmas.{has_sizes_of, ready}
 use Rattle.lexical_literal.proofs.SameLemmas.{same_notation}

@@ -3,7 +3,7 @@
 //! Numbers with a sign, by their value or by their digits.
 
 use crate::digit::char_to_digit;
-use crate::literal::value::number::word::add_all;
+use crate::literal::value::number::small::add_all;
 
 /// A number without a sign.
 #[derive(Debug, Clone, Copy, PartialEq, Eq, Hash)]

@@ -6,7 +6,7 @@ use Rattle.lexical_forms.proofs.list.Forms.find.Goals as goal
 use Rattle.lexical_forms.proofs.list.Forms.find.Goals.{then-not-excludes+else-is_whole+in_default, else-not-excludes}
 
 pub literal-requires-clause-cut : goal.literal-requires-clause-cut
-literal-requires-clause-cut c = measured_cut _ c.args.text.now c.begin-counted.result.counts
+literal-requires-clause-cut c = measured_cut _ c.args.text.now c.begin-begun.result.counts
     (c.is_whole.ensures.measured c.if-is_whole.true)
 
 pub summed-requires : goal.summed-requires
@@ -14,7 +14,7 @@ summed-requires c = measured_cut _ c.args.text.now c.in-Some.counts c.in-Some.en
 
 pub returns-then-is_whole : goal.returns-then-is_whole
 returns-then-is_whole c = rw (← c.self.view_is) (found_is c.self.inside.forms.now c.args.text.now c.loop-form.form c.index-self-form.result c.literal.result
-    c.loop-form-test.true (whole_read _ c.args.text.now c.begin-counted.result.counts (c.is_whole.ensures.measured c.if-is_whole.true) c.literal.result
+    c.loop-form-test.true (whole_read _ c.args.text.now c.begin-begun.result.counts (c.is_whole.ensures.measured c.if-is_whole.true) c.literal.result
     c.literal.ensures) c.loop-form.invariant)
 
 pub returns-in-Some : goal.returns-in-Some

@@ -8,7 +8,7 @@ loop-form-preserved c =
     let forms = c.self.inside.forms.now in
     let i = c.loop-form.form in
     subst (IsBest (goes c.args.text.now) forms (i + 1)) (sym c.further-furthest.ensures)
-    (best_more (goes c.args.text.now) forms i c.index-self-form.result c.loop-form-test.true c.stop_in-stop.result c.stop_in-stop.ensures
+    (best_more (goes c.args.text.now) forms i c.index-self-form.result c.loop-form-test.true c.stop-stop.result c.stop-stop.ensures
     c.loop-form.furthest c.loop-form.invariant)
 
 pub returns : goal.returns

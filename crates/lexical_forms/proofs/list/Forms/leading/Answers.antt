@@ -5,26 +5,26 @@ use Rattle.lexical_forms.specs.Additions.Token.{FrontsWithin}
 use Rattle.std.proofs.Common.{if◌then◌else◌, slice_get}
 use Rattle.lexical_forms.proofs.LeadingLemmas.{front_of, fronts_more, fronts_within, sums_of_front}
 use Rattle.lexical_forms.proofs.list.Forms.leading.Goals as goal
-use Rattle.lexical_forms.proofs.list.Forms.leading.Goals.{then-is_excluded, else-is_excluded+else-counted+else-gives_back}
+use Rattle.lexical_forms.proofs.list.Forms.leading.Goals.{then-is_excluded, else-is_excluded+else-begun+else-gives_back}
 
-pub behind-requires-clause-sums : goal.behind-requires-clause-sums
-behind-requires-clause-sums c =
-    let it = get_or c.self.inside.forms.now c.loop-form.form c.index-self-form.result in let counted = c.begin-counted.result in
-    let found = c.begin-counted.ensures.found in let complete = c.if-counted.true in let is = found.literal complete in
-    sums_of_front (raw it.syntax.word) c.args.text.now counted.at.size (cuts_of counted.counts) counted.sums (notation_of it.syntax) is.0
-    found.begun.begun.within is.1 (found.lengths complete is.0 is.1) (c.begin-counted.ensures.summed complete)
+pub token_at-requires-clause-sums : goal.token_at-requires-clause-sums
+token_at-requires-clause-sums c =
+    let it = get_or c.self.inside.forms.now c.loop-form.form c.index-self-form.result in let begun = c.begin-begun.result in
+    let found = c.begin-begun.ensures.found in let complete = c.if-begun.true in let is = found.literal complete in
+    sums_of_front (raw it.syntax.word) c.args.text.now begun.at.size (cuts_of begun.counts) begun.sums (notation_of it.syntax) is.0
+    found.begun.begun.within is.1 (found.lengths complete is.0 is.1) (c.begin-begun.ensures.summed complete)
 
-pub behind-requires-clause-leading : goal.behind-requires-clause-leading
-behind-requires-clause-leading c =
-    let it = get_or c.self.inside.forms.now c.loop-form.form c.index-self-form.result in let size = c.begin-counted.result.at.size in
-    let found = c.begin-counted.ensures.found in let is = found.literal c.if-counted.true in
+pub token_at-requires-clause-leading : goal.token_at-requires-clause-leading
+token_at-requires-clause-leading c =
+    let it = get_or c.self.inside.forms.now c.loop-form.form c.index-self-form.result in let size = c.begin-begun.result.at.size in
+    let found = c.begin-begun.ensures.found in let is = found.literal c.if-begun.true in
     let sign = c.sign_size-sign.ensures.size in let low = c.loop-form.invariant.sign in let reached = c.if-reached-size.true in
     rw (← c.self.view_is) (record {
       at = slice_get-get_or c.self.inside.forms.now c.loop-form.form c.index-self-form.result c.loop-form-test.true;
       longest = size;
-      front = front_of c.args.text.now it size found.begun.begun.within is.0 is.1 (c.ends.ensures.within c.if-ends.true);
-      size_is = ap (λ b. if b then size - 1 else size) (sym (c.ends.ensures.kept c.if-ends.true));
-      own = inl (c.ends.ensures.within c.if-ends.true);
+      front = front_of c.args.text.now it size found.begun.begun.within is.0 is.1 (c.is_longest.ensures.within c.if-is_longest.true);
+      size_is = ap (λ b. if b then size - 1 else size) (sym (c.is_longest.ensures.kept c.if-is_longest.true));
+      own = inl (c.is_longest.ensures.within c.if-is_longest.true);
       plain = c.are_past.ensures c.if-are_past.true (omega (arith, sign, low, reached));
       suffixed = c.are_past-then-are_past.ensures c.if-are_past-2.true (omega (arith, sign, low, reached));
       before = (c.loop-form.reached, reached, c.loop-form.invariant.fronts);
@@ -54,7 +54,7 @@ loop-form-preserved c =
                 c.loop-form.invariant.fronts (λ n front. let own = fronts_within text (c.sign_size-sign.result + 1) (get_or forms i it) past n front
                 in omega (arith, own, other, is));
           })
-      | else-is_excluded+else-counted+else-gives_back w ↦ (
+      | else-is_excluded+else-begun+else-gives_back w ↦ (
           let one = w.larger-reached-else-is_excluded.ensures.one in let other = w.larger-reached-else-is_excluded.ensures.other in let is = w.reached-is in
           record {
             sign = omega (arith, low, one, is);

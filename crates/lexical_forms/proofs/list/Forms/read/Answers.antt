@@ -1,6 +1,6 @@
 -- The first form that reads the text, or the form that goes furthest.
 use Rattle.lexical_forms.proofs.Common.{ℕ, ◌<◌, ◌≤◌, ◌+◌, ◌∙◌, IfSome, Some, ap, refl, sym, subst, All-more, notation_of, Grammar, IsFurthestForm, FormList}
-use Rattle.lexical_forms.proofs.Common.{NoForm, IsValidUpTo, NoLiteral, At}
+use Rattle.lexical_forms.proofs.Common.{NoForm, IsValidUpTo, NoLiteral, Stopped}
 use Rattle.lexical_forms.specs.Additions.Forms.{bound, further_on}
 use Rattle.lexical_forms.proofs.FormLemmas.{IsBest, all_tried, best_far, beyond, beyond_if, beyond_kept, beyond_more, found_is, number_is}
 use Rattle.lexical_literal.proofs.PieceLemmas.{measured_cut, whole_read}
@@ -8,7 +8,7 @@ use Rattle.lexical_forms.proofs.list.Forms.read.Goals as goal
 use Rattle.lexical_forms.proofs.list.Forms.read.Goals.{then-not-is_behind+else-is_whole+in-Err, else-not-is_behind}
 
 pub literal-requires-clause-cut : goal.literal-requires-clause-cut
-literal-requires-clause-cut c = measured_cut _ c.args.text.now c.begin-counted.result.counts
+literal-requires-clause-cut c = measured_cut _ c.args.text.now c.begin-begun.result.counts
     (c.is_whole.ensures.measured c.if-is_whole.true)
 
 pub summed-requires : goal.summed-requires
@@ -19,7 +19,7 @@ returns-then-is_whole c =
     let own = c.with_kind-literal.ensures in let d = c.index-self-form.result in
     rw (← c.self.view_is) (number_is _ c.args.text.now c.loop-form.form d c.literal.result c.with_kind-literal.result c.loop-form-test.true
     (found_is c.self.inside.forms.now c.args.text.now c.loop-form.form d c.literal.result c.loop-form-test.true
-    (whole_read _ c.args.text.now c.begin-counted.result.counts (c.is_whole.ensures.measured c.if-is_whole.true) c.literal.result
+    (whole_read _ c.args.text.now c.begin-begun.result.counts (c.is_whole.ensures.measured c.if-is_whole.true) c.literal.result
     c.literal.ensures) c.loop-form.invariant.0) own.format own.literal own.kind)
 
 pub returns-in-Ok : goal.returns-in-Ok
@@ -31,7 +31,7 @@ returns-in-Ok c =
     own.format own.literal own.kind)
 
 pub is_behind-requires-clause-far : goal.is_behind-requires-clause-far
-is_behind-requires-clause-far c = subst (λ sign. IfSome c.loop-form.furthest (λ (best : ℕ × At). sign + 1 < best.1.size)) (sym c.sign_size-sign.ensures.size)
+is_behind-requires-clause-far c = subst (λ sign. IfSome c.loop-form.furthest (λ (best : ℕ × Stopped). sign + 1 < best.1.size)) (sym c.sign_size-sign.ensures.size)
     (best_far c.args.text.now c.self.inside.forms.now c.loop-form.form c.loop-form.furthest c.loop-form.invariant.1)
 
 pub loop-form-preserved : goal.loop-form-preserved
@@ -61,7 +61,7 @@ loop-form-preserved c =
 
 pub without_literal-requires-clause-furthest : goal.without_literal-requires-clause-furthest
 without_literal-requires-clause-furthest c = subst
-    (λ (l : FormList). IfSome c.loop-form.furthest (λ (best : ℕ × At). IsFurthestForm l.forms c.args.text.now (Some best))) c.self.view_is
+    (λ (l : FormList). IfSome c.loop-form.furthest (λ (best : ℕ × Stopped). IsFurthestForm l.forms c.args.text.now (Some best))) c.self.view_is
     (beyond_if c.self.inside.forms.now c.args.text.now c.loop-form.form c.loop-form-test.false c.loop-form.furthest c.loop-form.invariant.1)
 
 pub without_literal-requires-clause-none : goal.without_literal-requires-clause-none

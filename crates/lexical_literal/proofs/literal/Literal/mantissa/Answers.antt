@@ -2,7 +2,7 @@
 use Rattle.lexical_literal.proofs.Common.{◌≡◌, IfSome, IsSome, subst, raw}
 use Rattle.lexical_util.specs.Layout as layout
 use Rattle.lexical_literal.specs.Read.{Read, mantissa}
-use Rattle.lexical_number.specs.Word.{IsShort}
+use Rattle.lexical_number.specs.Small.{IsShort}
 use Rattle.lexical_literal.proofs.literal.Literal.mantissa.Goals as goal
 
 pub returns-clause-some : goal.returns-clause-some

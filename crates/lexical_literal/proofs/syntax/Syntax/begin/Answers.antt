@@ -1,21 +1,21 @@
 -- A syntax has what reading needs.
 use Rattle.lexical_literal.proofs.Common.{sym, ap, subst, ◌∙◌, raw, notation_of, Grammar, has_sizes, HasSizes, IsReady, steps_of}
-use Rattle.lexical_literal.specs.Additions.Plain.{IsDecimal}
+use Rattle.lexical_literal.specs.Additions.Scan.{IsDecimal}
 use Rattle.std.specs.Prelude.{IsTrue}
-use Rattle.lexical_literal.specs.Additions.Longest.{HasBegun, HasFound}
-use Rattle.lexical_literal.proofs.LongestLemmas.{begun_free}
+use Rattle.lexical_literal.specs.Additions.Stop.{HasBegun, HasFound}
+use Rattle.lexical_literal.proofs.StoppedLemmas.{begun_free}
 use Rattle.lexical_literal.proofs.MadeLemmas.{usual_sizes}
 use Rattle.lexical_literal.proofs.syntax.Syntax.begin.Goals as goal
 
-pub plain-requires : goal.plain-requires
-plain-requires c =
+pub scan-requires : goal.scan-requires
+scan-requires c =
     record {
       decimal = subst (λ (g : Grammar). IsTrue c.args.decimal → IsDecimal (raw g.word)) (sym c.usual_grammar.ensures.value) c.requires.radix;
       ready = subst (λ (g : Grammar). IsReady (steps_of g)) (sym c.usual_grammar.ensures.value) c.usual_grammar.ensures.ready;
     }
 
-pub plain-counted-requires : goal.plain-counted-requires
-plain-counted-requires c =
+pub scan-begun-requires : goal.scan-begun-requires
+scan-begun-requires c =
     record {
       decimal = subst (λ (g : Grammar). IsTrue c.args.decimal → IsDecimal (raw g.word)) (sym c.grammar-grammar.ensures.value) c.requires.radix;
       ready = subst (λ (g : Grammar). IsReady (steps_of g)) (sym c.grammar-grammar.ensures.value) c.grammar-grammar.ensures.ready;
@@ -23,8 +23,8 @@ plain-counted-requires c =
 
 pub returns-then-decimal-clause-found : goal.returns-then-decimal-clause-found
 returns-then-decimal-clause-found c =
-    begun_free (notation_of c.args.self.now) c.usual_grammar.ensures.ready c.usual_grammar.ensures.sizes c.args.text.now c.plain.result
-    (subst (λ (g : Grammar). HasFound (steps_of g) c.args.text.now c.plain.result) c.usual_grammar.ensures.value c.plain.ensures.found)
+    begun_free (notation_of c.args.self.now) c.usual_grammar.ensures.ready c.usual_grammar.ensures.sizes c.args.text.now c.scan.result
+    (subst (λ (g : Grammar). HasFound (steps_of g) c.args.text.now c.scan.result) c.usual_grammar.ensures.value c.scan.ensures.found)
     (usual_sizes c.args.self.now (c.requires.usual c.if-decimal.true))
 
 pub sized-requires-clause-ready : goal.sized-requires-clause-ready
@@ -35,8 +35,8 @@ sized-requires-clause-sizes c = subst (λ (g : Grammar). HasSizes (notation_of g
 
 pub sized-requires-clause-found : goal.sized-requires-clause-found
 sized-requires-clause-found c =
-    subst (λ (g : Grammar). HasFound (steps_of g) c.args.text.now c.plain-counted.result) (c.grammar-grammar.ensures.value ∙ sym c.grammar.ensures.value)
-    c.plain-counted.ensures.found
+    subst (λ (g : Grammar). HasFound (steps_of g) c.args.text.now c.scan-begun.result) (c.grammar-grammar.ensures.value ∙ sym c.grammar.ensures.value)
+    c.scan-begun.ensures.found
 
 pub returns-then-has_sizes-clause-found : goal.returns-then-has_sizes-clause-found
 returns-then-has_sizes-clause-found c =
@@ -44,6 +44,6 @@ returns-then-has_sizes-clause-found c =
 
 pub returns-else-has_sizes-clause-found : goal.returns-else-has_sizes-clause-found
 returns-else-has_sizes-clause-found c =
-    begun_free (notation_of c.args.self.now) c.grammar-grammar.ensures.ready c.grammar-grammar.ensures.sizes c.args.text.now c.plain-counted.result
-    (subst (λ (g : Grammar). HasFound (steps_of g) c.args.text.now c.plain-counted.result) c.grammar-grammar.ensures.value c.plain-counted.ensures.found)
+    begun_free (notation_of c.args.self.now) c.grammar-grammar.ensures.ready c.grammar-grammar.ensures.sizes c.args.text.now c.scan-begun.result
+    (subst (λ (g : Grammar). HasFound (steps_of g) c.args.text.now c.scan-begun.result) c.grammar-grammar.ensures.value c.scan-begun.ensures.found)
     (ap (λ (g : Grammar). has_sizes (notation_of g)) (sym c.grammar-grammar.ensures.value) ∙ sym c.has_sizes.ensures ∙ c.if-has_sizes.false)

@@ -1,5 +1,5 @@
 use Rattle.lexical_literal.proofs.Common.{◌-◌, notation_of, length}
-use Rattle.lexical_literal.proofs.LongestLemmas.{HasCounted}
+use Rattle.lexical_literal.proofs.StoppedLemmas.{HasCounted}
 use Rattle.lexical_literal.proofs.syntax.Syntax.longest.Given as goal
 
 abbrev pub invariant-loop-role : goal.invariant-loop-role

@@ -2,7 +2,7 @@
 use Rattle.lexical_literal.proofs.Common.{ℕ, List, Result, Ok, Err, IsErrAnd, arith, notation_of, Grammar, IsRefusal, NoLiteral, Read}
 use Rattle.lexical_literal.specs.Cause.{Explained}
 use Rattle.lexical_literal.specs.Parts.{IsRead}
-use Rattle.lexical_literal.proofs.LongestLemmas.{none_whole}
+use Rattle.lexical_literal.proofs.StoppedLemmas.{none_whole}
 use Rattle.lexical_literal.proofs.PieceLemmas.{is_read, measured_cut}
 use Rattle.lexical_literal.proofs.syntax.Syntax.read.Goals as goal
 
@@ -13,17 +13,17 @@ refused g text (Err _) none is = record { found = tt; kind = tt; only = λ l rea
 
 pub refuse-requires-clause-refused : goal.refuse-requires-clause-refused
 refuse-requires-clause-refused c =
-    let stop = c.begin-counted.ensures.found.exact c.if-counted.true in none_whole _ _ _ stop.1 (λ all. absurd (omega (arith, all, stop.0)))
+    let stop = c.begin-begun.ensures.found.exact c.if-begun.true in none_whole _ _ _ stop.1 (λ all. absurd (omega (arith, all, stop.0)))
 
-pub returns-then-counted : goal.returns-then-counted
-returns-then-counted c =
-    let stop = c.begin-counted.ensures.found.exact c.if-counted.true in
+pub returns-then-begun : goal.returns-then-begun
+returns-then-begun c =
+    let stop = c.begin-begun.ensures.found.exact c.if-begun.true in
     refused c.args.self.now c.args.text.now c.refuse.result (none_whole _ _ _ stop.1 (λ all. absurd (omega (arith, all, stop.0))))
     c.refuse.ensures
 
 pub literal-requires-clause-cut : goal.literal-requires-clause-cut
-literal-requires-clause-cut c = measured_cut c.args.self.now c.args.text.now c.begin-counted.result.counts (c.is_whole.ensures.measured c.if-is_whole.true)
+literal-requires-clause-cut c = measured_cut c.args.self.now c.args.text.now c.begin-begun.result.counts (c.is_whole.ensures.measured c.if-is_whole.true)
 
 pub returns-then-is_whole : goal.returns-then-is_whole
-returns-then-is_whole c = is_read c.args.self.now c.args.text.now c.begin-counted.result.counts (c.is_whole.ensures.measured c.if-is_whole.true)
+returns-then-is_whole c = is_read c.args.self.now c.args.text.now c.begin-begun.result.counts (c.is_whole.ensures.measured c.if-is_whole.true)
     c.literal.result c.literal.ensures

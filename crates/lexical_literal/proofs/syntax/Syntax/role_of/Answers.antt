@@ -5,7 +5,7 @@ use Rattle.lexical_util.specs.declared.feature_format.roles.Role.TheVariants as 
 use Rattle.lexical_util.specs.declared.format_flags.Part.TheVariants as parts
 use Rattle.lexical_literal.specs.Notation.{IsOnlyRole}
 use Rattle.lexical_literal.proofs.RefusalLemmas.{other_roles}
-use Rattle.lexical_literal.proofs.ScanLemmas.{as_role, no_role}
+use Rattle.lexical_literal.proofs.WalkLemmas.{as_role, no_role}
 use Rattle.lexical_literal.proofs.syntax.Syntax.role_of.Goals as goal
 
 module _ (g : Grammar) (h : HasRoles (notation_of g)) (b : ℕ) where

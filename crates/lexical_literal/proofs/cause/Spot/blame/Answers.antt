@@ -1,0 +1,52 @@
+-- A separator, the case of a letter, or a byte.
+use Rattle.lexical_literal.proofs.Common.{ℕ, ◌≡◌, ◌≢◌, Bool, true, false, Option, Some, refl, sym, ap, ◌∙◌, arith, nat_tests, Notation, notation_of, place_of}
+use Rattle.lexical_literal.proofs.Common.{blame, mask_of, role_at, part_of, bare, Blame, Group, Summary, grammar_at, group_at}
+use Rattle.lexical_literal.specs.Additions.Explained.{cases, otherwise, requirements, separators}
+use Rattle.std.proofs.Common.{◌==◌, if◌then◌else◌}
+use Rattle.lexical_literal.specs.Additions.GroupSize.{goes}
+use Rattle.lexical_literal.specs.declared.cause.ReadErrorKind.TheVariants as causes
+use Rattle.lexical_literal.proofs.cause.Spot.blame.Goals as goal
+
+nonzero : (n : ℕ) → n ≢ 0 → (n == 0) ≡ false
+nonzero n some = grind (arith, nat_tests)
+
+module _ (m : Notation) (s : Summary) (g : Group) (byte : ℕ) where
+  -- `by_tests t u` is why the byte cannot follow, if `t` is true of no separators and `u` of no other case.
+  abbrev by_tests : Bool → Bool → Blame
+  by_tests t u =
+      if t then record { kind = if u then causes.Byte else causes.Case; mask = mask_of (cases m s g byte) } else record {
+        kind = causes.Separator (part_of s.stage) (place_of m (part_of s.stage) s.stage s.gap (role_at m (part_of s.stage) byte));
+        mask = mask_of (separators m s g (Some byte));
+      }
+
+  is_blame : (next : Option ℕ) (t u : Bool) → goes (bare m) s g next ≡ false → next ≡ Some byte → (mask_of (separators m s g (Some byte)) == 0) ≡ t
+      → (mask_of (cases m s g byte) == 0) ≡ u → by_tests t u ≡ blame m s g next
+  is_blame next t u none is is_t is_u = (λ j. by_tests (sym is_t j) (sym is_u j))
+      ∙ (λ j. if sym none j then record { kind = causes.Requirement; mask = requirements m s g next } else otherwise m s g (sym is j))
+
+pub returns-then-separators-ne0 : goal.returns-then-separators-ne0
+returns-then-separators-ne0 c =
+    let s = c.args.self.read in
+    let m = notation_of (grammar_at c.args.self) in
+    let mask = c.separators-separators.ensures ∙ ap (λ next. mask_of (separators m s (group_at c.args.self) next)) c.in-Some.is in
+    (λ j. record { kind = causes.Separator (c.part_of-then-separators-ne0.ensures j) (c.place.ensures j); mask = mask j })
+    ∙ is_blame m s (group_at c.args.self) c.in-Some.byte c.args.self.byte false _ (sym c.is_free.ensures ∙ c.if-is_free.false) c.in-Some.is
+    (nonzero _ (λ zero. c.if-separators-ne0.true (mask ∙ zero))) refl
+
+pub returns-then-mask-eq0 : goal.returns-then-mask-eq0
+returns-then-mask-eq0 c =
+    let s = c.args.self.read in
+    let m = notation_of (grammar_at c.args.self) in
+    let mask = c.separators-separators.ensures ∙ ap (λ next. mask_of (separators m s (group_at c.args.self) next)) c.in-Some.is in
+    (λ j. record { kind = causes.Byte; mask = c.case_flags-mask.ensures j })
+    ∙ is_blame m s (group_at c.args.self) c.in-Some.byte c.args.self.byte true true (sym c.is_free.ensures ∙ c.if-is_free.false) c.in-Some.is
+    (ap (λ n. n == 0) (sym mask ∙ c.if-separators-ne0.false)) (ap (λ n. n == 0) (sym c.case_flags-mask.ensures ∙ c.if-mask-eq0.true))
+
+pub returns-else-mask-eq0 : goal.returns-else-mask-eq0
+returns-else-mask-eq0 c =
+    let s = c.args.self.read in
+    let m = notation_of (grammar_at c.args.self) in
+    let mask = c.separators-separators.ensures ∙ ap (λ next. mask_of (separators m s (group_at c.args.self) next)) c.in-Some.is in
+    (λ j. record { kind = causes.Case; mask = c.case_flags-mask.ensures j })
+    ∙ is_blame m s (group_at c.args.self) c.in-Some.byte c.args.self.byte true false (sym c.is_free.ensures ∙ c.if-is_free.false) c.in-Some.is
+    (ap (λ n. n == 0) (sym mask ∙ c.if-separators-ne0.false)) (nonzero _ (λ zero. c.if-mask-eq0.false (c.case_flags-mask.ensures ∙ zero)))

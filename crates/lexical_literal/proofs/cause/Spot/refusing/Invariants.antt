@@ -1,0 +1,10 @@
+use Rattle.lexical_literal.proofs.Common.{◌≡◌, ◌-◌, ◌&&◌, nat_lt, not, true, Flag, bit, raw, notation_of, if◌then◌else◌, adding, bare, grammar_at, group_at}
+use Rattle.lexical_literal.specs.Additions.GroupSize.{goes}
+use Rattle.lexical_literal.proofs.cause.Spot.refusing.Given as goal
+
+abbrev pub invariant-loop-number : goal.invariant-loop-number
+invariant-loop-number l = (f : Flag) → (raw l.mask).flag f ≡ ((raw l.flags).flag f
+    && (if nat_lt (bit f) l.number then not (goes (adding f (bare (notation_of (grammar_at l.self)))) l.self.read (group_at l.self) l.self.byte) else true))
+
+abbrev pub decreases-loop-number : goal.decreases-loop-number
+decreases-loop-number l = 45 - l.number

@@ -1,0 +1,24 @@
+use Rattle.lexical_literal.proofs.Common.{◌≡◌, ◌&&◌, Bool, not, refl, sym, ap, ◌∙◌, arith, Flag, raw, notation_of, mask_of, adding, bare, is_one_of}
+use Rattle.lexical_literal.proofs.Common.{number_separator_flags, grammar_at, group_at}
+use Rattle.std.proofs.lemmas.Nat.{and_comm}
+use Rattle.std.specs.Int.{w128, bit_not}
+use Rattle.lexical_literal.specs.Additions.GroupSize.{goes}
+use Rattle.lexical_literal.specs.declared.cause.TheConstants.{SEPARATORS}
+use Rattle.lexical_literal.proofs.CauseLemmas.{flag_and, flag_not, mask_flags, masked_by, separators_mask}
+use Rattle.lexical_literal.proofs.cause.Spot.separators.Goals as goal
+
+rest : (s a : Bool) → (not (s && not a) && s) ≡ (s && a)
+rest s a = grind arith
+
+pub returns-then-is_at_gap : goal.returns-then-is_at_gap
+returns-then-is_at_gap c =
+    let r = c.refusing.result in
+    let allowed = λ (f : Flag). goes (adding f (bare (notation_of (grammar_at c.args.self)))) c.args.self.read (group_at c.args.self) c.args.self.byte in
+    let others : (f : Flag) → (raw (bit_not w128 r)).flag f ≡ not (is_one_of number_separator_flags f && not (allowed f)) =
+    λ f. flag_not f r c.refusing.type_inv ∙ ap not (ap (λ n. (raw n).flag f) c.refusing.ensures
+    ∙ mask_flags (λ f. (raw SEPARATORS).flag f && not (allowed f)) f ∙ ap (λ t. t && not (allowed f)) (separators_mask f)) in
+    let gap = sym c.if-is_at_gap.true ∙ c.is_at_gap.ensures in
+    and_comm SEPARATORS (bit_not w128 r)
+    ∙ masked_by (bit_not w128 r) SEPARATORS (λ f. is_one_of number_separator_flags f && allowed f) refl
+    (λ f. flag_and f (bit_not w128 r) SEPARATORS ∙ (λ j. others f j && separators_mask f j) ∙ rest (is_one_of number_separator_flags f) (allowed f))
+    ∙ (λ j. mask_of (λ f. gap j && (is_one_of number_separator_flags f && allowed f)))

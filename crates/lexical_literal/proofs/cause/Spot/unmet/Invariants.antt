@@ -1,0 +1,15 @@
+use Rattle.lexical_literal.specs.Additions.Explained.{grammar_at, group_at}
+use Rattle.lexical_literal.proofs.Common.{◌≡◌, ◌&&◌, ◌-◌, nat_lt, all_conditions, notation_of, number_of, Condition, if◌then◌else◌, length, unmet}
+use Rattle.lexical_literal.specs.Notation.{order}
+use Rattle.lexical_literal.proofs.cause.Spot.unmet.Given as goal
+
+abbrev pub invariant-loop-index : goal.invariant-loop-index
+invariant-loop-index l = record {
+  all : length l.unmet.numbers ≡ length all_conditions;
+  each : (d : Condition) → number_of l.unmet d
+      ≡ (if nat_lt (order d) l.index && unmet (notation_of (grammar_at l.self)) l.self.read (group_at l.self) l.self.byte d then number_of (grammar_at l.self).conditions d
+      else 0);
+}
+
+abbrev pub decreases-loop-index : goal.decreases-loop-index
+decreases-loop-index l = length all_conditions - l.index

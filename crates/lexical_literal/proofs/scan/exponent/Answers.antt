@@ -1,0 +1,30 @@
+-- The exponent, and its sign.
+use Rattle.lexical_literal.proofs.Common.{◌+◌, ◌-◌, sym, subst, steps_of, IsAt, IsBegun, IsReadOn, at_stage, cuts_of, Stopped}
+use Rattle.lexical_literal.specs.Additions.Scan.{counts_of}
+use Rattle.lexical_literal.specs.declared.step.Piece.TheVariants as pieces
+use Rattle.lexical_literal.proofs.JoinLemmas.{exponent_at}
+use Rattle.lexical_literal.proofs.scan.exponent.Goals as goal
+
+pub suffix-requires-clause-at : goal.suffix-requires-clause-at
+suffix-requires-clause-at c =
+    let m = steps_of c.args.grammar in
+    let text = c.args.text.now in
+    let run = c.digits-run.result in
+    let sign = c.in-Some.sign in
+    let from = c.args.mantissa.size + 1 + sign in
+    subst (λ (at : Stopped). IsAt m text at (cuts_of (counts_of c.args.mantissa 1 sign (run.size - from) 0))) (sym c.at_stage-at.ensures)
+    (exponent_at m text c.args.mantissa (c.args.mantissa.size + 1) sign run.size run.stage c.requires.at c.in-Some.ensures
+    (subst (λ stage. IsReadOn m text (at_stage from stage) pieces.Exponent (at_stage run.size run.stage)) c.behind_sign.ensures
+    c.digits-run.ensures.run.on))
+
+pub unfinished-requires-then-not-has_digit-clause-begun : goal.unfinished-requires-then-not-has_digit-clause-begun
+unfinished-requires-then-not-has_digit-clause-begun c =
+    let m = steps_of c.args.grammar in
+    let text = c.args.text.now in
+    let run = c.digits-run.result in
+    let sign = c.in-Some.sign in
+    let from = c.args.mantissa.size + 1 + sign in
+    subst (IsBegun m text) (sym c.at_stage-then-not-has_digit.ensures)
+    (exponent_at m text c.args.mantissa (c.args.mantissa.size + 1) sign run.size run.stage c.requires.at c.in-Some.ensures
+    (subst (λ stage. IsReadOn m text (at_stage from stage) pieces.Exponent (at_stage run.size run.stage)) c.behind_sign.ensures
+    c.digits-run.ensures.run.on)).begun

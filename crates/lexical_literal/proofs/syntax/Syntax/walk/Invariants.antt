@@ -1,9 +1,0 @@
-use Rattle.lexical_literal.proofs.Common.{◌-◌, notation_of, length}
-use Rattle.lexical_literal.specs.Additions.Longest.{IsUnderway}
-use Rattle.lexical_literal.proofs.syntax.Syntax.walk.Given as goal
-
-abbrev pub invariant-loop-next : goal.invariant-loop-next
-invariant-loop-next l = IsUnderway (notation_of l.self) l.text l.stop l.last
-
-abbrev pub decreases-loop-next : goal.decreases-loop-next
-decreases-loop-next l = length l.text - l.stop.size

@@ -1,0 +1,443 @@
+//! Where reading a text stops, and whether that is a literal: what has begun, and what has stopped.
+
+ghost use Rattle.std.specs.Prelude.{◌≡◌, ◌+◌, ◌++◌, ◌∷◌, ◌<◌, ◌≤◌, ◌^◌, Bool, IfSome, Some, IsErrAnd, IsNone, IsTrue, None, ℕ, List, [], false, get_or, true};
+ghost use Rattle.std.specs.Prelude.{length, slice_get, take, IfErr, IfOk, IsErr};
+ghost use Rattle.lexical_literal.specs.Additions.Explained.{tail_byte};
+ghost use Rattle.lexical_literal.specs.Additions.Stop.{HasBegun, HasFound, IsFronted, IsLongest, IsMeasured, IsStopped, IsUnderway};
+ghost use Rattle.lexical_literal.specs.Additions.Scan.{HasSizes, IsDecimal, IsReady, IsUsual};
+ghost use Rattle.lexical_literal.specs.Additions.Literal.{IsSummed};
+ghost use Rattle.lexical_literal.specs.Additions.GroupSize.{goes, steps_of};
+ghost use Rattle.lexical_util.specs.Record.{raw};
+ghost use Rattle.lexical_literal.specs.Additions.Step.{HasLengths, count, cuts_of, part_of, role_at};
+ghost use Rattle.lexical_literal.specs.Cause.{IsRefusal, tail_of, tail_size};
+ghost use Rattle.lexical_literal.specs.Front.{IsValidUpTo, NoLiteral};
+ghost use Rattle.lexical_literal.specs.Literal.{Literal, Reads};
+ghost use Rattle.lexical_literal.specs.Notation.{notation_of};
+ghost use Rattle.lexical_literal.specs.declared.group_size.Group.{Group};
+
+use crate::cause::ReadError;
+use crate::group_size::{FIRST, Group, group_after, group_allows, grow, has_sizes};
+use crate::literal::Sums;
+use crate::scan::{is_decimal, scan};
+use crate::span::spot;
+use crate::step::{Piece, START, Summary, is_complete, part_of, piece_number, piece_of, step};
+use crate::syntax::{Grammar, Syntax, is_usual};
+use lexical_util::format::{Part, Role};
+
+// What has been read of a text part after part. If `complete` is true, it is a literal, its parts have the lengths `counts`, and its
+// digits the sums. If `exact` is true, the byte that follows is refused.
+#[derive(Clone, Copy)]
+pub struct Begun {
+    pub at: Stopped,
+    pub counts: [usize; 9],
+    pub sums: Sums,
+    pub complete: bool,
+    pub(crate) exact: bool,
+}
+
+// Where reading a text has stopped, part after part or for good: the number of bytes that have been read, and their summary.
+#[derive(Clone, Copy)]
+pub struct Stopped {
+    pub size: usize,
+    pub(crate) read: Summary,
+}
+
+// Where no byte has been read.
+pub(crate) const BEGIN: Stopped = Stopped {
+    size: 0,
+    read: START,
+};
+
+// A leading piece of a text that is a literal: the number of its bytes, and the lengths of its parts.
+#[derive(Clone, Copy)]
+#[doc(hidden)]
+pub struct Found {
+    pub size: usize,
+    pub counts: [usize; 9],
+}
+
+#[doc(hidden)]
+impl Begun {
+    // Returns whether the parts are those of all of `text`.
+    #[inline(always)]
+    pub const fn is_whole(self, _syntax: &Syntax, text: &[u8]) -> bool
+        requires { HasBegun (notation_of _syntax.now) text.now self }
+        ensures measured { IsTrue result → IsMeasured (notation_of _syntax.now) text.now self.counts }
+        ensures complete { IsTrue result → IsTrue self.complete }
+    {
+        self.complete && self.at.size == text.len()
+    }
+
+    // Returns where reading `text` stops.
+    #[inline(always)]
+    pub const fn stop(self, syntax: &Syntax, text: &[u8]) -> Stopped
+        requires { HasBegun (notation_of syntax.now) text.now self }
+        ensures { IsStopped (notation_of syntax.now) text.now result }
+    {
+        if self.exact {
+            self.at
+        } else {
+            self.at.go_on(syntax, text)
+        }
+    }
+
+    // Returns the lengths of the parts of `text`, or where reading stops if it is not a literal.
+    #[inline(always)]
+    pub fn lengths(self, syntax: &Syntax, text: &[u8]) -> Result<[usize; 9], Stopped>
+        requires { HasBegun (notation_of syntax.now) text.now self }
+        ensures some { IfOk result (IsMeasured (notation_of syntax.now) text.now) }
+        ensures stop { IfErr result (IsStopped (notation_of syntax.now) text.now) }
+        ensures none { IsErr result → NoLiteral (notation_of syntax.now) text.now }
+    {
+        if self.exact {
+            Err(self.at)
+        } else {
+            self.at.all_lengths(syntax, text)
+        }
+    }
+}
+
+#[doc(hidden)]
+impl Stopped {
+    // Goes on, and returns the lengths of the parts of `text`, or where reading stops if it is not a literal.
+    #[inline(never)]
+    fn all_lengths(self, syntax: &Syntax, text: &[u8]) -> Result<[usize; 9], Stopped>
+        requires { (group : Group) × IsUnderway (notation_of syntax.now) text.now self group }
+        ensures some { IfOk result (IsMeasured (notation_of syntax.now) text.now) }
+        ensures stop { IfErr result (IsStopped (notation_of syntax.now) text.now) }
+        ensures none { IsErr result → NoLiteral (notation_of syntax.now) text.now }
+    {
+        let stop = self.go_on(syntax, text);
+        match stop.lengths(syntax, text) {
+            Some(counts) => Ok(counts),
+            None => Err(stop),
+        }
+    }
+
+    // Returns where reading `text` stops for good.
+    #[inline(always)]
+    pub(crate) const fn go_on(self, syntax: &Syntax, text: &[u8]) -> Stopped
+        requires { (group : Group) × IsUnderway (notation_of syntax.now) text.now self group }
+        ensures { IsStopped (notation_of syntax.now) text.now result }
+    {
+        let group = self.group(syntax, text);
+        match self.step(syntax, text, group) {
+            None => self,
+            Some((_, next, group)) => next.walk(syntax, text, group),
+        }
+    }
+
+    // Returns where reading `text` stops for good, step by step.
+    #[cold]
+    pub(crate) const fn walk(self, syntax: &Syntax, text: &[u8], group: Group) -> Stopped
+        requires { IsUnderway (notation_of syntax.now) text.now self group }
+        ensures { IsStopped (notation_of syntax.now) text.now result }
+    {
+        let mut stop = self;
+        let mut last = group;
+        while let Some((_, next, group)) = stop.step(syntax, text, last) {
+            stop = next;
+            last = group;
+        }
+        stop
+    }
+
+    // Returns the role of the byte that follows, and what has been read with it, or `None` if reading stops here.
+    #[inline(always)]
+    const fn step(
+        self,
+        syntax: &Syntax,
+        text: &[u8],
+        group: Group,
+    ) -> Option<(Role, Stopped, Group)>
+        requires { IsUnderway (notation_of syntax.now) text.now self group }
+        ensures next { IfSome result (λ next. (role_at (notation_of syntax.now) (part_of self.read.stage) (get_or text.now self.size 0) ≡ Some next.0)
+            × IsUnderway (notation_of syntax.now) text.now next.1 next.2 × (next.1.size ≡ self.size + 1)) }
+        ensures stop { IsNone result → IsStopped (notation_of syntax.now) text.now self }
+    {
+        let grammar = syntax.grammar();
+        let Stopped { size, read } = self;
+        if size == text.len() {
+            return None;
+        }
+        let Some((role, read)) = step(grammar, read, text[size]) else {
+            return None;
+        };
+        let Some(group) = grow(grammar, group, Some(role)) else {
+            return None;
+        };
+        let size = size + 1;
+        Some((role, Stopped { size, read }, group))
+    }
+
+    // Returns the last group of the bytes that have been read.
+    #[tactic(auto, using(crate::proofs::SizeLemmas::all_end))]
+    #[inline(always)]
+    const fn group(self, syntax: &Syntax, text: &[u8]) -> Group
+        requires { (group : Group) × IsUnderway (notation_of syntax.now) text.now self group }
+        ensures { IsUnderway (notation_of syntax.now) text.now self result }
+    {
+        let grammar = syntax.grammar();
+        if has_sizes(grammar) {
+            match group_after(grammar, text, self.size) {
+                Some(group) => group,
+                None => unreachable!(),
+            }
+        } else {
+            FIRST
+        }
+    }
+
+    // Returns the lengths of the parts of `text`, if it is a literal.
+    #[inline(always)]
+    pub const fn lengths(self, syntax: &Syntax, text: &[u8]) -> Option<[usize; 9]>
+        requires { IsStopped (notation_of syntax.now) text.now self }
+        ensures some { IfSome result (IsMeasured (notation_of syntax.now) text.now) }
+        ensures none { IsNone result → NoLiteral (notation_of syntax.now) text.now }
+    {
+        let group = self.group(syntax, text);
+        if self.size == text.len() && self.may_end(syntax.grammar(), group) {
+            Some(syntax.lengths(text))
+        } else {
+            None
+        }
+    }
+
+    // Returns whether the front of `text` up to here is a literal.
+    #[inline(always)]
+    pub const fn is_literal(self, syntax: &Syntax, text: &[u8]) -> bool
+        requires { IsStopped (notation_of syntax.now) text.now self }
+        ensures { result ≡ false → NoLiteral (notation_of syntax.now) (take self.size text.now) }
+    {
+        let group = self.group(syntax, text);
+        self.may_end(syntax.grammar(), group)
+    }
+
+    // Returns whether what has been read, with the last group `group`, is a literal.
+    #[inline(always)]
+    const fn may_end(self, grammar: Grammar, group: Group) -> bool
+        ensures { result ≡ goes (notation_of grammar) self.read group None }
+    {
+        is_complete(grammar, self.read) && group_allows(grammar, group, None)
+    }
+
+    // Returns why `text` is not a literal, as the result of the caller, which takes less
+    // time than to copy an error.
+    #[cold]
+    pub fn refuse<T>(self, syntax: &Syntax, text: &[u8]) -> Result<T, ReadError>
+        requires stopped { IsStopped (notation_of syntax.now) text.now self }
+        requires refused { NoLiteral (notation_of syntax.now) text.now }
+        ensures { IsErrAnd result (λ error. IsRefusal (notation_of syntax.now) text.now error.refusal) }
+    {
+        let byte = byte_at(text, self.size);
+        let front = front_of(text, self.size);
+        let tail = tail_at(text, self.size, byte);
+        let separated = self.group(syntax, text).separated;
+        let spot = spot(syntax.grammar(), front, self.read, byte, tail, separated);
+        Err(ReadError { spot })
+    }
+}
+
+#[doc(hidden)]
+impl Syntax {
+    // Returns whether all digits are decimal, no base prefix is read, and the syntax is a usual one.
+    #[inline(always)]
+    pub(crate) const fn is_decimal(&self) -> bool
+        ensures radix { IsTrue result → IsDecimal (raw self.now.word) }
+        ensures usual { IsTrue result → IsUsual self.now }
+    {
+        let grammar = self.grammar();
+        is_usual(grammar) && is_decimal(grammar)
+    }
+
+    // Reads a front of `text` with which some literal begins. Unless `fronts` is true, a front that is a literal, but not all of
+    // `text`, can have `complete` false, which takes less time.
+    #[inline(always)]
+    pub const fn begin(&self, decimal: bool, text: &[u8], fronts: bool) -> Begun
+        requires radix { IsTrue decimal → IsDecimal (raw self.now.word) }
+        requires usual { IsTrue decimal → IsUsual self.now }
+        ensures found { HasBegun (notation_of self.now) text.now result }
+        ensures summed { IsSummed (raw self.now.word) text.now result }
+    {
+        if decimal {
+            return scan(self.usual_grammar(), decimal, text, fronts);
+        }
+        let grammar = self.grammar();
+        let begun = scan(grammar, decimal, text, fronts);
+        if has_sizes(grammar) {
+            sized(self.grammar(), text, begun)
+        } else {
+            begun
+        }
+    }
+
+    // Returns where reading `text` stops.
+    #[cold]
+    pub fn stop(&self, text: &[u8]) -> Stopped
+        ensures { IsStopped (notation_of self.now) text.now result }
+    {
+        self.begin(false, text, false).stop(self, text)
+    }
+
+    // Returns where reading `text` stops if that is behind `size` bytes.
+    pub fn stop_at(&self, text: &[u8], size: usize) -> Option<Stopped>
+        ensures some { IfSome result (IsStopped (notation_of self.now) text.now) }
+        ensures size { IfSome result (λ stop. stop.size ≡ size) }
+        ensures none { IsNone result → IsValidUpTo (notation_of self.now) text.now size → ⊥ }
+    {
+        let stop = self.stop(text);
+        if stop.size == size { Some(stop) } else { None }
+    }
+
+    // Returns where reading `text` stops, and the longest front that is a literal, if there is one.
+    #[inline(always)]
+    pub fn front(&self, text: &[u8]) -> (Stopped, Option<Found>)
+        ensures { IsFronted (notation_of self.now) text.now result.0 result.1 }
+    {
+        let Begun {
+            at,
+            counts,
+            complete,
+            ..
+        } = self.begin(false, text, true);
+        let stop = at.go_on(self, text);
+        if complete && stop.size == at.size {
+            let size = stop.size;
+            return (stop, Some(Found { size, counts }));
+        }
+        (stop, self.longest(text))
+    }
+
+    // Returns the longest front of `text` that is a literal, and the lengths of its parts, if there is one.
+    #[cold]
+    const fn longest(&self, text: &[u8]) -> Option<Found>
+        ensures { IsLongest (notation_of self.now) text.now (length text.now) result }
+    {
+        let grammar = self.grammar();
+        let mut at = BEGIN;
+        let mut last = FIRST;
+        let mut counts = [0; 9];
+        let mut found = None;
+        while let Some((role, next, group)) = at.step(self, text, last) {
+            let more = count_byte(counts, part_of(at.read.stage), role);
+            counts = more;
+            at = next;
+            last = group;
+            if at.may_end(grammar, last) {
+                let size = at.size;
+                found = Some(Found { size, counts });
+            }
+        }
+        found
+    }
+
+    // Returns the lengths of the parts of the literal `text`.
+    #[cold]
+    const fn lengths(&self, text: &[u8]) -> [usize; 9]
+        ensures { (l : Literal) → Reads (notation_of self.now) l text.now → HasLengths l (cuts_of result) }
+    {
+        match self.longest(text) {
+            None => [0; 9],
+            Some(found) => found.counts,
+        }
+    }
+}
+
+// Returns what has been read without regard to sizes of groups, or that nothing has if a group has not the right size.
+#[inline(always)]
+const fn sized(grammar: Grammar, text: &[u8], begun: Begun) -> Begun
+    requires ready { IsReady (steps_of grammar) }
+    requires sizes { HasSizes (notation_of grammar) }
+    requires found { HasFound (steps_of grammar) text.now begun }
+    requires summed { IsSummed (raw grammar.word) text.now begun }
+    ensures begun { HasBegun (notation_of grammar) text.now result }
+    ensures summed { IsSummed (raw grammar.word) text.now result }
+{
+    match group_after(grammar, text, begun.at.size) {
+        Some(group) if !begun.complete || group_allows(grammar, group, None) => begun,
+        _ => Begun {
+            at: BEGIN,
+            complete: false,
+            exact: false,
+            ..begun
+        },
+    }
+}
+
+// Counts one more byte with the role `role` in `part`. Before that of a prefix, its zero has been counted for the integer.
+#[inline(always)]
+const fn count_byte(counts: [usize; 9], part: Part, role: Role) -> [usize; 9]
+    requires { (k : ℕ) → get_or counts k 0 + 1 < 2 ^ 64 }
+    ensures nine { length result ≡ 9 }
+    ensures counted { cuts_of result ≡ count part (Some role) (cuts_of counts) }
+    ensures small { (n : ℕ) → 0 < n → ((k : ℕ) → get_or counts k 0 ≤ n) → (k : ℕ) → get_or result k 0 ≤ n + 1 }
+{
+    let mut more = counts;
+    if matches!(role, Role::Prefix) {
+        more[piece_number(Piece::Prefix)] = 2;
+        more[piece_number(Piece::Integer)] = 0;
+    } else {
+        more[piece_number(piece_of(part, role))] += 1;
+    }
+    more
+}
+
+// Returns the byte behind the first `size`, if there is one.
+#[doc(hidden)]
+pub const fn byte_at(text: &[u8], size: usize) -> Option<u8>
+    ensures { result ≡ slice_get text.now size }
+{
+    if size < text.len() {
+        Some(text[size])
+    } else {
+        None
+    }
+}
+
+// Returns the number of bytes that follow `byte` in its character, if it begins one in UTF-8.
+const fn tail_size(byte: Option<u8>) -> usize
+    ensures { result ≡ tail_size byte }
+{
+    match byte {
+        Some(0xC2..=0xDF) => 1,
+        Some(0xE0..=0xEF) => 2,
+        Some(0xF0..=0xF4) => 3,
+        _ => 0,
+    }
+}
+
+// Returns the bytes that follow `byte`, the one behind the first `size`, in its character, and 0 for each that does not.
+#[inline(always)]
+const fn tail_at(text: &[u8], size: usize, byte: Option<u8>) -> [u8; 3]
+    requires size { size ≤ length text.now }
+    requires byte { byte ≡ slice_get text.now size }
+    ensures { result ≡ tail_of text.now size }
+{
+    let tail = tail_size(byte);
+    [
+        tail_byte(text, size, tail, 1),
+        tail_byte(text, size, tail, 2),
+        tail_byte(text, size, tail, 3),
+    ]
+}
+
+// Returns the byte behind the first `size + place` if `place` is at most `tail`, and 0 where there is none.
+const fn tail_byte(text: &[u8], size: usize, tail: usize, place: usize) -> u8
+    requires { size ≤ length text.now }
+    ensures { result ≡ tail_byte text.now size tail place }
+{
+    if place <= tail && place < text.len() - size {
+        text[size + place]
+    } else {
+        0
+    }
+}
+
+// Returns the first `size` bytes.
+#[inline(always)]
+pub(crate) fn front_of<'a>(text: &'a [u8], size: usize) -> &'a [u8]
+    requires { size ≤ length text.now }
+    ensures { result.now ≡ take size text.now }
+{
+    text.split_at(size).0
+}

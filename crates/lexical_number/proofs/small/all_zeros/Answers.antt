@@ -1,0 +1,19 @@
+-- The zeros of the fraction count if the integer has no other digits.
+use Rattle.lexical_number.proofs.Common.{ℕ, ◌≡◌, ◌+◌, ◌++◌, Bool, List, true, false, refl, sym, ap, ◌∙◌, filter_map-append, ◌==◌, if◌then◌else◌, digits_in}
+use Rattle.lexical_number.proofs.Common.{places, leading_zeros}
+use Rattle.lexical_number.proofs.SmallLemmas.{zeros_append}
+use Rattle.lexical_number.proofs.small.all_zeros.Goals as goal
+
+joined : (radix : ℕ) (x y : List ℕ) (b : Bool) (first second : ℕ) → first ≡ leading_zeros (digits_in radix x)
+    → b ≡ (leading_zeros (digits_in radix x) == places radix x) → second ≡ leading_zeros (digits_in radix y)
+    → (if b then first + second else first) ≡ leading_zeros (digits_in radix (x ++ y))
+joined radix x y b first second F B S =
+    (λ j. if B j then F j + S j else F j) ∙ sym (zeros_append (digits_in radix x) (digits_in radix y)) ∙ ap leading_zeros (sym (filter_map-append _ x y))
+
+pub returns-then-all : goal.returns-then-all
+returns-then-all c = let first = c.leading_zeros-zeros.ensures in joined c.args.radix c.args.integer.now c.args.fraction.now true _ _ first.zeros
+    (sym c.if-all.true ∙ first.all) c.leading_zeros.ensures.zeros
+
+pub returns-else-all : goal.returns-else-all
+returns-else-all c = let first = c.leading_zeros-zeros.ensures in joined c.args.radix c.args.integer.now c.args.fraction.now false _ _ first.zeros
+    (sym c.if-all.false ∙ first.all) refl

@@ -1,0 +1,123 @@
+//! Numbers of 64 bits, by the digits that represent them.
+
+ghost use Rattle.std.specs.Prelude.{◌≡◌, ◌↔◌, ◌+◌, ◌*◌, ◌%◌, ◌^◌, ◌≤◌, ◌++◌, ◌==◌, IsTrue, length};
+ghost use Rattle.lexical_number.specs.Number.{number_after, digits_in, number, places};
+ghost use Rattle.lexical_number.specs.Small.{IsSmall, leading_zeros};
+
+use lexical_base::digit::{char_is_digit_const, char_to_digit};
+
+/// Returns the number of digits of `radix` among `bytes`.
+#[must_use]
+pub const fn count(bytes: &[u8], radix: u32) -> usize
+    ensures value { result ≡ places radix bytes.now }
+    ensures within { result ≤ length bytes.now }
+{
+    let mut count = 0;
+    let mut index = 0;
+    while index < bytes.len() {
+        if char_is_digit_const(bytes[index], radix) {
+            count += 1;
+        }
+        index += 1;
+    }
+    count
+}
+
+// For each radix, the greatest number of digits with which each number is below `2 ^ 64`.
+#[rattlefmt::skip]
+const MOST: [u8; 37] = [
+    0, 0, 64, 40, 32, 27, 24, 22, 21, 20, 19, 18, 17, 17, 16, 16, 16, 15, 15, 15, 14, 14, 14, 14, 13, 13, 13, 13, 13, 13, 13, 12, 12, 12, 12, 12, 12,
+];
+
+/// Returns whether each number of so many digits in `radix` is below `2 ^ 64`.
+#[must_use]
+#[inline(always)]
+pub const fn fits(radix: u32, digits: usize) -> bool
+    requires { (2 ≤ radix) × (radix ≤ 36) }
+    ensures { IsTrue result ↔ (radix ^ digits ≤ 2 ^ 64) }
+{
+    // In each radix, 12 digits fit.
+    if digits <= 12 {
+        return true;
+    }
+    digits <= MOST[radix as usize] as usize
+}
+
+/// Returns the number that the digits of `sum` and one more represent, modulo `2 ^ 64`.
+#[must_use]
+#[inline(always)]
+pub const fn add(sum: u64, radix: u64, digit: u32) -> u64
+    ensures { result ≡ (sum * radix % 2 ^ 64 + digit) % 2 ^ 64 }
+{
+    sum.wrapping_mul(radix).wrapping_add(digit as u64)
+}
+
+/// Returns the number that the digits of `bytes` represent after those of `before`, modulo `2 ^ 64`. Other bytes are skipped.
+#[must_use]
+pub const fn add_all(before: u64, bytes: &[u8], radix: u32) -> u64
+    ensures { result ≡ number_after radix before bytes.now % 2 ^ 64 }
+{
+    let mut sum = before;
+    let mut index = 0;
+    while index < bytes.len() {
+        if let Some(digit) = char_to_digit(bytes[index], radix) {
+            sum = add(sum, radix as u64, digit);
+        }
+        index += 1;
+    }
+    sum
+}
+
+// Returns the number of zeros that the digits of `bytes` begin with, and whether there are no other digits.
+const fn leading_zeros(bytes: &[u8], radix: u32) -> (usize, bool)
+    ensures zeros { result.0 ≡ leading_zeros (digits_in radix bytes.now) }
+    ensures all { result.1 ≡ (leading_zeros (digits_in radix bytes.now) == places radix bytes.now) }
+    ensures within { result.0 ≤ length bytes.now }
+{
+    let mut zeros = 0;
+    let mut index = 0;
+    while index < bytes.len() {
+        match char_to_digit(bytes[index], radix) {
+            Some(0) => zeros += 1,
+            Some(_) => return (zeros, false),
+            None => (),
+        }
+        index += 1;
+    }
+    (zeros, true)
+}
+
+// Returns the number of zeros that the digits of `integer` and `fraction` begin with together.
+const fn all_zeros(integer: &[u8], fraction: &[u8], radix: u32) -> usize
+    ensures { result ≡ leading_zeros (digits_in radix (integer.now ++ fraction.now)) }
+{
+    let (zeros, all) = leading_zeros(integer, radix);
+    if all {
+        zeros + leading_zeros(fraction, radix).0
+    } else {
+        zeros
+    }
+}
+
+/// Returns the number that the digits of `integer` and `fraction` represent together, if they are so few behind their leading
+/// zeros that each number of so many is below `2 ^ 64`. There are `digits` of them, and `sum` is the number modulo `2 ^ 64`.
+#[must_use]
+#[cold]
+pub const fn small(
+    radix: u32,
+    integer: &[u8],
+    fraction: &[u8],
+    digits: usize,
+    sum: u64,
+) -> Option<u64>
+    requires radix { (2 ≤ radix) × (radix ≤ 36) }
+    requires digits { digits ≡ places radix (integer.now ++ fraction.now) }
+    requires sum { sum ≡ number radix (integer.now ++ fraction.now) % 2 ^ 64 }
+    ensures { IsSmall radix (number radix (integer.now ++ fraction.now)) result }
+{
+    if fits(radix, digits - all_zeros(integer, fraction, radix)) {
+        Some(sum)
+    } else {
+        None
+    }
+}

@@ -1,0 +1,138 @@
+// Made by rust/tools/erase.py from crates/lexical_literal/src/group_size.rt: change that file.
+
+//! Sizes of digit groups: how many digits are between the separators of a part, and which bytes may follow.
+
+use crate::literal::step::role_at;
+use crate::literal::syntax::{Condition, Grammar};
+use crate::word::{Part, Role};
+
+// The group of digits that is being read: its part, whether a separator is before it, and the number of its digits.
+#[derive(Debug, Clone, Copy, PartialEq, Eq, Hash)]
+pub struct Group {
+    pub(crate) part: Part,
+    pub(crate) separated: bool,
+    pub(crate) digits: usize,
+}
+
+// The group before any byte.
+pub(crate) const FIRST: Group = Group { part: Part::Integer, separated: false, digits: 0 };
+
+// Returns whether a condition is on groups of `part`.
+pub(crate) const fn has_size(grammar: Grammar, part: Part) -> bool {
+    match part {
+        Part::Integer => grammar.conditions.has(Condition::IntegerGroupSize),
+        Part::Fraction => grammar.conditions.has(Condition::FractionGroupSize),
+        Part::Exponent => false,
+    }
+}
+
+// Returns whether a condition is on groups of some part.
+#[inline(always)]
+pub(crate) const fn has_sizes(grammar: Grammar) -> bool {
+    grammar.conditions.has(Condition::IntegerGroupSize) || grammar.conditions.has(Condition::FractionGroupSize)
+}
+
+// Returns the number of a condition.
+const fn size(grammar: Grammar, condition: Condition) -> usize {
+    grammar.conditions.number(condition) as usize
+}
+
+// Returns the number of digits of a group of the integer before the last one.
+const fn higher(grammar: Grammar) -> usize {
+    match size(grammar, Condition::HigherGroupSize) {
+        0 => size(grammar, Condition::IntegerGroupSize),
+        higher => higher,
+    }
+}
+
+// Returns whether the first of several groups may have `count` digits.
+const fn first_fits(grammar: Grammar, part: Part, count: usize) -> bool {
+    match part {
+        Part::Integer => 0 < count && count <= higher(grammar),
+        _ => count == size(grammar, Condition::FractionGroupSize),
+    }
+}
+
+// Returns whether a group between others may have `count` digits.
+const fn inner_fits(grammar: Grammar, part: Part, count: usize) -> bool {
+    match part {
+        Part::Integer => count == higher(grammar),
+        _ => count == size(grammar, Condition::FractionGroupSize),
+    }
+}
+
+// Returns whether the last of several groups may have `count` digits.
+const fn last_fits(grammar: Grammar, part: Part, count: usize) -> bool {
+    match part {
+        Part::Integer => count == size(grammar, Condition::IntegerGroupSize),
+        _ => 0 < count && count <= size(grammar, Condition::FractionGroupSize),
+    }
+}
+
+// Returns the number of digits that a group behind a separator has at most.
+const fn most(grammar: Grammar, part: Part) -> usize {
+    let last = size(grammar, Condition::IntegerGroupSize);
+    match part {
+        Part::Integer if higher(grammar) < last => last,
+        Part::Integer => higher(grammar),
+        _ => size(grammar, Condition::FractionGroupSize),
+    }
+}
+
+// Returns whether a byte with the role `role` may follow `group`, of a part whose groups have sizes. If it has no role, or none
+// follows, the part ends.
+pub(crate) const fn follows(grammar: Grammar, group: Group, role: Option<Role>) -> bool {
+    let Group { part, separated, digits } = group;
+    match role {
+        Some(Role::Digit) => !separated || digits < most(grammar, part),
+        Some(Role::Separator) if separated => inner_fits(grammar, part, digits),
+        Some(Role::Separator) => first_fits(grammar, part, digits),
+        _ => !separated || last_fits(grammar, part, digits),
+    }
+}
+
+// Returns whether a byte with the role `role` may follow `group`.
+pub(crate) const fn group_allows(grammar: Grammar, group: Group, role: Option<Role>) -> bool {
+    !has_size(grammar, group.part) || follows(grammar, group, role)
+}
+
+// Returns the group after a byte with the role `role`.
+const fn grown(group: Group, role: Option<Role>) -> Group {
+    let part = match role {
+        Some(Role::Point) => Part::Fraction,
+        Some(Role::Exponent) => Part::Exponent,
+        _ => group.part,
+    };
+    match role {
+        Some(Role::Digit) => Group { digits: group.digits + 1, ..group },
+        _ => Group { part, separated: matches!(role, Some(Role::Separator)), digits: 0 },
+    }
+}
+
+// Returns the group after a byte with the role `role`, or `None` if it may not follow. Without sizes, it stays the same.
+#[inline(always)]
+pub(crate) const fn grow(grammar: Grammar, group: Group, role: Option<Role>) -> Option<Group> {
+    if !has_sizes(grammar) {
+        Some(group)
+    } else if group_allows(grammar, group, role) {
+        Some(grown(group, role))
+    } else {
+        None
+    }
+}
+
+// Returns the group after the first `size` bytes of `text`, or `None` if one of them may not follow.
+#[cold]
+pub(crate) const fn group_after(grammar: Grammar, text: &[u8], size: usize) -> Option<Group> {
+    let mut group = FIRST;
+    let mut index = 0;
+    while index < size {
+        let role = role_at(grammar, group.part, text[index]);
+        let Some(next) = grow(grammar, group, role) else {
+            return None;
+        };
+        group = next;
+        index += 1;
+    }
+    Some(group)
+}

@@ -1,0 +1,404 @@
+// Made by rust/tools/erase.py from crates/lexical_literal/src/scan.rt: change that file.
+
+//! How the parts of a literal are read, one after another, and their digits summed up.
+//!
+//! Reading may stop anywhere here: where it stops, one step decides whether it goes on. If `decimal` is true, all digits are
+//! decimal, which takes less time where the compiler knows it. Then reading also stops behind a leading zero, and where the digits
+//! of a part are absent, so that fewer paths join.
+
+use crate::digit::char_to_digit_const;
+use crate::format_flags::base_prefix;
+use crate::literal::literal::{Sum, Sums, NOTHING};
+use crate::literal::step::{
+    after_point, allows_minus, allows_plus, awaits_integer, digit_value, digits_of, has_digit, is_complete, is_digit,
+    is_exponent_character, is_point, is_run, is_separator, is_signed, may_follow, radix_of, takes, Stage, Summary,
+};
+use crate::literal::stop::{Begun, Stopped, BEGIN};
+use crate::literal::syntax::{Condition, Grammar};
+use crate::literal::value::number::small::add;
+use crate::word::{Part, Role};
+
+// What the parts are read into: the index behind the digits that have been read, their stage, and their sum, where those of the
+// fraction follow those of the integer; the lengths of the parts up to the fraction, and the number of the digits of the fraction.
+#[derive(Clone, Copy)]
+pub(crate) struct Reading {
+    pub(crate) size: usize,
+    pub(crate) stage: Stage,
+    pub(crate) sum: Sum,
+    pub(crate) sign: usize,
+    pub(crate) prefix: usize,
+    pub(crate) integer: usize,
+    pub(crate) point: usize,
+    pub(crate) fraction: usize,
+    pub(crate) places: usize,
+}
+
+// Returns where `size` bytes have been read, of which the last is no separator and no suffix.
+#[inline(always)]
+const fn at_stage(size: usize, stage: Stage) -> Stopped {
+    Stopped { size, read: Summary { stage, gap: false, ended: false } }
+}
+
+// Returns that the parts are read up to `at`, which no literal is said to end at.
+#[inline(always)]
+const fn unfinished(_grammar: Grammar, _text: &[u8], at: Stopped, exact: bool) -> Begun {
+    Begun { at, counts: [0; 9], sums: Sums { mantissa: NOTHING, places: 0, exponent: NOTHING }, complete: false, exact }
+}
+
+// Returns whether all digits are decimal, and no base prefix is read.
+#[inline(always)]
+pub(crate) const fn is_decimal(grammar: Grammar) -> bool {
+    let view = grammar.view();
+    view.mantissa_radix() == 10 && view.exponent_radix() == 10 && base_prefix(grammar.word) == 0
+}
+
+// Returns whether a sign of the mantissa, or of the exponent, follows and is read.
+#[inline(always)]
+const fn reads_sign(grammar: Grammar, text: &[u8], part: Part, size: usize) -> bool {
+    // Digits and letters are above the signs.
+    if size >= text.len() || text[size] > b'-' {
+        return false;
+    }
+    let plus = text[size] == b'+';
+    let minus = text[size] == b'-';
+    (plus & allows_plus(grammar, part)) | (minus & allows_minus(grammar, part))
+}
+
+// Returns the length of the sign of the mantissa, or of the exponent, or `None` if one is required that does not follow.
+#[inline(always)]
+const fn sign(grammar: Grammar, text: &[u8], part: Part, size: usize) -> Option<usize> {
+    if reads_sign(grammar, text, part, size) {
+        Some(1)
+    } else if is_signed(grammar, part, behind_sign(part, 0)) {
+        Some(0)
+    } else {
+        None
+    }
+}
+
+// Returns the stage behind a sign with this length.
+#[inline(always)]
+const fn behind_sign(part: Part, sign: usize) -> Stage {
+    match part {
+        Part::Exponent if sign == 0 => Stage::Mark,
+        Part::Exponent => Stage::Signed,
+        _ if sign == 0 => Stage::Start,
+        _ => Stage::Empty,
+    }
+}
+
+// Returns whether a base prefix follows, with its zero, and is read. None is if `decimal` is true.
+#[inline(always)]
+const fn reads_prefix(grammar: Grammar, decimal: bool, text: &[u8], size: usize) -> bool {
+    if decimal || size + 1 >= text.len() {
+        return false;
+    }
+    text[size] == b'0' && grammar.view().is_base_prefix(text[size + 1])
+}
+
+// Returns the value of the digit of `part` at `index`, if there is one.
+#[inline(always)]
+const fn value_at(grammar: Grammar, decimal: bool, text: &[u8], part: Part, index: usize) -> Option<u32> {
+    if index >= text.len() {
+        None
+    } else if decimal {
+        char_to_digit_const(text[index], 10)
+    } else {
+        digit_value(grammar, part, text[index])
+    }
+}
+
+// Returns the number that the digits of `sum` and one more represent, modulo `2 ^ 64`.
+#[inline(always)]
+const fn sum_with(grammar: Grammar, decimal: bool, part: Part, sum: u64, value: u32) -> u64 {
+    let radix = if decimal { 10 } else { radix_of(grammar, part) };
+    add(sum, radix, value)
+}
+
+// Returns the run with one more digit, whose byte is the last of `bytes` more.
+#[inline(always)]
+const fn with_digit(grammar: Grammar, decimal: bool, part: Part, run: Reading, value: u32, bytes: usize) -> Reading {
+    Reading {
+        size: run.size + bytes,
+        sum: Sum { digits: run.sum.digits + 1, value: sum_with(grammar, decimal, part, run.sum.value, value) },
+        ..run
+    }
+}
+
+// Returns the run with as many digits more as bytes, up to the index `size`, which then represent `value`.
+#[inline(always)]
+const fn up_to(run: Reading, size: usize, value: u64) -> Reading {
+    let digits = run.sum.digits + (size - run.size);
+    let sum = Sum { digits, value };
+    Reading { size, sum, ..run }
+}
+
+// Returns the value of the digit behind a separator at `index`, if a separator may be there.
+#[inline(always)]
+const fn separated(grammar: Grammar, decimal: bool, text: &[u8], part: Part, index: usize) -> Option<u32> {
+    if index < text.len() && is_separator(grammar, text[index]) && grammar.view().separators(part).internal {
+        value_at(grammar, decimal, text, part, index + 1)
+    } else {
+        None
+    }
+}
+
+// Reads the digits that follow others. They do not change the stage.
+#[inline(always)]
+const fn more_digits(grammar: Grammar, decimal: bool, text: &[u8], part: Part, begun: Reading) -> Reading {
+    let mut size = begun.size;
+    let mut value = begun.sum.value;
+    while let Some(digit) = value_at(grammar, decimal, text, part, size) {
+        value = sum_with(grammar, decimal, part, value, digit);
+        size += 1;
+    }
+    up_to(begun, size, value)
+}
+
+// Reads the digits that follow others, and separators between them. They do not change the stage.
+#[inline(always)]
+const fn more_groups(grammar: Grammar, decimal: bool, text: &[u8], part: Part, begun: Reading) -> Reading {
+    let mut run = begun;
+    loop {
+        run = more_digits(grammar, decimal, text, part, run);
+        let Some(value) = separated(grammar, decimal, text, part, run.size) else {
+            return run;
+        };
+        run = with_digit(grammar, decimal, part, run, value, 2);
+    }
+}
+
+// Reads the digits of `part` that follow, and separators between them.
+#[inline(always)]
+const fn digits(grammar: Grammar, decimal: bool, text: &[u8], part: Part, begun: Reading) -> Reading {
+    let Some(value) = value_at(grammar, decimal, text, part, begun.size) else {
+        return begun;
+    };
+    let one = with_digit(grammar, decimal, part, begun, value, 1);
+    if text[begun.size] == b'0' && awaits_integer(begun.stage) {
+        let stage = Stage::Bare;
+        behind_zero(grammar, decimal, text, Reading { stage, ..one })
+    } else {
+        let stage = digits_of(part);
+        more_groups(grammar, decimal, text, part, Reading { stage, ..one })
+    }
+}
+
+// Reads the digits behind the zero that begins the integer. None are read if `decimal` is true.
+#[inline(always)]
+const fn behind_zero(grammar: Grammar, decimal: bool, text: &[u8], zero: Reading) -> Reading {
+    match value_at(grammar, decimal, text, Part::Integer, zero.size) {
+        Some(value) if !decimal && may_follow(grammar, Stage::Bare) => {
+            let one = with_digit(grammar, decimal, Part::Integer, zero, value, 1);
+            let stage = Stage::Led;
+            more_groups(grammar, decimal, text, Part::Integer, Reading { stage, ..one })
+        }
+        _ => zero,
+    }
+}
+
+// Reads a front of `text` with which some literal begins. Unless `fronts` is true, a front that is a literal, but not all of
+// `text`, can have `complete` false, which takes less time.
+#[inline(always)]
+pub(crate) const fn scan(grammar: Grammar, decimal: bool, text: &[u8], fronts: bool) -> Begun {
+    let Some(sign) = sign(grammar, text, Part::Integer, 0) else {
+        return unfinished(grammar, text, BEGIN, false);
+    };
+    let Some((prefix, stage)) = open(grammar, decimal, text, sign) else {
+        return without_prefix(grammar, text, sign);
+    };
+    integer(grammar, decimal, text, fronts, sign, prefix, stage)
+}
+
+// Returns whether no condition is on the first digit, or one follows that they allow.
+#[inline(always)]
+const fn has_first(grammar: Grammar, text: &[u8], size: usize) -> bool {
+    let needs_zero = grammar.conditions.has(Condition::LeadingZero);
+    let needs_decimal = grammar.conditions.has(Condition::DecimalFirstDigit);
+    (!needs_zero && !needs_decimal) || is_first(grammar, text, size)
+}
+
+// Returns whether a digit follows that the conditions on the first digit allow. It is not inlined, so that reading without them
+// takes no longer.
+#[cold]
+const fn is_first(grammar: Grammar, text: &[u8], size: usize) -> bool {
+    size < text.len()
+        && is_digit(grammar, Part::Integer, text[size])
+        && (!grammar.conditions.has(Condition::LeadingZero) || text[size] == b'0')
+        && (!grammar.conditions.has(Condition::DecimalFirstDigit) || text[size] <= b'9')
+}
+
+// Returns the length of the base prefix, and the stage behind it, or `None` if a base prefix or a first digit is required that does
+// not follow.
+#[inline(always)]
+const fn open(grammar: Grammar, decimal: bool, text: &[u8], sign: usize) -> Option<(usize, Stage)> {
+    if reads_prefix(grammar, decimal, text, sign) {
+        Some((2, Stage::Prefixed))
+    } else if !grammar.conditions.has(Condition::BasePrefix) && has_first(grammar, text, sign) {
+        Some((0, behind_sign(Part::Integer, sign)))
+    } else {
+        None
+    }
+}
+
+// Returns whether a byte follows that is no base prefix, and one is required.
+#[inline(always)]
+const fn misses_prefix(grammar: Grammar, text: &[u8], size: usize) -> bool {
+    size < text.len() && grammar.conditions.has(Condition::BasePrefix) && !grammar.view().is_base_prefix(text[size])
+}
+
+// Reads the zero with which a required base prefix begins, if it follows.
+#[inline(always)]
+const fn without_prefix(grammar: Grammar, text: &[u8], sign: usize) -> Begun {
+    if sign < text.len() && text[sign] == b'0' {
+        unfinished(grammar, text, at_stage(sign + 1, Stage::Bare), misses_prefix(grammar, text, sign + 1))
+    } else {
+        unfinished(grammar, text, at_stage(sign, behind_sign(Part::Integer, sign)), false)
+    }
+}
+
+// Reads the integer, and what follows it.
+#[inline(always)]
+const fn integer(
+    grammar: Grammar,
+    decimal: bool,
+    text: &[u8],
+    fronts: bool,
+    sign: usize,
+    prefix: usize,
+    stage: Stage,
+) -> Begun {
+    let from = sign + prefix;
+    let begun = Reading { size: from, stage, sum: NOTHING, sign, prefix, integer: 0, point: 0, fraction: 0, places: 0 };
+    let run = digits(grammar, decimal, text, Part::Integer, begun);
+    if decimal && !has_digit(run.stage) {
+        return unfinished(grammar, text, at_stage(run.size, run.stage), false);
+    }
+    let read = Reading { size: run.size, stage: run.stage, sum: run.sum, integer: run.size - from, ..begun };
+    let at = at_stage(run.size, run.stage);
+    if run.size < text.len() && is_point(grammar, text[run.size]) && takes(grammar, at.read, false, Role::Point) {
+        return fraction(grammar, decimal, text, fronts, read);
+    }
+    behind_mantissa(grammar, decimal, text, fronts, read)
+}
+
+// Reads the fraction behind its decimal point, and what follows it.
+#[inline(always)]
+const fn fraction(grammar: Grammar, decimal: bool, text: &[u8], fronts: bool, integer: Reading) -> Begun {
+    let from = integer.size + 1;
+    let stage = after_point(integer.stage);
+    let begun = Reading { size: from, stage, ..integer };
+    let run = digits(grammar, decimal, text, Part::Fraction, begun);
+    if decimal && !has_digit(run.stage) {
+        return unfinished(grammar, text, at_stage(run.size, run.stage), false);
+    }
+    let read = Reading {
+        size: run.size,
+        stage: run.stage,
+        sum: run.sum,
+        point: 1,
+        fraction: run.size - from,
+        places: run.sum.digits - integer.sum.digits,
+        ..integer
+    };
+    behind_mantissa(grammar, decimal, text, fronts, read)
+}
+
+// Reads what follows the digits of the mantissa, an exponent or the suffix.
+#[inline(always)]
+const fn behind_mantissa(grammar: Grammar, decimal: bool, text: &[u8], fronts: bool, mantissa: Reading) -> Begun {
+    let at = at_stage(mantissa.size, mantissa.stage);
+    if mantissa.size < text.len()
+        && is_exponent_character(grammar, text[mantissa.size])
+        && takes(grammar, at.read, false, Role::Exponent)
+    {
+        exponent(grammar, decimal, text, fronts, mantissa)
+    } else {
+        suffix(grammar, text, fronts, at, mantissa, [0; 3], NOTHING)
+    }
+}
+
+// Reads the exponent behind its character, and what follows it.
+#[inline(always)]
+const fn exponent(grammar: Grammar, decimal: bool, text: &[u8], fronts: bool, mantissa: Reading) -> Begun {
+    let size = mantissa.size + 1;
+    let Some(sign) = sign(grammar, text, Part::Exponent, size) else {
+        return unfinished(grammar, text, at_stage(size, Stage::Mark), false);
+    };
+    let from = size + sign;
+    let begun = Reading { size: from, stage: behind_sign(Part::Exponent, sign), sum: NOTHING, ..mantissa };
+    let run = digits(grammar, decimal, text, Part::Exponent, begun);
+    if decimal && !has_digit(run.stage) {
+        return unfinished(grammar, text, at_stage(run.size, run.stage), false);
+    }
+    let at = at_stage(run.size, run.stage);
+    let scale = [1, sign, run.size - from];
+    suffix(grammar, text, fronts, at, mantissa, scale, run.sum)
+}
+
+// Returns whether `byte` is neither a digit nor a separator, and no base prefix, and follows digits.
+#[inline(always)]
+const fn is_passed(grammar: Grammar, stage: Stage, byte: u8) -> bool {
+    if is_separator(grammar, byte) {
+        return false;
+    }
+    match stage {
+        Stage::Bare => !is_digit(grammar, Part::Integer, byte) && !grammar.view().is_base_prefix(byte),
+        _ => is_run(stage),
+    }
+}
+
+// Returns that the mantissa has been read, and parts with these lengths behind it.
+#[inline(always)]
+const fn finished(
+    grammar: Grammar,
+    _text: &[u8],
+    at: Stopped,
+    mantissa: Reading,
+    scale: [usize; 3],
+    suffix: usize,
+    exponent: Sum,
+) -> Begun {
+    Begun {
+        at,
+        counts: [
+            mantissa.sign,
+            mantissa.prefix,
+            mantissa.integer,
+            mantissa.point,
+            mantissa.fraction,
+            scale[0],
+            scale[1],
+            scale[2],
+            suffix,
+        ],
+        sums: Sums { mantissa: mantissa.sum, places: mantissa.places, exponent },
+        complete: is_complete(grammar, at.read),
+        exact: false,
+    }
+}
+
+// Reads the suffix, if it follows.
+#[inline(always)]
+const fn suffix(
+    grammar: Grammar,
+    text: &[u8],
+    fronts: bool,
+    at: Stopped,
+    mantissa: Reading,
+    scale: [usize; 3],
+    exponent: Sum,
+) -> Begun {
+    let Stopped { size, read } = at;
+    if size < text.len() && grammar.view().is_base_suffix(text[size]) && takes(grammar, read, false, Role::Suffix) {
+        let size = size + 1;
+        let read = Summary { ended: true, ..read };
+        let at = Stopped { size, read };
+        finished(grammar, text, at, mantissa, scale, 1, exponent)
+    } else if !fronts && size < text.len() {
+        let exact = is_passed(grammar, read.stage, text[size]);
+        unfinished(grammar, text, at, exact)
+    } else {
+        finished(grammar, text, at, mantissa, scale, 0, exponent)
+    }
+}

@@ -1,0 +1,429 @@
+// Made by rust/tools/erase.py from crates/lexical_literal/src/step.rt: change that file.
+
+//! A step of reading: what has been read of a number, changed by one byte.
+
+use crate::format_flags::digit_separator;
+use crate::literal::group_size::has_size;
+use crate::literal::syntax::{Condition, Conditions, Grammar};
+use crate::word::{Part, Role};
+
+// A part of a literal.
+#[derive(Clone, Copy)]
+pub enum Piece {
+    Sign,
+    Prefix,
+    Integer,
+    Point,
+    Fraction,
+    ExponentCharacter,
+    ExponentSign,
+    Exponent,
+    Suffix,
+}
+
+// What has been read of the part that a digit belongs to.
+#[derive(Debug, Clone, Copy, PartialEq, Eq, Hash)]
+pub enum Stage {
+    Start,    // Nothing of the number.
+    Empty,    // A sign or separators, and no digits of the integer.
+    Bare,     // The digit 0, and no separators.
+    Zero,     // The digit 0, and separators.
+    Led,      // A leading zero, and more digits.
+    Integer,  // Digits of the integer without a leading zero.
+    Prefixed, // The base prefix, and no digits of the integer.
+    Lone,     // No digits of the fraction, after no digits of the integer.
+    Point,    // No digits of the fraction, after digits of the integer.
+    Fraction, // Digits of the fraction.
+    Mark,     // Nothing since the exponent character.
+    Signed,   // A sign or separators, and no digits of the exponent.
+    Exponent, // Digits of the exponent.
+}
+
+// What has been read of a number.
+#[derive(Debug, Clone, Copy, PartialEq, Eq, Hash)]
+pub struct Summary {
+    pub(crate) stage: Stage,
+    pub(crate) gap: bool,   // Whether the last byte is a separator.
+    pub(crate) ended: bool, // Whether the suffix has been read.
+}
+
+// The summary before any byte.
+pub(crate) const START: Summary = Summary { stage: Stage::Start, gap: false, ended: false };
+
+// Returns the part that a digit belongs to.
+#[inline(always)]
+pub(crate) const fn part_of(stage: Stage) -> Part {
+    match stage {
+        Stage::Lone | Stage::Point | Stage::Fraction => Part::Fraction,
+        Stage::Mark | Stage::Signed | Stage::Exponent => Part::Exponent,
+        _ => Part::Integer,
+    }
+}
+
+// Returns the stage of digits of `part` without a leading zero.
+#[inline(always)]
+pub(crate) const fn digits_of(part: Part) -> Stage {
+    match part {
+        Part::Integer => Stage::Integer,
+        Part::Fraction => Stage::Fraction,
+        Part::Exponent => Stage::Exponent,
+    }
+}
+
+// Returns whether `byte` is a digit of `part`.
+#[inline(always)]
+pub const fn is_digit(grammar: Grammar, part: Part, byte: u8) -> bool {
+    matches!(digit_value(grammar, part, byte), Some(_))
+}
+
+// Returns the value of `byte` as a digit of `part`, or `None` if it is none.
+#[inline(always)]
+pub(crate) const fn digit_value(grammar: Grammar, part: Part, byte: u8) -> Option<u32> {
+    match part {
+        Part::Exponent => grammar.view().exponent_digit(byte),
+        _ => grammar.view().mantissa_digit(byte),
+    }
+}
+
+// Returns the radix of the digits of `part`.
+#[inline(always)]
+pub(crate) const fn radix_of(grammar: Grammar, part: Part) -> u64 {
+    match part {
+        Part::Exponent => grammar.view().exponent_radix() as u64,
+        _ => grammar.view().mantissa_radix() as u64,
+    }
+}
+
+// Returns whether `byte` is the separator, and some flag allows one. Most bytes are another one than it.
+#[inline(always)]
+pub(crate) const fn is_separator(grammar: Grammar, byte: u8) -> bool {
+    byte == digit_separator(grammar.word) && grammar.view().is_separator(byte)
+}
+
+// Returns whether a plus sign may be before the digits of `part`.
+#[inline(always)]
+pub(crate) const fn allows_plus(grammar: Grammar, part: Part) -> bool {
+    match part {
+        Part::Exponent => !grammar.view().no_positive_exponent_sign(),
+        _ => !grammar.view().no_positive_mantissa_sign(),
+    }
+}
+
+// Returns whether a minus sign may be before the digits of `part`.
+#[inline(always)]
+pub(crate) const fn allows_minus(grammar: Grammar, part: Part) -> bool {
+    matches!(part, Part::Exponent) || !grammar.conditions.has(Condition::NegativeSign)
+}
+
+// Returns whether `byte` is the decimal point.
+#[inline(always)]
+pub const fn is_point(grammar: Grammar, byte: u8) -> bool {
+    match grammar.options {
+        None => false,
+        Some(options) => options.point != 0 && byte == options.point,
+    }
+}
+
+// Returns whether `byte` is the exponent character.
+#[inline(always)]
+pub(crate) const fn is_exponent_character(grammar: Grammar, byte: u8) -> bool {
+    match grammar.options {
+        None => false,
+        Some(options) => grammar.view().is_exponent_character(options.exponent, byte),
+    }
+}
+
+// Returns the piece that a byte with the role `role` belongs to, after a front that ends in `part`.
+#[inline(always)]
+pub(crate) const fn piece_of(part: Part, role: Role) -> Piece {
+    match (role, part) {
+        (Role::Digit | Role::Separator, Part::Integer) => Piece::Integer,
+        (Role::Digit | Role::Separator, Part::Fraction) => Piece::Fraction,
+        (Role::Digit | Role::Separator, Part::Exponent) => Piece::Exponent,
+        (Role::Sign, Part::Exponent) => Piece::ExponentSign,
+        (Role::Sign, _) => Piece::Sign,
+        (Role::Prefix, _) => Piece::Prefix,
+        (Role::Point, _) => Piece::Point,
+        (Role::Exponent, _) => Piece::ExponentCharacter,
+        (Role::Suffix, _) => Piece::Suffix,
+    }
+}
+
+// Returns the place of a piece in a list of lengths.
+#[inline(always)]
+pub(crate) const fn piece_number(piece: Piece) -> usize {
+    piece as usize
+}
+
+// Returns whether the integer has no digits, and a zero is a leading one.
+#[inline(always)]
+pub(crate) const fn awaits_integer(stage: Stage) -> bool {
+    matches!(stage, Stage::Start | Stage::Empty)
+}
+
+// Returns whether the part has a digit.
+#[inline(always)]
+pub(crate) const fn has_digit(stage: Stage) -> bool {
+    matches!(stage, Stage::Bare | Stage::Zero) || is_run(stage)
+}
+
+// Returns whether another digit changes no stage, and may follow.
+#[inline(always)]
+pub(crate) const fn is_run(stage: Stage) -> bool {
+    matches!(stage, Stage::Led | Stage::Integer | Stage::Fraction | Stage::Exponent)
+}
+
+// Returns whether a separator may be at a place in `part` with digits before it, or not, and after it, or not.
+#[inline(always)]
+const fn is_place(grammar: Grammar, part: Part, before: bool, after: bool) -> bool {
+    let allowed = grammar.view().separators(part);
+    match (before, after) {
+        (true, true) => allowed.internal,
+        (false, true) => allowed.leading && !has_size(grammar, part),
+        (true, false) => allowed.trailing && !has_size(grammar, part),
+        (false, false) => false,
+    }
+}
+
+// Returns whether several separators may follow one another in `part`.
+const fn allows_consecutive(grammar: Grammar, part: Part) -> bool {
+    grammar.view().separators(part).consecutive && !has_size(grammar, part)
+}
+
+// Returns whether an exponent is required.
+#[inline(always)]
+pub(crate) const fn needs_exponent(grammar: Grammar) -> bool {
+    grammar.view().required_exponent_notation() && matches!(grammar.options, Some(_))
+}
+
+// Returns whether another digit may follow: after a zero, only if some literal has a leading zero.
+#[inline(always)]
+pub(crate) const fn may_follow(grammar: Grammar, stage: Stage) -> bool {
+    !matches!(stage, Stage::Bare | Stage::Zero)
+        || (matches!(grammar.options, Some(_)) && !grammar.view().no_float_leading_zeros())
+        || (!grammar.view().no_integer_leading_zeros() && !needs_exponent(grammar))
+}
+
+// Returns whether there is no gap, or one that fits where a digit follows, or not.
+#[inline(always)]
+const fn gap_fits(grammar: Grammar, read: Summary, next: bool) -> bool {
+    !read.gap || is_place(grammar, part_of(read.stage), has_digit(read.stage), next)
+}
+
+// Returns whether `part` has a sign, or needs none.
+#[inline(always)]
+pub(crate) const fn is_signed(grammar: Grammar, part: Part, stage: Stage) -> bool {
+    let needs_sign = match part {
+        Part::Exponent => grammar.view().required_exponent_sign(),
+        _ => grammar.view().required_mantissa_sign(),
+    };
+    !matches!(stage, Stage::Start | Stage::Mark) || !needs_sign
+}
+
+// Returns whether the part that is read may end.
+#[inline(always)]
+const fn ends(grammar: Grammar, read: Summary) -> bool {
+    let format = grammar.view();
+    let has_mantissa = !matches!(read.stage, Stage::Lone);
+    let part = part_of(read.stage);
+    let needs_digit = match part {
+        Part::Integer => format.required_integer_digits(),
+        Part::Fraction if format.required_mantissa_digits() && !has_mantissa => return false,
+        Part::Fraction => format.required_fraction_digits(),
+        Part::Exponent => format.required_exponent_digits(),
+    };
+    is_signed(grammar, part, read.stage) && (gap_fits(grammar, read, false) && (!needs_digit || has_digit(read.stage)))
+}
+
+// Returns whether a byte with the role `role` may follow a part that may end.
+#[inline(always)]
+const fn continues(grammar: Grammar, part: Part, stage: Stage, role: Role) -> bool {
+    let format = grammar.view();
+    let digit = has_digit(stage);
+    let led = matches!(stage, Stage::Led);
+    let may_float = !format.no_float_leading_zeros() || !led;
+    match (part, role) {
+        (Part::Integer, Role::Point) => may_float,
+        (Part::Integer, Role::Exponent) => {
+            !format.no_exponent_notation()
+                && may_float
+                && (!format.required_mantissa_digits() || digit)
+                && !format.no_exponent_without_fraction()
+        }
+        (Part::Integer, Role::Suffix) => {
+            !needs_exponent(grammar) && digit && (!format.no_integer_leading_zeros() || !led)
+        }
+        (Part::Fraction, Role::Exponent) => !format.no_exponent_notation(),
+        (Part::Fraction, Role::Suffix) => !needs_exponent(grammar),
+        (Part::Exponent, Role::Suffix) => true,
+        _ => false,
+    }
+}
+
+// Returns whether what has been read is a literal.
+#[inline(always)]
+pub(crate) const fn is_complete(grammar: Grammar, read: Summary) -> bool {
+    let part = part_of(read.stage);
+    (read.ended || (ends(grammar, read) && continues(grammar, part, read.stage, Role::Suffix)))
+        && finishes(grammar.conditions, read)
+}
+
+// Returns whether the base prefix may still follow, or what is left of it.
+#[inline(always)]
+const fn lacks_prefix(stage: Stage) -> bool {
+    matches!(stage, Stage::Start | Stage::Empty | Stage::Bare)
+}
+
+// Returns whether a byte with the role `role`, the digit 0 if `zero` is true, is the sign before a base prefix, or one of its
+// own bytes.
+#[inline(always)]
+const fn leads_to_prefix(stage: Stage, zero: bool, role: Role) -> bool {
+    match (stage, role) {
+        (Stage::Bare, role) => matches!(role, Role::Prefix),
+        (_, Role::Sign) => true,
+        (_, Role::Digit) => zero,
+        _ => false,
+    }
+}
+
+// Returns whether a byte with the role `role`, which is a plus sign if `plus` is true, is a minus sign of the mantissa.
+#[inline(always)]
+const fn is_negative(part: Part, plus: bool, role: Role) -> bool {
+    matches!(role, Role::Sign) && !matches!(part, Part::Exponent) && !plus
+}
+
+// Returns whether a byte with the role `role` is a sign, or a digit that fits if `fits` is true.
+#[inline(always)]
+const fn leads(fits: bool, role: Role) -> bool {
+    match role {
+        Role::Sign => true,
+        Role::Digit => fits,
+        _ => false,
+    }
+}
+
+// Returns whether the conditions let `byte` follow, which has the role `role`.
+#[inline(always)]
+pub(crate) const fn admits(conditions: Conditions, read: Summary, byte: u8, role: Role) -> bool {
+    conditions.is_none() || some_admit(conditions, read, byte, role)
+}
+
+// Returns whether the conditions, if there are any, let `byte` follow, which has the role `role`. It is not inlined, so that steps
+// without conditions take no longer.
+#[cold]
+const fn some_admit(conditions: Conditions, read: Summary, byte: u8, role: Role) -> bool {
+    let zero = byte == b'0';
+    let needs_prefix = conditions.has(Condition::BasePrefix) && lacks_prefix(read.stage);
+    let first = awaits_integer(read.stage);
+    let needs_zero = conditions.has(Condition::LeadingZero) && first;
+    let needs_decimal = conditions.has(Condition::DecimalFirstDigit) && first;
+    (!needs_prefix || leads_to_prefix(read.stage, zero, role))
+        && !(conditions.has(Condition::NegativeSign) && is_negative(part_of(read.stage), byte == b'+', role))
+        && (!needs_zero || leads(zero, role))
+        && (!needs_decimal || leads(byte <= b'9', role))
+}
+
+// Returns whether the conditions let a literal end.
+#[inline(always)]
+const fn finishes(conditions: Conditions, read: Summary) -> bool {
+    !(conditions.has(Condition::BasePrefix) && lacks_prefix(read.stage))
+        && (!conditions.has(Condition::BaseSuffix) || read.ended)
+}
+
+// Returns whether some literal goes on with a byte that has the role `role`, and is a plus sign if `plus` is true.
+#[inline(always)]
+pub(crate) const fn takes(grammar: Grammar, read: Summary, plus: bool, role: Role) -> bool {
+    let Summary { stage, .. } = read;
+    let part = part_of(stage);
+    let digit = has_digit(stage);
+    match role {
+        Role::Digit => is_signed(grammar, part, stage) && gap_fits(grammar, read, true) && may_follow(grammar, stage),
+        Role::Separator => {
+            is_signed(grammar, part, stage)
+                && (!read.gap || allows_consecutive(grammar, part))
+                && ((is_place(grammar, part, digit, true) && may_follow(grammar, stage))
+                    || is_place(grammar, part, digit, false))
+        }
+        Role::Sign => matches!(stage, Stage::Start | Stage::Mark) && (!plus || allows_plus(grammar, part)),
+        Role::Prefix => matches!(stage, Stage::Bare),
+        _ => ends(grammar, read) && continues(grammar, part, stage, role),
+    }
+}
+
+// Returns the stage behind a decimal point.
+#[inline(always)]
+pub(crate) const fn after_point(integer: Stage) -> Stage {
+    if has_digit(integer) {
+        Stage::Point
+    } else {
+        Stage::Lone
+    }
+}
+
+// Returns the summary after a byte that has the role `role`, and is the digit 0 if `zero` is true.
+#[inline(always)]
+pub(crate) const fn after(read: Summary, zero: bool, role: Role) -> Summary {
+    let stage = match (role, read.stage) {
+        (Role::Digit, Stage::Start | Stage::Empty) if zero && read.gap => Stage::Zero,
+        (Role::Digit, Stage::Start | Stage::Empty) if zero => Stage::Bare,
+        (Role::Digit, Stage::Bare | Stage::Zero | Stage::Led) => Stage::Led,
+        (Role::Digit, stage) => digits_of(part_of(stage)),
+        (Role::Separator | Role::Sign, Stage::Start) => Stage::Empty,
+        (Role::Separator | Role::Sign, Stage::Mark) => Stage::Signed,
+        (Role::Separator | Role::Sign, Stage::Bare) => Stage::Zero,
+        (Role::Separator | Role::Sign | Role::Suffix, stage) => stage,
+        (Role::Prefix, _) => Stage::Prefixed,
+        (Role::Point, stage) => after_point(stage),
+        (Role::Exponent, _) => Stage::Mark,
+    };
+    let gap = match role {
+        Role::Separator => true,
+        Role::Sign | Role::Suffix => read.gap,
+        _ => false,
+    };
+    Summary { stage, gap, ended: read.ended || matches!(role, Role::Suffix) }
+}
+
+// Returns the role of `byte` after a front that ends in `part`, where digits are those of the radix of `part`.
+#[inline(always)]
+pub const fn role_at(grammar: Grammar, part: Part, byte: u8) -> Option<Role> {
+    if is_digit(grammar, part, byte) {
+        Some(Role::Digit)
+    } else if is_separator(grammar, byte) {
+        Some(Role::Separator)
+    } else if is_point(grammar, byte) {
+        Some(Role::Point)
+    } else if is_exponent_character(grammar, byte) {
+        Some(Role::Exponent)
+    } else if grammar.view().is_base_suffix(byte) {
+        Some(Role::Suffix)
+    } else if matches!(byte, b'+' | b'-') {
+        Some(Role::Sign)
+    } else if grammar.view().is_base_prefix(byte) {
+        Some(Role::Prefix)
+    } else {
+        None
+    }
+}
+
+// Returns the role of `byte`, and what it makes of what has been read, or `None` if no literal begins so.
+#[inline(always)]
+pub(crate) const fn step(grammar: Grammar, read: Summary, byte: u8) -> Option<(Role, Summary)> {
+    let Some(role) = role_at(grammar, part_of(read.stage), byte) else {
+        return None;
+    };
+    match step_as(grammar, read, byte, role) {
+        None => None,
+        Some(read) => Some((role, read)),
+    }
+}
+
+// Returns what `byte` makes of what has been read if it has the role `role`, or `None` if no literal begins so.
+#[inline(always)]
+pub(crate) const fn step_as(grammar: Grammar, read: Summary, byte: u8, role: Role) -> Option<Summary> {
+    if !read.ended && takes(grammar, read, byte == b'+', role) && admits(grammar.conditions, read, byte, role) {
+        Some(after(read, byte == b'0', role))
+    } else {
+        None
+    }
+}
