@@ -21,6 +21,7 @@ static void print_value(const peltzivar_literal *literal) {
 }
 
 int main(int argc, char **argv) {
+    if (!PELTZIVAR_VERSION_FITS()) return puts("libpeltzivar_c must be " PELTZIVAR_VERSION " or a later 1.x"), 2;
     char settings[4096] = "", line[4096], message[PELTZIVAR_TEXT_SIZE];
     for (int i = 1; i < argc; i++) {
         if (strlen(settings) + strlen(argv[i]) + 2 > sizeof settings) return puts("the settings are too long"), 2;

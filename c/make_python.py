@@ -1,8 +1,8 @@
 #!/usr/bin/env python3
-"""Writes parts of peltzivar/__init__.py: the constants, enumerations, structures and calls of peltzivar.h, and the
+"""Writes parts of peltzivar/__init__.py: the constants, enumerations, structures and calls of both headers, and the
 attributes of a view, the parameters of calls that take fields, and the languages, with their documentation in rust/src;
-and the calls of languages in peltzivar.h and in rust/capi, and the numbers of setters, errors and conditions in
-peltzivar.h.
+and the calls of languages in peltzivar.h and in rust/capi, the numbers of conditions there, and those of setters and
+errors in peltzivar_words.h.
 
     c/make_python.py            writes each part between the lines `Made by make_python.py: PART` and `End`
     c/make_python.py --check    ends with status 1 if a part is not up to date
@@ -13,12 +13,15 @@ import sys
 import textwrap
 
 HERE = pathlib.Path(__file__).resolve().parent
-HEADER = HERE.joinpath("peltzivar.h").read_text()
+HEADERS = HERE / "peltzivar.h", HERE / "peltzivar_words.h"
+HEADER = "".join(it.read_text() for it in HEADERS)
 SETTERS = HERE.parent.joinpath("rust/src/format_builder/setters.rs").read_text()
 ERRORS = HERE.parent.joinpath("rust/src/error.rs").read_text()
 FORMAT = HERE.parent.joinpath("docs/FORMAT.md").read_text()
 LANGUAGES = HERE.parent.joinpath("rust/src/literal/language/tables.rs").read_text()
-CODE = " ".join(re.sub(r"/\*.*?\*/|^#.*?$", "", HEADER, flags=re.S | re.M).split())
+CODE = " ".join(re.sub(r"/\*.*?\*/|^#.*?(?<!\\)$", "", HEADER, flags=re.S | re.M).split())
+# Two structures are named before they are defined.
+CODE = re.sub(r"(?<!typedef )struct (peltzivar_\w+) ({.*?});", r"typedef struct \2 \1;", re.sub(r"typedef struct (\w+) \1;", "", CODE))
 PAGE_OF_LANGUAGES = HERE.parent.joinpath("docs/languages.py").read_text()
 LANGUAGE_NAMES = re.findall(r"^    (\w+) = \{", LANGUAGES, re.M)
 STRUCTS = {name: f"_{name[10:].title().replace('_', '')}" for name in re.findall(r"} (peltzivar_\w+);", CODE)}
@@ -196,7 +199,7 @@ def made(text):
 
 if __name__ == "__main__":
     HEADER = made(HEADER)
-    for path in (HERE / "peltzivar.h", HERE.parent / "rust/capi/src/languages.rs", HERE / "peltzivar/__init__.py"):
+    for path in (*HEADERS, HERE.parent / "rust/capi/src/languages.rs", HERE / "peltzivar/__init__.py"):
         old = path.read_text()
         if "--check" in sys.argv[1:]:
             made(old) == old or sys.exit(f"run c/make_python.py: {path} is not up to date")

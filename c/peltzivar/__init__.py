@@ -263,27 +263,12 @@ class Spelling(_Named):
     INFINITY = 3
 
 
-class _Word(Structure):
+class _ReadError(Structure):
     _fields_ = [
-        ("low", c_uint64),
-        ("high", c_uint64),
-    ]
-
-
-class _Syntax(Structure):
-    _fields_ = [
-        ("format", _Word),
-        ("exponent", c_uint8),
-        ("decimal_point", c_uint8),
-        ("required_base_prefix", c_bool),
-        ("required_base_suffix", c_bool),
-        ("no_negative_mantissa_sign", c_bool),
-        ("integer_group_size", c_uint8),
-        ("higher_group_size", c_uint8),
-        ("fraction_group_size", c_uint8),
-        ("required_leading_zero", c_bool),
-        ("decimal_first_digit", c_bool),
-        ("reserved", c_uint8 * 6),
+        ("magic", c_uint64),
+        ("valid_up_to", c_size_t),
+        ("form", c_uint8),
+        ("stop", c_uint64 * 13),
     ]
 
 
@@ -314,41 +299,12 @@ class _Literal(Structure):
     ]
 
 
-class _ReadError(Structure):
-    _fields_ = [
-        ("magic", c_uint64),
-        ("valid_up_to", c_size_t),
-        ("form", c_uint8),
-        ("stop", c_uint64 * 13),
-    ]
-
-
-class _I128(Structure):
-    _fields_ = [
-        ("low", c_uint64),
-        ("high", c_int64),
-    ]
-
-
-class _Explanation(Structure):
-    _fields_ = [
-        ("span", _Span),
-        ("index", c_size_t),
-        ("mask", _Word),
-        ("code", c_uint32),
-        ("kind", c_uint8),
-        ("number", c_uint8),
-        ("part", c_uint8),
-        ("reserved", c_uint8),
-        ("conditions", c_uint64),
-    ]
-
-
 class _Specials(Structure):
     _fields_ = [
         ("nan", c_char_p),
         ("inf", c_char_p),
         ("infinity", c_char_p),
+        ("reserved", c_uint8 * 8),
     ]
 
 
@@ -359,12 +315,72 @@ class _Special(Structure):
     ]
 
 
+class _I128(Structure):
+    _fields_ = [
+        ("low", c_uint64),
+        ("high", c_int64),
+    ]
+
+
+class _Token(Structure):
+    _fields_ = [
+        ("literal", _Literal),
+        ("suffix", _Span),
+        ("size", c_size_t),
+        ("rest", c_char_p),
+        ("reserved", c_uint64 * 2),
+    ]
+
+
+class _Style(Structure):
+    _fields_ = [
+        ("group", c_uint8),
+        ("fraction_group", c_uint8),
+        ("without_base", c_bool),
+        ("lowercase", c_bool),
+        ("keep_leading_zeros", c_bool),
+        ("min_digits", c_uint8),
+        ("exponent", c_uint8),
+        ("exponent_from", c_uint32),
+        ("point", c_bool),
+        ("has_decimals", c_bool),
+        ("decimals", c_uint8),
+        ("nearest", c_bool),
+        ("reserved", c_uint8 * 8),
+    ]
+
+
+class _Word(Structure):
+    _fields_ = [
+        ("low", c_uint64),
+        ("high", c_uint64),
+    ]
+
+
+class _Syntax(Structure):
+    _fields_ = [
+        ("format", _Word),
+        ("exponent", c_uint8),
+        ("decimal_point", c_uint8),
+        ("required_base_prefix", c_bool),
+        ("required_base_suffix", c_bool),
+        ("no_negative_mantissa_sign", c_bool),
+        ("integer_group_size", c_uint8),
+        ("higher_group_size", c_uint8),
+        ("fraction_group_size", c_uint8),
+        ("required_leading_zero", c_bool),
+        ("decimal_first_digit", c_bool),
+        ("reserved", c_uint8 * 6),
+    ]
+
+
 class _SuffixKind(Structure):
     _fields_ = [
         ("word", c_char_p),
         ("integer_kind", c_uint8),
         ("integer_bits", c_uint8),
         ("float_kind", c_uint8),
+        ("reserved", c_uint8 * 5),
     ]
 
 
@@ -373,6 +389,7 @@ class _Stop(Structure):
         ("last", c_char_p),
         ("next", c_char_p),
         ("second", c_char_p),
+        ("reserved", c_uint8 * 8),
     ]
 
 
@@ -423,29 +440,17 @@ class _Forms(Structure):
     ]
 
 
-class _Token(Structure):
+class _Explanation(Structure):
     _fields_ = [
-        ("literal", _Literal),
-        ("suffix", _Span),
-        ("size", c_size_t),
-        ("rest", c_char_p),
-    ]
-
-
-class _Style(Structure):
-    _fields_ = [
-        ("group", c_uint8),
-        ("fraction_group", c_uint8),
-        ("without_base", c_bool),
-        ("lowercase", c_bool),
-        ("keep_leading_zeros", c_bool),
-        ("min_digits", c_uint8),
-        ("exponent", c_uint8),
-        ("exponent_from", c_uint32),
-        ("point", c_bool),
-        ("has_decimals", c_bool),
-        ("decimals", c_uint8),
-        ("nearest", c_bool),
+        ("span", _Span),
+        ("index", c_size_t),
+        ("mask", _Word),
+        ("code", c_uint32),
+        ("kind", c_uint8),
+        ("number", c_uint8),
+        ("part", c_uint8),
+        ("reserved", c_uint8),
+        ("conditions", c_uint64),
     ]
 
 
@@ -479,6 +484,45 @@ class _Separators(Structure):
 
 _CALLS: Dict[str, Tuple[Any, List[Any]]] = {
     "version": (c_uint32, []),
+    "language": (c_void_p, [c_char_p, c_size_t]),
+    "language_haskell_ghc2021": (c_void_p, []),
+    "language_yaml_1_1": (c_void_p, []),
+    "language_name": (c_char_p, [c_size_t]),
+    "parse_i64": (c_uint8, [c_void_p, c_char_p, c_size_t, POINTER(c_int64), POINTER(_ReadError)]),
+    "parse_u64": (c_uint8, [c_void_p, c_char_p, c_size_t, POINTER(c_uint64), POINTER(_ReadError)]),
+    "parse_f64": (c_uint8, [c_void_p, c_char_p, c_size_t, POINTER(c_double), POINTER(_ReadError)]),
+    "parse_f32": (c_uint8, [c_void_p, c_char_p, c_size_t, POINTER(c_float), POINTER(_ReadError)]),
+    "parse_error_text": (c_size_t, [c_uint8, POINTER(_ReadError), c_char_p, c_size_t]),
+    "value_description": (c_char_p, [c_uint8]),
+    "parse_i64_column": (c_size_t, [c_void_p, c_char_p, POINTER(c_int64), c_size_t, POINTER(c_int64), POINTER(c_uint8)]),
+    "parse_u64_column": (c_size_t, [c_void_p, c_char_p, POINTER(c_int64), c_size_t, POINTER(c_uint64), POINTER(c_uint8)]),
+    "parse_f64_column": (c_size_t, [c_void_p, c_char_p, POINTER(c_int64), c_size_t, POINTER(c_double), POINTER(c_uint8)]),
+    "parse_f32_column": (c_size_t, [c_void_p, c_char_p, POINTER(c_int64), c_size_t, POINTER(c_float), POINTER(c_uint8)]),
+    "forms_read": (c_bool, [c_void_p, c_char_p, c_size_t, POINTER(_Literal), POINTER(_ReadError)]),
+    "forms_read_prefix": (c_bool, [c_void_p, c_char_p, c_size_t, POINTER(_Literal), POINTER(_ReadError)]),
+    "forms_read_special": (c_bool, [c_void_p, c_char_p, c_size_t, POINTER(_Special)]),
+    "read": (c_bool, [POINTER(_Syntax), c_char_p, c_size_t, POINTER(_Literal), POINTER(_ReadError)]),
+    "read_prefix": (c_bool, [POINTER(_Syntax), c_char_p, c_size_t, POINTER(_Literal), POINTER(_ReadError)]),
+    "read_special": (c_bool, [POINTER(_Syntax), POINTER(_Specials), c_char_p, c_size_t, POINTER(_Special)]),
+    "to_i64": (c_uint8, [POINTER(_Literal), POINTER(c_int64)]),
+    "to_u64": (c_uint8, [POINTER(_Literal), POINTER(c_uint64)]),
+    "to_i128": (c_uint8, [POINTER(_Literal), POINTER(_I128)]),
+    "to_f64": (c_uint8, [POINTER(_Literal), POINTER(c_double)]),
+    "to_f32": (c_uint8, [POINTER(_Literal), POINTER(c_float)]),
+    "forms_token": (c_bool, [c_void_p, c_char_p, c_size_t, POINTER(_Token), POINTER(_ReadError)]),
+    "token_error_text": (c_size_t, [c_void_p, c_char_p, c_size_t, c_char_p, c_size_t]),
+    "forms_format_i64": (c_uint8, [c_void_p, c_int64, POINTER(_Style), c_char_p, c_size_t, POINTER(c_size_t)]),
+    "forms_format_u64": (c_uint8, [c_void_p, c_uint64, POINTER(_Style), c_char_p, c_size_t, POINTER(c_size_t)]),
+    "forms_format_i128": (c_uint8, [c_void_p, _I128, POINTER(_Style), c_char_p, c_size_t, POINTER(c_size_t)]),
+    "forms_format_f64": (c_uint8, [c_void_p, c_double, POINTER(_Style), c_char_p, c_size_t, POINTER(c_size_t)]),
+    "forms_format_literal": (c_uint8, [c_void_p, POINTER(_Literal), POINTER(_Style), c_char_p, c_size_t, POINTER(c_size_t)]),
+    "format_i64": (c_uint8, [POINTER(_Syntax), c_int64, POINTER(_Style), c_char_p, c_size_t, POINTER(c_size_t)]),
+    "format_u64": (c_uint8, [POINTER(_Syntax), c_uint64, POINTER(_Style), c_char_p, c_size_t, POINTER(c_size_t)]),
+    "format_i128": (c_uint8, [POINTER(_Syntax), _I128, POINTER(_Style), c_char_p, c_size_t, POINTER(c_size_t)]),
+    "format_f64": (c_uint8, [POINTER(_Syntax), c_double, POINTER(_Style), c_char_p, c_size_t, POINTER(c_size_t)]),
+    "format_literal": (c_uint8, [POINTER(_Syntax), POINTER(_Literal), POINTER(_Style), c_char_p, c_size_t, POINTER(c_size_t)]),
+    "format_special": (c_uint8, [POINTER(_Syntax), POINTER(_Specials), _Special, c_char_p, c_size_t, POINTER(c_size_t)]),
+    "write_description": (c_char_p, [c_uint8]),
     "read_settings": (c_size_t, [c_char_p, c_size_t, POINTER(_Syntax)]),
     "settings_text": (c_size_t, [c_char_p, c_size_t, c_size_t, c_char_p, c_size_t]),
     "settings_lines": (c_size_t, [c_char_p, c_size_t, c_size_t, POINTER(c_size_t), c_size_t]),
@@ -487,48 +531,10 @@ _CALLS: Dict[str, Tuple[Any, List[Any]]] = {
     "sentence": (c_size_t, [POINTER(_Syntax), c_char_p, c_size_t]),
     "grammar": (c_size_t, [POINTER(_Syntax), c_char_p, c_size_t]),
     "regex": (c_size_t, [POINTER(_Syntax), c_char_p, c_size_t]),
-    "read": (c_bool, [POINTER(_Syntax), c_char_p, c_size_t, POINTER(_Literal), POINTER(_ReadError)]),
-    "read_prefix": (c_bool, [POINTER(_Syntax), c_char_p, c_size_t, POINTER(_Literal), POINTER(_ReadError)]),
-    "to_i64": (c_uint8, [POINTER(_Literal), POINTER(c_int64)]),
-    "to_u64": (c_uint8, [POINTER(_Literal), POINTER(c_uint64)]),
-    "to_i128": (c_uint8, [POINTER(_Literal), POINTER(_I128)]),
-    "to_f64": (c_uint8, [POINTER(_Literal), POINTER(c_double)]),
-    "to_f32": (c_uint8, [POINTER(_Literal), POINTER(c_float)]),
-    "value_description": (c_char_p, [c_uint8]),
     "read_error_text": (c_size_t, [POINTER(_ReadError), c_char_p, c_size_t]),
     "read_error_full_text": (c_size_t, [POINTER(_ReadError), c_char_p, c_size_t]),
     "part_name": (c_char_p, [c_uint8]),
     "explain": (c_bool, [POINTER(_ReadError), POINTER(_Explanation)]),
-    "read_special": (c_bool, [POINTER(_Syntax), POINTER(_Specials), c_char_p, c_size_t, POINTER(_Special)]),
-    "language": (c_void_p, [c_char_p, c_size_t]),
-    "language_haskell_ghc2021": (c_void_p, []),
-    "language_yaml_1_1": (c_void_p, []),
-    "language_name": (c_char_p, [c_size_t]),
-    "forms_read": (c_bool, [c_void_p, c_char_p, c_size_t, POINTER(_Literal), POINTER(_ReadError)]),
-    "forms_read_prefix": (c_bool, [c_void_p, c_char_p, c_size_t, POINTER(_Literal), POINTER(_ReadError)]),
-    "forms_read_special": (c_bool, [c_void_p, c_char_p, c_size_t, POINTER(_Special)]),
-    "forms_token": (c_bool, [c_void_p, c_char_p, c_size_t, POINTER(_Token), POINTER(_ReadError)]),
-    "token_error_text": (c_size_t, [c_void_p, c_char_p, c_size_t, c_char_p, c_size_t]),
-    "parse_i64": (c_uint8, [c_void_p, c_char_p, c_size_t, POINTER(c_int64), POINTER(_ReadError)]),
-    "parse_u64": (c_uint8, [c_void_p, c_char_p, c_size_t, POINTER(c_uint64), POINTER(_ReadError)]),
-    "parse_f64": (c_uint8, [c_void_p, c_char_p, c_size_t, POINTER(c_double), POINTER(_ReadError)]),
-    "parse_f32": (c_uint8, [c_void_p, c_char_p, c_size_t, POINTER(c_float), POINTER(_ReadError)]),
-    "parse_i64_column": (c_size_t, [c_void_p, c_char_p, POINTER(c_int64), c_size_t, POINTER(c_int64), POINTER(c_uint8)]),
-    "parse_u64_column": (c_size_t, [c_void_p, c_char_p, POINTER(c_int64), c_size_t, POINTER(c_uint64), POINTER(c_uint8)]),
-    "parse_f64_column": (c_size_t, [c_void_p, c_char_p, POINTER(c_int64), c_size_t, POINTER(c_double), POINTER(c_uint8)]),
-    "parse_f32_column": (c_size_t, [c_void_p, c_char_p, POINTER(c_int64), c_size_t, POINTER(c_float), POINTER(c_uint8)]),
-    "format_i64": (c_uint8, [POINTER(_Syntax), c_int64, POINTER(_Style), c_char_p, c_size_t, POINTER(c_size_t)]),
-    "format_u64": (c_uint8, [POINTER(_Syntax), c_uint64, POINTER(_Style), c_char_p, c_size_t, POINTER(c_size_t)]),
-    "format_i128": (c_uint8, [POINTER(_Syntax), _I128, POINTER(_Style), c_char_p, c_size_t, POINTER(c_size_t)]),
-    "format_f64": (c_uint8, [POINTER(_Syntax), c_double, POINTER(_Style), c_char_p, c_size_t, POINTER(c_size_t)]),
-    "format_literal": (c_uint8, [POINTER(_Syntax), POINTER(_Literal), POINTER(_Style), c_char_p, c_size_t, POINTER(c_size_t)]),
-    "format_special": (c_uint8, [POINTER(_Syntax), POINTER(_Specials), _Special, c_char_p, c_size_t, POINTER(c_size_t)]),
-    "forms_format_i64": (c_uint8, [c_void_p, c_int64, POINTER(_Style), c_char_p, c_size_t, POINTER(c_size_t)]),
-    "forms_format_u64": (c_uint8, [c_void_p, c_uint64, POINTER(_Style), c_char_p, c_size_t, POINTER(c_size_t)]),
-    "forms_format_i128": (c_uint8, [c_void_p, _I128, POINTER(_Style), c_char_p, c_size_t, POINTER(c_size_t)]),
-    "forms_format_f64": (c_uint8, [c_void_p, c_double, POINTER(_Style), c_char_p, c_size_t, POINTER(c_size_t)]),
-    "forms_format_literal": (c_uint8, [c_void_p, POINTER(_Literal), POINTER(_Style), c_char_p, c_size_t, POINTER(c_size_t)]),
-    "write_description": (c_char_p, [c_uint8]),
     "build": (c_bool, [POINTER(_Edit), c_size_t, POINTER(_Word)]),
     "edit_word": (c_bool, [_Word, POINTER(_Edit), c_size_t, POINTER(_Word)]),
     "check": (c_uint32, [_Word]),
@@ -2744,7 +2750,7 @@ class Language(_Several, _Named):
     def forms(self) -> Forms:
         """The forms of literals, in the order of the documentation, with the spellings of NaN and infinity."""
         made = _Forms.from_address(self._forms.value)
-        spelled = {name: it.decode() for name, _ in _Specials._fields_ if (it := getattr(made.specials, name))}
+        spelled = {name: it.decode() for name, _ in _Specials._fields_[:-1] if (it := getattr(made.specials, name))}
         more: Dict[str, Any] = {**spelled}
         if made.tokens:
             rules = made.tokens.contents

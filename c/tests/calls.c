@@ -1,7 +1,7 @@
-/* Calls the functions of peltzivar.h that Python does not call, and others with null pointers, with values that no call
+/* Calls the functions of both headers that Python does not call, and others with null pointers, with values that no call
  * has made, and with buffers of any size. It compiles as C and as C++. test_python.py tests the results of the others. */
-#include "peltzivar.h"
-#include "peltzivar.h"
+#include "peltzivar_words.h"
+#include "peltzivar_words.h"
 
 #include <float.h>
 #include <math.h>
@@ -41,7 +41,7 @@ static peltzivar_syntax first_form(const char *name) {
 
 /* Returns `count` forms of an array, without spellings. */
 static peltzivar_forms forms_of(const peltzivar_form *forms, size_t count) {
-    const peltzivar_forms of = {forms, count, {NULL, NULL, NULL}, NULL, {0}, NULL};
+    const peltzivar_forms of = {forms, count, {NULL, NULL, NULL, {0}}, NULL, {0}, NULL};
     return of;
 }
 
@@ -61,9 +61,10 @@ static void test_constants(void) {
     CHECK(sizeof(peltzivar_word) == 16 && sizeof(peltzivar_fields) == 16 && sizeof(peltzivar_edit) == 2);
     CHECK(sizeof(peltzivar_read_error) == 128 && sizeof(peltzivar_literal) == 320 && sizeof(peltzivar_span) == 16);
     CHECK(sizeof(peltzivar_syntax) == 32 && sizeof(peltzivar_explanation) == 56 && sizeof(peltzivar_i128) == 16);
-    CHECK(sizeof(peltzivar_form) == 56 && sizeof(peltzivar_forms) == 72);
-    CHECK(sizeof(peltzivar_specials) == 24 && sizeof(peltzivar_special) == 2 && sizeof(peltzivar_style) == 16);
-    CHECK(sizeof(peltzivar_separators) == 4);
+    CHECK(sizeof(peltzivar_form) == 56 && sizeof(peltzivar_forms) == 80);
+    CHECK(sizeof(peltzivar_specials) == 32 && sizeof(peltzivar_special) == 2 && sizeof(peltzivar_style) == 24);
+    CHECK(sizeof(peltzivar_separators) == 4 && sizeof(peltzivar_token) == 368);
+    CHECK(sizeof(peltzivar_suffix_kind) == 16 && sizeof(peltzivar_stop) == 32 && PELTZIVAR_VERSION_FITS());
 }
 
 /* An edit with an unknown setter changes nothing. The number of another setter is the lowest bit that it writes, or at
@@ -141,7 +142,7 @@ static void test_syntaxes(void) {
     static const peltzivar_syntax wrong[] = {{{0, 0}, 0, 0, false, false, false, 0, 0, 0, false, false, {0}},
         {PELTZIVAR_STANDARD_INIT, 'e', 0, false, false, false, 0, 0, 0, false, false, {0}}, {PELTZIVAR_STANDARD_INIT, 0, 0, true, false, false, 0, 0, 0, false, false, {0}}};
     static const peltzivar_error errors[] = {PELTZIVAR_INVALID_MANTISSA_RADIX, PELTZIVAR_INVALID_DECIMAL_POINT, PELTZIVAR_INVALID_BASE_PREFIX};
-    static const peltzivar_specials specials = {"1", "1", "1"};
+    static const peltzivar_specials specials = {"1", "1", "1", {0}};
     peltzivar_literal literal;
     peltzivar_read_error error, unwritten;
     peltzivar_explanation why = {{1, 2}, 3, {4, 5}, 6, 7, 8, 9, 10, 11};
@@ -210,32 +211,6 @@ static void test_errors(void) {
     memcpy(&copied, &error, sizeof error), memset(&error, 0, sizeof error);
     CHECK(peltzivar_explain(&copied, &why) && peltzivar_explain(&copied, NULL) && copied.valid_up_to == 1);
     CHECK(why.span.start == 1 && why.span.end == 2 && why.index == 1 && why.code == PELTZIVAR_INVALID_DIGIT);
-}
-
-/* The rows of docs/EXPLANATIONS.md on groups: where reading stops, the cause, the conditions and the lowest flag, and the span. */
-static void test_groups(void) {
-    static const char *const kinds[] = {"requirement", "separator", "case", "byte", "missing"};
-    char name[4096], row[512], literal[32], settings[256], cause[64];
-    int rows = 0;
-    snprintf(name, sizeof name, "%.*s/../../docs/EXPLANATIONS.md", (int)(strrchr(__FILE__, '/') - __FILE__), __FILE__);
-    FILE *const page = fopen(name, "r");
-    CHECK(page);
-    while (page && fgets(row, sizeof row, page)) {
-        peltzivar_syntax syntax;
-        peltzivar_read_error error;
-        peltzivar_explanation why;
-        size_t end, span[2];
-        if (sscanf(row, "| `%31[^`]` | `%255[^`]` | %63[^|] | %zu | %zu..%zu |", literal, settings, cause, &end, &span[0], &span[1]) != 6) continue;
-        if (!strstr(settings, "group_size")) continue;
-        for (char *it = settings; *it; it++) *it = *it == ' ' ? '\n' : *it;
-        CHECK(make_syntax(settings, &syntax) && !peltzivar_read(&syntax, literal, strlen(literal), NULL, &error));
-        CHECK(peltzivar_explain(&error, &why) && error.valid_up_to == end && why.span.start == span[0] && why.span.end == span[1]);
-        CHECK(!strncmp(cause, kinds[why.kind - 1], strlen(kinds[why.kind - 1])) && (!why.mask.low || atoi(strchr(cause, ' ')) == why.number));
-        CHECK(why.conditions == (strstr(cause, "integer_group") ? PELTZIVAR_CONDITION_INTEGER_GROUP_SIZE
-            : strstr(cause, "fraction_group") ? PELTZIVAR_CONDITION_FRACTION_GROUP_SIZE : 0));
-        rows++;
-    }
-    CHECK(rows > 9 && !fclose(page));
 }
 
 /* The values of the limits of each integer type, and beyond, in decimal and behind a prefix, and why there is none. */
@@ -316,8 +291,8 @@ static void test_columns(void) {
 
 /* Numbers are written as literals, and a buffer that is too short has the beginning. */
 static void test_writing(void) {
-    static const peltzivar_style styles[] = {{3, 0, false, false, false, 0, 0, 0, false, false, 0, false}, {3, 0, true, false, false, 0, 0, 0, false, false, 0, false}}, bare = {0, 0, true, false, false, 0, 0, 0, false, false, 0, false};
-    static const peltzivar_style ones = {1, 1, false, false, false, 255, PELTZIVAR_STYLE_ALWAYS, 0, false, false, 0, false};
+    static const peltzivar_style styles[] = {{3, 0, false, false, false, 0, 0, 0, false, false, 0, false, {0}}, {3, 0, true, false, false, 0, 0, 0, false, false, 0, false, {0}}}, bare = {0, 0, true, false, false, 0, 0, 0, false, false, 0, false, {0}};
+    static const peltzivar_style ones = {1, 1, false, false, false, 255, PELTZIVAR_STYLE_ALWAYS, 0, false, false, 0, false, {0}};
     static const peltzivar_i128 least = {0, INT64_MIN}, wide = {1234567, 0};
     const peltzivar_syntax json = first_form("JSON"), english = first_form("CSV_EN"), c = first_form("C");
     char integer[PELTZIVAR_INTEGER_SIZE], real[PELTZIVAR_FLOAT_SIZE];
@@ -391,7 +366,7 @@ static bool syntax_of(const char *settings, peltzivar_syntax *syntax) {
 
 /* Returns the style of wishes. */
 static peltzivar_style style_of(const char *wishes) {
-    peltzivar_style style = {0, 0, false, false, false, 0, 0, 0, false, false, 0, false};
+    peltzivar_style style = {0, 0, false, false, false, 0, 0, 0, false, false, 0, false, {0}};
     const char *const group = strstr(wishes, "fraction_group="), *const least = strstr(wishes, "min_digits="), *const power = strstr(wishes, "exponent=");
     if (!strncmp(wishes, "group=", 6)) style.group = wishes[6] == '0' ? PELTZIVAR_NO_GROUPS : (uint8_t)(wishes[6] - '0');
     if (group) style.fraction_group = (uint8_t)(group[15] - '0');
@@ -408,18 +383,18 @@ static peltzivar_style style_of(const char *wishes) {
 
 /* Literals are written as the rows say, and a special value is the first of its spellings that is read back. */
 static void test_styles(void) {
-    static const peltzivar_specials specials = {"nan", "nan", "inf"};
+    static const peltzivar_specials specials = {"nan", "nan", "inf", {0}};
     static const peltzivar_special minus = {PELTZIVAR_SPELLING_INF, '-'}, none = {0, 0};
     static const struct {
         double value;
         const char *wanted;
         peltzivar_style style;
     } floats[] = {
-        {1234.005, "1234.01", {0, 0, false, false, false, 0, 0, 0, false, true, 2, false}},
-        {2.5, "2", {0, 0, false, false, false, 0, 0, 0, false, true, 0, false}},
-        {-0.004, "-0.00", {0, 0, false, false, false, 0, 0, 0, false, true, 2, false}},
-        {99999, "1.00e5", {0, 0, false, false, false, 0, PELTZIVAR_STYLE_ALWAYS, 0, false, true, 2, false}},
-        {1e16, "1.0e16", {0, 0, false, false, false, 0, 0, 0, true, false, 0, false}},
+        {1234.005, "1234.01", {0, 0, false, false, false, 0, 0, 0, false, true, 2, false, {0}}},
+        {2.5, "2", {0, 0, false, false, false, 0, 0, 0, false, true, 0, false, {0}}},
+        {-0.004, "-0.00", {0, 0, false, false, false, 0, 0, 0, false, true, 2, false, {0}}},
+        {99999, "1.00e5", {0, 0, false, false, false, 0, PELTZIVAR_STYLE_ALWAYS, 0, false, true, 2, false, {0}}},
+        {1e16, "1.0e16", {0, 0, false, false, false, 0, 0, 0, true, false, 0, false, {0}}},
     };
     FILE *const file = rows ? fopen(rows, "r") : NULL;
     peltzivar_syntax source, target;
@@ -441,7 +416,7 @@ static void test_styles(void) {
     for (size_t i = 0; i < sizeof floats / sizeof *floats; i++)
         CHECK(!peltzivar_format_f64(&source, floats[i].value, &floats[i].style, text, sizeof text, NULL) && !strcmp(text, floats[i].wanted));
     CHECK(!peltzivar_format_special(&source, &specials, minus, text, sizeof text, &needed) && !strcmp(text, "-inf") && needed == 5);
-    CHECK(peltzivar_format_special(&source, &specials, none, text, sizeof text, &needed) == PELTZIVAR_WRITE_SPECIAL && needed == 5);
+    CHECK(peltzivar_format_special(&source, &specials, none, text, sizeof text, &needed) == PELTZIVAR_WRITE_ARGUMENT && needed == 5);
     CHECK(make_syntax("no_special=true", &target));
     CHECK(peltzivar_format_special(&target, &specials, minus, text, sizeof text, NULL) == PELTZIVAR_WRITE_SPECIAL);
 }
@@ -546,8 +521,8 @@ static void test_languages(void) {
 
 /* Tokens by rules in constants, and by those of a language. */
 static void test_tokens(void) {
-    static const peltzivar_suffix_kind kinds[] = {{"u8", PELTZIVAR_INTEGERS_WRAP, 8, PELTZIVAR_FLOATS_NEAREST}};
-    static const peltzivar_stop stops[] = {{"8", "-", NULL}};
+    static const peltzivar_suffix_kind kinds[] = {{"u8", PELTZIVAR_INTEGERS_WRAP, 8, PELTZIVAR_FLOATS_NEAREST, {0}}};
+    static const peltzivar_stop stops[] = {{"8", "-", NULL, {0}}};
     static const peltzivar_suffixes suffixes = {"u u8", NULL, "k", kinds, 1, stops, 1, true, {0}};
     static const peltzivar_tokens rules = {NULL, 0, "if in", true, {0}};
     peltzivar_form form = language("RUST")->forms[0];
@@ -600,26 +575,13 @@ static void test_forms(void) {
     toml.specials.nan = "NA", toml.count = 1;
     CHECK(peltzivar_forms_read_special(&toml, "NA", 2, &special) && !peltzivar_forms_read_special(&toml, "nan", 3, &special));
     CHECK(peltzivar_forms_read(&toml, "1", 1, &literal, NULL) && !peltzivar_forms_read(&toml, "0x1", 3, &literal, NULL));
-    for (size_t i = 0; i < sizeof most.reserved + sizeof list->reserved + sizeof list->syntax.reserved + 4; i++) {
-        const size_t of_form = i - sizeof most.reserved, of_syntax = of_form - sizeof list->reserved;
-        const peltzivar_form kept = list[63];
-        peltzivar_forms refused = most;
-        if (i < sizeof most.reserved) ((uint8_t *)refused.reserved)[i] = 1;
-        else if (of_form < sizeof list->reserved) ((uint8_t *)list[63].reserved)[of_form] = 1;
-        else if (of_syntax < sizeof list->syntax.reserved) list[63].syntax.reserved[of_syntax] = 1;
-        else if (of_syntax == sizeof list->syntax.reserved) refused.count = 0;
-        else if (of_syntax == sizeof list->syntax.reserved + 1) refused.count = 65;
-        else if (of_syntax == sizeof list->syntax.reserved + 2) refused.forms = NULL;
-        const peltzivar_forms *const by = of_syntax == sizeof list->syntax.reserved + 3 ? NULL : &refused;
-        const int64_t offsets[] = {0, 1};
-        uint8_t status = 7;
-        CHECK(peltzivar_forms_read(&most, "1", 1, &literal, NULL) == (i < sizeof most.reserved || i >= sizeof most.reserved + sizeof list->reserved + sizeof list->syntax.reserved));
+    for (int i = 0; i < 4; i++) {
+        static const size_t counts[] = {64, 0, 65};
+        const peltzivar_forms refused = forms_of(i ? list : NULL, counts[i % 3]), *const by = i == 3 ? NULL : &refused;
         CHECK(!peltzivar_forms_read(by, "1", 1, &literal, NULL) && !peltzivar_forms_read_special(by, "nan", 3, &special));
         CHECK(!peltzivar_forms_read_prefix(by, "1", 1, &literal, &error) && error.valid_up_to == 0 && !peltzivar_explain(&error, NULL));
         CHECK(WRITES("the forms are null, not 1 to 64, or have an unknown kind, reserved members or too many words", peltzivar_read_error_text(&error, text, sizeof text)));
         CHECK(peltzivar_parse_f64(by, "1", 1, &real, &error) == PELTZIVAR_VALUE_REFUSED && !peltzivar_explain(&error, NULL));
-        CHECK(peltzivar_parse_i64_column(by, "1", offsets, 1, &value, &status) == 1 && status == PELTZIVAR_VALUE_REFUSED);
-        list[63] = kept;
     }
     CHECK(value == 1105034 && real == -HUGE_VAL && peltzivar_forms_read(&most, "1", 1, &literal, NULL));
     /* A form has the value of its kind, and is refused if there is none with these numbers. */
@@ -643,6 +605,68 @@ static void test_forms(void) {
     CHECK(!peltzivar_parse_f64(language("FORTRAN"), "0.1", 3, &real, NULL) && real == (double)0.1f);
     CHECK(!peltzivar_parse_i64(language("JAVA"), "0xffffffff", 10, &value, NULL) && value == -1);
     CHECK(language("JAVA")->forms[0].integer_kind == PELTZIVAR_INTEGERS_AT_MOST && language("JAVA")->forms[0].integer_bits == 31);
+}
+
+/* All that a program fills. */
+struct filled {
+    peltzivar_forms forms; peltzivar_form form, behind; peltzivar_suffixes suffixes; peltzivar_suffix_kind kind; peltzivar_stop stop;
+    peltzivar_tokens tokens; peltzivar_style style; peltzivar_special special;
+};
+enum { READ = 1, TOKEN = 2, SPELL = 4, WRITE = 8, FORMAT = 16, SHOW = 32, LIST = READ | TOKEN | WRITE, ALL = 63 };
+
+/* Returns the calls that refuse what is filled. */
+static int refusing(const struct filled *it) {
+    static const int64_t offsets[] = {0, 1};
+    const peltzivar_syntax *const syntax = &it->form.syntax;
+    const peltzivar_specials *const specials = &it->forms.specials;
+    const bool reads = peltzivar_forms_read(&it->forms, "1", 1, NULL, NULL);
+    CHECK(peltzivar_parse_f64_column(&it->forms, "1", offsets, 1, NULL, NULL) == !reads && peltzivar_forms_read_special(&it->forms, "oo", 2, NULL) == reads);
+    return !reads * READ | !peltzivar_forms_token(&it->forms, "1u", 2, NULL, NULL) * TOKEN | !peltzivar_read_special(syntax, specials, "oo", 2, NULL) * SPELL
+        | (peltzivar_forms_format_i64(&it->forms, 1, &it->style, text, sizeof text, NULL) == PELTZIVAR_WRITE_ARGUMENT) * WRITE
+        | (peltzivar_format_f64(syntax, 1, &it->style, text, sizeof text, NULL) == PELTZIVAR_WRITE_ARGUMENT) * FORMAT
+        | (peltzivar_format_special(syntax, specials, it->special, text, sizeof text, NULL) == PELTZIVAR_WRITE_ARGUMENT) * SHOW;
+}
+
+/* Each reserved byte that is not 0, and each number that no constant has, is refused by the calls that read it. */
+static void test_room(void) {
+#define BYTES(member) offsetof(struct filled, member), offsetof(struct filled, member) + sizeof((struct filled *)NULL)->member
+    static const struct { size_t start, end; const char *known; int calls; } places[] = {
+        {BYTES(form.syntax.reserved), "", ALL}, {BYTES(forms.specials.reserved), "", LIST | SPELL | SHOW}, {BYTES(forms.reserved), "", LIST},
+        {BYTES(form.reserved), "", LIST}, {BYTES(form.integer_kind), "\1\2\3", LIST}, {BYTES(form.float_kind), "\1", LIST},
+        {BYTES(behind.syntax.reserved), "", TOKEN}, {BYTES(behind.reserved), "", TOKEN}, {BYTES(behind.integer_kind), "\1\2\3", TOKEN},
+        {BYTES(suffixes.reserved), "", TOKEN}, {BYTES(stop.reserved), "", TOKEN}, {BYTES(tokens.reserved), "", TOKEN},
+        {BYTES(kind.reserved), "", TOKEN}, {BYTES(kind.integer_kind), "\1\2\3", TOKEN}, {BYTES(kind.float_kind), "\1", TOKEN},
+        {BYTES(style.reserved), "", WRITE | FORMAT}, {BYTES(style.exponent), "\1\2\3", WRITE | FORMAT},
+        {BYTES(special.spelling), "\1\2\3", SHOW}, {BYTES(special.sign), "+-", SHOW},
+    };
+    struct filled it;
+    memset(&it, 0, sizeof it);
+    CHECK(make_syntax("", &it.form.syntax) && make_syntax("", &it.behind.syntax));
+    it.forms.forms = &it.form, it.forms.count = 1, it.forms.tokens = &it.tokens, it.forms.specials.infinity = "oo";
+    it.form.suffixes = &it.suffixes, it.suffixes.integers = "u", it.suffixes.kinds = &it.kind, it.suffixes.stops = &it.stop;
+    it.suffixes.kind_count = it.suffixes.stop_count = it.tokens.count = 1, it.tokens.forms = &it.behind;
+    it.kind.word = "u", it.stop.last = "9", it.special.spelling = PELTZIVAR_SPELLING_INFINITY;
+    it.form.integer_bits = it.behind.integer_bits = it.kind.integer_bits = 8, it.form.integer_kind = it.behind.integer_kind = it.kind.integer_kind = 1;
+    CHECK(!refusing(&it));
+    for (size_t i = 0; i < sizeof places / sizeof *places; i++) for (size_t at = places[i].start; at < places[i].end; at++) {
+        uint8_t *const byte = (uint8_t *)&it + at, kept = *byte;
+        for (int value = 255; value > 0; value--) {
+            *byte = (uint8_t)value;
+            CHECK(refusing(&it) == (strchr(places[i].known, value) ? 0 : places[i].calls));
+        }
+        *byte = kept;
+    }
+}
+
+/* A status has the sentence of the error only if the text was refused, and an error was written. */
+static void test_parse_errors(void) {
+    peltzivar_read_error errors[2];
+    memset(errors, 0, sizeof errors);
+    CHECK(peltzivar_parse_f64(language("JSON"), "1x", 2, NULL, &errors[0]) == PELTZIVAR_VALUE_REFUSED);
+    for (int i = 0; i < 3 * 256; i++) {
+        const char *const wanted = i == 3 * PELTZIVAR_VALUE_REFUSED ? "unexpected character 'x'" : peltzivar_value_description((uint8_t)(i / 3));
+        CHECK(WRITES(wanted, peltzivar_parse_error_text((uint8_t)(i / 3), i % 3 == 2 ? NULL : &errors[i % 3], text, sizeof text)));
+    }
 }
 
 /* The lines to blame for a problem or a note are the same in each way to write a file. */
@@ -708,7 +732,7 @@ static void test_null(void) {
 static void test_misuse(void) {
     static const int fills[] = {0, 1, 0xFF};
     static const size_t lens[] = {0, 1, 32, SIZE_MAX};
-    static const peltzivar_specials specials = {"", NULL, "a"};
+    static const peltzivar_specials specials = {"", NULL, "a", {0}};
     const peltzivar_syntax json = first_form("JSON");
     uint8_t memory[400], out[400];
     size_t sum = 0;
@@ -760,8 +784,9 @@ static void test_misuse(void) {
 
 static void *test_all(void *unused) {
     for (int i = 0; i < 5; i++) {
-        test_constants(), test_setters(), test_words(), test_syntaxes(), test_errors(), test_groups(), test_values(), test_columns();
-        test_writing(), test_styles(), test_choice(), test_languages(), test_forms(), test_tokens(), test_null(), test_misuse(), test_lines();
+        test_constants(), test_setters(), test_words(), test_syntaxes(), test_errors(), test_values(), test_columns();
+        test_writing(), test_styles(), test_choice(), test_languages(), test_forms(), test_tokens(), test_null(), test_misuse(), test_lines(),
+            test_room(), test_parse_errors();
     }
     return unused;
 }

@@ -1,7 +1,8 @@
-/* Calls the functions of peltzivar.h with random words, syntaxes, edits, strings and buffers, for sanitizers to watch. A
+/* Calls all functions of both headers with random words, syntaxes, edits, strings and buffers, for sanitizers to watch. A
  * call that fails writes nothing, and what is written can be read. The argument is the number of cases. */
-#include "peltzivar.h"
+#include "peltzivar_words.h"
 
+#include <math.h>
 #include <stdio.h>
 #include <stdlib.h>
 #include <string.h>
@@ -171,6 +172,44 @@ static void test_written(const peltzivar_syntax *syntax, bool is_lawful, const p
     CHECK_LAWFUL(status != PELTZIVAR_WRITE_BUFFER && (status || !memcmp(&real, &values[0].real, sizeof real)));
 }
 
+/* A list of forms reads a text alike by all calls, and reads what it writes. A token is all of a text only if its literal is one. */
+static void test_list(const peltzivar_forms *forms, const char *from, size_t len, bool is_lawful) {
+    const int64_t offsets[] = {0, (int64_t)len, (int64_t)len};
+    const peltzivar_style style = {.group = (uint8_t)(draw() % 4), .exponent = (uint8_t)(draw() % 5), .exponent_from = 9, .point = draw() % 2};
+    const peltzivar_i128 wide = {draw(), (int64_t)draw() >> draw() % 64};
+    const double real = draw() % 9 ? (double)wide.high * 1e-9 : draw() % 2 ? HUGE_VAL : NAN;
+    peltzivar_literal literal, again;
+    peltzivar_special special = {(uint8_t)(draw() % 5), (uint8_t)"+-*"[draw() % 4]};
+    peltzivar_read_error error;
+    peltzivar_token token;
+    size_t needed = 0;
+    const bool is_read = peltzivar_forms_read(forms, from, len, &literal, &error), is_special = peltzivar_forms_read_special(forms, from, len, &special);
+    if (!is_read) WRITE(peltzivar_read_error_full_text, &error);
+    else CHECK_LAWFUL(peltzivar_forms_read_prefix(forms, from, len, &again, NULL));
+    WRITE(peltzivar_token_error_text, forms, from, len);
+    if (peltzivar_forms_token(forms, from, len, &token, &error)) {
+        CHECK(!*text && token.literal.size <= token.size && token.size <= len && token.rest == from + token.size);
+        CHECK_LAWFUL(token.literal.size < len || is_read);
+    }
+/* Checks the values of a type, and what is written for a number of a type. */
+#define TEST_TYPE(T, type) { \
+    T values[] = {7, 7, 7, 7}; \
+    peltzivar_value_status column[2], status = peltzivar_parse_##type(forms, from, len, &values[2], &error); \
+    CHECK((status == PELTZIVAR_VALUE_REFUSED) == !(is_read || is_special) && (!is_read || peltzivar_to_##type(&literal, &values[3]) == status)); \
+    CHECK(peltzivar_parse_##type##_column(forms, from, offsets, 2, values, column) == (size_t)(!!status + !!column[1]) && column[0] == status); \
+    CHECK(!memcmp(values, values + 2, sizeof *values) && (!is_read || !memcmp(values, values + 3, sizeof *values))); \
+    WRITE(peltzivar_parse_error_text, status, &error); }
+#define TEST_WRITTEN(type, value) { \
+    const int by_list = peltzivar_forms_format_##type(forms, value, &style, text, PELTZIVAR_FORMS_SIZE, &needed); \
+    if (!by_list) CHECK_LAWFUL(peltzivar_parse_f64(forms, text, needed - 1, &(double){0}, NULL) != PELTZIVAR_VALUE_REFUSED); \
+    const int by_syntax = peltzivar_format_##type(&forms->forms[0].syntax, value, &style, text, sizeof text, NULL); \
+    CHECK(by_list != PELTZIVAR_WRITE_BUFFER && (style.exponent < 4 || (by_list == PELTZIVAR_WRITE_ARGUMENT && by_syntax == by_list))); }
+    TEST_TYPE(int64_t, i64) TEST_TYPE(uint64_t, u64) TEST_TYPE(double, f64) TEST_TYPE(float, f32)
+    TEST_WRITTEN(i64, wide.high) TEST_WRITTEN(u64, wide.low) TEST_WRITTEN(i128, wide) TEST_WRITTEN(f64, real)
+    if (is_read) TEST_WRITTEN(literal, &literal)
+    if (!peltzivar_format_special(&forms->forms[0].syntax, &forms->specials, special, text, sizeof text, NULL)) CHECK(special.spelling % 4 && special.sign != '*');
+}
+
 /* What is read is written, and nothing else. The parts of a literal are its bytes. */
 static void test_literals(peltzivar_word word) {
     peltzivar_syntax syntax;
@@ -207,25 +246,16 @@ static void test_literals(peltzivar_word word) {
     if (is_read) CHECK_LAWFUL(!memcmp(&literal.sign, &literal_before.sign, offsetof(peltzivar_literal, is_float) - offsetof(peltzivar_literal, sign)));
     if (is_explained) CHECK_LAWFUL(peltzivar_explain(&error_before, &why_normal) && !memcmp(&why, &why_normal, sizeof why));
     /* A lawful syntax as a form reads the same, and a column has the values of its texts. */
-    static const peltzivar_stop stops[] = {{"1", "-.", "1"}};
+    static const peltzivar_stop stops[] = {{"1", "-.", "1", {0}}};
     static const peltzivar_suffixes suffixes = {"e ux", "f", "_", NULL, 0, stops, 1, true, {0}};
     const peltzivar_form form = {"it", syntax, 0, 0, 0, {0}, &suffixes};
     const peltzivar_tokens rules = {&form, 1, "if", len % 2 == 0, {0}};
-    const peltzivar_forms forms = {&form, 1, {NULL, NULL, NULL}, NULL, {0}, &rules};
-    const int64_t offsets[] = {0, (int64_t)len, (int64_t)len};
-    double values[3] = {7, 7, 7};
-    uint8_t status[2];
+    const peltzivar_forms forms = {&form, 1, {NULL, NULL, NULL, {0}}, NULL, {0}, &rules};
+    const char *const language = peltzivar_language_name(draw() % 32);
     CHECK_LAWFUL(peltzivar_forms_read(&forms, from, len, &literal_before, NULL) == is_read);
-    const bool is_one = peltzivar_parse_f64(&forms, from, len, &values[2], NULL) == PELTZIVAR_VALUE_OK;
-    CHECK_LAWFUL(!is_one == (!is_read || peltzivar_to_f64(&literal, NULL)));
-    CHECK(peltzivar_parse_f64_column(&forms, from, offsets, 2, values, status) == (size_t)(!!status[0] + !!status[1]));
-    CHECK(is_one == !status[0] && !memcmp(&values[0], &values[2], sizeof values[0]));
-    /* A token is all of a text only if its literal is one. */
-    peltzivar_token token;
-    if (peltzivar_forms_token(&forms, from, len, &token, &error)) {
-        CHECK(token.literal.size <= token.size && token.size <= len && token.rest == from + token.size);
-        CHECK_LAWFUL(token.literal.size < len || is_read);
-    } else CHECK(!peltzivar_explain(&error, &why) || (why.span.start <= why.span.end && why.kind <= 8));
+    CHECK_LAWFUL(!peltzivar_parse_f64(&forms, from, len, &(double){0}, NULL) == (is_read && !peltzivar_to_f64(&literal, NULL)));
+    test_list(&forms, from, len, is_lawful);
+    if (*language) test_list(peltzivar_language(language, strlen(language)), from, len, true);
     if (peltzivar_read_prefix(&syntax, from, len, &literal, &error)) {
         const peltzivar_span *const parts = &literal.sign;
         for (int i = 0; i < 9; i++) CHECK(parts[i].start == (i ? parts[i - 1].end : 0) && parts[i].start <= parts[i].end);
@@ -236,12 +266,28 @@ static void test_literals(peltzivar_word word) {
     free(from);
 }
 
+/* Numbers that have a name have a result, and others none. A byte has the role that its word gives it. */
+static void test_numbers(peltzivar_word word) {
+    const uint8_t it = (uint8_t)draw();
+    const peltzivar_edit edit = {it, (uint8_t)draw()};
+    const peltzivar_word mask = peltzivar_setter_mask(it);
+    const char *const name = peltzivar_setter_name(it), *const texts[] = {peltzivar_role_name(it), peltzivar_part_name(it), peltzivar_language_name(it),
+        peltzivar_description(it), peltzivar_rule_condition(it), peltzivar_value_description(it), peltzivar_write_description(it)};
+    peltzivar_fields fields = peltzivar_fields_of(word);
+    for (int i = 0; i < 7; i++) CHECK(strlen(texts[i]) < PELTZIVAR_TEXT_SIZE);
+    CHECK(!*name == !(mask.low | mask.high) && (!*name || peltzivar_setter_of_name(name, strlen(name)) == it) && peltzivar_flag(word, it) == !!(word.low & mask.low));
+    CHECK(peltzivar_same_format(word, peltzivar_pack(&fields)) && peltzivar_edit_fields(&fields, &edit, 1) == !!*name && !peltzivar_separators_of(word, it | 4).internal);
+    const bool is_digit = (peltzivar_mantissa_digit(word, it) & peltzivar_exponent_digit(word, it)) != PELTZIVAR_NO_DIGIT, is_sign = it == '+' || it == '-';
+    CHECK(peltzivar_role_of(word, 0, 0, it) == (is_digit ? 1 : is_sign ? 2 : peltzivar_is_separator(word, it) ? 3 : peltzivar_is_base_prefix(word, it) ? 4
+        : peltzivar_is_base_suffix(word, it) ? 5 : 0) && peltzivar_version() == PELTZIVAR_VERSION_NUMBER);
+}
+
 /* A text is a special value only if it is a spelling with other signs, cases and separators. */
 static void test_special_values(peltzivar_word word) {
     static const char *const spellings[] = {NULL, "", "NaN", "inf", "i_n'f", "+e.\377"};
     peltzivar_syntax syntax;
     draw_syntax(word, &syntax);
-    const peltzivar_specials specials = {spellings[draw() % 6], spellings[draw() % 6], spellings[draw() % 6]};
+    const peltzivar_specials specials = {spellings[draw() % 6], spellings[draw() % 6], spellings[draw() % 6], {0}};
     const char *const wanted[] = {"", specials.nan, specials.inf, specials.infinity};
     size_t len = 0;
     if (draw() % 2) text[len++] = "+-"[draw() % 2];
@@ -292,6 +338,7 @@ static void test_settings(void) {
     const bool is_read = peltzivar_parse_edit(setting, len, &read);
     WRITE(peltzivar_setting_error_text, setting, len);
     CHECK(is_read == !*text && (is_read || (read.setter == 7 && read.value == 9)));
+    CHECK(peltzivar_parse_byte(setting, len, &read.value) || is_read || read.value == 9);
     free(setting);
 }
 
@@ -299,7 +346,7 @@ int main(int argc, char **argv) {
     const unsigned long cases = argc > 1 ? strtoul(argv[1], NULL, 10) : 1000;
     for (number = 0; number < cases; number++) {
         const peltzivar_word word = draw_word();
-        test_word(word), test_reasons(word), test_literals(word), test_special_values(word), test_lines(), test_settings();
+        test_word(word), test_numbers(word), test_reasons(word), test_literals(word), test_special_values(word), test_lines(), test_settings();
     }
     return 0;
 }

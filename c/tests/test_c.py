@@ -1,4 +1,4 @@
-"""Tests peltzivar.h and the library from C and C++: `make -C c check`."""
+"""Tests both headers and the library from C and C++: `make -C c check`."""
 import ctypes
 import os
 import pathlib
@@ -13,7 +13,8 @@ C, TOP = TESTS.parent, TESTS.parent.parent
 SHARED = pathlib.Path(os.environ["PELTZIVAR_LIBRARY"]).absolute()
 ARCHIVE = SHARED.with_suffix(".a")
 ROWS = TESTS.parents[1] / "rust/tests/writing.txt"
-HEADER = (C / "peltzivar.h").read_text()
+HEADER = "".join((C / it).read_text() for it in ("peltzivar.h", "peltzivar_words.h"))
+PAGE = (TOP / "docs/C-AND-PYTHON.md").read_text()
 STRICT = ["-Wall", "-Wextra", "-Wpedantic", "-Wconversion", "-Wshadow", "-Werror", "-pthread", "-I", C]
 SANITIZERS = ["-g", "-fsanitize=address,undefined", "-fno-sanitize-recover=all"]
 COMPILERS = {"gcc": "c99 c11 c17 c2x", "clang": "c99 c11 c17 c2x", "g++": "c++11 c++14 c++17 c++20"}
@@ -78,29 +79,50 @@ class Programs(unittest.TestCase):
         library = self.made("cc", "-shared", *options, "-Wl,--exclude-libs,ALL", "-Wl,--no-undefined")
         self.assertEqual(run("nm", "-gD", "--defined-only", library), ("", 0))
 
-    def test_the_library_is_small_and_a_program_has_the_language_that_it_names(self):
-        self.assertLessEqual(SHARED.stat().st_size, 310_000)
-        sizes = []
-        for forms in ("language_c()", 'language("C", 1)'):
-            code = f'double it; return peltzivar_parse_f64(peltzivar_{forms}, "0x1.8p3", 7, &it, NULL) || it != 12;'
-            self.folder.joinpath("one.c").write_text(f'#include "peltzivar.h"\nint main(void) {{ {code} }}\n')
-            program = self.made("cc", *STRICT, self.folder / "one.c", ARCHIVE, "-Wl,--gc-sections", "-s")
-            self.assertEqual(run(program), ("", 0))
-            sizes.append(program.stat().st_size)
-        self.assertLessEqual(sizes[0], min(200_000, sizes[1] - 10_000))
+    def size(self, code):
+        """Returns the size of a stripped program with the code that it needs of the library."""
+        self.folder.joinpath("one.c").write_text(f'#include "peltzivar.h"\nint main(void) {{ {code} }}\n')
+        program = self.made("cc", *STRICT, self.folder / "one.c", ARCHIVE, "-Wl,--gc-sections", "-s")
+        self.assertEqual(run(program), ("", 0))
+        return program.stat().st_size
 
-    def test_the_first_program_of_the_header(self):
-        lines = re.findall(r"^ \*     (.*)$", HEADER, re.M)
-        self.folder.joinpath("first.c").write_text("\n".join(lines) + "\n")
-        self.folder.joinpath("second.c").write_text('#include "peltzivar.h"\n')
-        program = self.made("cc", *STRICT, self.folder / "first.c", self.folder / "second.c", ARCHIVE)
-        self.assertEqual(run(program), ("1234.50\n", 0))
+    def test_the_library_is_small_and_programs_have_at_most_the_sizes_of_the_page(self):
+        self.assertLessEqual(SHARED.stat().st_size, 312_000)
+        calls = {
+            "forms_read": 'peltzivar_literal it; return !peltzivar_forms_read(FORMS, "1.5", 3, &it, NULL);',
+            "parse_f64": 'double it; return peltzivar_parse_f64(FORMS, "1.5", 3, &it, NULL) || it != 1.5;',
+            "forms_token": 'peltzivar_token it; return !peltzivar_forms_token(FORMS, "1.5;", 4, &it, NULL);',
+            "forms_format_f64": "char it[9]; return peltzivar_forms_format_f64(FORMS, 1.5, NULL, it, sizeof it, NULL);",
+        }
+        rows = re.findall(r"^\| [^|]+: `peltzivar_(\w+)` \| (`peltzivar_language.*`) \| (\d+) \|", PAGE, re.M)
+        self.assertEqual({call for call, *_ in rows}, {*calls})
+        for call, forms, size in rows:
+            with self.subTest(call, forms=forms):
+                code = calls[call].replace("FORMS", forms.strip("`"))
+                self.assertLessEqual(self.size(code) - self.size("return 0;"), 1000 * int(size))
+        self.assertIn(("parse_f64", "`peltzivar_language_json()`", "62"), rows)
 
-    def test_forms_of_ones_own_on_the_page(self):
-        (code,) = re.findall(r"^    #include.*?^    }\n", (TOP / "docs/C-AND-PYTHON.md").read_text(), re.M | re.S)
-        self.folder.joinpath("forms.c").write_text(code)
-        program = self.made("cc", *STRICT, self.folder / "forms.c", ARCHIVE)
-        self.assertEqual(run(program), ("hexadecimal: 31\n", 0))
+    def test_numbers_are_read_with_four_functions_of_libc(self):
+        own = "void *memcpy(void *to, const void *from, size_t n) { while (n--) ((char *)to)[n] = ((const char *)from)[n]; return to; }\n"
+        own += "void *memset(void *to, int byte, size_t n) { while (n--) ((char *)to)[n] = (char)byte; return to; }\n"
+        own += "size_t strlen(const char *text) { size_t n = 0; while (text[n]) n++; return n; }\n_Noreturn void abort(void) { for (;;); }\n"
+        start = 'double it;\nvoid _start(void) { if (peltzivar_parse_f64(peltzivar_language_json(), "1.5", 3, &it, NULL)) abort(); }\n'
+        self.folder.joinpath("bare.c").write_text(f'#include "peltzivar.h"\n{own}{start}')
+        self.made("cc", "-ffreestanding", "-nostdlib", "-static", "-Wl,--gc-sections", "-I", C, self.folder / "bare.c", ARCHIVE)
+        self.assertIn("`memcpy`, `memset`, `strlen` and `abort`", PAGE)
+
+    def test_the_examples_of_the_headers_and_the_page(self):
+        """Comments show what an example prints."""
+        self.folder.joinpath("second.c").write_text('#include "peltzivar_words.h"\n')
+        shown = re.findall(r"(?:^ \*     .*\n)+", HEADER, re.M) + re.findall(r"^    #include.*?^    }\n", PAGE, re.M | re.S)
+        for code in shown:
+            code = re.sub(r"^ \*     ", "", code, flags=re.M)
+            if "main(" not in code:
+                code = f"#include <peltzivar.h>\n#include <stdio.h>\n#include <string.h>\nint main(void) {{\n{code}return 0;\n}}\n"
+            with self.subTest(code):
+                self.folder.joinpath("first.c").write_text(code)
+                program = self.made("cc", *STRICT, self.folder / "first.c", self.folder / "second.c", ARCHIVE)
+                self.assertEqual(run(program), ("".join(f"{it}\n" for it in re.findall("// (.*)", code)), 0))
 
     def test_the_example(self):
         program = self.made("cc", *STRICT, *SANITIZERS, C / "example.c", ARCHIVE)
@@ -121,8 +143,7 @@ class Programs(unittest.TestCase):
     def test_the_examples_print_what_the_page_shows(self):
         self.made("cc", C / "example.c", ARCHIVE, name="example")
         shutil.copy(C / "example.py", self.folder)
-        page = (TOP / "docs/C-AND-PYTHON.md").read_text()
-        shown = re.findall(r"^    \$ (.*example.*)\n((?:    (?!\$).*\n)+)", page, re.M)
+        shown = re.findall(r"^    \$ (.*example.*)\n((?:    (?!\$).*\n)+)", PAGE, re.M)
         self.assertTrue(shown)
         environment = {**os.environ, "PELTZIVAR_LIBRARY": str(SHARED), "PYTHONPATH": str(C)}
         for command, printed in shown:
@@ -180,7 +201,7 @@ class Header(unittest.TestCase):
             return f"*{'const' if const else 'mut'} {in_rust(kind)}"
         if name in ("forms", "bytes", "offsets"):
             return f"*const {in_rust(kind)}"
-        if const and name in ("syntax", "style"):
+        if const and (name in ("syntax", "style") or "_status status" in others):
             return f"Option<&{in_rust(kind)}>"
         if const or name == "fields":
             return f"&{'' if const else 'mut '}{in_rust(kind)}"
@@ -194,8 +215,6 @@ class Header(unittest.TestCase):
 
     def test_numbers_in_comments(self):
         words = " ".join(re.sub(r"^ \* ", "", HEADER, flags=re.M).split())
-        # calls.c tests that `form` is 0.
-        self.assertEqual(re.findall(r"`form` is[^.]* otherwise (\d+)", words), ["0", "0"])
         most, more = map(int, re.search(r"`0x` followed by 1 to (\d+) hex.*? and at least (\d+) hexadecimal digits", words).groups())
         for number, error in ((most, "SUCCESS"), (more - 1, "SUCCESS"), (most + 1, "OVERFLOW"), (more, "OVERFLOW")):
             parsed = LIBRARY.peltzivar_parse_word(b"0x" + b"1" * number, number + 2, None, None)

@@ -55,17 +55,24 @@ class Install(InFolder):
         self.assertEqual(self.run_in("pkg-config", "--modversion", "peltzivar"), f"{VERSION}\n")
         moved = ["pkg-config", "--define-variable=prefix=/moved", "--variable=libdir", "peltzivar"]
         self.assertEqual(self.run_in(*moved), "/moved/lib\n")
+        # A tree that is moved is found where it is.
+        self.make("install", f"PREFIX={self.folder}/tree", f"LIBDIR={self.folder}/tree/lib/of/this")
+        self.folder.joinpath("tree").rename(self.folder / "moved")
+        self.environment |= {"PKG_CONFIG_PATH": f"{self.folder}/moved/lib/of/this/pkgconfig", "LD_LIBRARY_PATH": f"{self.folder}/moved/lib/of/this"}
+        self.run_in("bash", "-ec", f"rm -rf '{self.prefix}' example; cc example.c $(pkg-config --cflags --libs peltzivar) -o example")
+        self.assertEqual(self.run_in("./example", "radix=8", input="17\n"), "15\n")
 
     @unittest.skipUnless(shutil.which("cmake"), "cmake")
     def test_cmake_finds_the_package_wherever_its_parts_are(self):
         shutil.copy(C / "example.c", self.folder)
         for kind, *paths in (("shared",), ("static", f"INCLUDEDIR={self.prefix}/headers", f"LIBDIR={self.prefix}/lib/of this")):
             self.make("install", f"PREFIX={self.prefix}", *paths)
+            moved = self.prefix.rename(self.prefix.parent / "moved here")
             self.folder.joinpath("CMakeLists.txt").write_text(CMAKE.replace("shared", kind))
             root = "/lib/of this/cmake/peltzivar" if paths else ""
-            self.run_in("bash", "-ec", f"rm -rf example CMakeCache.txt; cmake '-DCMAKE_PREFIX_PATH={self.prefix}{root}' . && make")
+            self.run_in("bash", "-ec", f"rm -rf example CMakeCache.txt; cmake '-DCMAKE_PREFIX_PATH={moved}{root}' . && make")
             self.assertEqual(self.run_in("./example", "radix=8", input="17\n"), "15\n")
-            shutil.rmtree(self.prefix)
+            shutil.rmtree(moved)
 
     @unittest.skipUnless(shutil.which("cmake"), "cmake")
     def test_cmake_finds_the_versions_that_its_own_rule_allows(self):
@@ -117,7 +124,7 @@ endforeach()
         modes = {str(it.relative_to(root)): it.stat().st_mode & 0o777 for it in root.rglob("*") if not it.is_dir()}
         self.assertEqual({mode for path, mode in modes.items() if ".so" not in path}, {0o644}, modes)
         self.assertEqual({mode for path, mode in modes.items() if ".so" in path}, {0o755}, modes)
-        names = {"headers/peltzivar.h", "lib here/libpeltzivar_c.a", "share/doc/peltzivar/LICENSE"}
+        names = {"headers/peltzivar.h", "headers/peltzivar_words.h", "lib here/libpeltzivar_c.a", "share/doc/peltzivar/LICENSE"}
         names |= {f"share/doc/peltzivar/{it}.md" for it in ("FORMAT", "EXPLANATIONS", "SETTINGS")}
         self.assertEqual(names - set(modes), set())
         written = (root / "lib here/pkgconfig/peltzivar.pc").read_text()

@@ -72,7 +72,6 @@ const fn first(grammar: Grammar, kind: ByteKind, text: &[u8]) -> usize
 
 // Returns where reading stopped, behind the right bytes `front`.
 #[tactic(auto, using(crate::proofs::SpanLemmas::behind_within))]
-#[inline(always)]
 pub(crate) fn spot(
     grammar: Grammar,
     front: &[u8],

@@ -181,7 +181,7 @@ impl Stopped {
         if has_sizes(grammar) {
             match group_after(grammar, text, self.size) {
                 Some(group) => group,
-                None => unreachable!(),
+                None => FIRST,
             }
         } else {
             FIRST
@@ -407,7 +407,6 @@ const fn tail_size(byte: Option<u8>) -> usize
 }
 
 // Returns the bytes that follow `byte`, the one behind the first `size`, in its character, and 0 for each that does not.
-#[inline(always)]
 const fn tail_at(text: &[u8], size: usize, byte: Option<u8>) -> [u8; 3]
     requires size { size ≤ length text.now }
     requires byte { byte ≡ slice_get text.now size }

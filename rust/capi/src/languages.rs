@@ -16,6 +16,7 @@ pub struct Specials {
     nan: *const u8,
     inf: *const u8,
     infinity: *const u8,
+    reserved: [u8; 8],
 }
 
 impl Specials {
@@ -28,19 +29,20 @@ impl Specials {
             }
         }
         let literal::Specials { nan, inf, infinity } = language.forms().specials();
-        Specials { nan: place(nan, texts, 0), inf: place(inf, texts, 1), infinity: place(infinity, texts, 2) }
+        let [nan, inf, infinity] = [place(nan, texts, 0), place(inf, texts, 1), place(infinity, texts, 2)];
+        Specials { nan, inf, infinity, reserved: [0; 8] }
     }
 
-    /// Returns the bytes of the strings. A null pointer has none.
+    /// Returns the bytes of the strings, or `None` if a later version may have others. A null pointer has none.
     ///
     /// # Safety
     ///
     /// A C caller passes the strings, or null pointers.
-    pub unsafe fn spellings<'a>(&self) -> literal::Specials<'a> {
+    pub unsafe fn spellings<'a>(&self) -> Option<literal::Specials<'a>> {
         // SAFETY: the caller guarantees the string.
         let [nan, inf, infinity] = [self.nan, self.inf, self.infinity]
             .map(|it| (!it.is_null()).then(|| unsafe { CStr::from_ptr(it.cast()) }.to_bytes()));
-        literal::Specials { nan, inf, infinity }
+        (self.reserved == [0; 8]).then_some(literal::Specials { nan, inf, infinity })
     }
 }
 
@@ -146,7 +148,7 @@ pub struct Forms {
 }
 
 // The sizes in the header.
-const _: () = assert!(size_of::<Form>() == 56 && size_of::<Forms>() == 72);
+const _: () = assert!(size_of::<Form>() == 56 && size_of::<Forms>() == 80);
 
 /// The most forms.
 const MOST: usize = 64;
@@ -244,7 +246,7 @@ pub unsafe fn with_tokens<R>(forms: *const Forms, then: impl FnOnce(Given<'_>) -
             tokens = Some(made.gives_points_back(rules.gives_points_back != 0)).filter(|_| rules.reserved == [0; 7]);
             tokens?;
         }
-        (given.reserved == [0; 2]).then_some(own)
+        (given.reserved == [0; 2] && given.specials.reserved == [0; 8]).then_some(own)
     })();
     let found = match &tokens {
         Some(tokens) => found.map(|it| it.with_tokens(tokens)),
@@ -263,7 +265,7 @@ unsafe fn own<'a>(it: &Forms, list: &'a mut [MaybeUninit<literal::Form>; MOST]) 
     if it.reserved != [0; 2] {
         return None;
     }
-    Some(literal::Forms::new(forms_of(it.forms, it.count, list)?)?.with_specials(it.specials.spellings()))
+    Some(literal::Forms::new(forms_of(it.forms, it.count, list)?)?.with_specials(it.specials.spellings()?))
 }
 
 /// Returns an array of forms without their suffixes, or `None` if they are refused.
@@ -423,8 +425,7 @@ calls! {
     fn peltzivar_read_special(
         syntax: Option<&Syntax>, specials: &Specials, text: *const u8, len: usize, out: Out<NumberedSpecial>
     ) -> bool {
-        let specials = specials.spellings();
-        let read = |syntax| specials.read(&syntax, input(text, len)?);
+        let read = |syntax| specials.spellings()?.read(&syntax, input(text, len)?);
         out.write_some(Syntax::given(syntax).and_then(read))
     }
 

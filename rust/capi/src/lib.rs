@@ -1,4 +1,4 @@
-//! The calls of `c/peltzivar.h` as a static and a shared library without `std`.
+//! The calls of `c/peltzivar.h` and `c/peltzivar_words.h` as a static and a shared library without `std`.
 //!
 //! Build with `--release`: the libraries of a dev build can be neither linked nor loaded, since they need a symbol that
 //! only `std` has.

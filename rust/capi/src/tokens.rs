@@ -14,12 +14,16 @@ use peltzivar::literal::{self, Kind, TokenError};
 pub struct SuffixKind {
     word: *const u8,
     kind: KindNumbers,
+    reserved: [u8; 5],
 }
 
 /// Bytes behind a number with which it is not a token. A null pointer is any bytes.
 #[repr(C)]
 #[derive(Clone, Copy)]
-pub struct Stop([*const u8; 3]);
+pub struct Stop {
+    bytes: [*const u8; 3],
+    reserved: [u8; 8],
+}
 
 /// The suffixes of a form. Words are separated by spaces, and a null pointer has none.
 #[repr(C)]
@@ -56,11 +60,12 @@ pub struct Token<'a> {
     suffix: Span,
     size: usize,
     rest: *const u8,
+    reserved: [u64; 2],
 }
 
 // The sizes and the alignment in the header.
-const _: () = assert!(size_of::<SuffixKind>() == 16 && size_of::<Suffixes>() == 64 && size_of::<Tokens>() == 32);
-const _: () = assert!(size_of::<Token>() == 352 && align_of::<Token>() <= 16);
+const _: () = assert!(size_of::<SuffixKind>() == 16 && size_of::<Stop>() == 32 && size_of::<Suffixes>() == 64);
+const _: () = assert!(size_of::<Tokens>() == 32 && size_of::<Token>() == 368 && align_of::<Token>() <= 16);
 
 /// The most words, kinds and stops of all forms of a list.
 const MOST: usize = 256;
@@ -160,12 +165,13 @@ impl Reader {
             let [integers, floats] = [self.words(it.words[0])?, self.words(it.words[1])?];
             let (kinds, stops) = (self.kinds.len, self.stops.len);
             for index in 0..it.kind_count {
-                let SuffixKind { word, kind } = it.kinds.add(index).read_unaligned();
-                self.kinds.push((string(word), kind.kind()?))?;
+                let SuffixKind { word, kind, reserved } = it.kinds.add(index).read_unaligned();
+                self.kinds.push((string(word), kind.kind().filter(|_| reserved == [0; 5])?))?;
             }
             for index in 0..it.stop_count {
-                let [last, next, second] = it.stops.add(index).read_unaligned().0;
-                self.stops.push(literal::Stop::new(string(last), string(next), string(second)))?;
+                let Stop { bytes: [last, next, second], reserved } = it.stops.add(index).read_unaligned();
+                let stop = literal::Stop::new(string(last), string(next), string(second));
+                self.stops.push(Some(stop).filter(|_| reserved == [0; 8])?)?;
             }
             let made = literal::Suffixes::new(integers, floats, self.stops.since(stops));
             let made = made.either_case(it.either_case != 0).any_word(string(it.any));
@@ -226,9 +232,9 @@ impl Laid {
         let mut laid = Laid {
             text: [0; 2048],
             size: 0,
-            kinds: [SuffixKind { word: ptr::null(), kind: KindNumbers::EXACT }; 64],
+            kinds: [SuffixKind { word: ptr::null(), kind: KindNumbers::EXACT, reserved: [0; 5] }; 64],
             kind_count: 0,
-            stops: [Stop([ptr::null(); 3]); 64],
+            stops: [Stop { bytes: [ptr::null(); 3], reserved: [0; 8] }; 64],
             stop_count: 0,
             suffixes: [Laid::NONE; 64],
             count: 0,
@@ -285,13 +291,14 @@ impl Laid {
         let any = self.put(&[any], base);
         while self.kind_count - kind < own_kinds.len() {
             let (word, of) = own_kinds[self.kind_count - kind];
-            self.kinds[self.kind_count] = SuffixKind { word: self.put(&[word], base), kind: numbers_of(of) };
+            let word = self.put(&[word], base);
+            self.kinds[self.kind_count] = SuffixKind { word, kind: numbers_of(of), reserved: [0; 5] };
             self.kind_count += 1;
         }
         while self.stop_count - stop < own_stops.len() {
             let [last, next, second] = own_stops[self.stop_count - stop].bytes();
             let bytes = [self.put(&[last], base), self.put(&[next], base), self.put(&[second], base)];
-            self.stops[self.stop_count] = Stop(bytes);
+            self.stops[self.stop_count] = Stop { bytes, reserved: [0; 8] };
             self.stop_count += 1;
         }
         self.suffixes[self.count] = Suffixes {
@@ -377,7 +384,7 @@ fn token<'a>(forms: Given<'_>, text: &'a [u8], print: &mut dyn FnMut(&TokenError
         Ok(it) => {
             let (size, start) = (text.len() - it.rest.len(), it.literal.as_bytes().len());
             let (literal, rest) = (Literal::of(it.literal, it.form), it.rest.as_ptr());
-            Ok(Token { literal, suffix: Span { start, end: size }, size, rest })
+            Ok(Token { literal, suffix: Span { start, end: size }, size, rest, reserved: [0; 2] })
         }
         Err(TokenError::Literal(it)) => Err((it.error.valid_up_to(), it.form, Refusal::Library(it.error))),
         Err(why @ TokenError::UnknownSuffix { form, start, end, .. }) => {

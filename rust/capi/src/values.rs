@@ -1,13 +1,16 @@
 //! Calls that make the value of a literal, of a text, or of each text of a column.
 
-use crate::arguments::Out;
+use crate::arguments::{write_text, Out};
 use crate::languages::{by, Forms, Given};
 use crate::literals::{whole, Literal, ReadError};
 use crate::names::{at, texts};
+use core::ffi::CStr;
 use peltzivar::literal::{self, FromLiteral, Number, ValueErrorKind};
 
 /// Whether there is a value: the index of one of [`DESCRIPTIONS`].
 type ValueStatus = u8;
+
+const REFUSED: ValueStatus = 6;
 
 texts! {
     DESCRIPTIONS: [8] = |status| match status {
@@ -75,7 +78,7 @@ unsafe fn parse<T: FromLiteral>(
     match whole(forms, text, len, error) {
         Some(Number::Literal { literal, .. }) => write(&literal, out),
         Some(Number::Special(special)) => write_value(T::from_special(special), out),
-        None => 6,
+        None => REFUSED,
     }
 }
 
@@ -147,4 +150,11 @@ calls! {
         literal.value().map_or(5, |it| write::<f32, _>(it, out))
     }
     fn peltzivar_value_description(status: ValueStatus) -> *const u8 { at(DESCRIPTIONS, status) }
+
+    fn peltzivar_parse_error_text(status: ValueStatus, error: Option<&ReadError>, text: *mut u8, len: usize) -> usize {
+        match error.and_then(ReadError::value).filter(|_| status == REFUSED) {
+            Some(why) => write_text(text, len, Some(why)),
+            None => write_text(text, len, CStr::from_ptr(at(DESCRIPTIONS, status).cast()).to_str().ok()),
+        }
+    }
 }

@@ -27,7 +27,7 @@ texts! {
         5 => b"each literal has an exponent, and an integer has none",
         6 => b"no literal is NaN or infinity, and no spelling is read back as it",
         7 => b"the buffer is too short",
-        8 => b"peltzivar_check_syntax refuses the syntax, or no call has made the literal",
+        8 => b"the syntax, the forms, the style, the spellings or the special value is refused, or no call has made the literal",
         9 => b"without an exponent, the text has more than 800 bytes",
         10 => b"the text is read as another number",
         11 => b"the literal is too large for its kind",
@@ -50,13 +50,17 @@ pub struct Style {
     has_decimals: u8,
     decimals: u8,
     nearest: u8,
+    reserved: [u8; 8],
 }
+
+const _: () = assert!(size_of::<Style>() == 24, "the size in the header");
 
 /// A group of this size is none.
 const NO_GROUPS: u8 = 255;
 
 impl Style {
-    fn given(&self) -> literal::Style {
+    /// Returns the style, or `None` if the exponent has an unknown number, or if a later version may write otherwise.
+    fn given(&self) -> Option<literal::Style> {
         let group = |size| match size {
             0 => Grouping::AsSyntax,
             NO_GROUPS => Grouping::None,
@@ -68,18 +72,20 @@ impl Style {
         (style.lowercase, style.keep_leading_zeros) = (self.lowercase != 0, self.keep_leading_zeros != 0);
         (style.point, style.nearest) = (self.point != 0, self.nearest != 0);
         style.decimals = (self.has_decimals != 0).then_some(self.decimals);
-        style.exponent(match self.exponent {
+        let exponent = match self.exponent {
+            0 => ExponentStyle::AsNumber,
             1 => ExponentStyle::Never,
             2 => ExponentStyle::Always,
             3 => ExponentStyle::From(self.exponent_from),
-            _ => ExponentStyle::AsNumber,
-        })
+            _ => return None,
+        };
+        (self.reserved == [0; 8]).then_some(style.exponent(exponent))
     }
 }
 
-/// Returns the style, or that which makes no wish.
-fn wishes(style: Option<&Style>) -> literal::Style {
-    style.map_or(literal::Style::PLAIN, Style::given)
+/// Returns the style, or that which makes no wish, or `None` if the style is refused.
+fn wishes(style: Option<&Style>) -> Option<literal::Style> {
+    style.map_or(Some(literal::Style::PLAIN), Style::given)
 }
 
 /// Returns whether calls can write in the radixes of a syntax.
@@ -131,12 +137,12 @@ unsafe fn write<'a>(
     to: (*mut u8, usize, Out<usize>),
     format: impl FnOnce(&literal::Syntax, literal::Style) -> Result<Written<'a>, WriteError>,
 ) -> WriteStatus {
-    match Syntax::given(syntax).filter(has_radixes) {
-        Some(syntax) => match format(&syntax, wishes(style)) {
+    match (Syntax::given(syntax).filter(has_radixes), wishes(style)) {
+        (Some(syntax), Some(style)) => match format(&syntax, style) {
             Ok(written) => print(&written, to),
             Err(error) => status_of(error),
         },
-        None => ARGUMENT,
+        _ => ARGUMENT,
     }
 }
 
@@ -147,12 +153,12 @@ unsafe fn write_number(
     to: (*mut u8, usize, Out<usize>),
     number: Result<&dyn Writable, literal::Literal>,
 ) -> WriteStatus {
-    by(forms, |forms| match forms {
-        Ok(forms) if forms.as_slice().iter().all(|it| has_radixes(&it.syntax())) => {
+    by(forms, |forms| match (forms, wishes(style)) {
+        (Ok(forms), Some(style)) if forms.as_slice().iter().all(|it| has_radixes(&it.syntax())) => {
             let print = |written: &[u8]| finish(to, |text| text.write_str(str::from_utf8_unchecked(written)));
             let written = match number {
-                Ok(number) => forms.written(number, wishes(style), print),
-                Err(literal) => forms.written_literal(&literal, wishes(style), print),
+                Ok(number) => forms.written(number, style, print),
+                Err(literal) => forms.written_literal(&literal, style, print),
             };
             written.unwrap_or_else(status_of)
         }
@@ -220,14 +226,15 @@ calls! {
             1 => Spelling::Nan,
             2 => Spelling::Inf,
             3 => Spelling::Infinity,
-            _ => return SPECIAL,
+            _ => return ARGUMENT,
         };
         let sign = match special.sign {
             0 => None,
             b'-' => Some(Sign::Minus),
-            _ => Some(Sign::Plus),
+            b'+' => Some(Sign::Plus),
+            _ => return ARGUMENT,
         };
-        let specials = specials.spellings();
+        let Some(specials) = specials.spellings() else { return ARGUMENT };
         write((syntax, None), (text, len, needed), |syntax, _| specials.format(syntax, Special { sign, spelling }))
     }
 

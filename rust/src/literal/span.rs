@@ -60,7 +60,6 @@ const fn first(grammar: Grammar, kind: ByteKind, text: &[u8]) -> usize {
 }
 
 // Returns where reading stopped, behind the right bytes `front`.
-#[inline(always)]
 pub(crate) const fn spot(
     grammar: Grammar,
     front: &[u8],

@@ -125,7 +125,7 @@ impl Stopped {
         if has_sizes(grammar) {
             match group_after(grammar, text, self.size) {
                 Some(group) => group,
-                None => unreachable!(),
+                None => FIRST,
             }
         } else {
             FIRST
@@ -294,7 +294,6 @@ const fn tail_size(byte: Option<u8>) -> usize {
 }
 
 // Returns the bytes that follow `byte`, the one behind the first `size`, in its character, and 0 for each that does not.
-#[inline(always)]
 const fn tail_at(text: &[u8], size: usize, byte: Option<u8>) -> [u8; 3] {
     let tail = tail_size(byte);
     [tail_byte(text, size, tail, 1), tail_byte(text, size, tail, 2), tail_byte(text, size, tail, 3)]

@@ -2,8 +2,8 @@
 use Rattle.lexical_literal.proofs.Common.{◌≡◌, Some, None, take, sym, ap, ◌∙◌, notation_of, Grammar, first_group, group_after}
 use Rattle.lexical_literal.proofs.stop.Stopped.group.Goals as goal
 
-pub unreachable-requires : goal.unreachable-requires
-unreachable-requires c =
+pub returns-in-None : goal.returns-in-None
+returns-in-None c =
     let after = ap (λ (g : Grammar). group_after (notation_of g) (Some first_group) (take c.args.self.size c.args.text.now)) c.grammar-grammar.ensures.value in
     let apart : None ≡ Some c.requires.0 = sym c.in-None.is ∙ c.group_after.ensures ∙ after ∙ c.requires.1.grouped in cc
 
