@@ -55,7 +55,13 @@ const PIECES: [&[u8]; 40] = [
     b"18446744073709551616",
 ];
 
+/// Spellings of special values of the lists.
+const SPELLINGS: [&[u8]; 8] = [b"nan", b"inf", b"-inf", b"+nan", b"1x", b"0x", b"q1", b"NaN"];
+
 fn text(random: &mut Random) -> Vec<u8> {
+    if random.one_in(10) {
+        return random.pick(&SPELLINGS).to_vec();
+    }
     let count = if random.one_in(100) { 0 } else { random.byte(1, 5) };
     (0..count).flat_map(|_| random.pick(&PIECES)).copied().collect()
 }
