@@ -70,7 +70,7 @@ const fn is_spare(grammar: Grammar, byte: u8) -> bool {
 }
 
 // Returns whether `byte` plays no role. Bytes up to `9` are said to play one: most are digits, and a prefix begins with a zero.
-#[inline(always)]
+#[cfg_attr(not(peltzivar_small), inline(always))]
 const fn plays_no_role(grammar: Grammar, byte: u8) -> bool {
     byte > b'9' && matches!(role_at(grammar, Part::Integer, byte), None) && !is_digit(grammar, Part::Exponent, byte)
 }

@@ -19,7 +19,7 @@ pub(crate) const fn is_exact(kind: IntegerKind) -> bool {
 }
 
 // Returns whether an integer is known to be worth the number that its digits represent. Of each kind, one of 63 bits is.
-#[inline(always)]
+#[cfg_attr(not(peltzivar_small), inline(always))]
 pub(crate) const fn keeps(kind: IntegerKind, numeral: &Numeral) -> bool {
     match kind {
         IntegerKind::Exact => true,
