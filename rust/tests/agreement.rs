@@ -73,7 +73,7 @@ fn list(random: &mut Random) -> Forms<'static> {
     let form = |random: &mut Random| random.pick(&forms).with_kind(random.pick(&forms).kind());
     let count = random.byte(1, 5);
     let list = Forms::new_or_panic((0..count).map(|_| form(random)).collect::<Vec<_>>().leak());
-    let odd = Specials { nan: Some(b"1x"), inf: Some(b"0x"), infinity: Some(b"q1"), ..Specials::default() };
+    let odd = Specials { nan: Some(b"1x"), inf: Some(b"0x"), infinity: Some(b"q1") };
     list.with_specials(random.pick(&[Specials::default(), Language::TOML.forms().specials(), odd]))
 }
 
