@@ -188,6 +188,8 @@ REPLACED += [
     ("lexical_value/src/float.rt", "match nearest_single(literal)", "match nearest_single(&{ *literal })"),
     ("lexical_value/src/float.rt", "        whole_float(literal)\n", "        whole_float(&{ *literal })\n"),
     ("lexical_value/src/kind.rt", "fewer(kind, &numeral)", "fewer(kind, &{ numeral })"),
+    ("lexical_value/src/kind.rt", "#[inline(always)]\npub(crate) const fn keeps", "#[cfg_attr(not(peltzivar_small), inline(always))]\npub(crate) const fn keeps"),
+    ("lexical_forms/src/exclude.rt", "#[inline(always)]\nconst fn plays_no_role", "#[cfg_attr(not(peltzivar_small), inline(always))]\nconst fn plays_no_role"),
     # Calls for constants.
     ("lexical_value/src/integer.rt", "pub fn own_numeral", "pub(crate) const fn own_numeral"),
     ("lexical_value/src/integer.rt", "pub fn integer_numeral", "pub(crate) const fn integer_numeral"),

@@ -4,7 +4,7 @@ use Rattle.lexical_forms.proofs.Common.{subst, ◌∙◌, arith, AllByRecursion,
 use Rattle.lexical_forms.proofs.Common.{raw, signs, Role, Part, Literal, Reads, is_none_or_one, is_none_or_prefix, text_of, Notation, notation_of}
 use Rattle.lexical_forms.proofs.Common.{set_of_role, Grammar, sign_size, bare, with_rules, is_byte, reach, IsFront, IsValidUpTo, NoLiteral, AllIn, run_byte}
 use Rattle.lexical_forms.proofs.Common.{ReadErrorKind, Refusal, role_at, is_stray, ◌||◌}
-use Rattle.lexical_forms.specs.Additions.Forms.{IsNoBetter, IsSpare, IsStranger}
+use Rattle.lexical_forms.specs.Additions.Forms.{IsNoBetter, IsSpare, IsStranger, PlaysNoRole}
 use Rattle.lexical_literal.specs.Cause.{IsCause}
 use Rattle.lexical_literal.specs.Notation.{has}
 use Rattle.lexical_literal.specs.declared.syntax.Condition.TheVariants as conditions
@@ -17,7 +17,7 @@ use Rattle.lexical_util.specs.Roles.{other_case}
 use Rattle.lexical_util.specs.declared.feature_format.roles.Role.TheVariants as roles
 use Rattle.lexical_util.specs.declared.format_flags.Part.TheVariants as parts
 use Rattle.lexical_literal.specs.declared.cause.ReadErrorKind.TheVariants as causes
-use Rattle.lexical_forms.proofs.ExcludeLemmas.{longer, same_byte, same_sign}
+use Rattle.lexical_forms.proofs.ExcludeLemmas.{longer, near_no_role, no_role_excludes, same_byte, same_sign}
 use Rattle.lexical_literal.proofs.PartLemmas.{parts_have_roles}
 
 module _ (m : Notation) where
@@ -132,6 +132,29 @@ module _ (m : Notation) (front : List ℕ) (b : ℕ) (far : sign_size front + 1 
   kind_is causes.Byte flags is = refl
   kind_is (causes.Missing part) flags is = absurd is
 
+-- The cause is a byte that plays no role, wherever it is.
+module _ (m : Notation) (front : List ℕ) (b : ℕ) (own : PlaysNoRole m b) (other : PlaysNoRole m (other_case b)) where
+  silent_front : (m : Notation) (b : ℕ) → PlaysNoRole m b → IsFront m (front ++ b ∷ []) → ⊥
+  silent_front m b none is =
+      let whole = front ++ (b ∷ is.more) in
+      let reads = subst (Reads m is.literal) (append_assoc front (b ∷ []) is.more) is.reads in
+      let at : get_or whole (length front) 0 ≡ b = get_or-append_seam front b is.more 0 in
+      no_role_excludes m whole (length front) (below front) (subst (PlaysNoRole m) (sym at) none) is.literal reads where
+        below : (front : List ℕ) → length front < length (front ++ (b ∷ is.more))
+        below [] = omega arith
+        below (x ∷ front) = let rest = below front in omega (arith, rest)
+
+  silent_by : (n : Notation) (b : ℕ) → PlaysNoRole m b → ((r : Role) → set_of_role n r b ≡ set_of_role m r b) → IsFront n (front ++ b ∷ []) → ⊥
+  silent_by n b none same = silent_front n b (record { not_zero = none.not_zero; none = λ r. same r ∙ none.none r })
+
+  pub silent_kind : (kind : ReadErrorKind) (flags : Flag → Bool) → IsCause m front (Some b) kind flags → is_byte kind ≡ true
+  silent_kind causes.Requirement flags is = absurd (silent_by (bare m) b own (λ r. refl) is.allowed)
+  silent_kind (causes.Separator part place) flags is =
+      absurd (silent_by (with_rules m _ _) b own (λ r. refl) ((is.each is.some.0).0 is.some.1).1)
+  silent_kind causes.Case flags is = absurd (silent_by (bare m) (other_case b) other (λ r. refl) ((is.each is.some.0).0 is.some.1).1)
+  silent_kind causes.Byte flags is = refl
+  silent_kind (causes.Missing part) flags is = absurd is
+
 -- What is added to twice a number of bytes.
 one_more : (n : ℕ) (b : Bool) → 2 * n + (if b then 0 else 1) ≤ 2 * n + 1
 one_more n true = omega arith
@@ -174,6 +197,23 @@ module _ (m : Notation) (text : List ℕ) (size : ℕ) (far : sign_size text + 1
             least error byte (sym same) where
               least : (error : Refusal) → is_byte error.kind ≡ true → error.valid_up_to ≡ size → reach error ≤ 2 * size
               least error byte same = no_more error.valid_up_to size (is_byte error.kind) (has error.conditions conditions.BasePrefix) byte same
+
+-- An error goes no further than to a byte that plays no role, and there it is a wrong byte.
+pub silent_is : (m : Notation) (text : List ℕ) (size : ℕ) → size < length text → PlaysNoRole m (get_or text size 0)
+    → PlaysNoRole m (other_case (get_or text size 0)) → IsNoBetter m text size
+silent_is m text size inside own other error is =
+    let up = near_no_role m text error.valid_up_to is.valid_up_to size own in
+    elim (cases_lt error.valid_up_to size) [
+      | inl below ↦ (let most = one_more error.valid_up_to (is_stray error) in omega (arith, below, most))
+      | inr past ↦ at_size (le_antisymm past up)
+    ] where
+      at_size : size ≡ error.valid_up_to → reach error ≤ 2 * size
+      at_size same =
+          let here = slice_get-get_or text size 0 inside in
+          let cause = subst (λ n. IsCause m (take n text) (slice_get text n) error.kind (raw error.mask).flag) (sym same) is.cause in
+          let byte = silent_kind m (take size text) (get_or text size 0) own other error.kind (raw error.mask).flag
+          (subst (λ next. IsCause m (take size text) next error.kind (raw error.mask).flag) here cause) in
+          no_more error.valid_up_to size (is_byte error.kind) (has error.conditions conditions.BasePrefix) byte (sym same)
 
 -- `AreFalse d s p e f g` holds if the tests of all roles but the prefix are false.
 record AreFalse (d s p e f g : Bool) : Type 0 where

@@ -3,6 +3,7 @@
 ghost use Rattle.std.specs.Prelude.{ℕ, ◌≡◌, ◌+◌, ◌<◌, ◌≤◌, IfSome, IsTrue, get_or, length};
 ghost use Rattle.lexical_forms.specs.Additions.Forms.{IsNoBetter, IsSpare, IsStranger, PlaysNoRole, bound, sign_size};
 ghost use Rattle.lexical_literal.specs.Front.{IsValidUpTo, NoLiteral};
+ghost use Rattle.lexical_util.specs.Roles.{other_case};
 ghost use Rattle.lexical_literal.specs.Notation.{notation_of};
 
 use lexical_literal::cause::other_case;
@@ -48,13 +49,29 @@ pub(crate) const fn is_behind(
         }
 }
 
-// Returns whether no error of a form goes further than one up to `size` whose cause is a wrong byte: the first bytes exclude the form,
-// or the byte there is a stranger.
+// Returns whether `text` is not a literal of a form, and no error of it goes further than one up to `size` whose cause is a wrong byte: the
+// first bytes exclude the form, or the byte there plays no role.
 pub(crate) const fn is_settled(grammar: Grammar, text: &[u8], size: usize) -> bool
-    ensures { IsTrue result → IsNoBetter (notation_of grammar) text.now size }
+    ensures none { IsTrue result → NoLiteral (notation_of grammar) text.now }
+    ensures better { IsTrue result → IsNoBetter (notation_of grammar) text.now size }
 {
     let start = sign_size(text);
-    size > start + 1 && (excludes(grammar, text, start) || is_stranger_at(grammar, text, size))
+    if size > start + 1 {
+        excludes(grammar, text, start) || is_stranger_at(grammar, text, size)
+    } else {
+        is_silent_at(grammar, text, size)
+    }
+}
+
+// Returns whether the byte at `index`, if there is one, plays no role, and its other case neither.
+const fn is_silent_at(grammar: Grammar, text: &[u8], index: usize) -> bool
+    ensures inside { IsTrue result → index < length text.now }
+    ensures own { IsTrue result → PlaysNoRole (notation_of grammar) (get_or text.now index 0) }
+    ensures other { IsTrue result → PlaysNoRole (notation_of grammar) (other_case (get_or text.now index 0)) }
+{
+    index < text.len()
+        && plays_no_role(grammar, text[index])
+        && plays_no_role(grammar, other_case(text[index]))
 }
 
 // Returns whether the byte at `index` is a stranger, if there is one.

@@ -404,7 +404,7 @@ impl<'a> Forms<'a> {
     }
 
     // Returns the special value that `text` is, if it is one.
-    fn special(&self, text: &[u8]) -> Option<Special>
+    pub(crate) fn special(&self, text: &[u8]) -> Option<Special>
         ensures { result ≡ special_by self.now text.now }
     {
         self.specials.read(&self.forms[0].syntax, text)

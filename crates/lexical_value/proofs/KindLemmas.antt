@@ -1,11 +1,13 @@
 -- The lowest bits of a number, and what literals of the exact kind are worth.
-use Rattle.std.proofs.Common.{ℕ, ◌≡◌, ◌+◌, ◌-◌, ◌%◌, ◌^◌, ◌≤◌, ◌||◌, Bool, true, false, not, if◌then◌else◌, Result, Ok, Err, arith, ap, refl, subst, sym}
+use Rattle.std.proofs.Common.{ℕ, ◌≡◌, ◌+◌, ◌-◌, ◌%◌, ◌^◌, ◌<◌, ◌≤◌, ◌||◌, ◌∙◌, Bool, true, false, not, if◌then◌else◌, Some, Result, Ok, Err, arith, ap, refl, subst, sym}
+use Rattle.std.proofs.Math.Nat.{mod-eq_of_lt, pow-le-pow_right}
 use Rattle.std.proofs.Math.Pow.{mod-mod-pow}
 use Rattle.std.proofs.lemmas.Bool.{false≢true}
+use Rattle.std.proofs.lemmas.Bool.Decides.{nat_tests}
 use Rattle.std.specs.Float.{Float, Format}
 use Rattle.lexical_util.specs.Record.{Record}
 use Rattle.lexical_literal.specs.Read.{exact}
-use Rattle.lexical_value.specs.Kind.{width}
+use Rattle.lexical_value.specs.Kind.{width, worth, wrapped}
 use Rattle.lexical_literal.specs.Literal.{Literal}
 use Rattle.lexical_literal.specs.declared.kind.IntegerKind.TheVariants as integers
 use Rattle.lexical_value.specs.Float.{is_binary, is_decimal, nearest}
@@ -21,6 +23,31 @@ low n w most = let all : 64 - w + w ≡ 64 = omega (arith, most) in
 
 pub lowest_bits : (n bits : ℕ) → n % 2 ^ 64 % 2 ^ width bits ≡ n % 2 ^ width bits
 lowest_bits n bits = low n (width bits) (omega arith)
+
+-- A number of fewer bits than a kind has is worth itself.
+module _ (negative : Bool) (n bits : ℕ) (low : n < 2 ^ (width bits - 1)) where
+  fits : n < 2 ^ width bits
+  fits = let more = pow-le-pow_right two (less (width bits)) in omega (arith, low, more) where
+    two : 0 < 2
+    two = omega arith
+
+    less : (w : ℕ) → w - 1 ≤ w
+    less w = omega arith
+
+  wraps : wrapped (width bits) negative n ≡ (negative, n)
+  wraps = go negative where
+    go : (b : Bool) → wrapped (width bits) b n ≡ (b, n)
+    go true = grind (arith, nat_tests)
+    go false = grind (arith, nat_tests)
+
+  pub at_most_keeps : worth (integers.AtMost bits) negative n ≡ Some (negative, n)
+  at_most_keeps = let below = fits in grind (arith, nat_tests)
+
+  pub wraps_keeps : worth (integers.Wraps bits) negative n ≡ Some (negative, n)
+  wraps_keeps = let below = fits in let same = wraps in grind (arith, nat_tests)
+
+  pub modulo_keeps : worth (integers.WrapsModulo bits) negative n ≡ Some (negative, n)
+  modulo_keeps = ap (λ k. Some (wrapped (width bits) negative k)) (mod-eq_of_lt fits) ∙ ap Some wraps
 
 -- A literal of the exact kind is worth the number that it represents.
 pub exact_error : (least largest : ℕ) (r : Record) (l : Literal) (error : ValueErrorKind) → IsNotWorth integers.Exact least largest r.byte l error

@@ -1,6 +1,6 @@
 //! What an integer is worth by its kind.
 
-ghost use Rattle.std.specs.Prelude.{◌≡◌, ◌-◌, ◌%◌, ◌^◌, ◌<◌, ◌≤◌, false, option_map};
+ghost use Rattle.std.specs.Prelude.{◌≡◌, ◌-◌, ◌%◌, ◌^◌, ◌<◌, ◌≤◌, IsTrue, Some, false, option_map};
 ghost use Rattle.lexical_value.specs.Kind.{width, worth, wrapped};
 ghost use Rattle.lexical_number.specs.Numeral.{size_of};
 ghost use Rattle.lexical_number.specs.declared.numeral.Numeral.{Numeral};
@@ -24,12 +24,37 @@ pub(crate) const fn is_exact(kind: IntegerKind) -> bool
     matches!(kind, IntegerKind::Exact)
 }
 
+// Returns whether an integer is known to be worth the number that its digits represent. Of each kind, one of 63 bits is.
+#[inline(always)]
+pub(crate) const fn keeps(kind: IntegerKind, numeral: &Numeral) -> bool
+    ensures worth { IsTrue result → worth kind numeral.now.negative (size_of numeral.now) ≡ Some (numeral.now.negative, size_of numeral.now) }
+    ensures exact { result ≡ false → is_exact kind ≡ false }
+{
+    match kind {
+        IntegerKind::Exact => true,
+        IntegerKind::AtMost(bits) => is_low(bits, numeral),
+        IntegerKind::Wraps(bits) => is_low(bits, numeral),
+        IntegerKind::WrapsModulo(bits) => is_low(bits, numeral),
+    }
+}
+
+// Returns whether a number is known to have fewer than `bits` bits.
+#[inline(always)]
+const fn is_low(bits: u8, numeral: &Numeral) -> bool
+    ensures { IsTrue result → size_of numeral.now < 2 ^ (width bits - 1) }
+{
+    match numeral.magnitude {
+        Magnitude::Word(size) => size < half(bits),
+        Magnitude::Digits(_, _) => false,
+    }
+}
+
 // Returns what an integer is worth by its kind, or `None` if it is too large.
 #[inline(always)]
 pub(crate) const fn counted<'a>(kind: IntegerKind, numeral: Numeral<'a>) -> Option<Numeral<'a>>
     ensures { option_map (λ (own : Numeral). (own.negative, size_of own)) result ≡ worth kind numeral.entry.negative (size_of numeral.entry) }
 {
-    if is_exact(kind) {
+    if keeps(kind, &numeral) {
         return Some(numeral);
     }
     match fewer(kind, &numeral) {

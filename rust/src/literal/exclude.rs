@@ -31,11 +31,20 @@ pub(crate) const fn is_behind(grammar: Grammar, text: &[u8], sign: usize, furthe
         }
 }
 
-// Returns whether no error of a form goes further than one up to `size` whose cause is a wrong byte: the first bytes exclude the form,
-// or the byte there is a stranger.
+// Returns whether `text` is not a literal of a form, and no error of it goes further than one up to `size` whose cause is a wrong byte: the
+// first bytes exclude the form, or the byte there plays no role.
 pub(crate) const fn is_settled(grammar: Grammar, text: &[u8], size: usize) -> bool {
     let start = sign_size(text);
-    size > start + 1 && (excludes(grammar, text, start) || is_stranger_at(grammar, text, size))
+    if size > start + 1 {
+        excludes(grammar, text, start) || is_stranger_at(grammar, text, size)
+    } else {
+        is_silent_at(grammar, text, size)
+    }
+}
+
+// Returns whether the byte at `index`, if there is one, plays no role, and its other case neither.
+const fn is_silent_at(grammar: Grammar, text: &[u8], index: usize) -> bool {
+    index < text.len() && plays_no_role(grammar, text[index]) && plays_no_role(grammar, other_case(text[index]))
 }
 
 // Returns whether the byte at `index` is a stranger, if there is one.
@@ -61,7 +70,7 @@ const fn is_spare(grammar: Grammar, byte: u8) -> bool {
 }
 
 // Returns whether `byte` plays no role. Bytes up to `9` are said to play one: most are digits, and a prefix begins with a zero.
-#[inline(always)]
+#[cfg_attr(not(peltzivar_small), inline(always))]
 const fn plays_no_role(grammar: Grammar, byte: u8) -> bool {
     byte > b'9' && matches!(role_at(grammar, Part::Integer, byte), None) && !is_digit(grammar, Part::Exponent, byte)
 }

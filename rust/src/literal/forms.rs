@@ -2,6 +2,10 @@
 
 use core::{fmt, ops, ops::Range, slice};
 
+use crate::literal::exclude::is_settled;
+use crate::literal::stop::Stopped;
+use crate::literal::token::has_letter_behind_zero;
+use crate::literal::value::Decimal;
 use crate::literal::{
     Form, FormError, Forms, FromLiteral, Literal, Number, ParseError, ReadError, ReadErrorKind, Special, Specials,
     Syntax,
@@ -37,7 +41,25 @@ impl<'a> Forms<'a> {
     ///
     /// If `text` is neither a literal nor a special value, returns why it is not a literal.
     pub fn read<'t>(&self, text: &'t (impl AsRef<[u8]> + ?Sized)) -> Result<Number<'t>, FormError> {
-        self.read_bytes(text.as_ref())
+        let text = text.as_ref();
+        if self.asks_first(text) {
+            let Form { syntax, kind, .. } = self.as_slice()[0];
+            if syntax.is_decimal() {
+                let begun = syntax.begin(true, text, false);
+                if begun.is_whole(&syntax, text) {
+                    let literal = syntax.literal(text, begun.counts, begun.sums).with_kind(kind);
+                    return Ok(Number::Literal { literal, form: 0 });
+                }
+            }
+        }
+        self.read_bytes(text)
+    }
+
+    // Returns whether the first form is asked before all, whose literal is the number. Texts such as `0x1F` are most often none.
+    // The library for C, which sets `peltzivar_small`, has no copy for it.
+    #[inline(always)]
+    fn asks_first(&self, text: &[u8]) -> bool {
+        !cfg!(peltzivar_small) && (self.as_slice().len() == 1 || !has_letter_behind_zero(text))
     }
 
     /// Returns the longest literal of any form that `text` begins with, and the rest of `text`, which may be anything.
@@ -57,6 +79,34 @@ impl<'a> Forms<'a> {
     /// If `text` is not a number, or if its value is not one of the type, returns why.
     pub fn parse<T: FromLiteral>(&self, text: impl AsRef<[u8]>) -> Result<T, ParseError> {
         let text = text.as_ref();
+        if self.asks_first(text) {
+            let Form { syntax, kind, .. } = self.as_slice()[0];
+            match syntax.parse_decimal(kind, text) {
+                Decimal::Value(value) => return Ok(value),
+                Decimal::Stopped(stop) if self.is_first(text, stop) => return self.refuse_first(text, stop),
+                _ => {}
+            }
+        }
+        self.parse_generally(text)
+    }
+
+    // Returns whether the error of the first form, which stops at `stop`, is that of the list: no other form has a better one,
+    // and `text` is no special value.
+    fn is_first(&self, text: &[u8], stop: Stopped) -> bool {
+        let is_behind = |it: &Form| is_settled(it.syntax.as_grammar(), text, stop.size);
+        self.as_slice()[1..].iter().all(is_behind) && self.special(text).is_none()
+    }
+
+    // Returns the error of the first form, which stops at `stop`.
+    #[cold]
+    fn refuse_first<T>(&self, text: &[u8], stop: Stopped) -> Result<T, ParseError> {
+        let Form { name, syntax, .. } = self.as_slice()[0];
+        stop.refuse(&syntax, text).map_err(|error| ParseError::Read(FormError { form: 0, name, error }))
+    }
+
+    // Returns what `parse` returns for any text.
+    #[inline(never)]
+    fn parse_generally<T: FromLiteral>(&self, text: &[u8]) -> Result<T, ParseError> {
         self.read_bytes(text)?.value().map_err(|error| error.of_size(text.len()).into())
     }
 

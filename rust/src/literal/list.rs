@@ -285,7 +285,7 @@ impl<'a> Forms<'a> {
     }
 
     // Returns the special value that `text` is, if it is one.
-    const fn special(&self, text: &[u8]) -> Option<Special> {
+    pub(crate) const fn special(&self, text: &[u8]) -> Option<Special> {
         self.specials.read_bytes(&self.forms[0].syntax, text)
     }
 

@@ -176,7 +176,7 @@ impl Syntax {
 impl Stopped {
     // Returns whether reading stops for good where it has come in a usual syntax, and `text` is not a literal.
     #[inline(never)]
-    const fn is_refused(self, syntax: &Syntax, text: &[u8]) -> bool {
+    pub(crate) const fn is_refused(self, syntax: &Syntax, text: &[u8]) -> bool {
         let Stopped { size, read } = self;
         if size < text.len() {
             step(syntax.as_grammar(), read, text[size]).is_none()

@@ -287,7 +287,7 @@ const fn is_excluded(grammar: Grammar, text: &[u8], sign: usize, excluding: bool
 
 // Returns whether a zero and a letter are behind the sign.
 #[inline(always)]
-const fn has_letter_behind_zero(text: &[u8]) -> bool {
+pub(crate) const fn has_letter_behind_zero(text: &[u8]) -> bool {
     let sign = sign_size(text);
     sign + 1 < text.len() && text[sign] == b'0' && text[sign + 1] > b'9'
 }

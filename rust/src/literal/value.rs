@@ -130,6 +130,13 @@ impl fmt::Display for Plain<'_> {
     }
 }
 
+/// What is known at once of a text: its value, or where reading stops if it is not a literal.
+pub(crate) enum Decimal<T> {
+    Value(T),
+    Stopped(Stopped),
+    Unknown,
+}
+
 /// Makes the conversions to types, by their calls for literals, and for NaN and infinity.
 macro_rules! conversions {
     ($($type:ident)*: $convert:ident, $special:expr) => {
@@ -343,31 +350,48 @@ impl Syntax {
     /// If `text` is not a literal, or if its value is not one of the type, returns why.
     pub fn parse<T: FromLiteral>(&self, text: impl AsRef<[u8]>) -> Result<T, ParseError> {
         let text = text.as_ref();
-        // A decimal literal need not be in memory to have a value, unless its digits have to be looked at again. With up to 19
-        // digits, a number fits 64 bits.
-        if self.is_decimal() {
-            let begun = self.begin(true, text, false);
-            if begun.is_whole(self, text) {
-                if begun.sums.mantissa.digits <= 19 && begun.sums.exponent.digits <= 19 {
-                    if let Ok(value) = T::from_literal(self.literal(text, begun.counts, begun.sums)) {
-                        return Ok(value);
-                    }
-                } else if T::TARGET.has_long_values() {
-                    if let Ok(value) = self.long_value(text, begun.counts, begun.sums) {
-                        return Ok(value);
-                    }
-                }
-            } else if begun.exact {
-                return self.refuse_value(text, begun.at);
-            }
+        match self.parse_decimal(Kind::EXACT, text) {
+            Decimal::Value(value) => Ok(value),
+            Decimal::Stopped(at) => self.refuse_value(text, at),
+            Decimal::Unknown => self.parse_generally(text),
         }
-        self.parse_generally(text)
+    }
+
+    // Returns what is known at once of a text that may be a decimal literal of a kind. It need not be in memory to have a value,
+    // unless its digits have to be looked at again. With up to 19 digits, a number fits 64 bits.
+    #[inline(always)]
+    pub(crate) fn parse_decimal<T: FromLiteral>(&self, kind: Kind, text: &[u8]) -> Decimal<T> {
+        if !self.is_decimal() {
+            return Decimal::Unknown;
+        }
+        let begun = self.begin(true, text, false);
+        if begun.is_whole(self, text) {
+            if begun.sums.mantissa.digits <= 19 && begun.sums.exponent.digits <= 19 {
+                let literal = self.literal(text, begun.counts, begun.sums).with_kind(kind);
+                if let Ok(value) = T::from_literal(literal) {
+                    return Decimal::Value(value);
+                }
+            } else if T::TARGET.has_long_values() {
+                if let Ok(value) = self.long_value(kind, text, begun.counts, begun.sums) {
+                    return Decimal::Value(value);
+                }
+            }
+        } else if begun.exact || begun.at.is_refused(self, text) {
+            return Decimal::Stopped(begun.at);
+        }
+        Decimal::Unknown
     }
 
     // Returns the value of a literal of many digits. Were it inlined, those of few digits would take longer.
     #[inline(never)]
-    fn long_value<T: FromLiteral>(&self, text: &[u8], counts: [usize; 9], sums: Sums) -> Result<T, ValueErrorKind> {
-        T::from_literal(self.literal(text, counts, sums))
+    fn long_value<T: FromLiteral>(
+        &self,
+        kind: Kind,
+        text: &[u8],
+        counts: [usize; 9],
+        sums: Sums,
+    ) -> Result<T, ValueErrorKind> {
+        T::from_literal(self.literal(text, counts, sums).with_kind(kind))
     }
 
     // Returns what `parse` returns for any text.

@@ -18,10 +18,30 @@ pub(crate) const fn is_exact(kind: IntegerKind) -> bool {
     matches!(kind, IntegerKind::Exact)
 }
 
+// Returns whether an integer is known to be worth the number that its digits represent. Of each kind, one of 63 bits is.
+#[cfg_attr(not(peltzivar_small), inline(always))]
+pub(crate) const fn keeps(kind: IntegerKind, numeral: &Numeral) -> bool {
+    match kind {
+        IntegerKind::Exact => true,
+        IntegerKind::AtMost(bits) => is_low(bits, numeral),
+        IntegerKind::Wraps(bits) => is_low(bits, numeral),
+        IntegerKind::WrapsModulo(bits) => is_low(bits, numeral),
+    }
+}
+
+// Returns whether a number is known to have fewer than `bits` bits.
+#[inline(always)]
+const fn is_low(bits: u8, numeral: &Numeral) -> bool {
+    match numeral.magnitude {
+        Magnitude::Word(size) => size < half(bits),
+        Magnitude::Digits(_, _) => false,
+    }
+}
+
 // Returns what an integer is worth by its kind, or `None` if it is too large.
 #[inline(always)]
 pub(crate) const fn counted<'a>(kind: IntegerKind, numeral: Numeral<'a>) -> Option<Numeral<'a>> {
-    if is_exact(kind) {
+    if keeps(kind, &numeral) {
         return Some(numeral);
     }
     match fewer(kind, &{ numeral }) {

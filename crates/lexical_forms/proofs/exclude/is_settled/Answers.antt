@@ -1,13 +1,28 @@
 -- The form goes no further, and if it goes as far, its cause is a wrong byte.
 use Rattle.lexical_forms.proofs.Common.{◌+◌, ◌<◌, subst, notation_of}
-use Rattle.lexical_forms.proofs.StrangerLemmas.{near_is, stranger_is}
+use Rattle.lexical_forms.proofs.ExcludeLemmas.{no_role_excludes}
+use Rattle.lexical_forms.proofs.StrangerLemmas.{near_is, silent_is, spare_excludes, stranger_is}
 use Rattle.lexical_forms.proofs.exclude.is_settled.Goals as goal
 
-pub returns-then-excludes : goal.returns-then-excludes
-returns-then-excludes c = λ is. near_is (notation_of c.args.grammar) c.args.text.now c.args.size
+pub returns-then-excludes-clause-better : goal.returns-then-excludes-clause-better
+returns-then-excludes-clause-better c = λ is. near_is (notation_of c.args.grammar) c.args.text.now c.args.size
     (subst (λ sign. sign + 1 < c.args.size) c.sign_size-start.ensures.size c.if-size-start.true) (c.excludes.ensures.near c.if-excludes.true)
 
-pub returns-else-excludes : goal.returns-else-excludes
-returns-else-excludes c = λ is. stranger_is (notation_of c.args.grammar) c.args.text.now c.args.size
+pub returns-else-excludes-clause-none : goal.returns-else-excludes-clause-none
+returns-else-excludes-clause-none c = λ is. spare_excludes (notation_of c.args.grammar) c.args.text.now c.args.size
+    (subst (λ sign. sign + 1 < c.args.size) c.sign_size-start.ensures.size c.if-size-start.true)
+    (c.is_stranger_at.ensures.inside is) (c.is_stranger_at.ensures.stranger is).0
+
+pub returns-else-excludes-clause-better : goal.returns-else-excludes-clause-better
+returns-else-excludes-clause-better c = λ is. stranger_is (notation_of c.args.grammar) c.args.text.now c.args.size
     (subst (λ sign. sign + 1 < c.args.size) c.sign_size-start.ensures.size c.if-size-start.true)
     (c.is_stranger_at.ensures.inside is) (c.is_stranger_at.ensures.stranger is)
+
+pub returns-else-size-start-clause-none : goal.returns-else-size-start-clause-none
+returns-else-size-start-clause-none c = λ is.
+    no_role_excludes (notation_of c.args.grammar) c.args.text.now c.args.size (c.is_silent_at.ensures.inside is) (c.is_silent_at.ensures.own is)
+
+pub returns-else-size-start-clause-better : goal.returns-else-size-start-clause-better
+returns-else-size-start-clause-better c = λ is.
+    silent_is (notation_of c.args.grammar) c.args.text.now c.args.size (c.is_silent_at.ensures.inside is) (c.is_silent_at.ensures.own is)
+    (c.is_silent_at.ensures.other is)

@@ -61,7 +61,7 @@ loop-form-preserved c =
       | else-not-is_settled w ↦ settled forms text first size a.0 most low form
           (at_index (λ g. IsNoBetter (notation_of g.syntax) text size) forms c.as_slice-forms.result.now c.index-forms-form.result form
           c.as_slice-forms.ensures.list c.loop-form-test.true (subst (λ (g : Grammar). IsNoBetter (notation_of g) text size) c.grammar.ensures.value
-          (c.is_settled.ensures w.if-not-is_settled.false)))
+          (c.is_settled.ensures.better w.if-not-is_settled.false)))
           c.loop-form.invariant
     ] where
       none_else : {X : Type 0} (o : Option X) → ((x : X) → o ≡ Some x → ⊥) → IsNone o
