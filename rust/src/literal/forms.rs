@@ -56,7 +56,7 @@ impl<'a> Forms<'a> {
     }
 
     // Returns whether the first form is asked before all, whose literal is the number. Texts such as `0x1F` are most often none.
-    // The library for C, which sets `peltzivar_small`, has no copy for it.
+    // The library for C and the page, which set `peltzivar_small`, have no copy for it.
     #[inline(always)]
     fn asks_first(&self, text: &[u8]) -> bool {
         !cfg!(peltzivar_small) && (self.as_slice().len() == 1 || !has_letter_behind_zero(text))
