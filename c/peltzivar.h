@@ -104,8 +104,8 @@ typedef struct peltzivar_forms peltzivar_forms;
 typedef struct peltzivar_syntax peltzivar_syntax;
 
 /* Returns the forms of the language or file format with a name of len bytes in either case, such as "JSON" or
- * "C_SHARP", or a null pointer if there is none. They last as long as the program. In Python,
- * `help(peltzivar.Language)` describes each.
+ * "C_SHARP", or a null pointer if there is none. They last as long as the program. LANGUAGES.md describes each, such
+ * as which C `C` is.
  *
  * Numbers have a sign in CSS, CSV_DE, CSV_EN, FORTRAN, JSON, RUBY, SQL, SWIFT, TOML, XML_SCHEMA, YAML and YAML_1_1. In
  * the other languages, `-` is an operator: they refuse `-5`, so read what is behind it. */
@@ -169,8 +169,9 @@ enum {
 /* Where reading stopped. The first `valid_up_to` bytes are the longest beginning of the text that some literal begins
  * with. If these are all of its bytes, bytes are missing, and a longer text may be a literal. `form` is, of several
  * forms, the index of that for which this beginning is the longest, and otherwise 0. Of equals, it is the first whose
- * kind is not PELTZIVAR_KIND_BYTE and that does not lack a required prefix, or else the first. Errors can be copied. Do
- * not change one, or pass it to another build of the library. Calls refuse memory whose `magic` they did not write. */
+ * kind is not PELTZIVAR_KIND_BYTE and that does not lack a required prefix, or else the first. peltzivar_explain has
+ * the bytes to show to a reader. Errors can be copied. Do not change one, or pass it to another build of the library.
+ * Calls refuse memory whose `magic` they did not write. */
 typedef struct {
     PELTZIVAR_ALIGNED uint64_t magic;
     size_t valid_up_to;
@@ -218,7 +219,7 @@ const char *peltzivar_value_description(peltzivar_value_status status);
  * the value of each text, or leave it unchanged, and its status, and return how many statuses are not
  * PELTZIVAR_VALUE_OK. If its offsets do not ascend, or are not between the first and the last one, a text is
  * PELTZIVAR_VALUE_REFUSED and not read. If the list is, all texts are. If count is PTRDIFF_MAX / 8 or more, write
- * nothing and return it. */
+ * nothing and return it. To learn why a text is refused, read it again by peltzivar_parse_f64. */
 size_t peltzivar_parse_i64_column(const peltzivar_forms *forms, const char *bytes,
     const int64_t *offsets, size_t count, int64_t *values, peltzivar_value_status *status);
 size_t peltzivar_parse_u64_column(const peltzivar_forms *forms, const char *bytes,
@@ -329,7 +330,8 @@ PELTZIVAR_MUST_USE peltzivar_value_status peltzivar_to_f32(const peltzivar_liter
  */
 
 /* A token: its literal, with the kind that its form and its suffix give it, the bytes of its suffix, which are none if
- * it has none, its length, and what follows. Forms of peltzivar_tokens have the indices behind the others. */
+ * it has none, its length with the suffix, and what follows. Forms of peltzivar_tokens have the indices behind the
+ * others. */
 typedef struct {
     peltzivar_literal literal;
     peltzivar_span suffix;
@@ -339,11 +341,12 @@ typedef struct {
 } peltzivar_token;
 
 /* Reads the number that a text of len bytes begins with, as a lexer does: the longest literal of a form with the
- * longest of its suffixes, as in `1..2`, `10L;` and `0x1F_u8`. FORMAT.md defines tokens. Special values are names, and
- * no tokens. If there is a token, writes it to *token and returns true. If a form goes on behind the number without an
- * end, as in `1e+x`, if what follows may not, as in `1abc`, or if there is no number, writes why to *error and returns
- * false. Also refuses what peltzivar_parse_f64 refuses, lists without rules for tokens, as those of SQL and of file
- * formats, and, in suffixes and rules, reserved bytes, unknown kinds, and too many words. Then `valid_up_to` is 0. */
+ * longest of its suffixes, as in `1..2`, `10L;` and `0x1F_u8`. FORMAT.md defines tokens. A text is a number with a
+ * suffix and nothing else if the `size` of its token is len. Special values are names, and no tokens. If there is a
+ * token, writes it to *token and returns true. If a form goes on behind the number without an end, as in `1e+x`, if
+ * what follows may not, as in `1abc`, or if there is no number, writes why to *error and returns false. Also refuses
+ * what peltzivar_parse_f64 refuses, lists without rules for tokens, as those of SQL and of file formats, and, in
+ * suffixes and rules, reserved bytes, unknown kinds, and too many words. Then `valid_up_to` is 0. */
 PELTZIVAR_MUST_USE bool peltzivar_forms_token(const peltzivar_forms *forms, const char *text, size_t len,
     peltzivar_token *token, peltzivar_read_error *error);
 
@@ -362,7 +365,7 @@ size_t peltzivar_token_error_text(const peltzivar_forms *forms, const char *text
  * Each call writes a number and a null terminator to a buffer of len bytes, and to *needed the length with the
  * terminator. It returns PELTZIVAR_WRITE_OK if len is at least that. Otherwise, it writes only the beginning and a
  * terminator, if len is not 0, and returns PELTZIVAR_WRITE_BUFFER. If the number cannot be written, it leaves all
- * unchanged and returns another status. What is written is read as the same value. */
+ * unchanged and returns another status. What is written is read as the same value, or as the rounded one. */
 
 /* Whether a number is written. */
 typedef uint8_t peltzivar_write_status;
@@ -435,9 +438,10 @@ PELTZIVAR_MUST_USE peltzivar_write_status peltzivar_forms_format_u64(const peltz
 PELTZIVAR_MUST_USE peltzivar_write_status peltzivar_forms_format_i128(const peltzivar_forms *forms,
     peltzivar_i128 value, const peltzivar_style *style, char *text, size_t len, size_t *needed);
 
-/* Writes a float by the first form whose text all forms read as the same bits, asked in the order of
- * peltzivar_forms_format_i64. If there is none, the status is that of the first form with a point. NaN and infinity are
- * the first of their spellings that the forms read as special values, or else have PELTZIVAR_WRITE_SPECIAL. */
+/* Writes a float by the first form whose text all forms read as the same bits, or with `has_decimals` as the rounded
+ * number, asked in the order of peltzivar_forms_format_i64. If there is none, the status is that of the first form with
+ * a point. NaN and infinity are the first of their spellings that the forms read as special values, or else have
+ * PELTZIVAR_WRITE_SPECIAL. */
 PELTZIVAR_MUST_USE peltzivar_write_status peltzivar_forms_format_f64(const peltzivar_forms *forms, double value,
     const peltzivar_style *style, char *text, size_t len, size_t *needed);
 
@@ -476,15 +480,19 @@ const char *peltzivar_write_description(peltzivar_write_status status);
 
 /* FORMS OF YOUR OWN
  *
- *     peltzivar_form list[] = {{.name = "decimal"}, {.name = "hexadecimal"}};
- *     const peltzivar_forms forms = {.forms = list, .count = 2, .specials = {.nan = "NaN"}};
+ *     const peltzivar_suffixes units = {.integers = "k M"};
+ *     const peltzivar_tokens tokens = {0};
+ *     peltzivar_form list[] = {{.name = "decimal", .suffixes = &units}, {.name = "hexadecimal"}};
+ *     const peltzivar_forms forms = {.forms = list, .count = 2, .specials = {.nan = "NaN"}, .tokens = &tokens};
  *     const char *const settings[] = {"digit_separator='_'\ninteger_internal_digit_separator=true",
  *         "radix=16\nbase_prefix='x'\nrequired_base_prefix=true\nexponent=none\npoint=none"};
  *     int64_t value;
+ *     peltzivar_token token;
  *     for (int i = 0; i < 2; i++)
  *         if (peltzivar_read_settings(settings[i], strlen(settings[i]), &list[i].syntax)) return 1;
  *     if (peltzivar_parse_i64(&forms, "0x1F", 4, &value, NULL)) return 1;
- *     printf("%d\n", (int)value); // 31
+ *     if (!peltzivar_forms_token(&forms, "5k, 7", 5, &token, NULL)) return 1;
+ *     printf("%d, then %s\n", (int)value, token.rest); // 31, then , 7
  */
 
 /* A word: a number format, which states how numbers may be written: their radix, prefix, signs and digit separators.
@@ -616,9 +624,9 @@ typedef struct {
 } peltzivar_form;
 
 /* The rules by which a list has tokens: an array of `count` forms that need a suffix, which no other call takes, such
- * as `08f` in Java, words that may follow a number directly, with spaces between them, such as `else` in `1else`, and
- * whether a point at the end of a number is none of its bytes if another point or a word follows, as in `1..2` and
- * `1.max(2)`. */
+ * as `08f` in Java, words that may follow a number directly, with spaces between them, such as `else` in `1else`, or
+ * null for none, and whether a point at the end of a number is none of its bytes if another point or a word follows, as
+ * in `1..2` and `1.max(2)`. */
 typedef struct {
     const peltzivar_form *forms;
     size_t count;
