@@ -115,8 +115,10 @@ class Columns(unittest.TestCase):
         literals, wrong, gaps = [json.read(it) for it in texts], [it + "x" for it in texts], [None if at % 10 == 0 else it for at, it in enumerate(texts)]
 
         def refuse(text):
-            with contextlib.suppress(LiteralError):
+            try:
                 json.read(text)
+            except LiteralError:
+                pass
 
         floats, german = [*map(float, texts)], Language.CSV_DE
         rows = {

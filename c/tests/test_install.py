@@ -101,10 +101,11 @@ endforeach()
         self.assertEqual(found["peltzivar"], found["other"])
         self.assertEqual((len(found["other"]), {it for it, _ in found["other"]}), (len(wanted), {"0", "1"}))
 
+    @unittest.skipUnless(PACKAGER, "setuptools 66 and wheel")
     def test_a_package_says_in_a_line_what_is_missing(self):
         shutil.copytree(C.parent, top := self.folder / "copy", ignore=shutil.ignore_patterns(".git", "crates", "target", "*.so*"))
         for variables, sentence in (({"PATH": "/none"}, "cargo is not found: install Rust"), ({"CC": "no-cc"}, "no-cc is not found: install a C compiler")):
-            ran = subprocess.run([sys.executable, "setup.py", "build_ext"], cwd=top / "c", env=self.environment | variables, capture_output=True, text=True)
+            ran = subprocess.run([PACKAGER, "setup.py", "build_ext"], cwd=top / "c", env=self.environment | variables, capture_output=True, text=True)
             self.assertRegex(ran.stderr.splitlines()[-1], f"^{sentence}")
 
     def test_python_finds_the_module_below_the_prefix(self):
