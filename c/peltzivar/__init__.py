@@ -438,7 +438,6 @@ class _Style(Structure):
         ("fraction_group", c_uint8),
         ("without_base", c_bool),
         ("lowercase", c_bool),
-        ("keep_leading_zeros", c_bool),
         ("min_digits", c_uint8),
         ("exponent", c_uint8),
         ("exponent_from", c_uint32),
@@ -1631,7 +1630,6 @@ class _Reader:
         without_base: bool = False,
         lowercase: bool = False,
         min_digits: int = 0,
-        keep_leading_zeros: bool = False,
         exponent: Union[int, str, None] = None,
         point: bool = False,
         decimals: Optional[int] = None,
@@ -1655,7 +1653,7 @@ class _Reader:
         fraction, counted from the left. If the syntax has a size, its groups are written, unless the number is 0,
         for no groups. Without a size, None is no groups, too. `without_base` leaves out the base prefix and the base
         suffix. `lowercase` writes digits in lowercase, and `min_digits` at least so many integer digits, with zeros
-        before the others. `keep_leading_zeros` keeps those of a `Literal` whose point does not move. `exponent` is
+        before the others. `exponent` is
         "never", for a point that moves in place of an exponent, "always", or a number n: an exponent that is at least n
         or at most -n is kept, and another moves the point. With `point`, a float has a point with a digit behind it,
         also before an exponent. `decimals` rounds to so many digits behind the point, as `format(value, ".2f")` does: to
@@ -1667,8 +1665,9 @@ class _Reader:
             ('1.234,50', '7,00')
 
         Of several forms, as those of a Language, that is taken whose text all of them read as the same integer, or the same
-        float. Forms of the radix of a `Literal` are asked first, then decimal ones, and then the others. If there is none,
-        the error is that of the first or, of a float, of the first with a point. An int that no form of integers can have
+        float. Forms of the radix of a `Literal` are asked first, then decimal ones, and then the others, and of a float, all
+        that have floats before those of integers alone. If there is none, the error is that of the first, unless that is
+        that the number is not whole, and another form has another one. An int that no form of integers can have
         is written as a float that is equal to it: `languages.JAVA.format_number(3000000000)` is 0xB2D05E00p0.
 
         Raises ValueError for NaN and infinity without a spelling that is read as them, for a Fraction that no decimal
@@ -1679,7 +1678,7 @@ class _Reader:
         """
         sizes = ((group, "group"), (fraction_group, "fraction_group"))
         groups = (0 if size is None else _number(name, size, 255, "a number from 0 to 254") or 255 for size, name in sizes)
-        flags = (("without_base", without_base), ("lowercase", lowercase), ("keep_leading_zeros", keep_leading_zeros))
+        flags = (("without_base", without_base), ("lowercase", lowercase))
         if exponent is not None and exponent not in ("never", "always"):
             wish = 3, _number("exponent", exponent, 1 << 32, '"never", "always" or a number from 0 to 4294967295')
         else:

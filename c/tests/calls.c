@@ -397,7 +397,6 @@ static peltzivar_style style_of(const char *wishes) {
     if (group) style.fraction_group = (uint8_t)(group[15] - '0');
     if (least) style.min_digits = (uint8_t)(least[11] - '0');
     style.without_base = strstr(wishes, "without_base=true") != NULL, style.lowercase = strstr(wishes, "lowercase=true") != NULL;
-    style.keep_leading_zeros = strstr(wishes, "keep_leading_zeros=true") != NULL;
     style.nearest = strstr(wishes, "nearest=true") != NULL, style.point = strstr(wishes, "point=true") != NULL;
     style.has_decimals = strstr(wishes, "decimals=") != NULL;
     if (style.has_decimals) style.decimals = (uint8_t)(strstr(wishes, "decimals=")[9] - '0');

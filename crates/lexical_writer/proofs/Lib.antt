@@ -5,6 +5,6 @@ mod LiteralLemmas
 mod MovedLemmas
 mod ConversionLemmas
 mod PlainLemmas
-mod WholeLemmas
+mod SizeLemmas
 mod FloatLemmas
 mod ChoiceLemmas

@@ -1,16 +1,18 @@
 //! The point of a number moves, so that the number needs no exponent.
 
-ghost use Rattle.std.specs.Prelude.{◌≡◌, ◌<◌, ◌≤◌, ◌*◌, ◌^◌, ◌-◌, ◌∷◌, false, length, take, drop, true};
+ghost use Rattle.std.specs.Prelude.{if◌then◌else◌, ◌≡◌, ◌<◌, ◌≤◌, ◌+◌, ◌*◌, ◌^◌, ◌-◌, ◌∷◌, ◌++◌, ◌||◌, ◌⊎◌, ℕ, IfSome, None, drop, false, take, true};
 ghost use Rattle.std.specs.Int.Digits.{number_from_digits};
 ghost use Rattle.std.specs.Option.{SomeIff};
-ghost use Rattle.lexical_util.specs.Record.{effective_exponent_radix, raw};
-ghost use Rattle.lexical_util.specs.Rules.{IsRadix};
+ghost use Rattle.lexical_util.specs.Layout as layout;
+ghost use Rattle.lexical_util.specs.Record.{effective_exponent_base, effective_exponent_radix, raw};
+ghost use Rattle.lexical_util.specs.Rules.{Lawful};
 ghost use Rattle.lexical_literal.specs.Literal.{is_absent, is_minus};
 ghost use Rattle.lexical_number.specs.Number.{number_after, digits_in, number};
 ghost use Rattle.lexical_number.specs.Numeral.{size_of as numeral_size};
-ghost use Rattle.lexical_writer.specs.Digits.{padded_values, size_of, values_of};
-ghost use Rattle.lexical_writer.specs.Layout.{given_fraction};
-ghost use Rattle.lexical_writer.specs.Moved.{IsFactor, IsMoved, IsTimes, factors, moved_by, moved_fraction, moved_integer, too_far, trimmed};
+ghost use Rattle.lexical_value.specs.Float.{is_binary};
+ghost use Rattle.lexical_writer.specs.Digits.{padded_values};
+ghost use Rattle.lexical_writer.specs.Moved.{IsEnded, IsReduced, IsMoved, IsSides, IsSize, can_move, is_unknown, moved_fraction};
+ghost use Rattle.lexical_writer.specs.Moved.{moved_integer, places_of, too_far, trimmed};
 
 use crate::layout::{Amount, WriteError};
 use crate::literal::is_minus;
@@ -18,6 +20,7 @@ use crate::run::{Padded, Source};
 use lexical_base::digit::char_to_digit;
 use lexical_literal::read::Parts;
 use lexical_number::numeral::{Magnitude, Numeral};
+use lexical_number::scaling::bits_of;
 use lexical_number::word::count;
 use lexical_util::format::NumberFormat;
 
@@ -51,40 +54,69 @@ fn without_last_zeros<'a>(bytes: &'a [u8], radix: u32) -> &'a [u8]
     &[]
 }
 
-// Returns the number that the digits among bytes represent behind those of `front`, or `None` if it has more than 128 bits.
-#[tactic(auto, using(lexical_number::proofs::DigitLemmas::too_large))]
-fn size_after(front: u128, bytes: &[u8], radix: u32) -> Option<u128>
-    ensures { SomeIff result (number_after radix front bytes.now ≤ 2 ^ 128 - 1) (number_after radix front bytes.now) }
+// A number whose last digit stands alone: what is before this digit, or `None` if it has more than 128 bits.
+#[derive(Debug, Clone, Copy)]
+pub(crate) struct Ended {
+    pub(crate) front: Option<u128>,
+    pub(crate) last: u32,
+}
+
+// Returns a number with one digit more, or `None` if it has more than 128 bits.
+fn longer(number: Option<u128>, digit: u32, radix: u32) -> Option<u128>
+    requires { 0 < radix }
+    ensures { (n : ℕ) → SomeIff number (n ≤ 2 ^ 128 - 1) n → SomeIff result (n * radix + digit ≤ 2 ^ 128 - 1) (n * radix + digit) }
 {
-    let mut size = front;
+    let Some(number) = number else {
+        return None;
+    };
+    let Some(shifted) = number.checked_mul(radix as u128) else {
+        return None;
+    };
+    shifted.checked_add(digit as u128)
+}
+
+// Returns a number with the digits among bytes behind its own.
+fn read_on(number: Ended, bytes: &[u8], radix: u32) -> Ended
+    requires { 0 < radix }
+    ensures { (n : ℕ) → IsEnded radix n number → IsEnded radix (number_after radix n bytes.now) result }
+{
+    let mut front = number.front;
+    let mut last = number.last;
     let mut index = 0;
     while index < bytes.len() {
         if let Some(digit) = char_to_digit(bytes[index], radix) {
-            let Some(shifted) = size.checked_mul(radix as u128) else {
-                return None;
-            };
-            let Some(longer) = shifted.checked_add(digit as u128) else {
-                return None;
-            };
-            size = longer;
+            front = longer(front, last, radix);
+            last = digit;
         }
         index += 1;
     }
-    Some(size)
+    Ended { front, last }
 }
 
-// Returns a number with as many zeros behind its digits as `places`, or `None` if it has more than 128 bits.
-pub(crate) fn shifted(number: u128, radix: u32, places: usize) -> Option<u128>
+// Returns the number of two pieces of digits.
+fn read(integer: &[u8], fraction: &[u8], radix: u32) -> Ended
     requires { 0 < radix }
-    ensures { SomeIff result (number * radix ^ places ≤ 2 ^ 128 - 1) (number * radix ^ places) }
+    ensures { IsEnded radix (number_from_digits radix (digits_in radix integer.now ++ digits_in radix fraction.now)) result }
+{
+    let none = Ended {
+        front: Some(0),
+        last: 0,
+    };
+    read_on(read_on(none, integer, radix), fraction, radix)
+}
+
+// Returns a number times a power of `base`, or `None` if it has more than 128 bits.
+fn shifted(number: u128, base: u32, power: u128) -> Option<u128>
+    requires { 0 < base }
+    ensures { SomeIff result (number * base ^ power ≤ 2 ^ 128 - 1) (number * base ^ power) }
 {
     if number == 0 {
         return Some(0);
     }
     let mut size = number;
-    let mut left = places;
+    let mut left = power;
     while left > 0 {
-        let Some(longer) = size.checked_mul(radix as u128) else {
+        let Some(longer) = size.checked_mul(base as u128) else {
             return None;
         };
         size = longer;
@@ -93,36 +125,28 @@ pub(crate) fn shifted(number: u128, radix: u32, places: usize) -> Option<u128>
     Some(size)
 }
 
-impl Source<'_> {
-    // Returns the number that the digits represent, or `None` if it has more than 128 bits.
-    pub(crate) fn size(&self, radix: u32) -> Option<u128>
-        requires { 0 < radix }
-        ensures { SomeIff result (size_of radix self.now ≤ 2 ^ 128 - 1) (size_of radix self.now) }
-    {
-        match self {
-            Source::Bytes(bytes) => size_after(0, bytes, radix),
-            Source::Number(number) => Some(*number),
-            Source::Padded(padded) => padded.size(radix),
-        }
+// Returns a number over a power of `base`, or `None` if it is not whole.
+fn divided(number: u128, base: u32, power: u128) -> Option<u128>
+    requires { 0 < base }
+    ensures some { IfSome result (λ n. n * base ^ power ≡ number) }
+    ensures none { result ≡ None → (n : ℕ) → n * base ^ power ≡ number → ⊥ }
+{
+    if number == 0 {
+        return Some(0);
     }
+    let mut size = number;
+    let mut left = power;
+    while left > 0 {
+        if size % base as u128 != 0 {
+            return None;
+        }
+        size /= base as u128;
+        left -= 1;
+    }
+    Some(size)
 }
 
 impl<'a> Padded<'a> {
-    // Returns the number that the digits represent, or `None` if it has more than 128 bits.
-    fn size(&self, radix: u32) -> Option<u128>
-        requires { 0 < radix }
-        ensures { SomeIff result (number_from_digits radix (padded_values radix self.now) ≤ 2 ^ 128 - 1)
-            (number_from_digits radix (padded_values radix self.now)) }
-    {
-        let Some(front) = size_after(0, self.first, radix) else {
-            return None;
-        };
-        let Some(whole) = size_after(front, self.second, radix) else {
-            return None;
-        };
-        shifted(whole, radix, self.after)
-    }
-
     // Returns the digits without the zeros that they end with.
     fn trimmed(&self, radix: u32) -> Padded<'a>
         ensures { padded_values radix result ≡ trimmed (padded_values radix self.now) }
@@ -220,25 +244,6 @@ pub(crate) fn moved<'a>(parts: &Parts<'a>, radix: u32, places: usize) -> Amount<
     }
 }
 
-// Returns the number of factors whose product is the radix, or 0.
-fn factors(base: u32, radix: u32) -> u128
-    ensures { result ≡ factors base radix }
-{
-    if base == radix {
-        1
-    } else if base.checked_pow(2) == Some(radix) {
-        2
-    } else if base.checked_pow(3) == Some(radix) {
-        3
-    } else if base.checked_pow(4) == Some(radix) {
-        4
-    } else if base.checked_pow(5) == Some(radix) {
-        5
-    } else {
-        0
-    }
-}
-
 // Returns whether all digits among bytes are zeros.
 fn is_zero(bytes: &[u8], radix: u32) -> bool
     ensures { result ≡ is_absent (trimmed (digits_in radix bytes.now)) }
@@ -247,7 +252,7 @@ fn is_zero(bytes: &[u8], radix: u32) -> bool
 }
 
 // Returns the error of a point that moves by more digits than a text has. Only whole numbers can be written if `whole` is true.
-const fn too_far(whole: bool, parts: &Parts) -> WriteError
+pub(crate) const fn too_far(whole: bool, parts: &Parts) -> WriteError
     ensures { result ≡ too_far whole parts.now }
 {
     if whole && is_minus(parts.exponent_sign) {
@@ -268,86 +273,167 @@ pub(crate) fn exponent_of<'a>(format: NumberFormat, parts: &Parts<'a>) -> Numera
     }
 }
 
-// How the point of a number moves in place of the exponent.
-#[derive(Debug, Clone, Copy)]
-pub(crate) struct Move {
-    // By how many digits the point moves.
-    pub(crate) places: usize,
-    // By what the number is multiplied then. It is 1 if the point moves by whole digits in place of the exponent.
-    pub(crate) factor: u32,
-}
-
-// Returns how the point moves. Only whole numbers can be written if `whole` is true.
-pub(crate) fn moved_by(format: NumberFormat, parts: &Parts, whole: bool) -> Result<Move, WriteError>
-    ensures { result ≡ moved_by whole (raw format) parts.now }
+// Returns by how many digits the point of a literal moves in place of an exponent whose base is the radix, or `None` for too many.
+pub(crate) fn places_of(format: NumberFormat, parts: &Parts) -> Option<usize>
+    ensures { SomeIff result (places_of (raw format) parts.now ≤ 2 ^ 64 - 1) (places_of (raw format) parts.now) }
 {
     let radix = format.mantissa_radix();
-    let exponent = exponent_of(format, parts).as_u128();
-    if is_zero(parts.integer, radix) && is_zero(parts.fraction, radix) || exponent == Some(0) {
-        return Ok(Move {
-            places: 0,
-            factor: 1,
-        });
+    if is_zero(parts.integer, radix) && is_zero(parts.fraction, radix) {
+        return Some(0);
     }
-    let Some(exponent) = exponent else {
-        return Err(too_far(whole, parts));
-    };
-    let base = format.exponent_base();
-    let factors = factors(base, radix);
-    if factors == 0 {
-        return Err(WriteError::Exponent);
-    }
-    let (digits, rest) = (exponent / factors, exponent % factors);
-    let (places, power) = if is_minus(parts.exponent_sign) && rest > 0 {
-        (digits + 1, factors - rest)
-    } else {
-        (digits, rest)
-    };
-    if places > usize::MAX as u128 {
-        return Err(too_far(whole, parts));
-    }
-    Ok(Move {
-        places: places as usize,
-        factor: base.pow(power as u32),
-    })
-}
-
-impl Amount<'_> {
-    // Returns a number without an exponent times a factor, as a whole number. It is `Fraction` if it is not whole, and `Radix`
-    // if it has more than 128 bits.
-    pub(crate) fn times(&self, radix: u32, factor: u32) -> Result<u128, WriteError>
-        requires radix { IsRadix radix }
-        requires factor { IsFactor factor radix }
-        requires trimmed { trimmed (values_of radix (given_fraction self.now)) ≡ values_of radix (given_fraction self.now) }
-        ensures { IsTimes radix factor self.now result }
-    {
-        let fraction = self.fraction();
-        if fraction.count(radix) > 1 {
-            return Err(WriteError::Fraction);
-        }
-        let product = last_digit(fraction, radix) * factor as u128;
-        if product % radix as u128 != 0 {
-            return Err(WriteError::Fraction);
-        }
-        let Some(size) = self.integer.size(radix) else {
-            return Err(WriteError::Radix);
-        };
-        let Some(whole) = size.checked_mul(factor as u128) else {
-            return Err(WriteError::Radix);
-        };
-        match whole.checked_add(product / radix as u128) {
-            Some(sum) => Ok(sum),
-            None => Err(WriteError::Radix),
-        }
+    match exponent_of(format, parts).as_u64() {
+        Some(places) => Some(places as usize),
+        None => None,
     }
 }
 
-// Returns the digit of a source that has at most one, or 0 if it has none.
-fn last_digit(source: Source, radix: u32) -> u128
-    requires radix { IsRadix radix }
-    requires one { length (values_of radix source) ≤ 1 }
-    ensures digit { result ≡ number_from_digits radix (values_of radix source.entry) }
-    ensures small { result < radix }
+// Returns whether the point of a literal can move in place of its exponent.
+pub(crate) fn can_move(format: NumberFormat, parts: &Parts) -> bool
+    ensures { result ≡ can_move (raw format) parts.now }
 {
-    source.size(radix).unwrap_or(0)
+    format.exponent_base() == format.mantissa_radix() || places_of(format, parts) == Some(0)
+}
+
+// A number without the zeros at the end of its digits, how many of these are before the point, and how many digits are behind the point.
+#[derive(Debug, Clone, Copy)]
+pub(crate) struct Reduced {
+    pub(crate) number: Ended,
+    pub(crate) zeros: usize,
+    pub(crate) places: usize,
+}
+
+// Returns the number of the digits of a literal.
+fn lean(parts: &Parts, radix: u32) -> Reduced
+    requires { 2 ≤ radix }
+    ensures { IsReduced radix parts.now result }
+{
+    let fraction = without_last_zeros(parts.fraction, radix);
+    let places = count(fraction, radix);
+    if places > 0 {
+        return Reduced {
+            number: read(parts.integer, fraction, radix),
+            zeros: 0,
+            places,
+        };
+    }
+    let integer = without_last_zeros(parts.integer, radix);
+    Reduced {
+        number: read(integer, &[], radix),
+        zeros: count(parts.integer, radix) - count(integer, radix),
+        places: 0,
+    }
+}
+
+// Returns the whole number that a literal represents, where its radix and its base are the powers of `unit` with these exponents, and its
+// exponent is `up`, or `down` below 0. It is `Fraction` if it is not whole, and `Radix` if it has more than 128 bits.
+fn scaled(
+    format: NumberFormat,
+    parts: &Parts,
+    up: usize,
+    down: usize,
+    unit: u32,
+    bits: u32,
+    base_bits: u32,
+) -> Result<u128, WriteError>
+    requires lawful { Lawful format }
+    requires unit { 2 ≤ unit }
+    requires bits { (bits ≤ 5) × (base_bits ≤ 5) }
+    requires radix { (raw format).byte layout.mantissa_radix ≡ unit ^ bits }
+    requires base { (effective_exponent_base (raw format) ≡ unit ^ base_bits) ⊎ (places_of (raw format) parts.now ≡ 0) }
+    requires sides { IsSides (raw format) parts.now up down }
+    requires known { is_unknown (raw format) parts.now ≡ false }
+    ensures { IsSize (raw format) parts.now result }
+{
+    let radix = format.mantissa_radix();
+    let Reduced {
+        number,
+        zeros,
+        places,
+    } = lean(parts, radix);
+    if number.last == 0 {
+        return Ok(0);
+    }
+    let raised = zeros as u128 * bits as u128 + up as u128 * base_bits as u128;
+    let lowered = places as u128 * bits as u128 + down as u128 * base_bits as u128;
+    if lowered <= raised {
+        let Some(whole) = longer(number.front, number.last, radix) else {
+            return Err(WriteError::Radix);
+        };
+        return match shifted(whole, unit, raised - lowered) {
+            Some(size) => Ok(size),
+            None => Err(WriteError::Radix),
+        };
+    }
+    // The unit divides all digits but the last one.
+    let Some(low) = divided(number.last as u128, unit, lowered - raised) else {
+        return Err(WriteError::Fraction);
+    };
+    let Some(front) = number.front else {
+        return Err(WriteError::Radix);
+    };
+    let Some(high) = shifted(front, unit, bits as u128 + raised - lowered) else {
+        return Err(WriteError::Radix);
+    };
+    match high.checked_add(low) {
+        Some(size) => Ok(size),
+        None => Err(WriteError::Radix),
+    }
+}
+
+// Returns the whole number that a literal of any radix and base represents. It is `Fraction` if it is not whole, and `Radix` if its digits,
+// times the power of the exponent, have more than 128 bits.
+fn quotient(format: NumberFormat, parts: &Parts, up: usize, down: usize) -> Result<u128, WriteError>
+    requires lawful { Lawful format }
+    requires other { (can_move (raw format) parts.now || is_binary (raw format).byte) ≡ false }
+    requires sides { IsSides (raw format) parts.now up down }
+    ensures { IsSize (raw format) parts.now result }
+{
+    let (radix, base) = (format.mantissa_radix(), format.exponent_base());
+    let Ended { front, last } = read(parts.integer, parts.fraction, radix);
+    let Some(mantissa) = longer(front, last, radix) else {
+        return Err(WriteError::Radix);
+    };
+    let Some(numerator) = shifted(mantissa, base, up as u128) else {
+        return Err(WriteError::Radix);
+    };
+    let places = count(parts.fraction, radix);
+    let Some(whole) = divided(numerator, radix, places as u128) else {
+        return Err(WriteError::Fraction);
+    };
+    match divided(whole, base, down as u128) {
+        Some(size) => Ok(size),
+        None => Err(WriteError::Fraction),
+    }
+}
+
+// Returns the exponents of the power by which a number is multiplied, and of that by which it is divided.
+fn sides(parts: &Parts, size: usize) -> (usize, usize)
+    ensures up { result.0 ≡ (if is_minus parts.now.exponent_sign.now then 0 else size) }
+    ensures down { result.1 ≡ (if is_minus parts.now.exponent_sign.now then size else 0) }
+{
+    if is_minus(parts.exponent_sign) {
+        (0, size)
+    } else {
+        (size, 0)
+    }
+}
+
+// Returns the whole number that a literal represents, apart from its sign. It is `Fraction` if it is not whole, and `Radix` if it has more
+// than 128 bits, or is not known.
+pub(crate) fn whole_size(format: NumberFormat, parts: &Parts) -> Result<u128, WriteError>
+    requires { Lawful format }
+    ensures { IsSize (raw format) parts.now result }
+{
+    let (radix, base) = (format.mantissa_radix(), format.exponent_base());
+    let Some(size) = places_of(format, parts) else {
+        return Err(WriteError::Radix);
+    };
+    let (up, down) = sides(parts, size);
+    if can_move(format, parts) {
+        return scaled(format, parts, up, down, radix, 1, 1);
+    }
+    match (bits_of(radix), bits_of(base)) {
+        (Some(bits), Some(base_bits)) => scaled(format, parts, up, down, 2, bits, base_bits),
+        _ => quotient(format, parts, up, down),
+    }
 }

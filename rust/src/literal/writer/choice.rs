@@ -14,8 +14,7 @@ use crate::literal::value::number::numeral::Magnitude;
 use crate::literal::writer::checked::is_integer;
 use crate::literal::writer::float::format_float;
 use crate::literal::writer::float_digits::FloatDigits;
-use crate::literal::writer::layout::{ExponentStyle, Style, WriteError};
-use crate::literal::writer::literal::write_number;
+use crate::literal::writer::layout::{Amount, ExponentStyle, Style, WriteError};
 use crate::literal::writer::near::format_near;
 
 /// A number that a list of forms is asked to write.
@@ -25,6 +24,9 @@ pub trait Writable {
 
     /// Returns whether the number is an integer.
     fn is_integer(&self) -> bool;
+
+    /// Returns whether a float is rounded in a style.
+    fn is_rounded(&self, style: Style) -> bool;
 
     /// Returns whether a literal of the exact kind is the number if it is written for it.
     fn is_plain(&self, literal: &Literal) -> bool;
@@ -58,6 +60,10 @@ impl<T: Integer> Writable for Whole<T> {
         true
     }
 
+    fn is_rounded(&self, _: Style) -> bool {
+        false
+    }
+
     fn is_plain(&self, literal: &Literal) -> bool {
         !has_float(literal)
     }
@@ -67,7 +73,7 @@ impl<T: Integer> Writable for Whole<T> {
         if negative && syntax.conditions().has(Condition::NegativeSign) {
             return Err(WriteError::Negative);
         }
-        Ok(write_number(negative, Ok(size), syntax, style)?.write(buffer))
+        Ok(Amount::of_size(negative, size).lay_out(syntax, style)?.write(buffer))
     }
 
     fn is_read_as(&self, _: Style, _: &Literal, literal: &Literal) -> bool {
@@ -90,6 +96,10 @@ impl<F: Float> Writable for Real<F> {
 
     fn is_integer(&self) -> bool {
         false
+    }
+
+    fn is_rounded(&self, style: Style) -> bool {
+        style.decimals.is_some()
     }
 
     fn is_plain(&self, _: &Literal) -> bool {
@@ -144,6 +154,10 @@ impl Writable for Literal<'_> {
 
     fn is_integer(&self) -> bool {
         !self.is_float()
+    }
+
+    fn is_rounded(&self, _: Style) -> bool {
+        false
     }
 
     fn is_plain(&self, literal: &Literal) -> bool {
@@ -223,13 +237,14 @@ const fn is_exact(kind: Kind) -> bool {
 
 /// Writes a number by the first form whose text the list reads as this number, to the beginning of a buffer, and returns the
 /// index of the form, the length of the text, and the style in which it is written. Forms of the number's radix are asked first,
-/// then decimal ones, and then the others, each in the order of the list. Where an exponent would make an integer another number,
-/// the wish for one is dropped.
+/// then decimal ones, and then the others, each in the order of the list, and all forms with floats write a float before those of
+/// integers alone. Where an exponent would make an integer another number, the wish for one is dropped. A float is rounded in the radix
+/// of the form that is asked first.
 ///
 /// # Errors
 ///
-/// If there is no such form, returns the error of the form that is asked first, or of the first that has floats, if the number is no
-/// integer: [`WriteError::ReadBack`] if its text is read as another number, [`WriteError::TooLarge`] if it is too large for its kind,
+/// If there is no such form, returns the error of the form that is asked first, but [`WriteError::Fraction`] gives way to another one.
+/// It is [`WriteError::ReadBack`] if the text is read as another number, [`WriteError::TooLarge`] if it is too large for its kind,
 /// and [`WriteError::Buffer`] if it does not fit the buffer.
 pub fn choose<N: Writable + ?Sized>(
     forms: &Forms,
@@ -237,25 +252,46 @@ pub fn choose<N: Writable + ?Sized>(
     style: Style,
     buffer: &mut [u8],
 ) -> Result<(usize, usize, Style), WriteError> {
+    let mut error = None;
     let mut first = None;
-    let mut float = None;
-    for wanted in 0..3 {
+    for wanted in 0..6 {
         for (index, form) in forms.as_slice().iter().enumerate() {
-            if turn(number.radix(), &form.syntax()) != wanted {
+            let syntax = form.syntax();
+            if turn_of(number.radix(), number.is_integer(), &syntax) != wanted {
                 continue;
             }
+            // A number is rounded in one radix alone.
+            let radix = syntax.format().view().mantissa_radix();
+            if number.is_rounded(style) && first.unwrap_or(radix) != radix {
+                continue;
+            }
+            first = first.or(Some(radix));
             match write_in(forms, index, number, style, buffer) {
                 Ok((length, style)) => return Ok((index, length, style)),
-                Err(error) => {
-                    first = first.or(Some(error));
-                    if !number.is_integer() && form.syntax().options().is_some() {
-                        float = float.or(Some(error));
-                    }
-                }
+                Err(other) => error = first_reason(error, other),
             }
         }
     }
-    Err(float.or(first).unwrap_or(WriteError::ReadBack))
+    Err(error.unwrap_or(WriteError::ReadBack))
+}
+
+// Returns in which turn a form with a syntax is asked to write an integer, or another number, of a radix. All forms with floats write
+// a float before those of integers alone.
+fn turn_of(radix: u32, integer: bool, syntax: &Syntax) -> u8 {
+    let turn = turn(radix, syntax);
+    if integer || syntax.options().is_some() {
+        turn
+    } else {
+        turn + 3
+    }
+}
+
+// Returns the first of the reasons why forms do not write a number. `Fraction` gives way to another one.
+const fn first_reason(first: Option<WriteError>, error: WriteError) -> Option<WriteError> {
+    match first {
+        None | Some(WriteError::Fraction) => Some(error),
+        Some(other) => Some(other),
+    }
 }
 
 // Returns in which turn a form with a syntax is asked to write a number of a radix.
@@ -270,6 +306,29 @@ fn turn(radix: u32, syntax: &Syntax) -> u8 {
     }
 }
 
+// Returns the style in which a form writes, where a number is rounded or not: in a list with floats, a form of integers alone does not
+// round.
+fn style_in(forms: &Forms, index: usize, rounded: bool, style: Style) -> Style {
+    let whole = forms.as_slice()[index].syntax().options().is_none();
+    if whole && rounded && !matches!(style.decimals, Some(0)) && has_points(forms) {
+        Style { decimals: None, ..style }
+    } else {
+        style
+    }
+}
+
+// Returns whether a list has a form with floats.
+fn has_points(forms: &Forms) -> bool {
+    let mut index = 0;
+    while index < forms.as_slice().len() {
+        if forms.as_slice()[index].syntax().options().is_some() {
+            return true;
+        }
+        index += 1;
+    }
+    false
+}
+
 // Writes a number by one form, and returns the length of the text and the style in which it is written, or why it is not used.
 fn write_in<N: Writable + ?Sized>(
     forms: &Forms,
@@ -278,6 +337,7 @@ fn write_in<N: Writable + ?Sized>(
     style: Style,
     buffer: &mut [u8],
 ) -> Result<(usize, Style), WriteError> {
+    let style = style_in(forms, index, number.is_rounded(style), style);
     let error = match write_by(forms, index, number, style, buffer) {
         Ok(length) => return Ok((length, style)),
         Err(error) => error,
