@@ -400,13 +400,13 @@ static peltzivar_style style_of(const char *wishes) {
     style.keep_leading_zeros = strstr(wishes, "keep_leading_zeros=true") != NULL;
     style.nearest = strstr(wishes, "nearest=true") != NULL, style.point = strstr(wishes, "point=true") != NULL;
     style.has_decimals = strstr(wishes, "decimals=") != NULL;
-    if (style.has_decimals) style.decimals = (uint8_t)(strstr(wishes, "decimals=")[9] - '0');
+    if (style.has_decimals) style.decimals = (uint8_t)strtoul(strstr(wishes, "decimals=") + 9, NULL, 10);
     if (power) style.exponent = power[9] == 'n' ? PELTZIVAR_STYLE_NEVER : power[9] == 'a' ? PELTZIVAR_STYLE_ALWAYS : PELTZIVAR_STYLE_FROM;
-    if (style.exponent == PELTZIVAR_STYLE_FROM) style.exponent_from = (uint32_t)(power[9] - '0');
+    if (style.exponent == PELTZIVAR_STYLE_FROM) style.exponent_from = (uint32_t)strtoul(power + 9, NULL, 10);
     return style;
 }
 
-/* Literals are written as the rows say, and a special value is the first of its spellings that is read back. */
+/* Literals, and floats behind `=`, are written as the rows say, and a special value is the first of its spellings that is read back. */
 static void test_styles(void) {
     static const peltzivar_specials specials = {"nan", "nan", "inf"};
     static const peltzivar_special minus = {PELTZIVAR_SPELLING_INF, '-'}, none = {0, 0};
@@ -430,10 +430,13 @@ static void test_styles(void) {
     while (file && fgets(line, sizeof line, file)) {
         char *rest = line, *const given = *line == '#' || *line == '\n' ? NULL : cell(&rest);
         if (!given) continue;
-        CHECK(syntax_of(cell(&rest), &source) && syntax_of(cell(&rest), &target) && peltzivar_read(&source, given, strlen(given), &literal, NULL));
+        const bool is_float = *given == '=';
+        CHECK(syntax_of(cell(&rest), &source) && syntax_of(cell(&rest), &target));
+        CHECK(is_float || peltzivar_read(&source, given, strlen(given), &literal, NULL));
         const peltzivar_style style = style_of(cell(&rest));
         const char *const wanted = cell(&rest);
-        const int status = peltzivar_format_literal(&target, &literal, &style, text, sizeof text, NULL);
+        const int status = is_float ? peltzivar_format_f64(&target, strtod(given + 1, NULL), &style, text, sizeof text, NULL)
+            : peltzivar_format_literal(&target, &literal, &style, text, sizeof text, NULL);
         CHECK(*wanted == '!' ? status && !strcmp(write_errors[status], wanted + 1) : !status && !strcmp(text, wanted));
     }
     if (file) fclose(file);

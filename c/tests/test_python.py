@@ -335,7 +335,7 @@ class Literals(unittest.TestCase):
         lines = (TOP / "rust/tests/writing.txt").read_text().splitlines()
         for line in [line for line in lines if line and not line.startswith("#")]:
             text, source, target, wishes, wanted = (cell.strip() for cell in line.split("|"))
-            literal = Syntax.of("required_digits=false", *source.split()).read(text)
+            literal = float(text[1:]) if text[0] == "=" else Syntax.of("required_digits=false", *source.split()).read(text)
             target = Syntax.of("required_digits=false", *target.split())
             style = {name: known.get(value) or int(value) for name, value in (it.split("=") for it in wishes.split())}
             with self.subTest(line):

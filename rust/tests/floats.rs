@@ -136,7 +136,7 @@ fn floats_have_an_exponent_where_one_is_allowed() {
     let digits = |value: f64| Ok(format!("{value}").replace('.', ","));
     for (value, syntax, wanted) in [
         (-0.3, german, Ok("-0,3".into())),
-        (1e16, german, Ok("10.000.000.000.000.000".into())),
+        (1e16, german, Ok("10.000.000.000.000.000,0".into())),
         (1e-7, german, Ok("0,0000001".into())),
         (5e-324, german, digits(5e-324)),
         (1234.56, german, Ok("1.234,56".into())),
@@ -152,7 +152,7 @@ fn floats_have_an_exponent_where_one_is_allowed() {
     ] {
         assert_eq!(text(value, &syntax), wanted, "{value:e} in {syntax}");
     }
-    assert_eq!(text(1e300, &german).unwrap().replace('.', ""), format!("{}", 1e300));
+    assert_eq!(text(1e300, &german).unwrap().replace('.', ""), format!("{},0", 1e300));
 }
 
 #[test]
@@ -167,11 +167,11 @@ fn a_style_decides_on_the_exponent() {
     for (value, syntax, wish, wanted) in [
         (1234.5, json, always, "1.2345e3"),
         (1.5, json, always, "1.5e0"),
-        (0.0, json, always, "0.0e0"),
-        (1e22, json, never, "10000000000000000000000"),
+        (0.0, json, always, "0e0"),
+        (1e22, json, never, "10000000000000000000000.0"),
         (1e-7, json, never, "0.0000001"),
         (1.5, json, never, "1.5"),
-        (1e20, json, from, "100000000000000000000"),
+        (1e20, json, from, "100000000000000000000.0"),
         (1.5e21, json, from, "1.5e21"),
         (12.0, swift, always, "0x1.8p3"),
         (12.0, swift, never, "0x1.8p3"),
@@ -180,6 +180,35 @@ fn a_style_decides_on_the_exponent() {
     ] {
         let text = syntax.format_float(value, Style::PLAIN.exponent(wish)).unwrap();
         assert_eq!(text.to_string(), wanted);
+    }
+}
+
+/// Writes a float with the exponent of the number, with one and with none, as std does.
+#[test]
+fn floats_are_written_as_std_writes_them() {
+    fn compare<F: Bits + Display>(value: F) {
+        let json = Language::JSON.forms()[0].syntax();
+        let plain = format!("{value}");
+        let never = if plain.contains('.') { plain } else { plain + ".0" };
+        for (wish, wanted) in [
+            (ExponentStyle::AsNumber, format!("{value:?}")),
+            (ExponentStyle::Always, format!("{value:e}")),
+            (ExponentStyle::Never, never),
+        ] {
+            match json.format_float(value, Style::PLAIN.exponent(wish)) {
+                Ok(text) => assert_eq!(text.to_string(), wanted, "{value:e}"),
+                Err(error) => {
+                    assert!(error == WriteError::Special && !wanted.contains(char::is_numeric), "{value:e}: {error}");
+                }
+            }
+        }
+    }
+    let state = &mut Random::new(20_261_132);
+    (-323..=308).for_each(|power| compare(format!("1e{power}").parse::<f64>().unwrap()));
+    (-45..=38).for_each(|power| compare(format!("1e{power}").parse::<f32>().unwrap()));
+    for _ in 0..10 * count() {
+        compare(float::<f64>(state));
+        compare(float::<f32>(state));
     }
 }
 
@@ -242,14 +271,16 @@ fn floats_are_rounded_where_a_style_wishes() {
         (0.5, c, none, "0x0p0"),
         (12.0, c, two, "0xC.00p0"),
         (12.0, c, two.exponent(ExponentStyle::Always), "0x1.80p3"),
-        (99999.0, json, two.exponent(ExponentStyle::From(5)), "99999.00"),
+        (1e-11, json, Style::PLAIN.decimals(15).exponent(ExponentStyle::Always), "9.999999999999999e-12"),
+        (99999.0, json, two.exponent(ExponentStyle::From(6)), "99999.00"),
+        (99999.0, json, two.exponent(ExponentStyle::From(5)), "1.00e5"),
         (99999.0, json, two.exponent(ExponentStyle::From(4)), "1.00e5"),
         (9.9951e22, json, two.exponent(ExponentStyle::Always), "1.00e23"),
     ] {
         assert_eq!(syntax.format_float(value, style).unwrap().to_string(), wanted);
     }
-    // The text has up to 800 digits.
-    let binary = Format::new(0xC | 2 << 104).unwrap();
+    // Without an exponent, the text has up to 800 digits.
+    let binary = Format::new(0xC | 1 << 6 | 2 << 104).unwrap();
     let binary = Syntax::new(binary, b'e', b'.').unwrap();
     let text = |value: f64, places| binary.format_float(value, Style::PLAIN.decimals(places)).map(|it| it.to_string());
     assert_eq!(text(2_f64.powi(600), 199), Ok(format!("1{:0<600}.{:0<199}", "", "")));

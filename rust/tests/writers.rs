@@ -202,6 +202,7 @@ fn style_of(wishes: &str) -> Style {
             ("without_base", "true") => style.without_base(),
             ("keep_leading_zeros", "true") => style.keep_leading_zeros(),
             ("nearest", "true") => style.nearest(),
+            ("point", "true") => style.point(),
             ("decimals", _) => style.decimals(number.unwrap()),
             ("exponent", "never") => style.exponent(ExponentStyle::Never),
             ("exponent", "always") => style.exponent(ExponentStyle::Always),
@@ -211,11 +212,15 @@ fn style_of(wishes: &str) -> Style {
     })
 }
 
-/// Writes a literal of a syntax in another one, and returns the text, or the error behind `!`.
+/// Writes a literal of a syntax in another one, or the float behind `=`, and returns the text, or the error behind `!`.
 fn convert(text: &str, source: &str, target: &str, style: &str) -> String {
-    let source = syntax_of(source);
-    let literal = source.read(text).unwrap();
-    match syntax_of(target).format_literal(&literal, style_of(style)) {
+    let (source, target, style) = (syntax_of(source), syntax_of(target), style_of(style));
+    let literal = source.read(text.trim_start_matches('=')).unwrap();
+    let written = match text.strip_prefix('=') {
+        Some(float) => target.format_float(float.parse::<f64>().unwrap(), style),
+        None => target.format_literal(&literal, style),
+    };
+    match written {
         Ok(written) => written.to_string(),
         Err(error) => format!("!{error:?}"),
     }

@@ -8,3 +8,4 @@ mod NearLemmas
 mod PowersLemmas
 mod ScalingLemmas
 mod TenLemmas
+pub mod ValueLemmas

@@ -8,3 +8,8 @@ mod PlainLemmas
 mod WholeLemmas
 mod FloatLemmas
 mod ChoiceLemmas
+mod RoundedLemmas
+mod AmountLemmas
+mod BinaryLemmas
+mod ShortLemmas
+mod DecimalLemmas

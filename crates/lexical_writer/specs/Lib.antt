@@ -5,3 +5,4 @@ pub mod Conversion
 pub mod Buffer
 pub mod Rounded
 pub mod Choice
+pub mod Amount

@@ -9,12 +9,11 @@ ghost use Rattle.lexical_value.specs.Float.{is_binary, is_decimal};
 ghost use lib.Ieee.{emax, low, prec};
 ghost use lib.Ieee.Exact.{HasValue};
 
-use crate::form::Form;
 use lexical_number::decimal::digits_to_float;
 use lexical_number::float::Float;
 use lexical_number::leading::Leading;
-use lexical_number::scaling::{bits_of, raised_bits};
-use lexical_util::format::NumberFormat;
+use lexical_number::scaling::raised_bits;
+use lexical_number::shortest::{Decimal, Units};
 use lexical_value::float::signed;
 
 // Returns the float nearest to a number times a power of two, over another one.
@@ -30,29 +29,6 @@ fn nearest_binary<F: Float>(number: u64, up: u64, down: u64) -> F
     F::from_magnitude(bits)
 }
 
-// Returns the float nearest to the digits of a number in a form, or `None` if no literal of `format` has a float.
-#[inline(always)]
-fn nearest_to<F: Float>(number: u64, form: Form, format: NumberFormat) -> Option<F>
-    ensures supported { IfSome result (λ _. IsTrue (is_decimal (bytes_of format) || is_binary (bytes_of format))) }
-    ensures value { IfSome result (λ near. F.value near ≡ round (format_of F.DOUBLE) false
-        (number * (raw format).byte layout.mantissa_radix ^ form.after * raised_up form.negative (effective_exponent_base (raw format)) form.exponent)
-        ((raw format).byte layout.mantissa_radix ^ form.places * raised_down form.negative (effective_exponent_base (raw format)) form.exponent)) }
-{
-    let (radix, base) = (format.mantissa_radix(), format.exponent_base());
-    if radix == 10 && base == 10 {
-        let (up, down) = form.scales(1, 1);
-        return Some(digits_to_float(number, down, false, up));
-    }
-    let Some(radix_bits) = bits_of(radix) else {
-        return None;
-    };
-    let Some(base_bits) = bits_of(base) else {
-        return None;
-    };
-    let (up, down) = form.scales(radix_bits as u64, base_bits as u64);
-    Some(nearest_binary(number, up, down))
-}
-
 // Returns whether a float has this size and this sign.
 #[inline(always)]
 fn is_same<F: Float>(size: F, negative: bool, value: F) -> bool
@@ -65,23 +41,13 @@ fn is_same<F: Float>(size: F, negative: bool, value: F) -> bool
     }
 }
 
-// Returns whether the digits of a number in a form are read as a float.
+// Returns whether a decimal number is read as a float.
 #[inline(always)]
-pub(crate) fn is_read<F: Float>(
-    value: F,
-    negative: bool,
-    number: u64,
-    form: Form,
-    format: NumberFormat,
-) -> bool
-    ensures supported { result ≡ true → IsTrue (is_decimal (bytes_of format) || is_binary (bytes_of format)) }
-    ensures value { result ≡ true → F.value value ≡ round (format_of F.DOUBLE) negative
-        (number * (raw format).byte layout.mantissa_radix ^ form.after * raised_up form.negative (effective_exponent_base (raw format)) form.exponent)
-        ((raw format).byte layout.mantissa_radix ^ form.places * raised_down form.negative (effective_exponent_base (raw format)) form.exponent) }
+pub(crate) fn is_read<F: Float>(value: F, negative: bool, decimal: Decimal) -> bool
+    ensures { result ≡ true → F.value value ≡ round (format_of F.DOUBLE) negative
+        (decimal.digits * raised_up decimal.negative 10 decimal.exponent) (raised_down decimal.negative 10 decimal.exponent) }
 {
-    let Some(size) = nearest_to::<F>(number, form, format) else {
-        return false;
-    };
+    let size = digits_to_float(decimal.digits, 0, decimal.negative, decimal.exponent);
     is_same(size, negative, value)
 }
 
@@ -91,6 +57,31 @@ pub(crate) struct Exact {
     pub(crate) number: u64,
     pub(crate) up: u64,
     pub(crate) down: u64,
+}
+
+impl Exact {
+    // Returns a float without its sign, which has no more twos below the line than it needs.
+    #[inline(always)]
+    pub(crate) fn of(units: Units) -> Exact
+        ensures value { result.number * 2 ^ result.up * 2 ^ 1074 ≡ units.size * 2 ^ units.scale * 2 ^ result.down }
+        ensures odd { 0 < result.down → (result.up ≡ 0) × (result.number % 2 ≡ 1) }
+        ensures limits { (result.number < 2 ^ 53) × (result.up ≤ 971) × (result.down ≤ 1074) }
+    {
+        if units.size == 0 {
+            return Exact {
+                number: 0,
+                up: 0,
+                down: 0,
+            };
+        }
+        let least = 1074_u64.saturating_sub(units.scale);
+        let zeros = (units.size.trailing_zeros() as u64).min(least);
+        Exact {
+            number: units.size >> (zeros % 64),
+            up: units.scale.saturating_sub(1074),
+            down: least - zeros,
+        }
+    }
 }
 
 // Returns the number up to which all numbers are floats, the exponent of the power of two that the least float is one over, and that

@@ -5,6 +5,7 @@
 //! No function allocates memory.
 #![tactic(auto)]
 
+pub mod binary;
 pub mod checked;
 pub mod choice;
 pub mod digits;

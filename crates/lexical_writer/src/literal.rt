@@ -145,7 +145,7 @@ fn keep<'a>(
 
 // Returns how a number is written, or why it is not. Programs have one copy of this.
 #[inline(never)]
-fn lay_out<'a>(amount: &Amount<'a>, syntax: &Syntax, style: Style) -> Result<Layout<'a>, WriteError>
+pub(crate) fn lay_out<'a>(amount: &Amount<'a>, syntax: &Syntax, style: Style) -> Result<Layout<'a>, WriteError>
     ensures literal { IfOk result (λ layout. Reads (notation_of syntax.now) (written layout) (text_of (written layout))) }
     ensures number { IfOk result (λ layout. HasNumber syntax.now amount.now (written layout)) }
     ensures parts { IsLaidOut syntax.now style amount.now result }

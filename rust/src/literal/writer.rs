@@ -9,6 +9,8 @@ use crate::literal::value::Other;
 use crate::literal::{Forms, Literal, Number, Sign, Special, Specials, Spelling, Syntax};
 
 #[allow(clippy::question_mark, reason = "as it is proved")]
+mod binary;
+#[allow(clippy::question_mark, reason = "as it is proved")]
 mod checked;
 #[allow(
     clippy::exhaustive_structs,

@@ -6,9 +6,8 @@ use crate::literal::value::float::signed;
 use crate::literal::value::number::decimal::digits_to_float;
 use crate::literal::value::number::float::Float;
 use crate::literal::value::number::leading::Leading;
-use crate::literal::value::number::scaling::{bits_of, raised_bits};
-use crate::literal::writer::form::Form;
-use crate::word::FormatView;
+use crate::literal::value::number::scaling::raised_bits;
+use crate::literal::value::number::shortest::{Decimal, Units};
 
 // Returns the float nearest to a number times a power of two, over another one.
 #[inline(always)]
@@ -16,24 +15,6 @@ fn nearest_binary<F: Float>(number: u64, up: u64, down: u64) -> F {
     let leading = Leading { digits: number as u128, ..Leading::ZERO };
     let bits = raised_bits(F::DOUBLE, leading, 1, down, false, up as u128, 1);
     F::from_magnitude(bits)
-}
-
-// Returns the float nearest to the digits of a number in a form, or `None` if no literal of `format` has a float.
-#[inline(always)]
-fn nearest_to<F: Float>(number: u64, form: Form, format: FormatView) -> Option<F> {
-    let (radix, base) = (format.mantissa_radix(), format.exponent_base());
-    if radix == 10 && base == 10 {
-        let (up, down) = form.scales(1, 1);
-        return Some(digits_to_float(number, down, false, up));
-    }
-    let Some(radix_bits) = bits_of(radix) else {
-        return None;
-    };
-    let Some(base_bits) = bits_of(base) else {
-        return None;
-    };
-    let (up, down) = form.scales(radix_bits as u64, base_bits as u64);
-    Some(nearest_binary(number, up, down))
 }
 
 // Returns whether a float has this size and this sign.
@@ -45,12 +26,10 @@ fn is_same<F: Float>(size: F, negative: bool, value: F) -> bool {
     }
 }
 
-// Returns whether the digits of a number in a form are read as a float.
+// Returns whether a decimal number is read as a float.
 #[inline(always)]
-pub(crate) fn is_read<F: Float>(value: F, negative: bool, number: u64, form: Form, format: FormatView) -> bool {
-    let Some(size) = nearest_to::<F>(number, form, format) else {
-        return false;
-    };
+pub(crate) fn is_read<F: Float>(value: F, negative: bool, decimal: Decimal) -> bool {
+    let size = digits_to_float(decimal.digits, 0, decimal.negative, decimal.exponent);
     is_same(size, negative, value)
 }
 
@@ -60,6 +39,19 @@ pub(crate) struct Exact {
     pub(crate) number: u64,
     pub(crate) up: u64,
     pub(crate) down: u64,
+}
+
+impl Exact {
+    // Returns a float without its sign, which has no more twos below the line than it needs.
+    #[inline(always)]
+    pub(crate) fn of(units: Units) -> Exact {
+        if units.size == 0 {
+            return Exact { number: 0, up: 0, down: 0 };
+        }
+        let least = 1074_u64.saturating_sub(units.scale);
+        let zeros = (units.size.trailing_zeros() as u64).min(least);
+        Exact { number: units.size >> (zeros % 64), up: units.scale.saturating_sub(1074), down: least - zeros }
+    }
 }
 
 // Returns the number up to which all numbers are floats, the exponent of the power of two that the least float is one over, and that

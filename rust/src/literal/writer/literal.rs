@@ -91,7 +91,7 @@ fn keep<'a>(format: FormatView, parts: &Parts<'a>, syntax: &Syntax, style: Style
 
 // Returns how a number is written, or why it is not. Programs have one copy of this.
 #[inline(never)]
-fn lay_out<'a>(amount: &Amount<'a>, syntax: &Syntax, style: Style) -> Result<Layout<'a>, WriteError> {
+pub(crate) fn lay_out<'a>(amount: &Amount<'a>, syntax: &Syntax, style: Style) -> Result<Layout<'a>, WriteError> {
     amount.lay_out(syntax, style)
 }
 

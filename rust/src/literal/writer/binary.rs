@@ -1,0 +1,134 @@
+// Made by rust/tools/erase.py from crates/lexical_writer/src/binary.rt: change that file.
+
+//! The digits of a float in a radix that is a power of two.
+
+use crate::literal::syntax::Syntax;
+use crate::literal::value::number::scaling::bits_of;
+use crate::literal::value::number::shortest::Units;
+use crate::literal::writer::form::{is_shown, least_places, Exponent, Form};
+use crate::literal::writer::layout::{allows_exponent, Style, WriteError};
+use crate::literal::writer::rounded::rounded;
+
+// A float without its sign: an odd number, or 0, times two to the power of `power - 1200`. A digit of its radix has so many bits, and
+// its exponent base is two to the power of `base_bits`.
+#[derive(Debug, Clone, Copy)]
+struct Binary {
+    number: u64,
+    power: u64,
+    bits: u64,
+    base_bits: u64,
+}
+
+// What is added to the exponent of a power of two. Each number of bits of a digit divides it.
+const RAISED: u64 = 1200;
+
+// Returns a number over a power of two: the nearest, or the even one if two are as near.
+const fn cut(number: u64, down: u64) -> u64 {
+    if down > 64 {
+        return 0;
+    }
+    rounded(number as u128, 1 << down) as u64
+}
+
+// Returns a float as an odd number, or 0, times two to the power of what is returned, less 1200.
+fn odd_of(units: Units) -> (u64, u64) {
+    if units.size == 0 {
+        return (0, RAISED);
+    }
+    let zeros = units.size.trailing_zeros() as u64;
+    (units.size >> (zeros % 64), units.scale + zeros + RAISED - 1074)
+}
+
+impl Binary {
+    // Returns a float in a radix and with an exponent base, if both are powers of two.
+    fn of(units: Units, radix: u32, base: u32) -> Option<Binary> {
+        let Some(bits) = bits_of(radix) else {
+            return None;
+        };
+        let Some(base_bits) = bits_of(base) else {
+            return None;
+        };
+        let (number, power) = odd_of(units);
+        Some(Binary { number, power, bits: bits as u64, base_bits: base_bits as u64 })
+    }
+
+    // Returns the number over a power of two, in units of the last of so many digits behind the point, as a number with zeros behind its
+    // digits.
+    fn units(&self, places: u64, low: u64) -> (u64, u64) {
+        let power = self.power + self.bits * places;
+        if power < low {
+            return (cut(self.number, low - power), 0);
+        }
+        let up = power - low;
+        (self.number << (up % self.bits), up / self.bits)
+    }
+
+    // Returns how many digits are behind the point of the number over a power of two, if at least so many are wished.
+    fn places(&self, style: Style, least: usize, low: u64) -> u64 {
+        let needed = low.saturating_sub(self.power).div_ceil(self.bits);
+        if style.decimals.is_some() {
+            least as u64
+        } else {
+            needed.max(least as u64)
+        }
+    }
+
+    // Returns the exponent of two of the first bit.
+    fn top(&self) -> u64 {
+        if self.number == 0 {
+            RAISED
+        } else {
+            self.power + 63 - self.number.leading_zeros() as u64
+        }
+    }
+
+    // Returns the exponent, plus that of which `RAISED` is the power of two.
+    fn exponent(&self, style: Style, places: u64) -> u64 {
+        let exponent = self.top() / self.base_bits;
+        if style.decimals.is_none() {
+            return exponent;
+        }
+        let (units, after) = self.units(places, exponent * self.base_bits);
+        let size = 64 - units.leading_zeros() as u64 + after * self.bits;
+        // The number can be rounded up to the base.
+        exponent + (size > self.base_bits + self.bits * places) as u64
+    }
+
+    // Returns whether the number has more than 800 digits without an exponent.
+    fn is_long(&self, places: u64) -> bool {
+        let (units, after) = self.units(places, RAISED);
+        let size = (64 - units.leading_zeros() as u64).div_ceil(self.bits);
+        places > 799 || size + after > 800
+    }
+
+    // Returns the digits of the number over a power of two, and how they are written with an exponent, or without one.
+    fn form(&self, syntax: &Syntax, style: Style, exponent: Option<Exponent>, low: u64) -> (u64, Form) {
+        let places = self.places(style, least_places(syntax, style, exponent.is_some()), low);
+        let (number, after) = self.units(places, low);
+        let form = Form { after: after as usize, places: places as usize, exponent };
+        (number, form)
+    }
+}
+
+// Returns the digits of a float, and how they are written.
+pub(crate) fn binary_form(units: Units, syntax: &Syntax, style: Style) -> Result<(u64, Form), WriteError> {
+    let format = syntax.format().view();
+    let Some(float) = Binary::of(units, format.mantissa_radix(), format.exponent_base()) else {
+        return Err(WriteError::Radix);
+    };
+    let long = float.is_long(float.places(style, least_places(syntax, style, false), RAISED));
+    if long && !allows_exponent(syntax) {
+        return Err(WriteError::Long);
+    }
+    let (bits, top) = (float.bits, float.top());
+    let least = least_places(syntax, style, true);
+    let exponent = float.exponent(style, least as u64);
+    let power = Exponent::of(exponent, RAISED / float.base_bits);
+    let far = top + 4 * bits < RAISED || top >= RAISED + 16 * bits;
+    let shown = is_shown(syntax, style, power.size, far, long);
+    Ok(if shown {
+        float.form(syntax, style, Some(power), exponent * float.base_bits)
+    } else {
+        float.form(syntax, style, None, RAISED)
+    })
+}
