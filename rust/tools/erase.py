@@ -170,11 +170,11 @@ REPLACED += [
     # A syntax that is not lawful can have any radix.
     ("lexical_number/src/word.rt", "MOST[radix as usize] as usize", "if radix <= 36 { MOST[radix as usize] as usize } else { 0 }"),
     # Programs have one copy of these.
-    ("lexical_forms/src/list.rt", "syntax.begin(false, text, false);\n                if syntax.is_whole(text, counted) {\n                    return Some", "syntax.begin_any(text, false);\n                if syntax.is_whole(text, counted) {\n                    return Some"),
-    ("lexical_literal/src/read.rt", "self.begin(false, text, false)", "self.begin_any(text, false)"),
-    ("lexical_literal/src/read.rt", "self.begin(false, text, true)", "self.begin_any(text, true)"),
+    ("lexical_literal/src/read.rt", "self.begin(false, text, false);\n        self.reach", "self.begin_any(text, false);\n        self.reach"),
+    ("lexical_literal/src/read.rt", "self.begin(false, text, false);\n        if", "self.begin_small(text, false);\n        if"),
     ("token.rt", "it.syntax.begin(false, text, true)", "it.syntax.begin_small(text, true)"),
     ("token.rt", "it.syntax.begin(false, front, true)", "it.syntax.begin_small(front, true)"),
+    ("lexical_literal/src/read.rt", "self.begin(false, text, true)", "self.begin_any(text, true)"),
     # The library for C has one copy of these.
     ("reasons.rt", "#[inline(always)]\n#[tactic(auto, unfolding(lexical_flags::specs::Roles::Disjoint))]\nconst fn clash(", "#[cfg_attr(not(peltzivar_small), inline(always))]\nconst fn clash("),
     ("reasons.rt", "#[inline(always)]\nconst fn reason_for(", "#[cfg_attr(not(peltzivar_small), inline(always))]\nconst fn reason_for("),
@@ -188,6 +188,7 @@ REPLACED += [
     ("lexical_value/src/float.rt", "match nearest_single(literal)", "match nearest_single(&{ *literal })"),
     ("lexical_value/src/float.rt", "        whole_float(literal)\n", "        whole_float(&{ *literal })\n"),
     ("lexical_value/src/kind.rt", "fewer(kind, &numeral)", "fewer(kind, &{ numeral })"),
+    ("lexical_value/src/integer.rt", "other_integer(literal.kind().integers(), &numeral)", "other_integer(literal.kind().integers(), &{ numeral })"),
     # Calls for constants.
     ("lexical_value/src/integer.rt", "pub fn own_numeral", "pub(crate) const fn own_numeral"),
     ("lexical_value/src/integer.rt", "pub fn integer_numeral", "pub(crate) const fn integer_numeral"),

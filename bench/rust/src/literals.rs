@@ -18,11 +18,11 @@ pub struct Group {
     texts: Vec<String>,
 }
 
-type Texts = &'static [Group];
+pub type Texts = &'static [Group];
 
 impl Group {
     /// Returns `count` texts that have a property.
-    fn new(
+    pub fn new(
         (language, form): (Language, usize),
         count: usize,
         text: impl FnMut() -> String,
@@ -62,18 +62,18 @@ fn digits(random: &mut Random, most: u8, separator: Option<char>) -> String {
 }
 
 /// As many digits.
-fn fixed(random: &mut Random, count: u8) -> String {
+pub fn fixed(random: &mut Random, count: u8) -> String {
     (0..count).map(|_| random.byte(b'0', b'9') as char).collect()
 }
 
 /// An integer of 1 to 9 digits, of which the first is not 0.
-fn integer(random: &mut Random, separator: Option<char>) -> String {
+pub fn integer(random: &mut Random, separator: Option<char>) -> String {
     let first = random.byte(b'1', b'9') as char;
     format!("{first}{}", &digits(random, 9, separator)[1..])
 }
 
 /// A literal of JSON, TOML or C. Half have a fraction, a third has an exponent, and in TOML and C, a quarter has separators.
-fn literal(random: &mut Random, language: Language) -> String {
+pub fn literal(random: &mut Random, language: Language) -> String {
     let (signs, own) = match language.name() {
         "TOML" => (["-", "", "+"], Some('_')),
         "JSON" => (["-", "", ""], None),
@@ -90,6 +90,20 @@ fn literal(random: &mut Random, language: Language) -> String {
         text = text + random.pick(&["e", "E", "e-", "e+"]) + &digits(random, 2, None);
     }
     text
+}
+
+pub fn shape(random: &mut Random) -> String {
+    format!("{}.{}", 100 + random.below(900), fixed(random, 6))
+}
+
+pub fn money(random: &mut Random) -> String {
+    let limit = random.pick(&[10, 100, 1000, 10_000]);
+    format!("{}.{}", random.below(limit), fixed(random, 2))
+}
+
+/// A float of 17 digits with an exponent.
+pub fn exponent(random: &mut Random) -> String {
+    format!("1.{}e{}", fixed(random, 16), random.below(600) as i64 - 300)
 }
 
 /// A literal with one byte more, anywhere.
@@ -129,7 +143,6 @@ calls! {
     parse: |_group| |text| black_box(text.parse::<f64>()).is_ok();
     parse_integer: |_group| |text| black_box(text.parse::<i64>()).is_ok();
     token: |group| { let it = group.language; move |text| black_box(it.token(text)).is_ok() };
-    list_integer: |group| { let it = group.language; move |text| black_box(it.parse::<i64>(text)).is_ok() };
     list_float: |group| { let it = group.language; move |text| black_box(it.parse::<f64>(text)).is_ok() };
 }
 
@@ -148,6 +161,22 @@ fn count<F: Fn(&str) -> bool>(texts: Texts, call_of: impl Fn(&Group) -> F) -> u6
         group.texts.iter().filter(|text| call(text)).count()
     });
     counts.sum::<usize>() as u64
+}
+
+/// Returns the row of a call beside another one.
+pub fn row<F: Fn(&str) -> bool, G: Fn(&str) -> bool>(
+    name: &'static str,
+    texts: Texts,
+    call: impl Fn(&Group) -> F + 'static,
+    others: Texts,
+    other: impl Fn(&Group) -> G + 'static,
+) -> Row {
+    Row {
+        name,
+        calls: texts.iter().map(|group| group.texts.len()).sum(),
+        ours: Box::new(move || count(black_box(texts), &call)),
+        theirs: Box::new(move || count(black_box(others), &other)),
+    }
 }
 
 /// Returns the row of writers. Each loop returns the number of bytes that it writes.
@@ -199,18 +228,15 @@ fn floats(random: &mut Random, name: &'static str, decimals: Option<u8>, theirs:
 pub fn rows() -> Vec<Row> {
     let random = &mut Random::new(20_261_126);
     let mixed = texts(random, literal, |_, text| text.parse::<f64>().is_ok());
-    let shape = texts(random, |it, _| format!("{}.{}", 100 + it.below(900), fixed(it, 6)), |_, _| true);
+    let shape = texts(random, |it, _| shape(it), |_, _| true);
     let is_refused = |group: &Group, text: &str| refuses(group)(text);
     let (inserted, appended) = (texts(random, inserted, is_refused), texts(random, appended, is_refused));
     let accepted = texts(random, literal, |_, _| true);
     let integers = texts(random, |it, _| integer(it, None), |_, _| true);
     let grouped = of_form(Language::TOML, 0, || integer(random, Some('_')));
     let prefixed = of_form(Language::RUST, 2, || format!("0x{:X}", random.below(1 << 36)));
-    let money = of_form(Language::JSON, 0, || {
-        let limit = random.pick(&[10, 100, 1000, 10_000]);
-        format!("{}.{}", random.below(limit), fixed(random, 2))
-    });
-    let exponents = of_form(Language::JSON, 0, || format!("1.{}e{}", fixed(random, 16), random.below(600) as i64 - 300));
+    let money = of_form(Language::JSON, 0, || money(random));
+    let exponents = of_form(Language::JSON, 0, || exponent(random));
     let fractions = of_form(Language::JSON, 0, || format!("0.{}", fixed(random, 17)));
     let long = of_form(Language::JSON, 0, || format!("1.{}", fixed(random, 99)));
     let hexadecimal = of_form(Language::C, 4, || format!("0x1.{}p{}", fixed(random, 13), random.below(100)));
@@ -218,7 +244,6 @@ pub fn rows() -> Vec<Row> {
     let forms = Vec::from([0, 1, 2, 3, 4].map(form)).leak();
     let ended_form = |form| Group::new((Language::C, form), 20_000, || of_c(random, form) + random.pick(&[";", " ", ")"]), |_, _| true);
     let ended_forms = Vec::from([0, 1, 2, 3, 4].map(ended_form)).leak();
-    let ended = of_form(Language::RUST, 2, || format!("0x{:X},", random.below(1 << 36)));
     let wrong_form = |form| {
         let is_refused = |group: &Group, text: &str| list_refuses(group)(text);
         Group::new((Language::C, form), 20_000, || of_c(random, form) + random.pick(&[";", " ", "x"]), is_refused)
@@ -233,15 +258,7 @@ pub fn rows() -> Vec<Row> {
     let decimals = of_form(Language::TOML, 0, || integer(random, Some('_')) + "." + &fixed(random, 2));
     macro_rules! rows {
         ($($name:expr, $texts:ident.$call:ident, $others:ident.$other:ident;)*) => {
-            vec![$({
-                let (texts, others): (Texts, Texts) = ($texts, $others);
-                Row {
-                    name: $name,
-                    calls: texts.iter().map(|group| group.texts.len()).sum(),
-                    ours: Box::new(move || count(black_box(texts), $call)),
-                    theirs: Box::new(move || count(black_box(others), $other)),
-                }
-            }),*]
+            vec![$(row($name, $texts, $call, $others, $other)),*]
         };
     }
     let mut rows = rows! {
@@ -253,9 +270,7 @@ pub fn rows() -> Vec<Row> {
         "Syntax::read, prefixed, over 17 digits", prefixed.reader, exponents.reader;
         "Forms::read, 5 forms of C, over Syntax::read", forms.listed, forms.reader;
         "Forms::read, refused, over Syntax::read", wrong_forms.list_refuses, wrong_forms.refuses;
-        "Forms::parse, prefixed, over Syntax::parse", prefixed.list_value, prefixed.value;
         "Forms::token, 5 forms of C, over Forms::parse", ended_forms.token, forms.list_float;
-        "Forms::token, prefixed, over Forms::parse", ended.token, prefixed.list_integer;
         "Syntax::read, byte inserted, over accepted", inserted.refuses, accepted.reader;
         "Syntax::read, byte appended, over accepted", appended.refuses, accepted.reader;
         "Syntax::read and text, inserted, over accepted", inserted.prints, accepted.reader;
@@ -279,6 +294,8 @@ pub fn rows() -> Vec<Row> {
         floats(random, "Syntax::format_float, shortest, over Display", None, |text, it| write!(text, "{it}").expect("memory")),
         floats(random, "Syntax::format_float, decimals(2), over {:.2}", Some(2), |text, it| write!(text, "{it:.2}").expect("memory")),
     ]);
+    #[cfg(not(old))]
+    rows.extend(crate::languages::rows(random));
     #[cfg(peers)]
     rows.push(floats(random, "Syntax::format_float, shortest, over ryu", None, |text, it| text.push_str(ryu::Buffer::new().format(it))));
     #[cfg(peers)]

@@ -8,6 +8,8 @@ mod calls;
 #[allow(dead_code)]
 #[path = "../../../compare/rust/src/inputs.rs"]
 mod inputs;
+#[cfg(not(old))]
+mod languages;
 mod literals;
 mod measure;
 #[path = "../../../compare/rust/src/options.rs"]

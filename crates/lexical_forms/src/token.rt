@@ -2,7 +2,7 @@
 
 ghost use Rattle.std.specs.Prelude.{◌≡◌, ◌<◌, ◌≤◌, ◌+◌, ◌-◌, ◌==◌, ◌&&◌, ℕ, All, IsNone, IsSomeAnd, IsTrue, Some, drop, false, length, slice_get, take, true};
 ghost use Rattle.std.specs.Option.{ForSome};
-ghost use Rattle.lexical_forms.specs.Additions.Forms.{IsFurthestForm, PlaysNoRole, sign_size};
+ghost use Rattle.lexical_forms.specs.Additions.Forms.{IsFurthestForm, PlaysNoRole, further, sign_size};
 ghost use Rattle.lexical_literal.specs.Additions.Longest.{HasBegun, IsCountedFront, IsMeasured, IsStopped};
 ghost use Rattle.lexical_literal.specs.Additions.Read.{AreSums, cut};
 ghost use Rattle.lexical_literal.specs.Additions.Summary.{cuts_of};
@@ -17,8 +17,8 @@ ghost use Rattle.lexical_forms.specs.Token.{HasNone, IsAhead, IsReadByTokens, Is
 ghost use Rattle.lexical_forms.specs.Token.{is_shorter};
 ghost use Rattle.lexical_util.specs.Record.{raw};
 
-use crate::exclude::sign_size;
-use crate::list::{Form, FormError, Forms, Tokens, further};
+use crate::exclude::{is_prefixed, sign_size};
+use crate::list::{Form, FormError, Forms, Tokens};
 use crate::suffix::{
     byte_before, has_word_byte, is_followed, is_stopped, is_word_byte, kind_with, suffix_size,
     suffix_words, word_size,
@@ -122,7 +122,7 @@ impl<'a> Forms<'a> {
         let Some(tokens) = self.tokens else {
             return Err(TokenError::NoTokens);
         };
-        match self.leading(tokens, text, has_letter_behind_zero(text)) {
+        match self.leading(tokens, text, is_prefixed(text)) {
             Some(token) => Ok(token),
             None => self.token_of(tokens, text),
         }
@@ -313,9 +313,9 @@ impl<'a> Forms<'a> {
         let (_, rest) = text.split_at(stop.size);
         let end = stop.size + word_size(rest);
         let (word, _) = text.split_at(end);
-        match self.find(word) {
-            None => TokenError::Literal(self.refuse(word, self.furthest(word))),
-            Some(_) => TokenError::NotAToken { end },
+        match self.first(word, None) {
+            Err(furthest) => TokenError::Literal(self.error_at(word, furthest)),
+            Ok(_) => TokenError::NotAToken { end },
         }
     }
 }
@@ -345,13 +345,6 @@ const fn is_excluded(grammar: Grammar, text: &[u8], sign: usize, excluding: bool
     ensures { IsTrue result → IsWithin (notation_of grammar) text.now (sign + 1) }
 {
     lacks_prefix(grammar, text) || (excluding && is_over(grammar, text, sign + 1))
-}
-
-// Returns whether a zero and a letter are behind the sign.
-#[inline(always)]
-const fn has_letter_behind_zero(text: &[u8]) -> bool {
-    let sign = sign_size(text);
-    sign + 1 < text.len() && text[sign] == b'0' && text[sign + 1] > b'9'
 }
 
 // Returns whether the text ends behind the first `size` bytes, or a byte follows that plays no role.
@@ -648,6 +641,21 @@ fn scan(forms: &[Form], back: bool, needs: bool, text: &[u8]) -> Scanned
         form += 1;
     }
     Scanned { furthest, best }
+}
+
+// Returns which of two forms goes further, the first of equals.
+#[inline(always)]
+const fn further(
+    furthest: Option<(usize, At)>,
+    form: usize,
+    stop: At,
+) -> Option<(usize, At)>
+    ensures { result ≡ further furthest form stop }
+{
+    match furthest {
+        Some((_, best)) if best.size >= stop.size => furthest,
+        _ => Some((form, stop)),
+    }
 }
 
 // Returns the longer of two candidates, the first of equals.

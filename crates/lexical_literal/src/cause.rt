@@ -179,14 +179,6 @@ impl ReadError {
         self.explain().code
     }
 
-    // Returns whether the cause is a wrong byte, or a required prefix is not there.
-    #[doc(hidden)]
-    pub const fn is_stray(&self) -> bool
-        ensures { result ≡ is_stray self.now.refusal }
-    {
-        self.spot.is_stray()
-    }
-
     // Returns all answers. It finds the cause once.
     pub(crate) const fn explain(&self) -> Refusal
         ensures { result ≡ self.now.refusal }
@@ -205,15 +197,6 @@ impl Spot {
             options: self.options,
             conditions: self.conditions,
         }
-    }
-
-    // Returns whether the cause is a wrong byte, or a required prefix is not there. It takes less time than all answers.
-    #[inline(always)]
-    const fn is_stray(self) -> bool
-        ensures { result ≡ is_stray (refusal_of (notation_of (grammar_at self)) self) }
-    {
-        let stop = self.stop();
-        stop.is_byte() || stop.is_unmet(Condition::BasePrefix)
     }
 
     // Returns what has been read, and the byte that cannot follow.
@@ -561,6 +544,20 @@ impl Stop {
         };
         Blame { kind, mask }
     }
+}
+
+// Returns whether the cause is a wrong byte, or a required prefix is not there. It takes less time than all answers.
+pub(crate) const fn is_stray(grammar: Grammar, read: Summary, group: Group, byte: Option<u8>) -> bool
+    ensures { result ≡ (is_byte (blame (notation_of grammar) read group byte).kind
+        || unmet (notation_of grammar) read group byte conditions.BasePrefix) }
+{
+    let stop = Stop {
+        grammar,
+        read,
+        group,
+        byte,
+    };
+    stop.is_byte() || stop.is_unmet(Condition::BasePrefix)
 }
 
 // Returns `flag` if `is_set` is true, and 0 otherwise.

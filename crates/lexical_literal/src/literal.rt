@@ -211,13 +211,21 @@ impl Syntax {
         requires { IsCut (notation_of self.now) text.now (cuts_of counts) }
         ensures { result ≡ record { format = self.now.word; literal = cut text.now (cuts_of counts); kind = exact } }
     {
+        self.literal(text, counts, self.sums(text, counts))
+    }
+
+    // Returns the sums of the digits of `text`, of which the parts have the lengths `counts`.
+    #[cold]
+    pub fn sums(&self, text: &[u8], counts: [usize; 9]) -> Sums
+        requires { IsCut (notation_of self.now) text.now (cuts_of counts) }
+        ensures { AreSums (raw self.now.word) (cut text.now (cuts_of counts)) result }
+    {
         let view = self.format().view();
-        let sums = sums_of(
+        sums_of(
             view.mantissa_radix(),
             view.exponent_radix(),
             &cut(text, counts),
-        );
-        self.literal(text, counts, sums)
+        )
     }
 }
 

@@ -16,9 +16,9 @@ ghost use Rattle.lexical_literal.specs.Notation.{notation_of};
 ghost use Rattle.lexical_literal.specs.declared.groups.Group.{Group};
 ghost use Rattle.lexical_literal.specs.Parts.{literal_of};
 
-use crate::cause::{ReadError, Spot};
+use crate::cause::{ReadError, Spot, is_stray};
 use crate::groups::{FIRST, Group, fits, group_after, grow, has_sizes};
-use crate::plain::{At, BEGIN, Counted, is_decimal, plain};
+use crate::plain::{At, BEGIN, Counted, Sums, is_decimal, plain};
 use crate::span::marks;
 use crate::steps::{Piece, is_complete, part_of, piece_number, piece_of, step};
 use crate::syntax::{Grammar, Syntax, is_usual};
@@ -185,6 +185,42 @@ impl Syntax {
         }
     }
 
+    // Returns whether `text`, of which a front has been read, is known not to be a literal, and to stop there.
+    #[inline(always)]
+    pub const fn is_refused(&self, text: &[u8], counted: Counted) -> bool
+        requires { HasBegun (notation_of self.now) text.now counted }
+        ensures stopped { IsTrue result → IsStopped (notation_of self.now) text.now counted.at }
+        ensures none { IsTrue result → NoLiteral (notation_of self.now) text.now }
+    {
+        counted.exact || self.ends_at(text, counted.at)
+    }
+
+    // Returns whether reading stops at `at`, which has been read, and `text` is not a literal.
+    #[inline(never)]
+    const fn ends_at(&self, text: &[u8], at: At) -> bool
+        requires { (group : Group) × IsUnderway (notation_of self.now) text.now at group }
+        ensures stopped { IsTrue result → IsStopped (notation_of self.now) text.now at }
+        ensures none { IsTrue result → NoLiteral (notation_of self.now) text.now }
+    {
+        let group = self.group_at(text, at);
+        matches!(self.step(text, at, group), None)
+            && !(at.size == text.len() && ends(self.grammar(), at, group))
+    }
+
+    // Returns the lengths of the parts of `text` and the sums of its digits, or where reading stops if it is not a literal.
+    #[inline(always)]
+    pub fn read_whole(&self, text: &[u8]) -> Result<([usize; 9], Sums), At>
+    {
+        let counted = self.begin(false, text, false);
+        if self.is_whole(text, counted) {
+            return Ok((counted.counts, counted.sums));
+        }
+        match self.reached(text, counted) {
+            Ok(counts) => Ok((counts, self.sums(text, counts))),
+            Err(stop) => Err(stop),
+        }
+    }
+
     // Returns where reading `text` stops if that is behind `size` bytes.
     pub fn stop_at(&self, text: &[u8], size: usize) -> Option<At>
         ensures some { IfSome result (IsStopped (notation_of self.now) text.now) }
@@ -307,13 +343,22 @@ impl Syntax {
         found
     }
 
-    // Returns why `text`, of which reading stopped at `stop`, is not a literal, as the result of the caller, which takes less
-    // time than to copy an error.
-    #[cold]
-    pub fn refuse<T>(&self, text: &[u8], stop: At) -> Result<T, ReadError>
+    // Returns whether the cause is stray where reading `text` stops at `stop`: a wrong byte, or a required prefix that is not there.
+    pub const fn is_stray(&self, text: &[u8], stop: At) -> bool
         requires stopped { IsStopped (notation_of self.now) text.now stop }
         requires refused { NoLiteral (notation_of self.now) text.now }
-        ensures { IsErrAnd result (λ error. IsRefusal (notation_of self.now) text.now error.refusal) }
+        ensures { (error : Refusal) → IsRefusal (notation_of self.now) text.now error → is_stray error ≡ result }
+    {
+        let group = self.group_at(text, stop);
+        is_stray(self.grammar(), stop.read, group, byte_at(text, stop.size))
+    }
+
+    // Returns why `text`, of which reading stopped at `stop`, is not a literal.
+    #[inline(always)]
+    pub fn error_at(&self, text: &[u8], stop: At) -> ReadError
+        requires stopped { IsStopped (notation_of self.now) text.now stop }
+        requires refused { NoLiteral (notation_of self.now) text.now }
+        ensures { IsRefusal (notation_of self.now) text.now result.refusal }
     {
         let grammar = self.grammar();
         let Grammar {
@@ -323,7 +368,7 @@ impl Syntax {
         } = grammar;
         let size = stop.size;
         let byte = byte_at(text, size);
-        Err(ReadError {
+        ReadError {
             spot: Spot {
                 word,
                 options,
@@ -334,7 +379,17 @@ impl Syntax {
                 marks: marks(grammar, front_of(text, size)),
                 separated: self.group_at(text, stop).separated,
             },
-        })
+        }
+    }
+
+    // Returns the same as the result of the caller, which takes less time than to copy an error.
+    #[cold]
+    pub fn refuse<T>(&self, text: &[u8], stop: At) -> Result<T, ReadError>
+        requires stopped { IsStopped (notation_of self.now) text.now stop }
+        requires refused { NoLiteral (notation_of self.now) text.now }
+        ensures { IsErrAnd result (λ error. IsRefusal (notation_of self.now) text.now error.refusal) }
+    {
+        Err(self.error_at(text, stop))
     }
 }
 

@@ -8,7 +8,8 @@ ghost use Rattle.lexical_value.specs.Integer.{integer_size};
 ghost use Rattle.lexical_value.specs.Kind.{IsNotWorth, IsWorth, integer_worth};
 ghost use Rattle.lexical_value.specs.declared.integer.ValueErrorKind.TheVariants as kinds;
 
-use crate::kind::counted;
+use crate::kind::{Worth, counted, fewer, keeps};
+use lexical_literal::kind::IntegerKind;
 use lexical_literal::literal::Literal;
 use lexical_number::integer::Integer;
 use lexical_number::numeral::{Magnitude, Numeral};
@@ -53,12 +54,32 @@ pub fn to_integer<T: Integer>(literal: &Literal) -> Result<T, ValueErrorKind>
     ensures { MatchResult result (λ value. IsWorth literal.now.kind.integers (bytes_of literal.now.format) literal.now.literal (T.range.value value))
         (IsNotWorth literal.now.kind.integers T.range.least T.range.largest (bytes_of literal.now.format) literal.now.literal) }
 {
-    match own_numeral(literal) {
-        Err(error) => Err(error),
-        Ok(numeral) => match T::from_numeral(&numeral) {
-            Some(value) => Ok(value),
-            None => Err(ValueErrorKind::out_of_range(numeral.negative)),
-        },
+    let Some(numeral) = integer_numeral(literal) else {
+        return Err(ValueErrorKind::Float);
+    };
+    if keeps(literal.kind().integers(), &numeral) {
+        in_type(&numeral, numeral.negative)
+    } else {
+        other_integer(literal.kind().integers(), &numeral)
+    }
+}
+
+// Returns an integer that the kind may change, as a value of the type.
+#[cold]
+#[inline(never)]
+fn other_integer<T: Integer>(kind: IntegerKind, numeral: &Numeral) -> Result<T, ValueErrorKind> {
+    match fewer(kind, numeral) {
+        Some(Worth { negative, size }) => in_type(&Numeral { negative, magnitude: Magnitude::Word(size) }, negative),
+        None => Err(ValueErrorKind::out_of_range(numeral.negative)),
+    }
+}
+
+// Returns a number as a value of the type.
+#[inline(always)]
+fn in_type<T: Integer>(numeral: &Numeral, negative: bool) -> Result<T, ValueErrorKind> {
+    match T::from_numeral(numeral) {
+        Some(value) => Ok(value),
+        None => Err(ValueErrorKind::out_of_range(negative)),
     }
 }
 

@@ -141,11 +141,6 @@ impl ReadError {
         self.explain().code
     }
 
-    // Returns whether the cause is a wrong byte, or a required prefix is not there.
-    pub(crate) const fn is_stray(&self) -> bool {
-        self.spot.is_stray()
-    }
-
     // Returns all answers. It finds the cause once.
     pub(crate) const fn explain(&self) -> Refusal {
         self.spot.refusal()
@@ -156,13 +151,6 @@ impl Spot {
     // Returns the grammar.
     pub(crate) const fn as_grammar(self) -> Grammar {
         Grammar { word: self.word, options: self.options, conditions: self.conditions }
-    }
-
-    // Returns whether the cause is a wrong byte, or a required prefix is not there. It takes less time than all answers.
-    #[inline(always)]
-    const fn is_stray(self) -> bool {
-        let stop = self.stop();
-        stop.is_byte() || stop.is_unmet(Condition::BasePrefix)
     }
 
     // Returns what has been read, and the byte that cannot follow.
@@ -422,6 +410,12 @@ impl Stop {
         let kind = if mask == 0 { ReadErrorKind::Byte } else { ReadErrorKind::Case };
         Blame { kind, mask }
     }
+}
+
+// Returns whether the cause is a wrong byte, or a required prefix is not there. It takes less time than all answers.
+pub(crate) const fn is_stray(grammar: Grammar, read: Summary, group: Group, byte: Option<u8>) -> bool {
+    let stop = Stop { grammar, read, group, byte };
+    stop.is_byte() || stop.is_unmet(Condition::BasePrefix)
 }
 
 // Returns `flag` if `is_set` is true, and 0 otherwise.

@@ -2,11 +2,11 @@
 
 //! What excludes that a text is a literal of a form: its first bytes, or a byte that plays no role in the form.
 
+use crate::format_flags::{base_prefix, base_suffix, digit_separator};
 use crate::literal::cause::other_case;
-use crate::literal::plain::At;
 use crate::literal::steps::{is_digit, role_at};
 use crate::literal::syntax::{Condition, Grammar};
-use crate::word::{Part, Role};
+use crate::word::Part;
 
 // Returns whether the first bytes behind the sign, which has this length, exclude that `text` is a literal: there is not the prefix
 // that is required, or the second plays no role. Then no literal begins with both.
@@ -20,50 +20,46 @@ pub(crate) const fn excludes(grammar: Grammar, text: &[u8], sign: usize) -> bool
     }
 }
 
-// Returns whether a form need not be asked whether `text` is a literal of it: its first bytes exclude that, or the byte where the
-// furthest form stops is a stranger. Then it goes no further.
+// Returns whether no error of a form goes further than one up to `size` whose cause is a wrong byte, and `text` is not a literal of
+// it: the byte there plays no role, nor its other case, or is only the base prefix, behind the place of one.
 #[inline(always)]
-pub(crate) const fn is_behind(grammar: Grammar, text: &[u8], sign: usize, furthest: Option<(usize, At)>) -> bool {
-    excludes(grammar, text, sign)
-        || match furthest {
-            None => false,
-            Some((_, stop)) => is_stranger_at(grammar, text, stop.size),
-        }
-}
-
-// Returns whether no error of a form goes further than one up to `size` whose cause is a wrong byte: the first bytes exclude the form,
-// or the byte there is a stranger.
-pub(crate) const fn is_settled(grammar: Grammar, text: &[u8], size: usize) -> bool {
-    let start = sign_size(text);
-    size > start + 1 && (excludes(grammar, text, start) || is_stranger_at(grammar, text, size))
-}
-
-// Returns whether the byte at `index` is a stranger, if there is one.
-#[inline(always)]
-const fn is_stranger_at(grammar: Grammar, text: &[u8], index: usize) -> bool {
-    index < text.len() && is_stranger(grammar, text[index])
+pub(crate) const fn is_stranger_at(grammar: Grammar, text: &[u8], sign: usize, size: usize) -> bool {
+    size < text.len()
+        && is_stranger(grammar, text[size])
+        && (size > sign + 1 || !is_either(base_prefix(grammar.word), text[size]))
 }
 
 // Returns whether `byte` plays no role behind the base prefix, and its other case neither.
+#[inline(always)]
 const fn is_stranger(grammar: Grammar, byte: u8) -> bool {
-    is_spare(grammar, byte) && is_spare(grammar, other_case(byte))
+    !is_digit(grammar, Part::Integer, byte)
+        && !is_digit(grammar, Part::Exponent, byte)
+        && !is_either(digit_separator(grammar.word), byte)
+        && !is_either(base_suffix(grammar.word), byte)
+        && !matches!(byte, b'+' | b'-')
+        && match grammar.options {
+            None => true,
+            Some(options) => !is_either(options.exponent, byte) && !is_either(options.point, byte),
+        }
 }
 
-// Returns whether `byte` plays no role, or is only the base prefix.
+// Returns whether `byte` is `own`, or its other case.
 #[inline(always)]
-const fn is_spare(grammar: Grammar, byte: u8) -> bool {
-    !is_digit(grammar, Part::Exponent, byte)
-        && match role_at(grammar, Part::Integer, byte) {
-            None => true,
-            Some(Role::Prefix) => true,
-            _ => false,
-        }
+const fn is_either(own: u8, byte: u8) -> bool {
+    own == byte || own == other_case(byte)
 }
 
 // Returns whether `byte` plays no role. Bytes up to `9` are said to play one: most are digits, and a prefix begins with a zero.
 #[inline(always)]
 const fn plays_no_role(grammar: Grammar, byte: u8) -> bool {
     byte > b'9' && matches!(role_at(grammar, Part::Integer, byte), None) && !is_digit(grammar, Part::Exponent, byte)
+}
+
+// Returns whether a zero and a letter are behind the sign.
+#[inline(always)]
+pub(crate) const fn is_prefixed(text: &[u8]) -> bool {
+    let sign = sign_size(text);
+    sign + 1 < text.len() && text[sign] == b'0' && text[sign + 1] > b'9'
 }
 
 // Returns the length of the sign with which `text` begins.

@@ -2,9 +2,12 @@
 
 use core::{fmt, ops, ops::Range, slice};
 
+use crate::literal::list::{is_first_asked, Furthest};
+use crate::literal::plain::At;
+use crate::literal::value::Decimal;
 use crate::literal::{
-    Form, FormError, Forms, FromLiteral, Literal, Number, ParseError, ReadError, ReadErrorKind, Special, Specials,
-    Syntax,
+    Form, FormError, Forms, FromLiteral, Kind, Literal, Number, ParseError, ReadError, ReadErrorKind, Special, Specials,
+    Syntax, ValueError,
 };
 
 impl<'a> Forms<'a> {
@@ -57,7 +60,38 @@ impl<'a> Forms<'a> {
     /// If `text` is not a number, or if its value is not one of the type, returns why.
     pub fn parse<T: FromLiteral>(&self, text: impl AsRef<[u8]>) -> Result<T, ParseError> {
         let text = text.as_ref();
-        self.read_bytes(text)?.value().map_err(|error| error.of_size(text.len()).into())
+        let Form { syntax, kind, .. } = self.as_slice()[0];
+        if !is_first_asked(self.as_slice(), text) {
+            return self.parse_behind(text, None);
+        }
+        match syntax.parse_decimal(kind, text) {
+            Decimal::Value(value) => Ok(value),
+            Decimal::Stopped(stop) => self.parse_behind(text, Some(stop)),
+            Decimal::Unknown => self.parse_behind(text, None),
+        }
+    }
+
+    // Returns what `parse` returns, where the first form stops at `stop`, if it has been asked.
+    #[inline(never)]
+    fn parse_behind<T: FromLiteral>(&self, text: &[u8], stop: Option<At>) -> Result<T, ParseError> {
+        match self.first(text, stop) {
+            Ok((form, counts, sums)) => {
+                let it = &self.as_slice()[form];
+                let literal = it.syntax.literal(text, counts, sums).with_kind(it.kind);
+                T::from_literal(literal).map_err(|kind| ValueError::of::<T>(kind, text.len(), it.kind).into())
+            }
+            Err(furthest) => match self.special(text) {
+                Some(special) => T::from_special(special)
+                    .map_err(|kind| ValueError::of::<T>(kind, text.len(), Kind::EXACT).into()),
+                None => self.refuse_value(text, furthest),
+            },
+        }
+    }
+
+    // Returns the error of the form that goes furthest.
+    #[cold]
+    fn refuse_value<T>(&self, text: &[u8], furthest: Furthest) -> Result<T, ParseError> {
+        Err(ParseError::Read(self.error_at(text, furthest)))
     }
 
     /// Returns the value of the longest literal of any form that `text` begins with, and the rest of `text`, as

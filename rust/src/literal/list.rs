@@ -3,14 +3,14 @@
 //! Numbers that have several forms, such as `10`, `0x1F` and `0b1`.
 
 use crate::literal::cause::ReadError;
-use crate::literal::exclude::{excludes, is_behind, is_settled, sign_size};
+use crate::literal::exclude::{excludes, is_prefixed, is_stranger_at, sign_size};
 use crate::literal::kind::Kind;
 use crate::literal::literal::Literal;
-use crate::literal::plain::At;
+use crate::literal::plain::{At, Sums};
 use crate::literal::read::Found;
 use crate::literal::specials::{Special, Specials};
 use crate::literal::suffix::Suffixes;
-use crate::literal::syntax::Syntax;
+use crate::literal::syntax::{Grammar, Syntax};
 
 /// A form of numbers: its name, such as `hexadecimal`, its syntax, the suffixes of its tokens, and its kind.
 #[derive(Debug, Clone, Copy, PartialEq, Eq, Hash)]
@@ -137,6 +137,15 @@ pub enum Number<'a> {
     Special(Special),
 }
 
+// The form whose error is that of a text, of those that have been asked, and where it stops. If `settled` is true, its cause is known not
+// to be stray.
+#[derive(Clone, Copy)]
+pub(crate) struct Furthest {
+    pub(crate) form: usize,
+    pub(crate) stop: At,
+    pub(crate) settled: bool,
+}
+
 /// Why a text is not a number of any form: the error of the form that goes furthest in the text. Of several, it is the
 /// first whose cause is not a wrong byte and that does not lack a required prefix, or the first if there is none.
 ///
@@ -217,30 +226,36 @@ impl<'a> Forms<'a> {
     /// cause is not a wrong byte and that does not lack a required prefix, or the first if there is none. So `0b12` has the
     /// error of the binary form.
     pub const fn read_bytes<'t>(&self, text: &'t [u8]) -> Result<Number<'t>, FormError> {
-        let sign = sign_size(text);
-        let mut furthest = None;
-        let mut form = 0;
-        while form < self.forms.len() {
-            let it = &self.forms[form];
-            let syntax = &it.syntax;
-            if !is_behind(syntax.as_grammar(), text, sign, furthest) {
-                let counted = syntax.begin(false, text, false);
-                if syntax.is_whole(text, counted) {
-                    let literal = syntax.literal(text, counted.counts, counted.sums).with_kind(it.kind);
-                    return Ok(Number::Literal { literal, form });
-                }
-                let stop = match syntax.reached(text, counted) {
-                    Ok(counts) => {
-                        let literal = syntax.summed(text, counts).with_kind(it.kind);
-                        return Ok(Number::Literal { literal, form });
-                    }
-                    Err(stop) => stop,
-                };
-                furthest = further_on(sign, furthest, form, stop);
+        let first = &self.forms[0];
+        let syntax = &first.syntax;
+        let mut stop = None;
+        if is_first_asked(self.forms, text) && syntax.is_decimal() {
+            let counted = syntax.begin(true, text, false);
+            if syntax.is_whole(text, counted) {
+                let literal = syntax.literal(text, counted.counts, counted.sums).with_kind(first.kind);
+                return Ok(Number::Literal { literal, form: 0 });
             }
-            form += 1;
+            if syntax.is_refused(text, counted) {
+                stop = Some(counted.at);
+            }
         }
-        self.without_literal(text, furthest)
+        self.read_behind(text, stop)
+    }
+
+    // Returns what `read` returns, where the first form stops at `stop`, if it has been asked.
+    #[inline(never)]
+    const fn read_behind<'t>(&self, text: &'t [u8], stop: Option<At>) -> Result<Number<'t>, FormError> {
+        match self.first(text, stop) {
+            Ok((form, counts, sums)) => {
+                let it = &self.forms[form];
+                let literal = it.syntax.literal(text, counts, sums).with_kind(it.kind);
+                Ok(Number::Literal { literal, form })
+            }
+            Err(furthest) => match self.special(text) {
+                Some(special) => Ok(Number::Special(special)),
+                None => self.refuse(text, furthest),
+            },
+        }
     }
 
     /// Returns the longest literal of any form that `text` begins with, of the first form if several have it, and the rest
@@ -254,125 +269,157 @@ impl<'a> Forms<'a> {
             Ok((form, found)) => {
                 let Found { size, counts } = found;
                 let (front, rest) = text.split_at(size);
-                let summed = self.as_slice()[form].syntax.summed(front, counts);
-                let literal = self.of_form(form, summed);
+                let it = &self.as_slice()[form];
+                let literal = it.syntax.summed(front, counts).with_kind(it.kind);
                 Ok((Number::Literal { literal, form }, rest))
             }
             Err(error) => Err(error),
         }
     }
 
-    // Returns a literal with the kind of the form with the index `form`.
-    #[inline(always)]
-    const fn of_form<'t>(&self, form: usize, literal: Literal<'t>) -> Literal<'t> {
-        literal.with_kind(self.as_slice()[form].kind)
-    }
-
-    // Returns the special value that `text` is, which is no literal, or why it is none. The form that goes furthest is known if it
-    // goes beyond the first byte behind the sign.
-    #[inline(never)]
-    const fn without_literal<'t>(
-        &self,
-        text: &'t [u8],
-        furthest: Option<(usize, At)>,
-    ) -> Result<Number<'t>, FormError> {
-        match self.special(text) {
-            Some(special) => Ok(Number::Special(special)),
-            None => match furthest {
-                None => Err(self.refuse(text, self.furthest(text))),
-                Some(best) => Err(self.refuse(text, Some(best))),
-            },
-        }
-    }
-
     // Returns the special value that `text` is, if it is one.
-    const fn special(&self, text: &[u8]) -> Option<Special> {
+    pub(crate) const fn special(&self, text: &[u8]) -> Option<Special> {
         self.specials.read_bytes(&self.forms[0].syntax, text)
     }
 
-    // Returns the index of the first form of which `text` is a literal, and the literal.
-    pub(crate) const fn find<'t>(&self, text: &'t [u8]) -> Option<(usize, Literal<'t>)> {
-        let mut form = 0;
+    // Returns the index of the first form of which `text` is a literal, the lengths of its parts and the sums of its digits, or the form
+    // whose error is that of the list. If `stop` is there, the first form stops at it.
+    #[inline(always)]
+    pub(crate) const fn first(&self, text: &[u8], stop: Option<At>) -> Result<(usize, [usize; 9], Sums), Furthest> {
+        let sign = sign_size(text);
+        let mut furthest = None;
+        let mut start = 0;
+        if let Some(stop) = stop {
+            furthest = Some(Furthest { form: 0, stop, settled: false });
+            start = 1;
+        }
+        let mut left_out = false;
+        let mut form = start;
         while form < self.forms.len() {
             let syntax = &self.forms[form].syntax;
-            if !excludes(syntax.as_grammar(), text, sign_size(text)) {
-                let counted = syntax.begin_any(text, false);
-                if syntax.is_whole(text, counted) {
-                    return Some((form, syntax.literal(text, counted.counts, counted.sums)));
-                }
-                let stop = syntax.reach(text, counted);
-                if let Some(counts) = syntax.lengths(text, stop) {
-                    return Some((form, syntax.summed(text, counts)));
+            let grammar = syntax.as_grammar();
+            if !is_behind(grammar, text, sign, form, furthest) {
+                if excludes(grammar, text, sign) {
+                    left_out = true;
+                } else {
+                    match syntax.read_whole(text) {
+                        Ok((counts, sums)) => return Ok((form, counts, sums)),
+                        Err(stop) => furthest = self.further(text, furthest, form, stop),
+                    }
                 }
             }
             form += 1;
         }
-        None
+        match furthest {
+            Some(furthest) if !left_out || furthest.stop.size > sign + 1 => Err(furthest),
+            _ => Err(self.nearest(text, sign, start, furthest)),
+        }
     }
 
-    // Returns the form that goes furthest in `text`, the first of equals, and where it stops.
-    pub(crate) const fn furthest(&self, text: &[u8]) -> Option<(usize, At)> {
-        let mut furthest = None;
-        let mut form = 0;
+    // Returns the form whose error is that of the list, where no form goes beyond the first byte behind the sign. The forms that are not
+    // excluded have been asked.
+    const fn nearest(&self, text: &[u8], sign: usize, start: usize, asked: Option<Furthest>) -> Furthest {
+        let mut furthest = asked;
+        let mut form = start;
         while form < self.forms.len() {
-            let stop = self.forms[form].syntax.stop_in(text);
-            furthest = further(furthest, form, stop);
+            let syntax = &self.forms[form].syntax;
+            let grammar = syntax.as_grammar();
+            if !is_behind(grammar, text, sign, form, furthest) && excludes(grammar, text, sign) {
+                let stop = syntax.stop_in(text);
+                furthest = self.further(text, furthest, form, stop);
+            }
             form += 1;
         }
-        furthest
+        match furthest {
+            Some(furthest) => furthest,
+            None => unreachable!(),
+        }
+    }
+
+    // Returns which of two forms goes further. Of equals, it is the first whose cause is not stray, or the first.
+    const fn further(&self, text: &[u8], furthest: Option<Furthest>, form: usize, stop: At) -> Option<Furthest> {
+        let other = Furthest { form, stop, settled: false };
+        let Some(best) = furthest else {
+            return Some(other);
+        };
+        if best.stop.size != stop.size {
+            return if best.stop.size < stop.size { Some(other) } else { furthest };
+        }
+        if best.form < form {
+            Some(self.better(text, best, other))
+        } else {
+            Some(self.better(text, other, best))
+        }
+    }
+
+    // Returns the first of two forms that go as far unless its cause is stray and that of the second is not.
+    const fn better(&self, text: &[u8], first: Furthest, second: Furthest) -> Furthest {
+        if first.settled || !self.is_stray(text, first) {
+            Furthest { settled: true, ..first }
+        } else if second.settled || !self.is_stray(text, second) {
+            Furthest { settled: true, ..second }
+        } else {
+            first
+        }
+    }
+
+    // Returns whether the cause is stray where a form stops.
+    const fn is_stray(&self, text: &[u8], it: Furthest) -> bool {
+        self.forms[it.form].syntax.is_stray(text, it.stop)
     }
 
     // Returns the longest front of `text` that is a literal of a form, with the index of the form, the first of equals, or
     // why there is none.
     const fn find_front(&self, text: &[u8]) -> Result<(usize, Found), FormError> {
-        let mut furthest = None;
         let mut longest = None;
         let mut form = 0;
         while form < self.forms.len() {
-            let (stop, found) = self.forms[form].syntax.front(text);
-            furthest = further(furthest, form, stop);
+            let (_, found) = self.forms[form].syntax.front(text);
             longest = longer(longest, form, found);
             form += 1;
         }
         match longest {
             Some((form, found)) => Ok((form, found)),
-            None => Err(self.refuse(text, furthest)),
+            None => match self.first(text, None) {
+                Err(furthest) => self.refuse(text, furthest),
+                Ok(_) => unreachable!(),
+            },
         }
     }
 
-    // Returns why `text` is not a literal of the form that goes furthest, or, if the cause is a wrong byte or a required prefix is
-    // not there, of the first that goes as far and has another cause.
+    // Returns why `text` is not a literal of the form that goes furthest, as the result of the caller.
     #[cold]
-    pub(crate) const fn refuse(&self, text: &[u8], furthest: Option<(usize, At)>) -> FormError {
-        let Some((first, stop)) = furthest else { unreachable!() };
-        let error = self.error_at(text, first, stop);
-        let forms = self.as_slice();
-        let mut form = first + 1;
-        while form < forms.len() {
-            let syntax = &forms[form].syntax;
-            if !is_settled(syntax.as_grammar(), text, stop.size) {
-                if let Some(reached) = syntax.stop_at(text, stop.size) {
-                    if !error.error.is_stray() {
-                        return error;
-                    }
-                    let other = self.error_at(text, form, reached);
-                    if !other.error.is_stray() {
-                        return other;
-                    }
-                }
-            }
-            form += 1;
-        }
-        error
+    pub(crate) const fn refuse<T>(&self, text: &[u8], furthest: Furthest) -> Result<T, FormError> {
+        Err(self.error_at(text, furthest))
     }
 
-    // Returns why `text` is not a literal of the form with the index `form`, which stops at `stop`.
+    // Returns why `text` is not a literal of the form that goes furthest.
     #[inline(always)]
-    const fn error_at(&self, text: &[u8], form: usize, stop: At) -> FormError {
+    pub(crate) const fn error_at(&self, text: &[u8], furthest: Furthest) -> FormError {
+        let Furthest { form, stop, .. } = furthest;
         let it = &self.as_slice()[form];
-        let Err(error) = it.syntax.refuse::<()>(text, stop) else { unreachable!() };
-        FormError { form, name: it.name, error }
+        FormError { form, name: it.name, error: it.syntax.error_at(text, stop) }
     }
+}
+
+// Returns whether a form need not be asked, where another one before it goes as far as `furthest`: its required prefix is not there, or
+// the byte there is a stranger.
+#[inline(always)]
+const fn is_behind(grammar: Grammar, text: &[u8], sign: usize, form: usize, furthest: Option<Furthest>) -> bool {
+    match furthest {
+        None => false,
+        Some(it) => {
+            it.form < form
+                && ((it.stop.size > sign + 1 && excludes(grammar, text, sign))
+                    || is_stranger_at(grammar, text, sign, it.stop.size))
+        }
+    }
+}
+
+// Returns whether the first form is asked before all: there is no other one, or no zero and letter begin the text.
+#[inline(always)]
+pub(crate) const fn is_first_asked(forms: &[Form], text: &[u8]) -> bool {
+    forms.len() == 1 || !is_prefixed(text)
 }
 
 // Returns the longer of two fronts, the first of equals.
@@ -382,24 +429,5 @@ const fn longer(longest: Option<(usize, Found)>, form: usize, found: Option<Foun
         (_, None) => longest,
         (Some((_, best)), Some(found)) if best.size >= found.size => longest,
         (_, Some(found)) => Some((form, found)),
-    }
-}
-
-// Returns which of two forms goes further, the first of equals.
-#[inline(always)]
-pub(crate) const fn further(furthest: Option<(usize, At)>, form: usize, stop: At) -> Option<(usize, At)> {
-    match furthest {
-        Some((_, best)) if best.size >= stop.size => furthest,
-        _ => Some((form, stop)),
-    }
-}
-
-// Returns the same, without a form that does not go beyond the first byte behind a sign of this length.
-#[inline(always)]
-const fn further_on(sign: usize, furthest: Option<(usize, At)>, form: usize, stop: At) -> Option<(usize, At)> {
-    if stop.size > sign + 1 {
-        further(furthest, form, stop)
-    } else {
-        furthest
     }
 }

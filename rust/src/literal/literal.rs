@@ -124,9 +124,14 @@ impl Syntax {
     // Returns the literal `text`, of which the parts have the lengths `counts`.
     #[cold]
     pub(crate) const fn summed<'a>(&self, text: &'a [u8], counts: [usize; 9]) -> Literal<'a> {
+        self.literal(text, counts, self.sums(text, counts))
+    }
+
+    // Returns the sums of the digits of `text`, of which the parts have the lengths `counts`.
+    #[cold]
+    pub(crate) const fn sums(&self, text: &[u8], counts: [usize; 9]) -> Sums {
         let view = self.format().view();
-        let sums = sums_of(view.mantissa_radix(), view.exponent_radix(), &cut(text, counts));
-        self.literal(text, counts, sums)
+        sums_of(view.mantissa_radix(), view.exponent_radix(), &cut(text, counts))
     }
 }
 

@@ -8,7 +8,6 @@ use crate::format_flags::Part;
 use crate::literal::groups::Group;
 use crate::literal::plain::{At, Counted};
 use crate::literal::read::Found;
-use crate::literal::steps::{is_complete, step};
 use crate::literal::{Literal, ReadError, Syntax};
 use crate::word::Role;
 
@@ -64,7 +63,7 @@ impl Syntax {
             if self.is_whole(text, counted) {
                 return Ok(self.literal(text, counted.counts, counted.sums));
             }
-            if counted.exact || self.is_refused(text, counted.at) {
+            if self.is_refused(text, counted) {
                 return self.refuse(text, counted.at);
             }
         }
@@ -105,17 +104,6 @@ impl Syntax {
             self.refuse(text, counted.at)
         } else {
             self.read_slowly(text, counted.at)
-        }
-    }
-
-    // Returns whether reading stops at `at`, where it has come in a usual syntax, and `text` is not a literal.
-    #[inline(never)]
-    const fn is_refused(&self, text: &[u8], at: At) -> bool {
-        let At { size, read } = at;
-        if size < text.len() {
-            step(self.as_grammar(), read, text[size]).is_none()
-        } else {
-            !is_complete(self.as_grammar(), read)
         }
     }
 

@@ -2,9 +2,9 @@
 
 //! How literals are found, and the lengths of their parts.
 
-use crate::literal::cause::{ReadError, Spot};
+use crate::literal::cause::{is_stray, ReadError, Spot};
 use crate::literal::groups::{fits, group_after, grow, has_sizes, Group, FIRST};
-use crate::literal::plain::{is_decimal, plain, At, Counted, BEGIN};
+use crate::literal::plain::{is_decimal, plain, At, Counted, Sums, BEGIN};
 use crate::literal::span::marks;
 use crate::literal::steps::{is_complete, part_of, piece_number, piece_of, step, Piece};
 use crate::literal::syntax::{is_usual, Grammar, Syntax};
@@ -130,6 +130,32 @@ impl Syntax {
         }
     }
 
+    // Returns whether `text`, of which a front has been read, is known not to be a literal, and to stop there.
+    #[inline(always)]
+    pub(crate) const fn is_refused(&self, text: &[u8], counted: Counted) -> bool {
+        counted.exact || self.ends_at(text, counted.at)
+    }
+
+    // Returns whether reading stops at `at`, which has been read, and `text` is not a literal.
+    #[inline(never)]
+    const fn ends_at(&self, text: &[u8], at: At) -> bool {
+        let group = self.group_at(text, at);
+        matches!(self.step(text, at, group), None) && !(at.size == text.len() && ends(self.as_grammar(), at, group))
+    }
+
+    // Returns the lengths of the parts of `text` and the sums of its digits, or where reading stops if it is not a literal.
+    #[inline(always)]
+    pub(crate) const fn read_whole(&self, text: &[u8]) -> Result<([usize; 9], Sums), At> {
+        let counted = self.begin_small(text, false);
+        if self.is_whole(text, counted) {
+            return Ok((counted.counts, counted.sums));
+        }
+        match self.reached(text, counted) {
+            Ok(counts) => Ok((counts, self.sums(text, counts))),
+            Err(stop) => Err(stop),
+        }
+    }
+
     // Returns where reading `text` stops if that is behind `size` bytes.
     pub(crate) const fn stop_at(&self, text: &[u8], size: usize) -> Option<At> {
         let stop = self.stop_in(text);
@@ -231,15 +257,20 @@ impl Syntax {
         found
     }
 
-    // Returns why `text`, of which reading stopped at `stop`, is not a literal, as the result of the caller, which takes less
-    // time than to copy an error.
-    #[cold]
-    pub(crate) const fn refuse<T>(&self, text: &[u8], stop: At) -> Result<T, ReadError> {
+    // Returns whether the cause is stray where reading `text` stops at `stop`: a wrong byte, or a required prefix that is not there.
+    pub(crate) const fn is_stray(&self, text: &[u8], stop: At) -> bool {
+        let group = self.group_at(text, stop);
+        is_stray(self.as_grammar(), stop.read, group, byte_at(text, stop.size))
+    }
+
+    // Returns why `text`, of which reading stopped at `stop`, is not a literal.
+    #[inline(always)]
+    pub(crate) const fn error_at(&self, text: &[u8], stop: At) -> ReadError {
         let grammar = self.as_grammar();
         let Grammar { word, options, conditions } = grammar;
         let size = stop.size;
         let byte = byte_at(text, size);
-        Err(ReadError {
+        ReadError {
             spot: Spot {
                 word,
                 options,
@@ -250,7 +281,13 @@ impl Syntax {
                 marks: marks(grammar, front_of(text, size)),
                 separated: self.group_at(text, stop).separated,
             },
-        })
+        }
+    }
+
+    // Returns the same as the result of the caller, which takes less time than to copy an error.
+    #[cold]
+    pub(crate) const fn refuse<T>(&self, text: &[u8], stop: At) -> Result<T, ReadError> {
+        Err(self.error_at(text, stop))
     }
 }
 

@@ -2,8 +2,8 @@
 
 //! Tokens: numbers in the middle of a text, each with its suffix.
 
-use crate::literal::exclude::sign_size;
-use crate::literal::list::{further, Form, FormError, Forms, Tokens};
+use crate::literal::exclude::{is_prefixed, sign_size};
+use crate::literal::list::{Form, FormError, Forms, Tokens};
 use crate::literal::literal::Literal;
 use crate::literal::plain::{At, Counted};
 use crate::literal::read::{byte_at, Found};
@@ -106,7 +106,7 @@ impl<'a> Forms<'a> {
         let Some(tokens) = self.tokens else {
             return Err(TokenError::NoTokens);
         };
-        match self.leading(tokens, text, has_letter_behind_zero(text)) {
+        match self.leading(tokens, text, is_prefixed(text)) {
             Some(token) => Ok(token),
             None => self.token_of(tokens, text),
         }
@@ -258,9 +258,9 @@ impl<'a> Forms<'a> {
         let (_, rest) = text.split_at(stop.size);
         let end = stop.size + word_size(rest);
         let (word, _) = text.split_at(end);
-        match self.find(word) {
-            None => TokenError::Literal(self.refuse(word, self.furthest(word))),
-            Some(_) => TokenError::NotAToken { end },
+        match self.first(word, None) {
+            Err(furthest) => TokenError::Literal(self.error_at(word, furthest)),
+            Ok(_) => TokenError::NotAToken { end },
         }
     }
 }
@@ -284,13 +284,6 @@ const fn are_past(forms: &[Form], but: usize, back: bool, text: &[u8], size: usi
 #[inline(always)]
 const fn is_excluded(grammar: Grammar, text: &[u8], sign: usize, excluding: bool) -> bool {
     lacks_prefix(grammar, text) || (excluding && is_over(grammar, text, sign + 1))
-}
-
-// Returns whether a zero and a letter are behind the sign.
-#[inline(always)]
-const fn has_letter_behind_zero(text: &[u8]) -> bool {
-    let sign = sign_size(text);
-    sign + 1 < text.len() && text[sign] == b'0' && text[sign + 1] > b'9'
 }
 
 // Returns whether the text ends behind the first `size` bytes, or a byte follows that plays no role.
@@ -509,6 +502,15 @@ const fn scan(forms: &[Form], back: bool, needs: bool, text: &[u8]) -> Scanned {
         form += 1;
     }
     Scanned { furthest, best }
+}
+
+// Returns which of two forms goes further, the first of equals.
+#[inline(always)]
+const fn further(furthest: Option<(usize, At)>, form: usize, stop: At) -> Option<(usize, At)> {
+    match furthest {
+        Some((_, best)) if best.size >= stop.size => furthest,
+        _ => Some((form, stop)),
+    }
 }
 
 // Returns the longer of two candidates, the first of equals.

@@ -4,7 +4,7 @@ use core::fmt::{self, Write};
 
 use crate::format_flags::Part;
 use crate::literal::plain::{At, Sums};
-use crate::literal::{FloatKind, IntegerKind, Kind, Literal, Number, Sign, Special, Spelling, Syntax};
+use crate::literal::{FloatKind, FormError, IntegerKind, Kind, Literal, Number, Sign, Special, Spelling, Syntax};
 
 mod error;
 #[allow(clippy::question_mark, reason = "as it is proved")]
@@ -127,6 +127,13 @@ impl fmt::Display for Plain<'_> {
             _ => write("e", Part::Exponent),
         }
     }
+}
+
+/// What is known at once of a text: its value, or where reading stops if it is not a literal.
+pub(crate) enum Decimal<T> {
+    Value(T),
+    Stopped(At),
+    Unknown,
 }
 
 /// Makes the conversions to types, by their calls for literals, and for NaN and infinity.
@@ -342,31 +349,48 @@ impl Syntax {
     /// If `text` is not a literal, or if its value is not one of the type, returns why.
     pub fn parse<T: FromLiteral>(&self, text: impl AsRef<[u8]>) -> Result<T, ParseError> {
         let text = text.as_ref();
-        // A decimal literal need not be in memory to have a value, unless its digits have to be looked at again. With up to 19
-        // digits, a number fits 64 bits.
-        if self.is_decimal() {
-            let counted = self.begin(true, text, false);
-            if self.is_whole(text, counted) {
-                if counted.sums.mantissa.digits <= 19 && counted.sums.exponent.digits <= 19 {
-                    if let Ok(value) = T::from_literal(self.literal(text, counted.counts, counted.sums)) {
-                        return Ok(value);
-                    }
-                } else if T::TARGET.has_long_values() {
-                    if let Ok(value) = self.long_value(text, counted.counts, counted.sums) {
-                        return Ok(value);
-                    }
-                }
-            } else if counted.exact {
-                return self.refuse_value(text, counted.at);
-            }
+        match self.parse_decimal(Kind::EXACT, text) {
+            Decimal::Value(value) => Ok(value),
+            Decimal::Stopped(at) => self.refuse_value(text, at),
+            Decimal::Unknown => self.parse_generally(text),
         }
-        self.parse_generally(text)
+    }
+
+    // Returns what is known at once of a text that may be a decimal literal of a kind. It need not be in memory to have a value,
+    // unless its digits have to be looked at again. With up to 19 digits, a number fits 64 bits.
+    #[inline(always)]
+    pub(crate) fn parse_decimal<T: FromLiteral>(&self, kind: Kind, text: &[u8]) -> Decimal<T> {
+        if !self.is_decimal() {
+            return Decimal::Unknown;
+        }
+        let counted = self.begin(true, text, false);
+        if self.is_whole(text, counted) {
+            if counted.sums.mantissa.digits <= 19 && counted.sums.exponent.digits <= 19 {
+                let literal = self.literal(text, counted.counts, counted.sums).with_kind(kind);
+                if let Ok(value) = T::from_literal(literal) {
+                    return Decimal::Value(value);
+                }
+            } else if T::TARGET.has_long_values() {
+                if let Ok(value) = self.long_value(kind, text, counted.counts, counted.sums) {
+                    return Decimal::Value(value);
+                }
+            }
+        } else if self.is_refused(text, counted) {
+            return Decimal::Stopped(counted.at);
+        }
+        Decimal::Unknown
     }
 
     // Returns the value of a literal of many digits. Were it inlined, those of few digits would take longer.
     #[inline(never)]
-    fn long_value<T: FromLiteral>(&self, text: &[u8], counts: [usize; 9], sums: Sums) -> Result<T, ValueErrorKind> {
-        T::from_literal(self.literal(text, counts, sums))
+    fn long_value<T: FromLiteral>(
+        &self,
+        kind: Kind,
+        text: &[u8],
+        counts: [usize; 9],
+        sums: Sums,
+    ) -> Result<T, ValueErrorKind> {
+        T::from_literal(self.literal(text, counts, sums).with_kind(kind))
     }
 
     // Returns what `parse` returns for any text.
@@ -405,7 +429,7 @@ impl Syntax {
     // Returns why `text`, of which reading stopped at `at`, is not a literal.
     #[cold]
     fn refuse_value<T>(&self, text: &[u8], at: At) -> Result<T, ParseError> {
-        Ok(self.refuse(text, at)?)
+        Err(ParseError::Read(FormError { form: 0, name: "", error: self.error_at(text, at) }))
     }
 
     /// Returns whether literals have values of float types: whether the mantissa radix and the exponent base of the format

@@ -52,7 +52,7 @@ impl ValueError {
     }
 
     /// Returns the error of a literal of `size` bytes of a kind.
-    pub(super) const fn of<T: FromLiteral>(kind: ValueErrorKind, size: usize, of: Kind) -> ValueError {
+    pub(crate) const fn of<T: FromLiteral>(kind: ValueErrorKind, size: usize, of: Kind) -> ValueError {
         let bits = match of.integers() {
             IntegerKind::AtMost(bits) | IntegerKind::Wraps(bits) => bits,
             _ => 0,

@@ -2,8 +2,9 @@
 
 //! The value of a literal as a value of an integer type.
 
+use crate::literal::kind::IntegerKind;
 use crate::literal::literal::Literal;
-use crate::literal::value::kind::counted;
+use crate::literal::value::kind::{counted, fewer, keeps, Worth};
 use crate::literal::value::number::integer::Integer;
 use crate::literal::value::number::numeral::{Magnitude, Numeral};
 
@@ -43,12 +44,32 @@ impl ValueErrorKind {
 /// the type, returns which.
 #[inline(always)]
 pub fn to_integer<T: Integer>(literal: &Literal) -> Result<T, ValueErrorKind> {
-    match own_numeral(literal) {
-        Err(error) => Err(error),
-        Ok(numeral) => match T::from_numeral(&numeral) {
-            Some(value) => Ok(value),
-            None => Err(ValueErrorKind::out_of_range(numeral.negative)),
-        },
+    let Some(numeral) = integer_numeral(literal) else {
+        return Err(ValueErrorKind::Float);
+    };
+    if keeps(literal.kind().integers(), &numeral) {
+        in_type(&numeral, numeral.negative)
+    } else {
+        other_integer(literal.kind().integers(), &{ numeral })
+    }
+}
+
+// Returns an integer that the kind may change, as a value of the type.
+#[cold]
+#[inline(never)]
+fn other_integer<T: Integer>(kind: IntegerKind, numeral: &Numeral) -> Result<T, ValueErrorKind> {
+    match fewer(kind, numeral) {
+        Some(Worth { negative, size }) => in_type(&Numeral { negative, magnitude: Magnitude::Word(size) }, negative),
+        None => Err(ValueErrorKind::out_of_range(numeral.negative)),
+    }
+}
+
+// Returns a number as a value of the type.
+#[inline(always)]
+fn in_type<T: Integer>(numeral: &Numeral, negative: bool) -> Result<T, ValueErrorKind> {
+    match T::from_numeral(numeral) {
+        Some(value) => Ok(value),
+        None => Err(ValueErrorKind::out_of_range(negative)),
     }
 }
 

@@ -18,6 +18,20 @@ pub(crate) const fn is_exact(kind: IntegerKind) -> bool {
     matches!(kind, IntegerKind::Exact)
 }
 
+// Returns whether an integer is known to be worth the number that its digits represent. Of each kind, one of 63 bits is.
+#[inline(always)]
+pub(crate) const fn keeps(kind: IntegerKind, numeral: &Numeral) -> bool {
+    match kind {
+        IntegerKind::Exact => true,
+        IntegerKind::AtMost(bits) | IntegerKind::Wraps(bits) | IntegerKind::WrapsModulo(bits) => {
+            match numeral.magnitude {
+                Magnitude::Word(size) => size < half(bits),
+                Magnitude::Digits(_, _) => false,
+            }
+        }
+    }
+}
+
 // Returns what an integer is worth by its kind, or `None` if it is too large.
 #[inline(always)]
 pub(crate) const fn counted<'a>(kind: IntegerKind, numeral: Numeral<'a>) -> Option<Numeral<'a>> {
