@@ -1,8 +1,7 @@
 #!/usr/bin/env python3
-"""Types what CALLING.md tells to type, in a new folder, and ends with the status of `rt check` in the new crate.
+"""Types what CALLING.md tells to type, in a new folder, and ends with the status of `rt ci` of the new crate.
 
-The blocks of the shell run in their order. The copies of the libraries have the proofs that `rt check` or `rt ci` kept
-in this repository.
+The blocks of the shell run in their order. What `rt ci` kept of the libraries in this repository is not proved again.
 """
 import pathlib
 import re
@@ -15,5 +14,5 @@ PAGE = (TOP / "docs/CALLING.md").read_text()
 
 script = "set -eu\n" + "".join(re.findall(r"^```sh\n(.*?)^```", PAGE, re.M | re.S)).replace("PELTZIVAR", str(TOP))
 with tempfile.TemporaryDirectory() as folder:
-    script += f"cd '{folder}/crates/your_crate' && time rt check\n"
+    script += "rt ci your_crate\n"
     sys.exit(subprocess.run(["bash", "-c", script], cwd=folder).returncode)
