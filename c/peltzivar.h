@@ -13,8 +13,8 @@
  *     }
  *
  * Comments behind `//` show what an example prints. Other examples are lines of such a function. The sections are
- * LANGUAGES, VALUES OF TEXTS, COLUMNS, LITERALS, TOKENS, WRITING, FORMS OF YOUR OWN and ERRORS. FORMAT.md, which is
- * installed in share/doc/peltzivar, describes formats.
+ * LANGUAGES, VALUES OF TEXTS, COLUMNS, LITERALS, TOKENS, WRITING, FORMS OF YOUR OWN and ERRORS. FORMAT.md and
+ * FORMS.md, which are installed in share/doc/peltzivar, describe formats, and tokens, kinds and writing.
  *
  * Names: one that ends in _text, and sentence, grammar, regex and source, fills a buffer. One that ends in _name or
  * _description, and rule_condition, returns a constant string. One that begins with forms_, or with parse_ and a type,
@@ -341,7 +341,7 @@ typedef struct {
 } peltzivar_token;
 
 /* Reads the number that a text of len bytes begins with, as a lexer does: the longest literal of a form with the
- * longest of its suffixes, as in `1..2`, `10L;` and `0x1F_u8`. FORMAT.md defines tokens. A text is a number with a
+ * longest of its suffixes, as in `1..2`, `10L;` and `0x1F_u8`. FORMS.md defines tokens. A text is a number with a
  * suffix and nothing else if the `size` of its token is len. Special values are names, and no tokens. If there is a
  * token, writes it to *token and returns true. If a form goes on behind the number without an end, as in `1e+x`, if
  * what follows may not, as in `1abc`, or if there is no number, writes why to *error and returns false. Also refuses
@@ -612,7 +612,7 @@ typedef struct {
 } peltzivar_suffixes;
 
 /* A form of numbers, such as `0x1F`: its name, which may be null, its syntax, its kind, by which the values of its
- * literals are found, and its suffixes, or null. FORMAT.md describes kinds: integers have at most integer_bits bits, or
+ * literals are found, and its suffixes, or null. FORMS.md describes kinds: integers have at most integer_bits bits, or
  * wrap at them, and so may be negative, and floats are the nearest single, or else the nearest value of the type.
  * integer_bits is from 1 to 64, or 0 for exact integers. Zeros are exact integers and nearest floats. */
 typedef struct {

@@ -16,9 +16,9 @@ PAGE = TOP / "docs/LANGUAGES.md"
 TABLES = TOP / "rust/src/literal/language/tables.rs"
 HEAD = """# Languages
 
-`Language` has a constant for each of these languages and files: a name and a list of [forms](FORMAT.md#several-forms).
+`Language` has a constant for each of these languages and files: a name and a list of [forms](FORMS.md#several-forms).
 `Language::RUST.read("0x1F")` finds the first form of which a text is a number, `parse` its value, and `token` a number
-in [source text](FORMAT.md#tokens), with its suffix, such as the `L` of `1L`, which `read` refuses. C, Python and the
+in [source text](FORMS.md#tokens), with its suffix, such as the `L` of `1L`, which `read` refuses. C, Python and the
 explorer have the same lists. `cargo run --example languages -- 0x1F` prints which languages read a text, and without a
 text the syntax of each form. What no format can express is in [FORMAT](FORMAT.md#what-a-format-cannot-express).
 
@@ -27,7 +27,7 @@ other languages, `-` is an operator: they refuse `-5`, so read what is behind it
 
 A form reads an optional sign, `.5` and `1.` beside `1.5`, and exponents with `e` or `E`, unless its row says otherwise:
 *integers* have neither a point nor an exponent, and a prefix is required. Values are those of the numbers, unless a
-form has a [kind](FORMAT.md#kinds).
+form has a [kind](FORMS.md#kinds).
 
 [languages.py](languages.py) writes this page from the [constants](../rust/src/literal/language/tables.rs). Each language
 of which Debian has a tool is [compared with it](../compare/README.md#languages-and-their-tools).

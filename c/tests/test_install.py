@@ -132,7 +132,7 @@ endforeach()
         self.assertEqual({mode for path, mode in modes.items() if ".so" not in path}, {0o644}, modes)
         self.assertEqual({mode for path, mode in modes.items() if ".so" in path}, {0o755}, modes)
         names = {"headers/peltzivar.h", "headers/peltzivar_words.h", "lib here/libpeltzivar_c.a", "share/doc/peltzivar/LICENSE"}
-        names |= {f"share/doc/peltzivar/{it}.md" for it in ("FORMAT", "EXPLANATIONS", "SETTINGS")}
+        names |= {f"share/doc/peltzivar/{it}.md" for it in ("FORMAT", "FORMS", "EXPLANATIONS", "SETTINGS")}
         self.assertEqual(names - set(modes), set())
         written = (root / "lib here/pkgconfig/peltzivar.pc").read_text()
         self.assertRegex(written, r"\Aprefix=/usr/my own\nlibdir=\${prefix}/lib here\nincludedir=\${prefix}/headers\n")

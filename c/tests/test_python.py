@@ -785,7 +785,7 @@ def written(wishes, zeros, number, exponent):
 
 
 class Lists(unittest.TestCase):
-    """Loops over what the module lists. Their models are integers of Python and the definitions of docs/FORMAT.md."""
+    """Loops over what the module lists. Their models are integers of Python and the definitions of docs/FORMS.md."""
 
     def test_integers_have_the_values_of_their_kinds_in_each_radix_however_they_are_asked_for(self):
         for radix, base, kind in itertools.product(range(2, 37), (None, 3), KINDS):

@@ -33,8 +33,8 @@
 //! | convert words that `lexical-util` stored | [`edits::migrate`] |
 //!
 //! [`docs::rust`] has more of each task. [`docs::format`] defines each flag and rule, and which texts are numbers,
-//! [`docs::explanations`] why a text is not one, and [`docs::settings`] how settings are written. [`docs::changelog`] lists
-//! what does not change until 2.0.
+//! [`docs::forms`] numbers of several forms, tokens, and what is written, [`docs::explanations`] why a text is not a number,
+//! and [`docs::settings`] how settings are written. [`docs::changelog`] lists what does not change until 2.0.
 //!
 //! # From `lexical-util`
 //!
@@ -82,6 +82,8 @@ pub mod docs {
     pub mod explanations {}
     #[doc = include_str!("../FORMAT.txt")]
     pub mod format {}
+    #[doc = include_str!("../FORMS.txt")]
+    pub mod forms {}
     #[doc = include_str!("../RUST.txt")]
     pub mod rust {}
     #[doc = include_str!("../SETTINGS.txt")]

@@ -1,4 +1,4 @@
-//! Lists read as FORMAT states: the first form of which a text is a literal, then special values, then the error of the form that
+//! Lists read as FORMS states: the first form of which a text is a literal, then special values, then the error of the form that
 //! goes furthest. The rule is written here over what each form alone reads. Lists are those of languages, and others of their forms.
 
 #[path = "../../compare/rust/src/random.rs"]

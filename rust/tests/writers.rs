@@ -473,7 +473,7 @@ fn the_style_and_conditions_decide_on_prefix_suffix_and_groups() {
     assert_eq!(texts, ["FFF", "F,FFF", "FF,FFF", "FF,FF,FFF"]);
 }
 
-/// The expected texts are those of C and NASM, and for the last rows, of docs/FORMAT.md.
+/// The expected texts are those of C and NASM, and for the last rows, of docs/FORMS.md.
 #[test]
 fn a_zero_is_written_where_a_number_may_not_begin_with_another_digit() {
     let plain = Style::PLAIN;

@@ -23,7 +23,7 @@ CRATES = RUST.parent / "crates"
 
 # The beginning of each generated file.
 MADE = "// Made by rust/tools/erase.py"
-PAGES = ("RUST", "FORMAT", "EXPLANATIONS", "SETTINGS", "CHANGELOG")
+PAGES = ("RUST", "FORMAT", "FORMS", "EXPLANATIONS", "SETTINGS", "CHANGELOG")
 
 # For each crate, the folder of its files in plain Rust, the path of the libraries below it, its own, and the standard
 # library that it uses.
