@@ -16,7 +16,7 @@ const UNREADABLE = [
     [/^\((.+)\)$|^([^-].*)-$/g, "is a negative number in a way that no format has: replace it by one with `-`", "-$1$2"],
     [/\s*%$/g, "is a percent sign: divide the value by 100, and remove it", ""],
     [/\s*\p{Sc}\s*/gu, "is a currency sign: remove it", ""],
-    [/(?<=^[+-]?\.?\d([\w.,']*[\da-f.])?)_?[g-nq-wyz]\w*$|(?<=^[+-]?[\d._]*\d\.?)_?[fd](32|64|128)?$|(?<=\d) [a-z]+$/gi,
+    [/(?<!^[+-]?0(?=[dhqty]\w))(?<=^[+-]?\.?\d([\w.,']*[\da-f.])?)_?[g-nq-wyz]\w*$|(?<=^[+-]?[\d._]*\d\.?)_?[fd](32|64|128)?$|(?<=\d) [a-z]+$/gi,
         "can be a suffix, which no format has: `token` reads it, with your suffixes. Remove it", ""],
 ];
 
@@ -28,8 +28,7 @@ function digitOf(digit) {
     return String([...Array(10).keys()].find((it) => !isDigit(digit.codePointAt() - it - 1)));
 }
 
-/* Returns what a text must lose before it is read, in words, and the text then. Of what no format has, returns what FORMAT
- * tells, and the row of what no format can express. */
+/* Returns in words what a text must lose, with the text then, or what no format can express, with its row in FORMAT. */
 function adviceFor(text) {
     const [, row] = IMPOSSIBLE.find(([pattern]) => pattern.test(text.normalize("NFKC"))) ?? [];
     if (typeof row === "string") return [{ words: `\`${text}\` ${row}` }];
@@ -40,7 +39,8 @@ function adviceFor(text) {
     return UNREADABLE.flatMap(([pattern, told, other]) => {
         const [found] = text.match(pattern) ?? [];
         if (!found) return [];
-        const shown = /[!-~]/.test(found.trim()[0] ?? "") ? found.trim() : visible((found.trim() || found).replace(/[^ -~]/u, (it) => `U+${it.codePointAt().toString(16).toUpperCase().padStart(4, "0")}`));
+        const lost = found.trim() || found;
+        const shown = /^[!-~]/.test(lost) ? lost : visible(lost.replace(/[^ -~]/u, numberOf));
         return [{ words: `\`${shown}\` ${told} before the number is read.`, text: text.replace(pattern, other) }];
     });
 }

@@ -20,7 +20,7 @@ PAGE = HERE / "index.html"
 FORMAT = (TOP / "docs/FORMAT.md").read_text()
 LANGUAGES = (TOP / "docs/LANGUAGES.md").read_text()
 SCRIPTS = ("library", "element", "words", "controls", "code", "report", "advice", "literal", "page")
-MOST_BYTES = 245_000
+MOST_BYTES = 240_000
 TARGET = "wasm32-unknown-unknown"
 OPTIONS = [f"--target={TARGET}", "-Ctarget-feature=+bulk-memory", "-Copt-level=s", "-Cpanic=abort", "--cfg=peltzivar_small", "--cap-lints=allow"]
 NO_COMPILER = f"no compiler has the target {TARGET}: `rustup target add {TARGET}`, or `apt-get install rustc-web rust-web-src lld`"
@@ -40,11 +40,6 @@ SHORT = {"ADA", "GO", "JAVA", "LUA", "RUBY", "RUST"}
 BYTE_PARTS = {"digit_separator": "separator", "base_prefix": "base", "base_suffix": "base", "mantissa_radix": "digits"}
 
 
-def rows(pattern):
-    """Returns the rows of FORMAT's tables with this pattern."""
-    return re.findall(pattern, FORMAT, re.M) or sys.exit(f"docs/FORMAT.md: no row {pattern}")
-
-
 def section(title):
     """Returns the text of a section of FORMAT."""
     return FORMAT.partition(f"\n## {title}\n\n")[2].partition("\n## ")[0] or sys.exit(f"docs/FORMAT.md: no section {title}")
@@ -54,7 +49,7 @@ def table(text):
     """Returns a table in Markdown as HTML. Links become their texts."""
     text = text.strip().replace("&", "&amp;").replace("<", "&lt;")
     text = re.sub(r"`([^`]*)`", r"<code>\1</code>", re.sub(r"\[([^\]]*)\]\([^)]*\)", r"\1", text))
-    head, _, *body = (re.findall(r"(?<=\| ).*?(?= \|)", line) for line in text.splitlines())
+    head, _, *body = map(cells, text.splitlines())
     lines = [f"<th>{'<th>'.join(head)}", *(f"<td>{'<td>'.join(line)}" for line in body)]
     return "<table>" + "".join(f"<tr>{line}" for line in lines) + "</table>"
 

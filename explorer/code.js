@@ -12,8 +12,7 @@ const COMMENTS = {
     python: (name) => `# The reader of all forms is peltzivar.languages.${name}.\n`,
 };
 
-/* Returns a text between double quotes. Characters that are not plain are written by a function of their numbers. In C, `??`
- * begins a trigraph. */
+/* Returns a text between double quotes, in which `escape` writes what is not plain. In C, `??` begins a trigraph. */
 function literalText(text, escape) {
     const characters = [...text.replace(/\p{Surrogate}/gu, "\ufffd")];
     const special = escape === cEscape ? /[^ -~]|["\\?]/ : /[^ -~]|["\\]/;
@@ -43,7 +42,7 @@ class Code {
     /* Returns the text of a tab for a list, one of whose forms is shown, and the answers for its numbers. */
     text(tab, { forms, specials = SPECIALS }, shown, tests) {
         const bad = forms.find(({ problems }) => problems.length);
-        const quoted = this.library.get(forms[0].word, "no_special") ? [] : specials.map((it) => JSON.stringify(it));
+        const quoted = this.library.value(forms[0], "no_special") ? [] : specials.map((it) => JSON.stringify(it));
         // The normal form is the same format, and a builder makes it.
         const built = forms.map((form) => ({ ...form, word: form.isBuilt ? form.word : form.normal }));
         if (tab === "settings") return this.settings(shown);
@@ -87,7 +86,7 @@ ${this.rustTest(tests)}`;
     rustForm(form) {
         const { name, exponent, point } = form;
         const changes = this.library.differences(form);
-        const calls = changes.filter(({ name }) => this.library.named.has(name)).map(({ name, isByte, isNumber, value }) => {
+        const calls = changes.filter(({ holder }) => holder === "word").map(({ name, isByte, isNumber, value }) => {
             const byte = isNumber ? String(value) : character(value, "b");
             const optional = value ? `NonZeroU8::new(${byte})` : "None";
             return `.${name}(${!isByte ? Boolean(value) : name === "mantissa_radix" ? byte : optional})`;
@@ -95,7 +94,7 @@ ${this.rustTest(tests)}`;
         const format = ["NumberFormatBuilder::new()", ...calls, ".build_format_or_panic()"].join("\n            ");
         const options = [exponent, point].map((it) => `, ${character(it, "b")}`).join("");
         const syntax = exponent || point ? `new_or_panic(\n        ${format}${options}` : `integers(\n        ${format}`;
-        const conditions = changes.filter(({ shift, isKind }) => shift !== undefined && !isKind).map(({ name, isNumber, value }) => {
+        const conditions = changes.filter(({ holder, isKind }) => holder === "conditions" && !isKind).map(({ name, isNumber, value }) => {
             return `\n            .${name}(${isNumber ? `Some(${value})` : "true"})`;
         });
         const set = conditions.length ? `\n        .with_conditions_or_panic(Conditions::NONE${conditions.join("")})` : "";
@@ -115,7 +114,12 @@ ${this.rustTest(tests)}`;
     c(forms, specials, tests) {
         const settings = (form) => this.lines(form).map((line) => `\n    ${JSON.stringify(`${line}\n`)}`).join("") || '\n    ""';
         const all = forms.map((form) => `    /* ${wordText(form.word)} */${settings(form)},\n`).join("");
-        const names = forms.map((form) => `\n    {.name = ${literalText(form.name, cEscape)}${this.cKind(form)}},`).join("");
+        const kind = (form) => {
+            const [integers, bits, single] = this.kind(form, ["", "AT_MOST", "WRAP", "WRAP_MODULO"]);
+            const ofIntegers = bits && `, .integer_kind = PELTZIVAR_INTEGERS_${integers}, .integer_bits = ${bits}`;
+            return ofIntegers + (single ? ", .float_kind = PELTZIVAR_FLOATS_SINGLE" : "");
+        };
+        const names = forms.map((form) => `\n    {.name = ${literalText(form.name, cEscape)}${kind(form)}},`).join("");
         const spelled = specials.length ? `, .specials = {${specials.join(", ")}}` : "";
         return `#include "peltzivar.h"
 #include <string.h>
@@ -143,13 +147,6 @@ bool read_number(const char *text, peltzivar_literal *literal, peltzivar_special
         || peltzivar_forms_read_special(&FORMS, text, strlen(text), special);
 }
 ${this.cTest(tests)}`;
-    }
-
-    /* Returns the kind of a form as members of it. */
-    cKind(form) {
-        const [integers, bits, single] = this.kind(form, ["", "AT_MOST", "WRAP", "WRAP_MODULO"]);
-        const ofIntegers = bits && `, .integer_kind = PELTZIVAR_INTEGERS_${integers}, .integer_bits = ${bits}`;
-        return ofIntegers + (single ? ", .float_kind = PELTZIVAR_FLOATS_SINGLE" : "");
     }
 
     cTest(tests) {
@@ -194,10 +191,9 @@ def read(text):
 ${tests.length ? test : ""}`;
     }
 
-    /* Returns the kind of a form: that of its integers by one of four names, their bits or an empty text, and whether its
-     * floats are single. */
+    /* Returns the kind of a form: one of four names and the bits of its integers, and whether its floats are single. */
     kind(form, names) {
-        const numbers = KINDS.map(({ name }) => this.library.value(form, this.library.condition(name)));
+        const numbers = KINDS.map(({ name }) => this.library.value(form, name));
         const place = numbers.slice(0, 3).findIndex(Boolean);
         return [names[place + 1], numbers[place] ?? "", numbers[3]];
     }

@@ -8,8 +8,8 @@ function examples({ accepts = [], refuses = [], part }) {
 }
 
 class Controls {
-    constructor(library, edit) {
-        Object.assign(this, { library, edit, boxes: new Map(), inputs: new Map() });
+    constructor(library, calls) {
+        Object.assign(this, { library, ...calls, inputs: new Map() });
         this.makeBytes();
         this.makeFlags();
         this.makeSeparators();
@@ -26,9 +26,7 @@ class Controls {
             const numbers = [0, ...Array.from({ length: most - least + 1 }, (_, index) => least + index)];
             return element("select", attributes, numbers.map((value) => element("option", { value }, value || "none")));
         }
-        const box = element("input", { type: "checkbox", ...attributes });
-        if (this.library.named.has(name)) this.boxes.set(name, box);
-        return box;
+        return element("input", { type: "checkbox", ...attributes });
     }
 
     makeFlags() {
@@ -90,13 +88,11 @@ class Controls {
 
     byteRow(field) {
         const { name, title = name.replace("_", " "), part = "option", meaning, isNumber = false } = field;
-        const problem = element("span", { class: "problem", id: `${name}-problem`, role: "status" });
         let before;
         /* While a text is refused, the byte is the one before the text was typed. */
-        const input = (event) => {
-            const { value, error } = this.parsed(name, title, isNumber, event.target.value);
-            problem.replaceChildren(...withCode(error ?? ""));
-            event.target.setAttribute("aria-invalid", String(Boolean(error)));
+        const input = () => {
+            const { value, error = "" } = this.parsed(name, title, isNumber, box.value);
+            tell(box, error);
             this.edit(name, value ?? before, name);
         };
         const focus = () => (before = isRefused(box) ? before : this.inputs.get(name).byte);
@@ -105,17 +101,17 @@ class Controls {
         const told = { "aria-describedby": `${name}-meaning`, "aria-errormessage": `${name}-problem` };
         const box = element("input", { id: name, ...listeners, ...told, autocomplete: "off", spellcheck: "false", placeholder: "none" });
         const other = element("span", { class: "other" });
-        this.inputs.set(name, { box, other, problem, isNumber });
+        this.inputs.set(name, { box, other, isNumber });
         const label = element("label", { for: name }, element("span", { class: `dot ${part}` }), title);
         const text = element("span", { class: "meaning", id: `${name}-meaning` }, withCode(meaning));
+        const problem = element("span", { class: "problem", id: `${name}-problem`, role: "status" });
         const all = [label, box, other, problem, text, element("span", { class: "name" }, name)];
         return element("div", { class: "byte-row control field", "data-field": name }, all);
     }
 
     /* Returns {value} of a typed text: a number, a character, the name of one, or an empty text; or {error}. */
     parsed(name, title, isNumber, text) {
-        const isOption = OPTIONS.some((option) => option.name === name);
-        const setter = isOption ? "digit_separator" : name;
+        const setter = this.library.named.get(name).holder ? name : "digit_separator";
         const known = Object.keys(NAMES).find((byte) => NAMES[byte] === text.toUpperCase());
         const first = this.library.parse(setter, (!isNumber && known) || text || "none");
         const { value, error } = !first.error || isNumber ? first : this.library.parse(setter, `'${text}'`);
@@ -126,19 +122,13 @@ class Controls {
     /* Shows a state: a word, an exponent character and a decimal point. */
     show(state) {
         this.shown = state;
-        for (const [name, box] of this.boxes) {
-            const { mask } = this.library.named.get(name);
-            box.checked = (state.word & mask) === mask;
-            box.indeterminate = !box.checked && (state.word & mask) !== 0n;
+        const { flags, groups, conditions } = this.library;
+        for (const { name, holder, mask } of [...flags, ...groups, ...conditions]) {
+            const [value, box] = [this.library.value(state, name), find(name)];
+            const marks = { checked: Boolean(value), indeterminate: !value && (state[holder] & mask) !== 0n };
+            Object.assign(box, box.options ? { value } : marks);
         }
-        for (const { name } of this.library.bytes) {
-            this.showByte(name, this.library.get(state.word, name), this.library.effective(state.word, name));
-        }
-        for (const { name } of OPTIONS) this.showByte(name, state[name], state[name]);
-        for (const field of this.library.conditions) {
-            const value = this.library.value(state, field);
-            Object.assign(find(field.name), field.isNumber ? { value } : { checked: Boolean(value) });
-        }
+        for (const name of this.inputs.keys()) this.showByte(name, this.library.value(state, name), this.library.effective(state, name));
     }
 
     /* Shows a byte, its name and numbers, or what an absent one means. A refused text stays until its byte changes. */
@@ -157,9 +147,8 @@ class Controls {
 
     /* Writes a byte into its box, in place of a typed text. */
     fill(name) {
-        const { box, problem, text } = this.inputs.get(name);
+        const { box, text } = this.inputs.get(name);
         box.value = text;
-        setText(problem, "");
-        box.removeAttribute("aria-invalid");
+        tell(box, "");
     }
 }

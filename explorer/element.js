@@ -41,6 +41,12 @@ function setText(node, text) {
     if (node.textContent !== text) node.textContent = text;
 }
 
+/* Shows below an input why its text is refused, or a note on one that is not. */
+function tell(box, text, isBad = Boolean(text)) {
+    find(box.getAttribute("aria-errormessage")).replaceChildren(...withCode(text));
+    box.setAttribute("aria-invalid", String(isBad));
+}
+
 /* Returns whether the text of an input is refused. */
 function isRefused(box) {
     return box.getAttribute("aria-invalid") === "true";
@@ -66,21 +72,29 @@ function named(names) {
 
 /* Returns a text in which characters that cannot be seen have their numbers. */
 function visible(text) {
-    return text.replace(/[\p{Cf}\p{Cc}\p{Zl}\p{Zp}]|(?! )\p{Zs}/gu, (it) => `U+${it.codePointAt().toString(16).toUpperCase().padStart(4, "0")}`);
+    return text.replace(/[\p{Cf}\p{Cc}\p{Zl}\p{Zp}]|(?! )\p{Zs}/gu, numberOf);
 }
 
-/* Of the buttons of a group, one is a tab stop. Arrows lead to the others. */
+/* Returns the number of a character as Unicode writes it. */
+function numberOf(character) {
+    return `U+${character.codePointAt().toString(16).toUpperCase().padStart(4, "0")}`;
+}
+
+/* Of the buttons of a group and of tabs, one is a tab stop. Arrows lead to the others, and open tabs. */
+const ROVERS = ".rover, [role=tab]";
+
 function oneStop(group, stop) {
-    const all = [...group.querySelectorAll(".rover")];
+    const all = [...group.querySelectorAll(ROVERS)];
     for (const it of all) it.tabIndex = it === (all.includes(stop) ? stop : all[0]) ? 0 : -1;
 }
 
 function rove({ key, target }) {
     const step = { ArrowRight: 1, ArrowDown: 1, ArrowLeft: -1, ArrowUp: -1 }[key];
-    if (!step || !target.matches(".rover")) return;
-    const group = target.closest(".roving");
-    const all = [...group.querySelectorAll(".rover")];
+    if (!step || !target.matches(ROVERS)) return;
+    const group = target.closest(".roving, [role=tablist]");
+    const all = [...group.querySelectorAll(ROVERS)];
     const next = all.at((all.indexOf(target) + step) % all.length);
-    oneStop(group, next);
+    if (next.matches("[role=tab]")) next.click();
+    else oneStop(group, next);
     next.focus();
 }

@@ -1,6 +1,5 @@
 //! Texts that tell two formats apart: one accepts them and the other refuses them, or both give them other values.
 
-use alloc::string::ToString;
 use alloc::vec::Vec;
 use core::mem::{discriminant, Discriminant};
 use core::num::NonZeroU8;
@@ -72,8 +71,7 @@ fn try_texts(forms: &List, others: &List, each: &mut dyn FnMut(Vec<u8>)) {
     try_specials(State { specials: others.states[0].specials, ..forms.states[0] }, each);
 }
 
-/// Calls `each` with an integer that has another value by its kind, in the radix of a state, with its prefix, its suffix, or
-/// a zero.
+/// Calls `each` with an integer that has another value by its kind: in the radix, also with the prefix, suffix or a zero.
 fn try_integers(state: State, kind: IntegerKind, each: &mut dyn FnMut(Vec<u8>)) {
     let mut number: u128 = match kind {
         IntegerKind::AtMost(bits) => 1 << bits,
@@ -81,14 +79,12 @@ fn try_integers(state: State, kind: IntegerKind, each: &mut dyn FnMut(Vec<u8>)) 
         _ => return,
     };
     let radix = FormatView::new(state.word).mantissa_radix();
-    let mut digits = if radix == 10 { number.to_string().into_bytes() } else { Vec::new() };
-    while radix.is_power_of_two() && number > 0 {
-        digits.extend(char::from_digit(number as u32 & (radix - 1), radix).map(|it| it as u8));
-        number >>= radix.trailing_zeros();
+    let mut digits = Vec::new();
+    while number > 0 {
+        digits.extend(char::from_digit((number % u128::from(radix)) as u32, radix).map(|it| it as u8));
+        number /= u128::from(radix);
     }
-    if radix != 10 {
-        digits.reverse();
-    }
+    digits.reverse();
     for (before, behind) in [("", ""), ("0x", ""), ("", "h"), ("0", "h")] {
         let end = |part| text_of(state, [part, "", "", "", "", ""]);
         if let (Some(before), Some(behind)) = (end(before), end(behind)) {
@@ -118,9 +114,8 @@ pub struct Example {
     cause: Cause,
 }
 
-/// Why a text is an example, of which one for each cause is enough: the spelling of a special value that is refused; the cause of a
-/// refusal with the flags to blame, and the role that the wrong byte has where the text is accepted; or the forms that read
-/// a text, and the types of the values.
+/// Why a text is an example, one of each cause: the spelling of a refused special value; the kind of a refusal, the flags to
+/// blame, and the role of the wrong byte where it is accepted; or the forms that read the text, and the types of its values.
 #[derive(PartialEq)]
 enum Cause {
     Special(Spelling),

@@ -73,25 +73,21 @@ pub fn state_of(form: &Form) -> State {
     State { word, exponent, point, conditions, kind, specials: Specials::default() }
 }
 
-/// Returns the kind of four numbers: three kinds of integers by their bits, of which the first that is not 0 counts, and
-/// whether floats are single.
+/// The kinds of integers, each with its bits.
+const KINDS: [fn(u8) -> IntegerKind; 3] = [IntegerKind::AtMost, IntegerKind::Wraps, IntegerKind::WrapsModulo];
+
+/// Returns the kind of numbers: the bits of each kind of integers, of which one is not 0, and whether floats are single.
 fn kind_of(numbers: &[u8]) -> Kind {
-    let kinds = [IntegerKind::AtMost, IntegerKind::Wraps, IntegerKind::WrapsModulo];
-    let integers =
-        kinds.into_iter().zip(numbers).find(|it| *it.1 > 0).map_or(IntegerKind::Exact, |(kind, &it)| kind(it));
-    let floats = if numbers[kinds.len()] > 0 { FloatKind::Single } else { FloatKind::Nearest };
+    let integers = KINDS.iter().zip(numbers).find(|it| *it.1 > 0).map_or(IntegerKind::Exact, |(kind, &it)| kind(it));
+    let floats = if numbers[KINDS.len()] > 0 { FloatKind::Single } else { FloatKind::Nearest };
     Kind::new(integers, floats).unwrap_or(Kind::EXACT)
 }
 
 /// Returns the numbers of which [`kind_of`] makes the kind.
 pub fn numbers_of(kind: Kind) -> [u8; 4] {
-    let single = u8::from(kind.floats() == FloatKind::Single);
-    match kind.integers() {
-        IntegerKind::AtMost(bits) => [bits, 0, 0, single],
-        IntegerKind::Wraps(bits) => [0, bits, 0, single],
-        IntegerKind::WrapsModulo(bits) => [0, 0, bits, single],
-        _ => [0, 0, 0, single],
-    }
+    let bits = |make: fn(u8) -> IntegerKind| (1..=64).find(|&bits| make(bits) == kind.integers()).unwrap_or(0);
+    let [at_most, wraps, modulo] = KINDS.map(bits);
+    [at_most, wraps, modulo, u8::from(kind.floats() == FloatKind::Single)]
 }
 
 /// The value of a number: an integer by its sign and size, and a float by its bits. A number that is too large for its kind

@@ -3,12 +3,14 @@
  * forms of numbers, and the spellings of special values unless these are the usual ones. */
 "use strict";
 
-/* How many bytes a text may have, and how many explanations are kept. */
-const [MOST_TEXT, MOST_KNOWN] = [60000, 500];
+/* How many bytes a text may have, and how many characters the texts of kept answers. */
+const [MOST_TEXT, MOST_ANSWERED] = [60000, 500000];
+/* The members of answers that are large numbers. */
+const WORDS = ["word", "normal", "conditions", "mask"];
 /* The options of a parser, which are not in the word. If both are 0, numbers are integers alone. */
 const OPTIONS = [
     { name: "exponent", part: "exponent", isByte: true, title: "exponent character", meaning: "an option of the parser, such as the `e` in `1e5`" },
-    { name: "point", isByte: true, title: "decimal point", meaning: "an option of the parser, such as the `.` in `1.5`" },
+    { name: "point", part: "option", isByte: true, title: "decimal point", meaning: "an option of the parser, such as the `.` in `1.5`" },
 ];
 const STANDARD_OPTIONS = { exponent: 101, point: 46, conditions: 0n };
 /* The kind of a form, as numbers behind those of the conditions. Of those of integers, one is set. */
@@ -22,26 +24,31 @@ const KINDS = [
 const SPECIALS = ["NaN", "inf", "infinity"];
 
 class Library {
-    constructor(calls, { flags, groups, bytes, conditions }) {
-        this.calls = calls;
+    constructor(calls, { flags, groups, bytes, conditions, languages }) {
+        Object.assign(this, { calls, answers: new Map(), answered: 0 });
+        const facts = this.call("facts");
+        this.languages = facts.languages.map((it) => ({ ...it, ...languages[it.name] }));
+        const maskOf = (bits) => bits.reduce((mask, bit) => mask | (1n << BigInt(bit)), 0n);
+        this.flags = flags.map((it) => ({ ...it, holder: "word", mask: maskOf([it.bit]) }));
+        this.groups = groups.map((it) => ({ ...it, holder: "word", mask: maskOf(it.bits) }));
+        const byteAt = (bit) => ({ mask: 255n << BigInt(bit), shift: BigInt(bit) });
+        this.bytes = bytes.map((it) => ({ ...it, holder: "word", isByte: true, ...byteAt(it.bit) }));
         /* The conditions are the bytes of a number. Those of integers of a kind exclude each other. */
-        const limits = this.call("limits", "");
+        const limited = conditions.map((it, index) => (it.isNumber ? { ...it, limits: facts.limits[index] } : it));
         const kinds = KINDS.map((it) => ({ ...it, isKind: true, isNumber: Boolean(it.limits) }));
         const ofIntegers = 0xffffffn << BigInt(8 * conditions.length);
-        const limited = conditions.map((it, index) => (it.isNumber ? { ...it, limits: limits[index] } : it));
         this.conditions = [...limited, ...kinds].map((it, index) => {
-            const [shift, mask] = [BigInt(8 * index), 255n << BigInt(8 * index)];
-            return { ...it, part: "option", mask, shift, clears: mask & ofIntegers ? ofIntegers : mask };
+            const byte = byteAt(8 * index);
+            return { ...it, ...byte, part: "option", holder: "conditions", clears: byte.mask & ofIntegers ? ofIntegers : byte.mask };
         });
-        this.flags = flags.map((flag) => ({ ...flag, mask: 1n << BigInt(flag.bit) }));
-        this.bytes = bytes.map((byte) => ({ ...byte, isByte: true, mask: 255n << BigInt(byte.bit) }));
-        this.groups = groups.map((it) => ({ ...it, mask: it.bits.reduce((mask, bit) => mask | (1n << BigInt(bit)), 0n) }));
-        /* The fields in the order of their bits, and all that has a setter by its name. */
+        /* The fields in the order of their bits, all that differs in states, and all that can be set by its name. */
         this.fields = [...this.flags, ...this.bytes];
-        this.named = new Map([...this.fields, ...this.groups].map((field) => [field.name, field]));
-        this.known = this.fields.reduce((all, { mask }) => all | mask, 0n);
-        this.usual = { word: this.build([]).word, ...STANDARD_OPTIONS, name: "" };
-        this.explained = new Map();
+        this.differing = [...this.fields, ...OPTIONS, ...this.conditions];
+        const reserved = { name: "reserved", holder: "word", mask: 0n };
+        this.named = new Map([...this.differing, ...this.groups, reserved].map((field) => [field.name, field]));
+        const [word, numbers] = [this.fields, this.conditions].map((all) => all.reduce((known, { mask }) => known | mask, 0n));
+        this.known = { word, conditions: numbers };
+        this.usual = { word: this.call("build").word, ...STANDARD_OPTIONS, name: "" };
     }
 
     /* Returns a library from its compressed WebAssembly. */
@@ -51,51 +58,38 @@ class Library {
         return new Library(instance.exports, data);
     }
 
-    /* Returns the answer of a call that reads this text. */
-    call(name, text) {
-        const { memory, input } = this.calls;
+    /* Returns the answer of a call, as library.rs describes it, for texts and lists of forms. The last answers are kept. */
+    call(name, ...parts) {
+        const text = [name, ...parts.map((it) => (it.forms ? passed(it) : it))].join("\n");
+        if (!this.answers.has(text)) {
+            this.answered += text.length;
+            if (this.answered > MOST_ANSWERED) [this.answered, this.answers] = [text.length, new Map()];
+            this.answers.set(text, this.answer(text));
+        }
+        return this.answers.get(text);
+    }
+
+    answer(text) {
+        const { memory, input, call } = this.calls;
         const bytes = new TextEncoder().encode(text.slice(0, 2 * MOST_TEXT)).subarray(0, 2 * MOST_TEXT);
         new Uint8Array(memory.buffer).set(bytes, input());
-        const answer = BigInt.asUintN(64, this.calls[name](bytes.length));
-        const [start, length] = [answer & 0xffffffffn, answer >> 32n].map(Number);
-        return JSON.parse(new TextDecoder().decode(new Uint8Array(memory.buffer, start, length)));
+        const place = BigInt.asUintN(64, call(bytes.length));
+        const [start, length] = [place & 0xffffffffn, place >> 32n].map(Number);
+        const json = new TextDecoder().decode(new Uint8Array(memory.buffer, start, length));
+        return JSON.parse(json, (name, value) => (WORDS.includes(name) ? BigInt(value) : value));
     }
 
-    /* Returns {word, notes} of a new builder with settings, or {error, index} for the first setting that is none. */
-    build(settings) {
-        const answer = this.call("build", ["", ...settings].join("\n"));
-        return answer.error ? answer : { ...answer, word: BigInt(answer.word) };
-    }
-
-    /* Returns the languages, with what the page tells of each, and their lists of forms. */
-    languages(told) {
-        return this.call("languages", "").map(({ name, specials, forms }) => ({ name, ...told[name], specials, forms: forms.map(numbered) }));
-    }
-
-    /* Returns the languages that read each line of a text, as `readers` of library.rs describes. */
-    readers(text) {
-        return this.call("readers", `\n${text}`);
-    }
-
-    /* Returns what `explain` of library.rs describes, with its problems: reasons, and why options and conditions do not fit,
-     * each with its text and the fields that it blames. */
+    /* Returns what `explain` of library.rs describes. Each of its problems and notes has a text, and the fields that it blames. */
     explain(form) {
-        const key = passed({ forms: [form], specials: [] });
-        if (this.explained.size > MOST_KNOWN) this.explained.clear();
-        if (!this.explained.has(key)) this.explained.set(key, this.explainAnew(form));
-        return this.explained.get(key);
-    }
-
-    explainAnew(form) {
-        const answer = this.call("explain", passed({ forms: [form] }));
+        const { reasons, options, misfits, notes, ...answer } = this.call("explain", { forms: [form], specials: [] });
         const named = ({ text, mask, names, kind }) => {
-            const fields = [...names.split(" ").filter(Boolean), ...this.namesOf(BigInt(mask))];
+            const fields = [...names.split(" ").filter(Boolean), ...this.namesOf(mask)];
             return { text, fields, kind: `${kind} ${fields.join(" ")}` };
         };
-        const [reasons, options, conditions, notes] = ["reasons", "options", "conditions", "notes"].map((it) => answer[it].map(named));
         const taken = "Numbers are read, since no flag allows the separator, but is_valid_options_punctuation refuses this";
-        if (answer.fits) notes.push(...options.splice(0).map((it) => ({ ...it, text: `${it.text}. ${taken}` })));
-        return { ...answer, normal: BigInt(answer.normal), problems: [...reasons, ...options, ...conditions], notes };
+        const [bad, taking] = answer.fits ? [[], options.map((it) => ({ ...it, text: `${it.text}. ${taken}` }))] : [options, []];
+        const [problems, told] = [[...reasons, ...bad, ...misfits], [...notes, ...taking]].map((all) => all.map(named));
+        return { ...answer, problems, notes: told };
     }
 
     /* Returns forms with fewer problems and without this one: one of its fields is absent, cleared, set or a usual character. */
@@ -107,39 +101,21 @@ class Library {
         return fields.map(first).filter(Boolean).sort((a, b) => problems(a).length - problems(b).length);
     }
 
-    condition(name) {
-        return this.conditions.find((it) => it.name === name);
+    /* Returns the value of a field, an option or a condition of a state as a number: 1 for flags that are all set. */
+    value(state, name) {
+        const { holder, mask, shift } = this.named.get(name);
+        if (!holder) return state[name];
+        const bits = state[holder] & mask;
+        return Number(shift === undefined ? bits === mask : bits >> shift);
     }
 
-    /* Returns a state with another value of a field, an option or a condition. */
+    /* Returns a state with another value of a field, an option or a condition. The reserved bits are cleared, as by any edit. */
     with(state, name, value) {
-        const condition = this.condition(name);
-        if (name === "reserved") return { ...state, word: state.word & this.known };
-        if (name in STANDARD_OPTIONS) return { ...state, [name]: value };
-        if (!condition) return { ...state, word: this.put(state.word, name, value) };
-        const others = state.conditions & ~(value ? condition.clears : condition.mask);
-        return { ...state, conditions: others | (BigInt(value) << condition.shift) };
-    }
-
-    /* Returns an object for each line of a text, as `numbers` of library.rs describes: none if a word is not lawful. */
-    numbers(list, text) {
-        return this.call("numbers", `${passed(list)}\n${text}`);
-    }
-
-    /* Returns what can be done for one line of a text, as `offered` of library.rs describes. */
-    offered(list, line, text) {
-        const { offers, ...others } = this.call("offered", `${passed(list)}\n${line}\n${text}`);
-        return { offers: offers.map(numbered), ...others };
-    }
-
-    /* Returns what the lines of a text are in words, as `summary` of library.rs describes. */
-    summary(list, text) {
-        return this.call("summary", `${passed(list)}\n${text}`);
-    }
-
-    /* Returns texts that tell a list from another one, as `differ` of library.rs describes. */
-    differ(list, other) {
-        return this.call("differ", `${passed(list)}\n${passed(other)}`);
+        const { holder, mask, shift, clears = mask } = this.named.get(name);
+        if (!holder) return { ...state, [name]: value };
+        const others = state[holder] & this.known[holder] & ~(value ? clears : mask);
+        const set = shift === undefined ? (value ? mask : 0n) : BigInt(value) << shift;
+        return { ...state, [holder]: others | set };
     }
 
     /* Returns the form of a text: a syntax as the library prints it, which is a word, two bytes unless numbers are integers
@@ -168,43 +144,24 @@ class Library {
     withConditions(conditions, text, lost = []) {
         return text.split(/[\s,;]+/).filter(Boolean).reduce((all, setting) => {
             const [name, value] = setting.split("=");
-            const { mask, limits: [least, most] = [1, 1] } = this.condition(name) ?? {};
+            const { holder, limits: [least, most] = [1, 1] } = this.named.get(name) ?? {};
             const number = { true: 1, false: 0, none: 0 }[value] ?? Number(value);
-            const isRight = mask && Number.isInteger(number) && (number === 0 || (number >= least && number <= most));
-            if (isRight) return this.with({ conditions: all }, name, number).conditions;
+            const isTaken = Number.isInteger(number) && (number === 0 || (number >= least && number <= most));
+            if (isTaken && holder === "conditions") return this.with({ conditions: all }, name, number).conditions;
             lost.push(setting);
             return all;
         }, conditions);
     }
 
-    /* Returns the value of a field, an option or a condition of a state as a number: 1 for a flag that is set. */
-    value(state, { name, mask, shift }) {
-        if (name in STANDARD_OPTIONS) return state[name];
-        return shift === undefined ? this.get(state.word, name) : Number((state.conditions & mask) >> shift);
-    }
-
     /* Returns {value}, or {error} if the setter does not take the text. A separator needs a flag that allows it. */
     parse(name, text) {
-        const { word, error } = this.build(["digit_separator_flags=true", `${name}=${text.replace("\n", " ")}`]);
-        return error ? { error } : { value: this.get(word, name) };
-    }
-
-    /* Returns the value of a byte, or of a flag or group as a number: 1 if all its bits are set. */
-    get(word, name) {
-        const { mask, bit, isByte } = this.named.get(name);
-        return isByte ? Number((word & mask) >> BigInt(bit)) : Number((word & mask) === mask);
-    }
-
-    /* Returns the word with another value of this field or group. The reserved bits are cleared, as by any edit. */
-    put(word, name, value) {
-        const { mask, bit, isByte } = this.named.get(name);
-        const set = isByte ? BigInt(value) << BigInt(bit) : value ? mask : 0n;
-        return (word & this.known & ~mask) | set;
+        const { word, error } = this.call("build", "digit_separator_flags=true", `${name}=${text.replace("\n", " ")}`);
+        return error ? { error } : { value: this.value({ word }, name) };
     }
 
     /* Returns the byte, or the mantissa radix in place of an absent exponent byte. */
-    effective(word, name) {
-        return this.get(word, name) || (name.startsWith("exponent") ? this.get(word, "mantissa_radix") : 0);
+    effective(state, name) {
+        return this.value(state, name) || (/^exponent_/.test(name) ? this.value(state, "mantissa_radix") : 0);
     }
 
     /* Returns a typed byte: a number or a character. Returns undefined if it is neither. */
@@ -212,11 +169,10 @@ class Library {
         return [text, `'${text}'`].map((it) => this.parse("digit_separator", it).value).find((it) => it !== undefined);
     }
 
-    /* Returns the fields, options and conditions in which a state differs from another one, by default the usual one: each
-     * with its value and its settings in both. */
+    /* Returns what differs in a state from another one, by default the usual one: each with its values and settings in both. */
     differences(state, other = this.usual) {
-        return [...this.fields, ...OPTIONS, ...this.conditions].flatMap((field) => {
-            const [value, before] = [state, other].map((it) => this.value(it, field));
+        return this.differing.flatMap((field) => {
+            const [value, before] = [state, other].map((it) => this.value(it, field.name));
             const [text, old] = [value, before].map((it) => this.setting(field, it));
             return value === before ? [] : [{ ...field, value, before, text, old }];
         });
@@ -228,7 +184,7 @@ class Library {
         const hasAll = (mask & group.mask) === group.mask;
         const rest = hasAll ? mask & ~group.mask : mask;
         const names = this.fields.filter((field) => field.mask & rest).map(({ name }) => name);
-        return [...(hasAll ? [group.name] : []), ...names, ...(mask & ~this.known ? ["reserved"] : [])];
+        return [...(hasAll ? [group.name] : []), ...names, ...(mask & ~this.known.word ? ["reserved"] : [])];
     }
 
     /* Returns a field, an option or a condition and its value as a setting. */
@@ -238,15 +194,15 @@ class Library {
         return `${name}=${isNumber ? value : quoted(value, "")}`;
     }
 
-    /* Returns {word, notes}, and the options and conditions of a text, or {error}. The text is hexadecimal, decimal, or
-     * settings, in which # begins a comment. */
+    /* Returns {word, notes, options} of a text, or {error}: a number, or settings, in which # begins a comment. */
     read(text) {
         const [options, settings, lost] = [{}, [], []];
         const word = text.replace(/\b(\w+)\s*=\s*('.'|[^\s,;#]*)|#.*/g, (_, name, value) => {
             const setting = `${name}=${value}`;
             if (OPTIONS.some((it) => it.name === name)) options[name] = this.byte(/^'.'$/.test(value) ? value[1] : value);
-            else if (!this.conditions.some((it) => it.name === name)) settings.push(...(name ? [setting] : []));
-            else options.conditions = this.withConditions(options.conditions ?? 0n, setting, lost);
+            else if (this.named.get(name)?.holder === "conditions") {
+                options.conditions = this.withConditions(options.conditions ?? 0n, setting, lost);
+            } else if (name) settings.push(setting);
             return "";
         }).replace(/(?<=\w)_(?=\w)|[\s,;]/g, "");
         if (Object.values(options).includes(undefined)) return { error: "An option is not a byte." };
@@ -255,7 +211,7 @@ class Library {
         if (isNumber && BigInt(word) < 1n << 128n) return { word: BigInt(word), options };
         const isEmpty = !text.includes("#") && !settings.length && !Object.keys(options).length;
         if (word || isEmpty) return { error: "This is neither a word nor a list of settings." };
-        const { error, index, ...built } = this.build(settings);
+        const { error, index, ...built } = this.call("build", ...settings);
         const whole = { ...STANDARD_OPTIONS, ...options };
         return error ? { error: `${settings[index]}: ${error}${error.endsWith("?") ? "" : "."}` } : { ...built, options: whole };
     }
@@ -265,11 +221,6 @@ class Library {
 function passed({ forms, specials = SPECIALS }) {
     const options = ({ exponent, point, conditions }) => BigInt(exponent | (point << 8)) | (conditions << 16n);
     return [forms.map((form) => `${form.word}:${options(form)}`).join(" "), ...specials].join("\t");
-}
-
-/* Returns a form that the library returned, with numbers. */
-function numbered(form) {
-    return { ...form, word: BigInt(form.word), conditions: BigInt(form.conditions) };
 }
 
 /* Returns a form without its name. */

@@ -1,6 +1,5 @@
-//! The library for the page, as WebAssembly: calls of the crate `peltzivar`. A call reads a text from `INPUT`, and makes an
-//! answer in JSON, whose address and length it returns. States are passed as lines of the text, each of the states of one or
-//! more forms.
+//! The library for the page, as WebAssembly: calls of the crate `peltzivar`. A call reads lines from `INPUT`, the first of
+//! which names it, and makes an answer in JSON. Lists are passed as lines, each of the states of one or more forms.
 #![no_std]
 
 extern crate alloc;
@@ -10,17 +9,15 @@ use core::alloc::{GlobalAlloc, Layout};
 use core::fmt::Display;
 use core::ops::Range;
 
-use clauses::clauses;
 use examples::{examples, Example};
 use forms::{numbers_of, state_of, states_of, value_of, List, Value};
 use peltzivar::edits::{apply, is_built, normal_form};
 use peltzivar::literal::{
-    Condition, Conditions, ConditionsError, ConditionsErrorKind, FormError, Forms, Language, Number, Specials,
+    Condition, Conditions, ConditionsError, ConditionsErrorKind, FormError, Forms, Language, Number, Special, Specials,
 };
 use peltzivar::{Byte, Cause, Edit, FormatView, NamedByte, NumberFormatBuilder, Reason};
-use suggest::{lines_of, offers, Line, State};
+use suggest::{lines_of, offers, State};
 
-mod clauses;
 mod examples;
 mod forms;
 mod suggest;
@@ -64,10 +61,28 @@ pub extern "C" fn input() -> *mut u8 {
     (&raw mut INPUT).cast()
 }
 
-/// Returns the text of a call: its first line, and the others.
-fn text_of(length: usize) -> (&'static str, &'static [u8]) {
+/// Answers the call of the input, and returns the address and, above it, the length of the answer.
+#[unsafe(no_mangle)]
+pub extern "C" fn call(length: usize) -> u64 {
     // SAFETY: WebAssembly has one thread, and the page writes the text only between calls.
     let text = unsafe { core::slice::from_raw_parts((&raw const INPUT).cast(), length.min(INPUT_SIZE)) };
+    let (name, lines) = first_line(text);
+    let (first, others) = first_line(lines);
+    let answer = match name {
+        "facts" => facts(),
+        "build" => build(utf8(lines)),
+        "explain" => explain(first),
+        "readers" => readers(lines),
+        "numbers" => numbers(first, others),
+        "offered" => offered(first, others),
+        _ => differ(first, utf8(others)),
+    };
+    let text = answer.leak();
+    (text.len() as u64) << 32 | text.as_ptr() as u64
+}
+
+/// Returns the first line of a text, and the others.
+fn first_line(text: &'static [u8]) -> (&'static str, &'static [u8]) {
     let end = text.iter().position(|&byte| byte == b'\n').unwrap_or(text.len());
     (utf8(&text[..end]), text.get(end + 1..).unwrap_or_default())
 }
@@ -76,32 +91,34 @@ fn utf8(bytes: &[u8]) -> &str {
     core::str::from_utf8(bytes).unwrap_or("")
 }
 
-/// Returns the address and, above it, the length of an answer.
-fn answer(text: String) -> u64 {
-    let text = text.leak();
-    (text.len() as u64) << 32 | text.as_ptr() as u64
+/// Returns the limits of each condition; and the name, the spellings of special values, and the forms of each language.
+fn facts() -> String {
+    let limits = |it: &Condition| format!("[{},{}]", it.limits().0, it.limits().1);
+    let languages = Language::ALL.iter().map(|language| {
+        let Specials { nan, inf, infinity } = language.forms().specials();
+        let specials = list([nan, inf, infinity].map(|it| quoted(utf8(it.unwrap_or_default()))).into_iter());
+        let forms = language.forms().as_slice().iter();
+        let forms = forms.map(|it| format!(r#"{{{},"name":{}}}"#, parts_of(state_of(it)), quoted(it.name())));
+        format!(r#"{{"name":"{language}","specials":{specials},"forms":{}}}"#, list(forms))
+    });
+    format!(r#"{{"limits":{},"languages":{}}}"#, list(Condition::ALL.iter().map(limits)), list(languages))
 }
 
-/// Returns the word that settings, one a line behind an empty one, build, with the notes on fields without effect:
-/// `{"word", "notes"}`, or `{"error", "index"}` for the first that is none.
-#[unsafe(no_mangle)]
-pub extern "C" fn build(length: usize) -> u64 {
+/// Returns what settings, one a line, build: `{"word", "notes"}`, or `{"error", "index"}` for the first that is none.
+fn build(settings: &str) -> String {
     let mut builder = NumberFormatBuilder::new();
-    for (index, line) in utf8(text_of(length).1).split('\n').filter(|line| !line.is_empty()).enumerate() {
+    for (index, line) in settings.split('\n').filter(|line| !line.is_empty()).enumerate() {
         match line.parse::<Edit>() {
             Ok(edit) => builder = apply(builder, edit),
-            Err(error) => return answer(format!(r#"{{"error":{},"index":{index}}}"#, quoted(error))),
+            Err(error) => return format!(r#"{{"error":{},"index":{index}}}"#, quoted(error)),
         }
     }
-    let (word, notes) = (word(builder.build_unchecked()), list(builder.notes().map(quoted)));
-    answer(format!(r#"{{"word":{word},"notes":{notes}}}"#))
+    format!(r#"{{"word":{},"notes":{}}}"#, word(builder.build_unchecked()), list(builder.notes().map(quoted)))
 }
 
-/// Returns all that the page shows of a state, which is the first line. If it is a syntax, this includes the sentence, the
-/// grammar and the regular expression of it.
-#[unsafe(no_mangle)]
-pub extern "C" fn explain(length: usize) -> u64 {
-    let Some(state) = states_of(text_of(length).0).next() else { return 0 };
+/// Returns all that the page shows of a state, with a sentence, a grammar and an expression if it is a syntax.
+fn explain(state: &'static str) -> String {
+    let Some(state) = states_of(state).next() else { return "{}".to_string() };
     let view = FormatView::new(state.word);
     let notation = state.syntax().map_or(String::new(), |it| {
         let [sentence, grammar, regex] = [quoted(it.sentence()), quoted(it.grammar()), quoted(it.regex())];
@@ -116,8 +133,8 @@ pub extern "C" fn explain(length: usize) -> u64 {
     };
     let reason = |it: Reason| put(&it, it.mask(), &options_of(it.cause()), it.rule().map_or(0, |it| it as usize + 1));
     let options = view.options_reasons(state.exponent, state.point).filter(|_| !state.is_integers());
-    answer(format!(
-        r#"{{"normal":{},"isBuilt":{},"fits":{},"reasons":{},"options":{},"conditions":{},"notes":{}{notation}}}"#,
+    format!(
+        r#"{{"normal":{},"isBuilt":{},"fits":{},"reasons":{},"options":{},"misfits":{},"notes":{}{notation}}}"#,
         word(normal_form(state.word)),
         is_built(state.word),
         State { conditions: Conditions::NONE, ..state }.syntax().is_some(),
@@ -125,7 +142,7 @@ pub extern "C" fn explain(length: usize) -> u64 {
         list(options.map(reason)),
         list(state.misfits().map(misfit)),
         list(view.notes().map(|it| put(&it, it.mask(), "", 0))),
-    ))
+    )
 }
 
 /// Returns the names of the options that a cause blames.
@@ -138,45 +155,15 @@ fn options_of(cause: Cause) -> String {
     cause.bytes().into_iter().flatten().map(name).collect()
 }
 
-/// Returns the limits of the number of each condition.
-#[unsafe(no_mangle)]
-pub extern "C" fn limits(_: usize) -> u64 {
-    let limits = |it: &Condition| format!("[{},{}]", it.limits().0, it.limits().1);
-    answer(list(Condition::ALL.iter().map(limits)))
-}
-
-/// Returns an object for each language: its name, the spellings of its special values, and the name and the parts of
-/// each form.
-#[unsafe(no_mangle)]
-pub extern "C" fn languages(_: usize) -> u64 {
-    answer(list(Language::ALL.iter().map(|language| {
-        let Specials { nan, inf, infinity } = language.forms().specials();
-        let specials = list([nan, inf, infinity].map(|it| quoted(utf8(it.unwrap_or_default()))).into_iter());
-        let forms = language.forms().as_slice().iter();
-        let forms = forms.map(|it| format!(r#"{{{},"name":{}}}"#, parts_of(state_of(it)), quoted(it.name())));
-        format!(r#"{{"name":"{language}","specials":{specials},"forms":{}}}"#, list(forms))
-    })))
-}
-
-/// Returns an array for each line but the first: an object for each language that reads its text, with the index of the
-/// language, the form unless it is a special value, the value, and whether it reads each line as it must, and refuses no
-/// value.
-#[unsafe(no_mangle)]
-pub extern "C" fn readers(length: usize) -> u64 {
-    let lines = text_of(length).1;
-    let is_expected = |it: &Language, line: Line<'_>| match it.read(line.text) {
-        Ok(number) => !line.is_refused && !matches!(value_of(number), Value::Refused(_)),
-        Err(_) => line.is_refused,
-    };
-    let has_all = |it: &Language| lines_of(lines).all(|line| is_expected(it, line));
-    let languages: Vec<_> = Language::ALL.iter().map(|it| (it, has_all(it))).collect();
-    answer(list(lines_of(lines).map(|line| {
-        list(languages.iter().enumerate().filter_map(|(index, (language, has_all))| {
+/// Returns for each line the languages that read it, by their indexes, each with the form of a literal, and the value.
+fn readers(lines: &[u8]) -> String {
+    list(lines_of(lines).map(|line| {
+        list(Language::ALL.iter().enumerate().filter_map(|(index, language)| {
             let number = language.read(line.text).ok()?;
             let form = number.form().map_or(String::new(), |form| format!(r#""form":{form},"#));
-            Some(format!(r#"{{"language":{index},"hasAll":{has_all},{form}{}}}"#, value(value_of(number))))
+            Some(format!(r#"{{"language":{index},{form}{}}}"#, value(value_of(number))))
         }))
-    })))
+    }))
 }
 
 /// Returns the parts of an object with a state.
@@ -187,36 +174,30 @@ fn parts_of(State { word: format, exponent, point, conditions, kind, .. }: State
     format!(r#""word":{format},"exponent":{exponent},"point":{point},"conditions":{conditions}"#)
 }
 
-/// Returns an object for each line but the first, which has the forms: the value and the parts of its number, or the parts
-/// of the longest front of a refused text that is a number; the form that accepts the text, or to which it is nearest; why
-/// and where it is refused, with the flags to blame and the bytes to mark. If a word is not lawful, returns an empty array.
-#[unsafe(no_mangle)]
-pub extern "C" fn numbers(length: usize) -> u64 {
-    let (states, lines) = text_of(length);
+/// Returns an object for each line, as `reading` does. If a word is not lawful, returns an empty array.
+fn numbers(states: &'static str, lines: &[u8]) -> String {
     let forms = List::new(states);
-    answer(list(
-        forms.iter().flat_map(|all| lines_of(lines).map(|line| format!("{{{}}}", reading(all.forms(), line.text)))),
-    ))
+    let readings = |all| lines_of(lines).map(move |line| format!("{{{}}}", reading(List::forms(all), line.text)));
+    list(forms.iter().flat_map(readings))
 }
 
-/// Returns what can be done for a line that is not as expected, which is the first one behind the forms, and again among the
-/// others: `{"offers", "readers", "tokens"}`, the states of its form that are offered, each with what it reads and how many
-/// lines are as expected then; the languages that read the text; and those of which it is a token, with its suffix.
-#[unsafe(no_mangle)]
-pub extern "C" fn offered(length: usize) -> u64 {
-    let (states, lines) = text_of(length);
-    let (Some(all), Some(line)) = (List::new(states), lines_of(lines).next()) else { return answer("{}".to_string()) };
+/// Returns what can be done for a line that is not as expected, which is the first one, and again among the others:
+/// `{"offers", "tokens"}`, the states of its form that are offered, each with what it reads and how many lines are as
+/// expected then; and the languages of which the text is a token, with its suffix.
+fn offered(states: &'static str, lines: &[u8]) -> String {
+    let (Some(all), Some(line)) = (List::new(states), lines_of(lines).next()) else { return "{}".to_string() };
     let lines = &lines[line.text.len() + usize::from(line.is_refused)..];
     let form = all.forms().read(line.text).map_or_else(|error| error.form, |number| number.form().unwrap_or(0));
     let offers = offers(all.states[form], &all.lines(form, lines), line).into_iter().filter_map(|(state, expected)| {
         let reading = reading(all.with(form, Some(state))?.forms(), line.text);
         Some(format!(r#"{{{},"expected":{expected},{reading}}}"#, parts_of(state)))
     });
-    let languages = || Language::ALL.iter().enumerate();
-    let readers = languages().filter(|it| it.1.read(line.text).is_ok()).map(|it| it.0.to_string());
-    let tokens = languages().filter_map(|(index, it)| Some((index, suffix_of(it, line.text)?)));
-    let tokens = tokens.map(|(index, suffix)| format!(r#"{{"language":{index},"suffix":{}}}"#, quoted(suffix)));
-    answer(format!(r#"{{"offers":{},"readers":{},"tokens":{}}}"#, list(offers), list(readers), list(tokens)))
+    let token = |(index, language)| {
+        let suffix = quoted(suffix_of(language, line.text)?);
+        Some(format!(r#"{{"language":{index},"suffix":{suffix}}}"#))
+    };
+    let tokens = Language::ALL.iter().enumerate().filter_map(token);
+    format!(r#"{{"offers":{},"tokens":{}}}"#, list(offers), list(tokens))
 }
 
 /// Returns the suffix of a text that is a literal of a language and one of the suffixes of its form.
@@ -228,30 +209,14 @@ fn suffix_of<'a>(language: &Language, text: &'a [u8]) -> Option<&'a str> {
     words.iter().any(is_word).then(|| utf8(suffix))
 }
 
-/// Returns an object for each form that reads lines, and for special values: what its numbers are in words, how many they
-/// are, and the languages that read all of them. If a word is not lawful, returns an empty array.
-#[unsafe(no_mangle)]
-pub extern "C" fn summary(length: usize) -> u64 {
-    let (states, lines) = text_of(length);
-    let (all, lines) = (List::new(states), lines_of(lines).collect::<Vec<_>>());
-    answer(list(all.iter().flat_map(|all| clauses(&all.forms(), &lines)).map(|it| {
-        let has_value = |language: &Language, line: &Line<'_>| {
-            language.read(line.text).is_ok_and(|number| !matches!(value_of(number), Value::Refused(_)))
-        };
-        let reads_all = |language: &Language| it.lines.iter().all(|line| has_value(language, line));
-        let readers = Language::ALL.iter().enumerate().filter(|it| reads_all(it.1)).map(|it| it.0.to_string());
-        let (words, count) = (quoted(&it.words), it.lines.len());
-        format!(r#"{{"words":{words},"count":{count},"readers":{}}}"#, list(readers))
-    })))
-}
-
-/// Returns the value and the parts of a text, or the parts of its longest front that is a number, and why and where it is
-/// refused, as parts of an object.
+/// Returns what a text is, its value and its parts; or the parts of its longest front that is a number, why and where it is
+/// refused, in UTF-16, and the flags to blame; and the form that accepts it, or to which it is nearest.
 fn reading(forms: Forms<'_>, text: &[u8]) -> String {
-    let part = |(kind, bytes): (&str, &[u8])| format!(r#"{{"kind":"{kind}","size":{}}}"#, bytes.len());
-    let parts = match forms.read(text) {
-        Ok(Number::Special(special)) => {
-            let (sign, rest) = text.split_at(special.sign.map_or(0, |_| 1));
+    let part = |(kind, text): (&str, &[u8])| format!(r#"{{"kind":"{kind}","text":{}}}"#, quoted(utf8(text)));
+    let read = forms.read(text);
+    let parts = match read {
+        Ok(Number::Special(Special { sign, .. })) => {
+            let (sign, rest) = text.split_at(sign.map_or(0, |_| 1));
             list([("sign", sign), ("special", rest)].into_iter().filter(|it| !it.1.is_empty()).map(part))
         }
         _ => {
@@ -259,11 +224,16 @@ fn reading(forms: Forms<'_>, text: &[u8]) -> String {
             list(front.iter().flat_map(|it| it.parts()).map(part))
         }
     };
-    let told = match forms.read(text) {
-        Ok(number) => format!(r#"{},"form":{}"#, value(value_of(number)), number.form().unwrap_or(0)),
+    let told = match read {
+        Ok(number) => {
+            let is_float = number.literal().map(|it| it.is_float());
+            let is = is_float.map_or("special value", |is_float| if is_float { "float" } else { "integer" });
+            format!(r#""is":"{is}",{},"form":{}"#, value(value_of(number)), number.form().unwrap_or(0))
+        }
         Err(FormError { form, error, .. }) => {
             let (mask, Range { start, end }) = (word(error.mask()), error.span());
-            let error = quoted(error.full_text().as_str());
+            let (end, error) =
+                (start + utf8(&text[start..end]).encode_utf16().count(), quoted(error.full_text().as_str()));
             format!(r#""form":{form},"error":{error},"mask":{mask},"start":{start},"end":{end}"#)
         }
     };
@@ -272,12 +242,8 @@ fn reading(forms: Forms<'_>, text: &[u8]) -> String {
 
 /// Returns texts that tell the forms of two lines apart: those that the second ones refuse, those that the first ones refuse,
 /// and those to which they give different values. If a word is not lawful, returns an empty array.
-#[unsafe(no_mangle)]
-pub extern "C" fn differ(length: usize) -> u64 {
-    let (first, second) = text_of(length);
-    let (Some(first), Some(second)) = (List::new(first), List::new(utf8(second))) else {
-        return answer("[]".to_string());
-    };
+fn differ(first: &'static str, second: &'static str) -> String {
+    let (Some(first), Some(second)) = (List::new(first), List::new(second)) else { return "[]".to_string() };
     let line = |Example { text, told, .. }: &Example| {
         let text = quoted(utf8(text));
         match told.map(|values| values.map(value)) {
@@ -287,7 +253,7 @@ pub extern "C" fn differ(length: usize) -> u64 {
     };
     let part = |all: &[Example], is_refused| list(all.iter().filter(|it| it.told.is_err() == is_refused).map(line));
     let [here, there] = [examples(&first, &second), examples(&second, &first)];
-    answer(list([part(&here, true), part(&there, true), part(&here, false)].into_iter()))
+    list([part(&here, true), part(&there, true), part(&here, false)].into_iter())
 }
 
 /// Returns an integer as digits, a float as the number of its bits, or why a number has no value, as a part of an object.
@@ -310,9 +276,14 @@ fn word(word: u128) -> String {
     quoted(FormatView::new(word))
 }
 
-/// Returns a text. The texts of the library are visible ASCII, in lines.
+/// Returns a text.
 fn quoted(text: impl Display) -> String {
-    format!("\"{}\"", text.to_string().replace('\\', "\\\\").replace('"', "\\\"").replace('\n', "\\n"))
+    let escape = |it| match it {
+        '"' | '\\' => format!("\\{it}"),
+        '\0'..' ' => format!("\\u{:04x}", u32::from(it)),
+        _ => it.to_string(),
+    };
+    format!("\"{}\"", text.to_string().chars().map(escape).collect::<String>())
 }
 
 #[panic_handler]

@@ -15,20 +15,18 @@ const PARTS = {
     suffix: ["base", "base_suffix"],
     digit_separator: ["separator", "digit_separator"],
 };
+/* The parts that have digits. */
+const DIGITS = ["integer", "fraction", "exponent"];
 /* How many lines are read, how many have details, how many texts languages read, and how many characters each of them has. */
 const [MOST_LINES, MOST_OPEN, MOST_READ, MOST_CHARACTERS] = [100, 4, 20, 1000];
 const WELCOME = "Type numbers of your language or file: the page finds their format, and the code that reads them.";
 
-class Trial {
-    constructor(library, languages, calls) {
-        Object.assign(this, { library, languages, ...calls, opened: [], rows: new Map(), known: {} });
-    }
+/* Returns the line of a number, which has a `!` if it must be refused. */
+const lineOf = ({ isRefused, text }) => (isRefused ? "!" : "") + text;
 
-    /* Returns the result of a call of the library, or that of the last one with the same texts. */
-    call(name, ...texts) {
-        const key = [passed(this.list), ...texts].join("\n\n");
-        if (this.known[name]?.key !== key) this.known[name] = { key, result: this.library[name](this.list, ...texts) };
-        return this.known[name].result;
+class Trial {
+    constructor(library, calls) {
+        Object.assign(this, { library, languages: library.languages, ...calls, opened: [], rows: new Map() });
     }
 
     /* Shows what is read. Returns in words how many are as expected, and what is told of the first that is not, or of all. */
@@ -38,42 +36,47 @@ class Trial {
         if (box.value !== state.numbers) box.value = state.numbers;
         const all = state.numbers.split("\n").map((text, place) => ({ text, place })).filter(({ text }) => text);
         let size = 0;
-        const bytes = (text) => new TextEncoder().encode(text).length;
-        const lines = all.slice(0, MOST_LINES).filter(({ text }) => (size += bytes(text) + 1) <= MOST_TEXT);
+        const hasRoom = ({ text }) => (size += new TextEncoder().encode(text).length + 1) <= MOST_TEXT;
+        const lines = all.slice(0, MOST_LINES).filter(hasRoom);
         this.answers = this.read(lines);
-        const [first] = this.answers.filter(({ isExpected }) => !isExpected);
+        const unexpected = this.answers.filter(({ isExpected }) => !isExpected);
+        const [first] = unexpected;
+        this.expected = this.answers.length - unexpected.length;
         box.setAttribute("aria-invalid", String(Boolean(first)));
         box.className = all.length > MOST_LINES ? "many" : "";
         const left = all.length - lines.length;
-        const unread = left === 1 ? "1 line is not read" : `${left} lines are not read`;
-        const isBad = lines.length > 0 && !this.answers.length;
-        this.expected = this.answers.filter(({ isExpected }) => isExpected).length;
-        this.showRows(left ? `${unread}: the page reads up to ${MOST_LINES} lines with ${MOST_TEXT / 1000} kB` : "");
-        this.showSummary(isBad, this.answers.filter(({ isExpected }) => !isExpected));
-        const count = this.answers.length ? `${this.expected} of ${this.answers.length} as expected` : "";
+        const unread = left && `${left === 1 ? "1 line is" : `${left} lines are`} not read`;
+        this.showRows(unread && `${unread}: the page reads up to ${MOST_LINES} lines with ${MOST_TEXT / 1000} kB`);
+        this.showSummary(lines.length > 0 && !this.answers.length, unexpected);
+        const count = this.answers.length && `${this.expected} of ${this.answers.length} as expected`;
         const value = (it) => `${it.text}${it.refused ?? it.unknown ? ":" : " ="} ${valueText(it)}`;
-        const values = this.answers.filter(({ error }) => !error).map(value).slice(0, MOST_READ);
+        const values = this.answers.filter(({ error }) => !error).slice(0, MOST_READ).map(value);
         const told = first ? `${first.text} ${this.told(first)}` : values.join(" \u00b7 ");
-        return { count: [count, left ? unread : ""].filter(Boolean).join("; "), isGood: !first && !left, first: visible(told) };
+        return { count: [count, unread].filter(Boolean).join("; "), isGood: !first && !left, first: visible(told) };
     }
 
-    /* Returns what the library returns for lines, with what each line expects. A value that is refused is not expected. */
+    /* Returns what the library returns for lines, with what each line expects, and of each part the runs of digits and between
+     * them of separators. A value that is refused is not expected. */
     read(lines) {
-        const answers = this.call("numbers", lines.map(({ text }) => text).join("\n"));
+        const answers = this.library.call("numbers", this.list, lines.map(({ text }) => text).join("\n"));
         return answers.map((answer, index) => {
             const isRefused = lines[index].text.startsWith("!");
             const text = lines[index].text.slice(Number(isRefused));
             const isExpected = isRefused === Boolean(answer.error) && !(answer.refused && !isRefused);
-            return { ...answer, text, place: lines[index].place, isRefused, isExpected };
+            const mark = this.library.value(this.forms[answer.form], "digit_separator");
+            const separators = new RegExp(`(\\x${mark.toString(16).padStart(2, "0")}+)`);
+            const runsOf = ({ kind, text }) => (DIGITS.includes(kind) ? text.split(separators) : [text]);
+            const parts = answer.parts.map((part) => ({ ...part, runs: runsOf(part) }));
+            return { ...answer, parts, mark, text, place: lines[index].place, isRefused, isExpected };
         });
     }
 
     /* Returns the answer with what is offered in words: up to three states, and advice. */
     withOffers(answer) {
         if (answer.isExpected || (answer.refused && !answer.isRefused)) return { ...answer, offers: [], advice: [] };
-        const line = (it) => (it.isRefused ? "!" : "") + it.text;
         const form = this.forms[answer.form];
-        const { offers, readers, tokens } = this.library.offered(this.list, line(answer), this.answers.map(line).join("\n"));
+        const lines = [answer, ...this.answers].map(lineOf).join("\n");
+        const { offers, tokens } = this.library.call("offered", this.list, lines);
         const worded = offers.map((offer) => {
             const changes = this.library.differences(offer, form).sort((a, b) => Number(!a.isByte) - Number(!b.isByte));
             const count = this.answers.length > 1 ? `; ${offer.expected} of ${this.answers.length} as expected` : "";
@@ -82,27 +85,30 @@ class Trial {
             const label = changes.map((it) => it.text).join(", ");
             return { ...offer, changes, label, words: changeWords(this.library, offer, changes) + place, then: `${told}${count}` };
         });
-        return { ...answer, offers: worded, advice: answer.isRefused ? [] : this.adviceOf(answer.text, worded, readers, tokens) };
+        return { ...answer, offers: worded, advice: answer.isRefused ? [] : this.adviceOf(answer, worded, tokens) };
     }
 
     /* Returns what else can be done for a text, each with words and, at most, the text or the language that a button takes. */
-    adviceOf(text, offers, readers, tokens) {
+    adviceOf(answer, offers, tokens) {
+        const { text } = answer;
         const titles = (all) => named(all.map((it) => this.languages[it].title));
-        const own = this.languages.indexOf(this.languageOf(this.state));
+        const language = this.languageOf(this.state);
+        const own = this.languages.indexOf(language);
         const chosen = tokens.filter((it) => it.language === own);
         const ofTokens = (chosen.length ? chosen : tokens).map((it) => it.language);
         const suffix = tokens[0]?.suffix;
         const words = `\`token\` reads the suffix \`${suffix}\` behind a number in ${titles(ofTokens)}, and no format does.`;
         const all = [...(tokens.length ? [{ words, text: text.slice(0, -suffix.length) }] : adviceFor(text))];
-        const operator = text.startsWith("-") && this.operator();
-        if (operator) all.push({ words: operator });
-        const others = offers.length ? [] : readers.filter((it) => it !== own);
+        const isUnsigned = (form) => this.library.value(form, "no_negative_mantissa_sign");
+        const isOperator = text.startsWith("-") && language?.forms.every(isUnsigned);
+        if (isOperator) all.push({ words: `In ${language.title}, \`-\` is an operator, so that numbers have no sign.` });
+        const [{ readers }] = this.withReaders([answer]);
+        const others = offers.length ? [] : readers.map(({ language }) => language).filter((it) => it !== own);
         if (others.length) all.push({ words: `${titles(others)} read${others.length > 1 ? "" : "s"} it.`, language: others[0] });
         return all;
     }
 
-    /* Shows a row for each number. Rows that are the same as before are the same nodes. Details have those that are not as
-     * expected, and those that were opened last. */
+    /* Shows a row for each number, the old one if it is the same. Those opened last or not as expected have details. */
     showRows(message) {
         const focused = document.activeElement.id;
         const ranks = this.answers.map((it) => [this.opened.indexOf(it.text) < 0 ? (it.isExpected ? 2 : 1) : 0, it]);
@@ -111,8 +117,8 @@ class Trial {
         this.rows = new Map();
         const nodes = this.answers.map((answer) => {
             const whole = open.has(answer) ? this.withOffers(answer) : answer;
-            const { name, word } = this.forms[answer.form];
-            const texts = [whole, this.expected, name, this.forms.length, this.library.get(word, "digit_separator"), this.state.language];
+            const form = this.forms[answer.form];
+            const texts = [whole, this.expected, form.name, this.forms.length, this.state.language];
             const key = JSON.stringify(texts, (_, it) => (typeof it === "bigint" ? String(it) : it));
             this.rows.set(key, old.get(key) ?? (open.has(answer) ? this.row(whole) : this.line(whole)));
             return this.rows.get(key);
@@ -139,12 +145,12 @@ class Trial {
 
     /* Returns the row of a number with its details. */
     row(answer) {
-        const { text, place, isRefused, isExpected, mask = 0, form, offers, advice } = answer;
+        const { text, place, isRefused, isExpected, mask = 0n, form, offers, advice } = answer;
         const attributes = { change: () => this.turn(place), id: `refuse-${place}`, "aria-label": `${text} must be refused` };
         const box = element("input", { type: "checkbox", ...attributes });
         box.checked = isRefused;
         const told = element("p", { class: isExpected ? "good" : "bad" }, visible(this.told(answer)));
-        const fields = this.library.namesOf(BigInt(mask));
+        const fields = this.library.namesOf(mask);
         if (this.forms.length > 1 && answer.error) {
             const go = () => (this.change({ at: form }), this.open("edit"), find(fields[0] ?? "digit_separator")?.focus());
             told.append(" ", button("link", this.forms[form].name, go, { title: "shows the settings of this form" }));
@@ -159,35 +165,33 @@ class Trial {
     }
 
     /* Returns the parts of a number in words, if it has several. */
-    legend({ text, parts, form }) {
-        const bytes = new TextEncoder().encode(text);
-        let next = 0;
-        const all = parts.map(({ kind, size }) => [kind, new TextDecoder().decode(bytes.subarray(next, next += size))]);
-        const mark = String.fromCharCode(this.library.get(this.forms[form].word, "digit_separator"));
-        if (all.some(([kind, it]) => it.includes(mark) && kind !== "point")) all.push(["digit_separator", mark]);
+    legend({ parts, mark }) {
+        const separator = { kind: "digit_separator", text: String.fromCharCode(mark) };
+        const all = [...parts, ...(parts.some(({ runs }) => runs.length > 1) ? [separator] : [])];
         if (all.length < 2) return "";
-        return element("div", { class: "legend" }, all.map(([kind, it]) => {
-            return element("span", {}, element("span", { class: PARTS[kind][0] }, it), ` ${kind.replace("_", " ")}`);
+        return element("div", { class: "legend" }, all.map(({ kind, text }) => {
+            return element("span", {}, element("span", { class: PARTS[kind][0] }, text), ` ${kind.replace("_", " ")}`);
         }));
     }
 
     /* Shows what the numbers are: a clause for each form with the languages that read these, and what is not as expected. */
     showSummary(isBad, unexpected) {
-        const lines = this.answers.filter(({ text }) => text.length <= MOST_CHARACTERS);
-        const clauses = this.call("summary", lines.map((it) => (it.isRefused ? "!" : "") + it.text).join("\n"));
-        const sentences = clauses.map(({ words, count, readers }) => {
-            const own = this.languages.findIndex(({ name }) => name === this.state.language);
-            const titles = readers.toSorted((a, b) => Number(b === own) - Number(a === own)).map((it) => this.languages[it].title);
-            const read = `${named(titles) || "no language"} read${titles.length > 1 ? "" : "s"} ${count > 1 ? "them" : "it"}`;
-            return `${words[0].toUpperCase()}${words.slice(1)}: ${read}.`;
+        const isRead = (it) => !it.isRefused && !it.error && it.text.length <= MOST_CHARACTERS;
+        const read = this.withReaders(this.answers.filter(isRead));
+        const groups = Map.groupBy(read, (it) => (it.is === "special value" ? this.forms.length : it.form));
+        const isOther = ({ name }) => Number(name !== this.state.language);
+        const sentences = [...groups].sort(([a], [b]) => a - b).map(([form, answers]) => {
+            const titles = this.readersOf(answers).sort((a, b) => isOther(a) - isOther(b)).map(({ title }) => title);
+            const end = `${named(titles) || "no language"} read${titles.length > 1 ? "" : "s"} ${answers.length > 1 ? "them" : "it"}`;
+            const words = this.forms[form] ? numberWords(this.library, this.forms[form], answers) : "special values";
+            return `${words[0].toUpperCase()}${words.slice(1)}: ${end}.`;
         });
         const [first] = unexpected;
         const more = unexpected.length > 1 ? ` and ${unexpected.length - 1} more are` : " is";
-        if (first) sentences.push(`\`${first.text.slice(0, 40)}\`${more} not as expected${this.way(first)}`);
+        if (first) sentences.push(`\`${visible(first.text.slice(0, 40))}\`${more} not as expected${this.way(first)}`);
         if (isBad) sentences.push("Nothing is read, since the format is not valid.");
         if (!this.answers.length && !isBad) sentences.push(WELCOME);
-        const nodes = sentences.map((it) => element("p", {}, withCode(it)));
-        find("summary").replaceChildren(...nodes);
+        find("summary").replaceChildren(...sentences.map((it) => element("p", {}, withCode(it))));
     }
 
     /* Returns how the first number that is not as expected becomes so, as the end of a sentence. */
@@ -198,72 +202,72 @@ class Trial {
         return offers.length ? ", which a button below changes." : ".";
     }
 
+    /* Returns answers, each with the languages that read its text. */
+    withReaders(answers) {
+        const found = this.library.call("readers", answers.map(lineOf).join("\n"));
+        return answers.map((it, index) => ({ ...it, readers: found[index] }));
+    }
+
+    /* Returns the languages by which all answers with readers are as expected. */
+    readersOf(answers) {
+        return this.languages.filter((_, index) => answers.every(({ isRefused, readers }) => {
+            const reader = readers.find(({ language }) => language === index);
+            return isRefused ? !reader : reader && !reader.refused;
+        }));
+    }
+
     /* Shows the languages that read each number, those first that read all, by value and form. */
     showReaders() {
         const { languages } = this;
-        const lines = this.answers.filter(({ text }) => text.length <= MOST_CHARACTERS).slice(0, MOST_READ);
-        const texts = lines.map(({ text, isRefused }) => (isRefused ? "!" : "") + text).join("\n");
-        const found = lines.length ? this.library.readers(texts) : [];
-        const all = languages.filter((_, index) => found.some((it) => it.some((one) => one.language === index && one.hasAll)));
-        const first = lines.length < 2 ? [] : this.group(`All ${lines.length}, as expected:`, all.map((it) => ({ language: languages.indexOf(it) })));
-        const nodes = lines.map(({ text }, index) => {
-            const [readers, others] = [false, true].map((isRefused) => found[index].filter(({ refused }) => Boolean(refused) === isRefused));
+        const answers = this.answers.filter(({ text }) => text.length <= MOST_CHARACTERS).slice(0, MOST_READ);
+        const all = this.withReaders(answers);
+        const reader = ({ language, form }) => {
+            const { name, title } = languages[language];
+            return button("link rover", title, () => this.start(name, form), { title: `starts from ${title}` });
+        };
+        const line = (title, all) => element("p", {}, element("span", { class: "meaning" }, title), all.map(reader));
+        const common = all.length < 2 ? [] : this.readersOf(all).map((it) => ({ language: languages.indexOf(it) }));
+        const first = common.length ? [line(`All ${all.length}, as expected:`, common)] : [];
+        const nodes = all.flatMap(({ text, readers }) => {
             const name = (it) => languages[it.language].forms[it.form]?.name ?? "special value";
             const title = (it) => `${it.refused ? "refused, " : ""}${valueText(it)}, ${name(it)}:`;
-            const groups = Map.groupBy([...readers, ...others], title);
-            const count = `Read by ${readers.length || "none"} of ${languages.length} languages`;
+            const good = readers.filter(({ refused }) => !refused);
+            const groups = Map.groupBy([...good, ...readers.filter(({ refused }) => refused)], title);
+            const count = `Read by ${good.length || "none"} of ${languages.length} languages`;
             const head = element("h3", {}, element("code", {}, visible(text)), ` ${count}`);
-            return [head, ...[...groups].flatMap(([title, group]) => this.group(title, group))];
+            return [head, ...[...groups].map(([title, group]) => line(title, group))];
         });
-        refill(find("readers"), [first, ...nodes].flat(), find("tab-languages"));
-        find("no-numbers").hidden = Boolean(lines.length);
-        if (!lines.length) find("readers").append(...languages.map((_, language) => this.reader({ language })));
+        const others = all.length ? [] : languages.map((_, language) => reader({ language }));
+        refill(find("readers"), [...first, ...nodes, ...others], find("tab-languages"));
+        find("no-numbers").hidden = Boolean(all.length);
         oneStop(find("readers"));
     }
 
-    /* Returns a line with a title and languages, or nothing. */
-    group(title, all) {
-        return all.length ? [element("p", {}, element("span", { class: "meaning" }, title), all.map((it) => this.reader(it)))] : [];
-    }
-
-    reader({ language, form }) {
-        const { name, title } = this.languages[language];
-        return button("link rover", title, () => this.start(name, form), { title: `starts from ${title}` });
-    }
-
-    /* Returns what is told of a number. */
-    told({ text, error, start, isRefused, form, ...answer }) {
+    /* Returns what is told of a number: where and why it is refused, or its kind, its value and its form. */
+    told({ text, error, start, isRefused, form, is, ...answer }) {
+        const { unknown, refused } = answer;
         const where = start < text.length ? `at index ${start}` : "at the end";
-        const name = this.forms.length > 1 && !error ? `, ${this.forms[form].name}` : "";
-        const what = (error ? `${where}: ${error}` : this.reading(answer)) + name;
-        if (isRefused) return error ? `refused: ${what}` : `accepted as ${what}, but it must be refused`;
-        return error ? what : `accepted: ${what}`;
+        const name = this.forms.length > 1 ? `, ${this.forms[form].name}` : "";
+        const value = unknown ? `: ${unknown}` : refused ? `, but its value is refused: ${refused}` : ` = ${valueText(answer)}`;
+        if (error) return `${isRefused ? "refused: " : ""}${where}: ${error}`;
+        return `accepted${isRefused ? " as" : ":"} ${is}${value}${name}${isRefused ? ", but it must be refused" : ""}`;
     }
 
-    /* Returns the text with its parts, in which the wrong bytes are marked, or a place if there are none. */
-    pieces({ text, parts, start, end, form }) {
-        const bytes = new TextEncoder().encode(text);
+    /* Returns the text with its parts, in which what is wrong is marked, or a place if nothing is. */
+    pieces({ text, parts, start, end }) {
         let next = 0;
-        const all = [...parts, { size: bytes.length }].map(({ kind, size }) => ({ kind, start: next, end: next += size }));
-        const cut = (from, to) => all.filter((part) => part.start < to && from < part.end).map(({ kind, start, end }) => {
-            const piece = new TextDecoder().decode(bytes.subarray(Math.max(start, from), Math.min(end, to)));
-            return kind ? this.spans(kind, piece, form) : piece;
-        }).flat();
-        if (start === undefined) return cut(0, bytes.length);
-        const marked = element("mark", {}, start < end ? cut(start, end) : "\u00a0");
-        return [...cut(0, start), marked, ...cut(end, bytes.length)];
-    }
-
-    /* Returns the spans of a part. Digit separators between its digits have spans of their own. */
-    spans(kind, text, form) {
-        const byte = this.library.get(this.forms[form].word, "digit_separator");
-        const runs = new RegExp(`(\\x${byte.toString(16).padStart(2, "0")}+)`);
-        const pieces = ["integer", "fraction", "exponent"].includes(kind) ? text.split(runs) : [text];
-        return pieces.flatMap((piece, index) => {
-            const name = index % 2 ? "digit_separator" : kind;
-            const [colour, fields] = PARTS[name];
-            return piece ? element("span", { class: colour, title: name.replace("_", " "), "data-field": fields }, piece) : [];
+        const runs = parts.flatMap(({ kind, runs }) => runs.map((run, index) => [index % 2 ? "digit_separator" : kind, run.length]));
+        const all = [...runs, ["", text.length]].map(([kind, length]) => ({ kind, first: next, last: next += length }));
+        const isIn = (from, to) => ({ first, last }) => Math.max(first, from) < Math.min(last, to);
+        const cut = (from, to) => all.filter(isIn(from, to)).map(({ kind, first, last }) => {
+            const piece = text.slice(Math.max(first, from), Math.min(last, to));
+            if (!kind) return piece;
+            const [colour, fields] = PARTS[kind];
+            return element("span", { class: colour, title: kind.replace("_", " "), "data-field": fields }, piece);
         });
+        if (start === undefined) return cut(0, text.length);
+        const marked = element("mark", {}, start < end ? cut(start, end) : "\u00a0");
+        return [...cut(0, start), marked, ...cut(end, text.length)];
     }
 
     /* Returns a form that is offered, as a button in words, with what the number is then and the settings. */
@@ -287,22 +291,6 @@ class Trial {
             : text !== undefined ? [button("use", `try ${text}`, () => this.replace(place, text))]
             : language !== undefined ? [button("use", `start from ${this.languages[language].title}`, () => this.start(this.languages[language].name, 0))] : [];
         return element("li", {}, element("span", {}, withCode(words)), made);
-    }
-
-    /* Returns why no form of a language has a number with `-`, if none has. */
-    operator() {
-        const language = this.languageOf(this.state);
-        const isUnsigned = (form) => this.library.value(form, this.library.condition("no_negative_mantissa_sign"));
-        return language?.forms.every(isUnsigned) && `In ${language.title}, \`-\` is an operator, so that numbers have no sign.`;
-    }
-
-    /* Returns what a number is: its kind and its value. */
-    reading(answer) {
-        const { parts, unknown, refused } = answer;
-        if (parts.some(({ kind }) => kind === "special")) return `special value = ${valueText(answer)}`;
-        const isFloat = parts.some(({ kind }) => kind === "point" || kind === "exponent_character");
-        const value = unknown ? `: ${unknown}` : ` = ${valueText(answer)}`;
-        return `${isFloat ? "float" : "integer"}${refused ? `, but its value is refused: ${refused}` : value}`;
     }
 
     /* Makes an accepted number of a line one that must be refused, or the other way round. */

@@ -19,56 +19,93 @@ const [MOST_STEPS, MOST_KEPT] = [100, 2000];
 
 class Page {
     constructor(library, data) {
-        this.library = library;
-        this.data = { ...data, languages: library.languages(data.languages) };
-        const { languages } = this.data;
-        [this.past, this.future] = [[], []];
+        Object.assign(this, { library, data: { ...data, languages: library.languages }, past: [], future: [], language: "rust" });
         const bound = (...names) => Object.fromEntries(names.map((name) => [name, this[name].bind(this)]));
-        this.controls = new Controls(library, bound("edit").edit);
-        this.report = new Report(library, languages, bound("use", "edit", "open"));
-        this.trial = new Trial(library, languages, bound("change", "put", "add", "start", "open", "languageOf"));
+        this.controls = new Controls(library, bound("edit"));
+        this.report = new Report(library, bound("use", "edit", "open"));
+        this.trial = new Trial(library, bound("change", "put", "add", "start", "open", "languageOf"));
         this.code = new Code(library);
         setText(find("version"), data.version);
-        for (const listen of [this.listen, this.listenToWord, this.listenToForms, this.makeTabs]) listen.call(this);
         const own = element("option", { value: "own", hidden: "" }, "your own format");
-        find("language").append(own, ...choices([["", "the standard format"]], languages, false));
-        document.addEventListener("keydown", rove);
+        find("language").append(own, ...choices([["", "the standard format"]], library.languages, false));
+        this.makeTabs();
+        this.listen();
         this.read();
     }
 
     listen() {
-        const click = (id, action) => find(id).addEventListener("click", action);
-        addEventListener("hashchange", () => location.hash === this.fragment() || this.read());
-        addEventListener("pagehide", () => this.save());
-        click("undo", () => this.travel(this.past, this.future));
-        click("redo", () => this.travel(this.future, this.past));
-        document.addEventListener("keydown", (event) => this.undo(event));
-        click("clear", () => (this.change({ numbers: "" }), find("literal").focus()));
-        click("example", () => (this.change({ numbers: EXAMPLE }), find("literal").focus()));
+        for (const [id, click] of Object.entries(this.clicks())) find(id).addEventListener("click", click);
+        for (const it of document.querySelectorAll("[data-copies]")) {
+            const beside = find(it.dataset.copies);
+            it.addEventListener("click", () => copy(it, beside.value ?? beside.textContent, beside));
+        }
+        for (const it of document.querySelectorAll("[data-go]")) it.addEventListener("click", () => this.go(it.dataset.go));
         find("literal").addEventListener("input", ({ target }) => this.type(target.value));
         find("language").addEventListener("change", ({ target }) => this.start(target.value));
-        for (const { id, dataset } of document.querySelectorAll("[data-copies]")) click(id, () => {
-            const beside = find(dataset.copies);
-            copy(find(id), beside.value ?? beside.textContent, beside);
-        });
-        click("copy-link", async ({ target }) => {
-            this.save();
-            const isFile = location.protocol === "file:";
-            const link = isFile ? location.hash : location.href;
-            const lost = this.state.numbers.length - this.linked().length;
-            const cut = lost ? `The link has the first ${this.linked().split("\n").length} lines alone. ` : "";
-            setText(find("told"), (await copy(target, link)) ? cut + (isFile ? OF_FILE : "") : link);
-            if (find("told").textContent === link) getSelection().selectAllChildren(find("told"));
-        });
-        click("verdict", () => {
-            const bad = this.list.forms.findIndex(({ problems }) => problems.length);
-            if (bad >= 0 && !this.shown.problems.length) this.jump({ at: bad });
+        find("form-name").addEventListener("input", ({ target }) => this.put({ name: target.value }, "form-name"));
+        find("add").addEventListener("change", ({ target }) => {
+            this.add(target.value === "copy" ? [{ ...this.form, name: "" }] : this.report.listOf(target.value).forms);
             this.open("edit");
-            find("report-title").focus();
+            target.value = "";
         });
-        click("count", () => find("literal").focus());
-        for (const { id, dataset } of document.querySelectorAll("[data-go]")) click(id, () => this.go(dataset.go));
+        /* The word is taken when it is whole or pasted. */
+        const word = find("word");
+        word.addEventListener("change", () => this.take(word.value));
+        word.addEventListener("paste", (event) => {
+            const text = event.clipboardData.getData("text");
+            if (!text.includes("\n")) return setTimeout(() => this.take(word.value));
+            event.preventDefault();
+            this.take(text);
+        });
+        word.addEventListener("keydown", ({ key }) => key === "Escape" && this.showWord());
         document.addEventListener("focusin", ({ target }) => (this.key = target.id === this.key ? this.key : ""));
+        document.addEventListener("keydown", (event) => (rove(event), this.undo(event)));
+        addEventListener("hashchange", () => location.hash === this.fragment() || this.read());
+        addEventListener("pagehide", () => this.save());
+    }
+
+    /* Returns what clicks of buttons do, by their ids. */
+    clicks() {
+        const type = (numbers) => (this.change({ numbers }), find("literal").focus());
+        return {
+            undo: () => this.travel(this.past, this.future),
+            redo: () => this.travel(this.future, this.past),
+            clear: () => type(""),
+            example: () => type(EXAMPLE),
+            count: () => find("literal").focus(),
+            verdict: () => this.goToProblem(),
+            "copy-link": () => this.copyLink(),
+            earlier: () => this.move("earlier", this.state.at - 1),
+            later: () => this.move("later", this.state.at + 1),
+            remove: () => this.move("remove"),
+        };
+    }
+
+    async copyLink() {
+        this.save();
+        const isFile = location.protocol === "file:";
+        const link = isFile ? location.hash : location.href;
+        const isCut = this.linked() !== this.state.numbers;
+        const cut = isCut ? `The link has the first ${this.linked().split("\n").length} lines alone. ` : "";
+        setText(find("told"), (await copy(find("copy-link"), link)) ? cut + (isFile ? OF_FILE : "") : link);
+        if (find("told").textContent === link) getSelection().selectAllChildren(find("told"));
+    }
+
+    /* Shows why the shown form, or else the first with a problem, is not valid. */
+    goToProblem() {
+        const bad = this.list.forms.findIndex(({ problems }) => problems.length);
+        if (bad >= 0 && !this.shown.problems.length) this.jump({ at: bad });
+        this.open("edit");
+        find("report-title").focus();
+    }
+
+    /* Moves the shown form to a place, or removes it, by a button, which keeps the focus if it can. */
+    move(id, place) {
+        const { forms, at } = this.state;
+        const others = forms.toSpliced(at, 1);
+        const to = place ?? Math.max(at - 1, 0);
+        this.jump({ forms: place === undefined ? others : others.toSpliced(to, 0, forms[at]), at: to });
+        [find(id), find("forms").children[to], find("add")].find((it) => it.checkVisibility() && !it.disabled).focus();
     }
 
     /* Takes typed numbers, or a link in their place. */
@@ -93,25 +130,6 @@ class Page {
         (find("reasons").querySelector(".use") ?? find("tab-edit")).focus();
     }
 
-    /* The shown form has a name and a place, and another form can be behind it. */
-    listenToForms() {
-        const click = (id, places) => find(id).addEventListener("click", () => {
-            const { forms, at } = this.state;
-            const [from, to] = places(at);
-            this.jump({ forms: forms.toSpliced(at, 1).toSpliced(to, 0, ...forms.slice(at, from)), at: to });
-            [find(id), find("forms").children[to], find("add")].find((it) => it.checkVisibility() && !it.disabled).focus();
-        });
-        click("earlier", (at) => [at + 1, at - 1]);
-        click("later", (at) => [at + 1, at + 1]);
-        click("remove", (at) => [at, Math.max(at - 1, 0)]);
-        find("form-name").addEventListener("input", ({ target }) => this.put({ name: target.value }, "form-name"));
-        find("add").addEventListener("change", ({ target }) => {
-            this.add(target.value === "copy" ? [{ ...this.form, name: "" }] : this.report.listOf(target.value).forms);
-            this.open("edit");
-            target.value = "";
-        });
-    }
-
     /* Puts forms behind the last one, and shows the first of them. */
     add(added) {
         this.jump({ forms: [...this.state.forms, ...added], at: this.state.forms.length });
@@ -134,32 +152,12 @@ class Page {
         this.showAnew();
     }
 
-    /* The word is taken when it is whole or pasted. */
-    listenToWord() {
-        const box = find("word");
-        box.addEventListener("change", () => this.take(box.value));
-        box.addEventListener("paste", (event) => {
-            const text = event.clipboardData.getData("text");
-            if (!text.includes("\n")) return setTimeout(() => this.take(box.value));
-            event.preventDefault();
-            this.take(text);
-        });
-        box.addEventListener("keydown", ({ key }) => key === "Escape" && this.showWord());
-    }
-
     makeTabs() {
         for (const [id, tabs] of [["panes", PANES], ["tabs", CODES]]) {
-            const names = Object.keys(tabs);
-            const choose = (name) => this.open(name === "code" ? this.language : name);
-            const keydown = ({ key, target }) => {
-                const step = { ArrowRight: 1, ArrowLeft: -1 }[key];
-                if (!step) return;
-                const name = names.at((names.indexOf(target.id.slice(4)) + step) % names.length);
-                choose(name);
-                find(`tab-${name}`).focus();
-            };
-            const attributes = (name) => ({ id: `tab-${name}`, role: "tab", "aria-controls": tabs === CODES ? "code" : `pane-${name}`, keydown });
-            find(id).append(...names.map((name) => button("", tabs[name], () => choose(name), attributes(name))));
+            const open = (name) => this.open(name === "code" ? this.language : name);
+            const controls = (name) => (tabs === CODES ? "code" : `pane-${name}`);
+            const attributes = (name) => ({ id: `tab-${name}`, role: "tab", "aria-controls": controls(name) });
+            find(id).append(...Object.keys(tabs).map((name) => button("", tabs[name], () => open(name), attributes(name))));
         }
     }
 
@@ -175,20 +173,14 @@ class Page {
         this.tab = tab;
         if (tab in CODES) this.language = tab;
         const pane = tab in CODES ? "code" : tab;
-        const select = (name, isChosen) => {
-            find(`tab-${name}`).setAttribute("aria-selected", String(isChosen));
-            find(`tab-${name}`).tabIndex = isChosen ? 0 : -1;
-        };
-        for (const name of Object.keys(PANES)) {
-            select(name, name === pane);
-            find(`pane-${name}`).hidden = name !== pane;
+        for (const name of Object.keys(PANES)) find(`pane-${name}`).hidden = name !== pane;
+        for (const [id, name] of [["panes", pane], ["tabs", this.language]]) {
+            oneStop(find(id), find(`tab-${name}`));
+            for (const it of find(id).children) it.setAttribute("aria-selected", String(it.id === `tab-${name}`));
         }
-        for (const name of Object.keys(CODES)) select(name, name === this.language);
         find("code").setAttribute("aria-labelledby", `tab-${this.language}`);
         find("pane").scrollTop = 0;
-        if (!this.shown) return;
-        this.draw();
-        this.saveLater();
+        if (this.shown) this.draw();
     }
 
     /* Starts from a form of a language, or from the first with its own numbers in place of those of others or the example. */
@@ -208,8 +200,8 @@ class Page {
 
     /* Returns the list, in which each form has a name of its own if there are several. */
     listOf({ forms, language }) {
-        const usual = (word) => (forms.length > 1 ? (RADIXES[this.library.get(word, "mantissa_radix")] ?? "form") : "");
-        const names = forms.map(({ name, word }) => name || usual(word));
+        const usual = (form) => (forms.length > 1 ? (RADIXES[this.library.value(form, "mantissa_radix")] ?? "form") : "");
+        const names = forms.map((form) => form.name || usual(form));
         const own = names.map((name, index) => (names.indexOf(name) < index ? `${name} (${index + 1})` : name));
         const all = forms.map((form, index) => ({ ...this.library.explain(form), ...form, name: own[index] }));
         return { forms: all, specials: this.languageOf({ language, forms }, true)?.specials };
@@ -241,13 +233,7 @@ class Page {
         const { word, options, notes = [], error } = this.library.read(text);
         if (!error) (this.put({ word, ...options }), this.showAnew());
         const whole = "A word is `0x` and up to 32 hexadecimal digits, a decimal number, or settings such as `radix=16`.";
-        this.tell(error ? `${error} ${whole}` : notes.join(". "), error);
-    }
-
-    /* Tells why a typed text is refused, or what is lost of it. */
-    tell(text, isProblem) {
-        find("word-problem").replaceChildren(...withCode(text));
-        find("word").setAttribute("aria-invalid", String(Boolean(isProblem)));
+        tell(find("word"), error ? `${error} ${whole}` : notes.join(". "), Boolean(error));
         this.wordTold = this.form.word;
     }
 
@@ -329,40 +315,35 @@ class Page {
         history.replaceState(kept, "", this.fragment());
     }
 
-    saveLater() {
-        clearTimeout(this.timer);
-        this.timer = setTimeout(() => this.save(), PAUSE);
-    }
-
     /* Reads the state from the fragment. A part that is missing has its default. If one is invalid, the page says so. */
     read() {
         const { library, data: { languages } } = this;
         const hash = location.hash.slice(1).replaceAll("&amp;", "&");
         const parts = new URLSearchParams(/^\w+=/.test(hash) ? hash.replaceAll("+", "%2B") : { word: hash });
-        const lost = [...parts].filter(([name]) => !LINK.includes(name)).map(([name]) => name);
-        const language = languages.find(({ name }) => name === parts.get("language"));
-        const usualTab = parts.get("compare") ? "compare" : parts.get("language") ? "rust" : "languages";
-        const tab = { grammar: "words", regex: "words" }[parts.get("tab")] ?? (parts.get("tab") || usualTab);
+        const part = (name) => parts.get(name) ?? "";
+        const lost = [...parts.keys()].filter((name) => !LINK.includes(name));
+        const lose = (name) => lost.push(`${name}=${part(name).slice(0, 40)}`);
+        const language = languages.find(({ name }) => name === part("language"));
+        const usualTab = part("compare") ? "compare" : part("language") ? "rust" : "languages";
+        const tab = { grammar: "words", regex: "words" }[part("tab")] ?? (part("tab") || usualTab);
         const usual = language && !parts.has("word") ? language.forms[0] : library.usual;
-        const byte = (name) => (parts.has(name) ? library.byte(parts.get(name)) : usual[name]);
-        const word = parts.get("word") ? library.read(parts.get("word")).word : usual.word;
-        const found = { word, exponent: byte("exponent"), point: byte("point") };
-        for (const name of Object.keys(found).filter((it) => found[it] === undefined)) {
-            lost.push(`${name}=${parts.get(name).slice(0, 40)}`);
-            found[name] = usual[name];
+        const shown = { ...stateOf(usual), ...(part("word") && { word: library.read(part("word")).word }) };
+        for (const { name } of OPTIONS) if (parts.has(name)) shown[name] = library.byte(part(name));
+        for (const name of Object.keys(shown).filter((it) => shown[it] === undefined)) {
+            lose(name);
+            shown[name] = usual[name];
         }
-        const conditions = parts.has("conditions") ? library.withConditions(0n, parts.get("conditions"), lost) : usual.conditions;
+        if (parts.has("conditions")) shown.conditions = library.withConditions(0n, part("conditions"), lost);
         const numbers = (parts.get("numbers") ?? (parts.has("word") ? "" : language?.numbers) ?? "").replace(/\r\n?/g, "\n");
-        const state = this.readForms({ ...found, conditions }, parts.get("forms"), language, lost);
-        if (parts.get("language") && !state.language) lost.push(`language=${parts.get("language")}`);
+        const state = this.readForms(shown, part("forms"), language, lost);
+        if (part("language") && !state.language) lose("language");
         const isTab = tab in CODES || (tab in PANES && tab !== "code");
-        if (!isTab) lost.push(`tab=${tab}`);
-        find("compare").value = parts.get("compare") ?? "";
-        if (find("compare").selectedIndex < 0) lost.push(`compare=${parts.get("compare").slice(0, 40)}`);
+        if (!isTab) lose("tab");
+        find("compare").value = part("compare");
+        if (find("compare").selectedIndex < 0) lose("compare");
         const isKept = history.state?.flat().every((it) => it.forms);
         [this.past, this.future] = isKept ? history.state : [this.state ? [...this.past, this.state] : [], []];
         [this.state, this.key] = [{ ...state, numbers }, ""];
-        this.language ??= "rust";
         this.chooseTab(isTab ? tab : "languages");
         this.showAnew();
         const told = `The page cannot read this of the link, and shows what is usual in its place: ${lost.join(", ")}.`;
@@ -384,7 +365,7 @@ class Page {
     /* Shows the word as text, in place of a typed text. */
     showWord() {
         find("word").value = wordText(this.form.word);
-        this.tell("", false);
+        tell(find("word"), "");
     }
 
     /* Shows the state. What has the focus stays at its place on the screen, but for the numbers, above which nothing changes. */
@@ -403,17 +384,18 @@ class Page {
         this.shown = this.list.forms[this.state.at];
         this.showLanguage();
         [find("undo").disabled, find("redo").disabled] = [!this.past.length, !this.future.length];
-        this.report.showVerdict(this.shown, this.list);
+        setText(find("verdict"), this.report.verdict(this.shown, this.list));
         const { count, isGood, first } = this.trial.show(this.state, this.list);
         Object.assign(find("count"), { textContent: count, className: isGood ? "good" : "bad" });
         [find("clear").hidden, find("example").hidden] = [!this.state.numbers, Boolean(this.state.numbers)];
         setText(find("first-error"), this.shown.problems[0]?.text ?? first);
         this.draw();
-        this.saveLater();
     }
 
-    /* Shows the pane that is chosen. */
+    /* Shows the pane that is chosen, and writes the fragment after a pause. */
     draw() {
+        clearTimeout(this.timer);
+        this.timer = setTimeout(() => this.save(), PAUSE);
         if (this.tab in CODES) this.showCode();
         if (this.tab === "languages") this.trial.showReaders();
         if (this.tab === "compare") this.report.compare();
@@ -445,7 +427,8 @@ class Page {
             node.classList.toggle("blamed", names.some((name) => blamed.has(name)));
             node.classList.toggle("changed", names.some((name) => changed.has(name)));
         }
-        for (const [name, box] of this.controls.boxes) box.setAttribute("aria-invalid", String(blamed.has(name)));
+        const { flags, groups } = this.library;
+        for (const { name } of [...flags, ...groups]) find(name).setAttribute("aria-invalid", String(blamed.has(name)));
     }
 
     /* Shows the code of all forms, with the numbers as a test. */

@@ -5,10 +5,10 @@ const MOST_TEXTS = 6;
 const STANDARD = ["standard", "the standard format"];
 
 class Report {
-    constructor(library, languages, { use, edit, open }) {
-        Object.assign(this, { library, languages, use, edit });
-        find("compare").append(...choices([["", "nothing"], STANDARD], languages));
-        find("add").append(...choices([["", "Add a form"], ["copy", "a copy of this one"], STANDARD], languages));
+    constructor(library, { open, ...calls }) {
+        Object.assign(this, { library, ...calls });
+        find("compare").append(...choices([["", "nothing"], STANDARD], library.languages));
+        find("add").append(...choices([["", "Add a form"], ["copy", "a copy of this one"], STANDARD], library.languages));
         find("compare").addEventListener("change", () => open("compare"));
     }
 
@@ -34,14 +34,10 @@ class Report {
         return element("li", { class: "reason", "data-field": fields.join(" ") }, element("strong", {}, text), rows);
     }
 
-    note({ text, fields }) {
-        return element("li", { class: "note", "data-field": fields.join(" ") }, text, element("p", {}, this.links(fields)));
-    }
-
     /* Returns the list of a choice: the standard format, a language, or one form of it. */
     listOf(choice) {
         const [chosen, form] = choice.split(":");
-        const { forms, specials } = this.languages.find(({ name }) => name === chosen) ?? { forms: [this.library.usual] };
+        const { forms, specials } = this.library.languages.find(({ name }) => name === chosen) ?? { forms: [this.library.usual] };
         return { specials, forms: forms.filter(({ name }) => !form || name === form) };
     }
 
@@ -50,7 +46,7 @@ class Report {
         const { value } = find("compare");
         if (!value) return [find("texts"), find("changes"), find("same")].forEach((it) => it.replaceChildren());
         const other = this.listOf(value);
-        const texts = this.texts(this.library.differ(this.list, other));
+        const texts = this.texts(this.library.call("differ", this.list, other));
         find("texts").replaceChildren(...texts);
         const changes = other.forms.length === 1 ? this.library.differences(this.form, other.forms[0]) : [];
         const [forms, others] = [this.list, other].map((it) => it.forms.map(stateOf));
@@ -77,21 +73,21 @@ class Report {
         });
     }
 
-    /* Shows whether all forms of a list are valid. */
-    showVerdict(form, list) {
+    /* Takes the shown form of a list. Returns what is not valid: the form, or the first one with a problem. */
+    verdict(form, list) {
         Object.assign(this, { form, list });
         const { length } = form.problems;
-        const count = length === 1 ? "1 reason" : `${length} reasons`;
-        const bad = length ? count : list.forms.find((it) => it.problems.length)?.name;
-        setText(find("verdict"), bad === undefined ? "" : `Not valid: ${bad}`);
-        find("verdict").className = "bad";
+        const bad = length ? `${length} reason${length > 1 ? "s" : ""}` : list.forms.find((it) => it.problems.length)?.name;
+        return bad === undefined ? "" : `Not valid: ${bad}`;
     }
 
     /* Shows the reasons and the notes of a form. */
     show({ problems, notes }) {
         find("report").hidden = !problems.length && !notes.length;
         find("reasons").replaceChildren(...problems.map((it) => this.reason(it)));
-        find("notes").replaceChildren(...notes.map((note) => this.note(note)));
+        find("notes").replaceChildren(...notes.map(({ text, fields }) => {
+            return element("li", { class: "note", "data-field": fields.join(" ") }, text, element("p", {}, this.links(fields)));
+        }));
     }
 }
 

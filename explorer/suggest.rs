@@ -57,11 +57,10 @@ impl State {
     /// Returns the syntax if the word is lawful, and the options and the conditions fit.
     pub fn syntax(self) -> Option<Syntax> {
         let format = Format::new(self.word).ok()?;
-        let syntax = match self.is_integers() {
-            true => Syntax::integers(format),
-            false => Syntax::new(format, self.exponent, self.point).ok()?,
-        };
-        syntax.with_conditions(self.conditions).ok()
+        let options = Some((self.exponent, self.point)).filter(|_| !self.is_integers());
+        let syntax =
+            options.map_or(Ok(Syntax::integers(format)), |(exponent, point)| Syntax::new(format, exponent, point));
+        syntax.ok()?.with_conditions(self.conditions).ok()
     }
 
     /// Returns why each condition that does not fit a lawful word does not.
@@ -127,6 +126,10 @@ impl State {
         }
     }
 
+    fn refuses(self, text: &[u8]) -> bool {
+        matches!(self.read(text), Err(Some(_)))
+    }
+
     /// Returns how many requirements are set that another state does not have, and then how many fields and conditions differ.
     fn changes(self, other: Self) -> (usize, usize) {
         let bytes = [DIGIT_SEPARATOR, BASE_PREFIX, BASE_SUFFIX, MANTISSA_RADIX, EXPONENT_BASE, EXPONENT_RADIX];
@@ -161,9 +164,9 @@ pub struct Line<'a> {
 
 /// Returns the numbers of a text, one a line. A number behind a `!` must be refused.
 pub fn lines_of(text: &[u8]) -> impl Iterator<Item = Line<'_>> {
-    text.split(|&byte| byte == b'\n').filter(|line| !line.is_empty()).map(|line| match line.strip_prefix(b"!") {
-        Some(text) => Line { text, is_refused: true, is_read: false },
-        None => Line { text: line, is_refused: false, is_read: false },
+    text.split(|&byte| byte == b'\n').filter(|line| !line.is_empty()).map(|line| {
+        let refused = line.strip_prefix(b"!");
+        Line { text: refused.unwrap_or(line), is_refused: refused.is_some(), is_read: false }
     })
 }
 
@@ -191,14 +194,10 @@ fn unsigned(text: &[u8]) -> &[u8] {
 /// Returns the states that are offered for one of the lines, each with how many lines are as expected: those that need the
 /// fewest new roles to accept it, or those with one other flag or condition that refuse it and with which the most lines are.
 pub fn offers(state: State, lines: &[Line<'_>], line: Line<'_>) -> Vec<(State, usize)> {
-    let mut found = Vec::new();
-    match line.is_refused {
-        true => refusing(state, line.text, lines, &mut found),
-        false => {
-            let mut roles = 0..=MOST_ROLES;
-            while let Some(roles) = roles.next().filter(|_| found.is_empty()) {
-                accepting(state, line.text, lines, roles, &mut found);
-            }
+    let mut found = if line.is_refused { refusing(state, line.text, lines) } else { Vec::new() };
+    for roles in 0..=MOST_ROLES {
+        if found.is_empty() && !line.is_refused {
+            accepting(state, line.text, lines, roles, &mut found);
         }
     }
     let mut offered: Vec<(State, usize)> = Vec::new();
@@ -216,30 +215,22 @@ pub fn offers(state: State, lines: &[Line<'_>], line: Line<'_>) -> Vec<(State, u
     offered
 }
 
-fn refusing(state: State, text: &[u8], lines: &[Line<'_>], found: &mut Vec<State>) {
+fn refusing(state: State, text: &[u8], lines: &[Line<'_>]) -> Vec<State> {
     let flags = bits_of(FLAG_MASK).map(|flag| {
         let other = State { word: state.word ^ flag, ..state };
         // Consecutive separators need another flag of their part.
         let single = State { word: other.word & !CONSECUTIVE_DIGIT_SEPARATOR, ..other };
         other.syntax().map_or(single, |_| other)
     });
-    let refuses = |it: &State| matches!(it.read(text), Err(Some(_)));
-    found.extend(flags.filter(refuses));
-    found.extend(
-        Condition::ALL.iter().filter_map(|&it| State::first_best(state.with_numbers(it).filter(refuses), lines)),
-    );
+    let refuses = |it: &State| it.refuses(text);
+    let best = |&it: &Condition| State::first_best(state.with_numbers(it).filter(refuses), lines);
+    flags.filter(refuses).chain(Condition::ALL.iter().filter_map(best)).collect()
 }
 
 /// Returns a state that refuses a text with the flags of another one that need no change for this.
 fn without_needless(found: State, state: State, text: &[u8]) -> State {
-    bits_of((found.word ^ state.word) & FLAG_MASK).fold(found, |found, flag| {
-        let other = State { word: found.word ^ flag, ..found };
-        if matches!(other.read(text), Err(Some(_))) {
-            other
-        } else {
-            found
-        }
-    })
+    let flags = bits_of((found.word ^ state.word) & FLAG_MASK);
+    flags.fold(found, |it, flag| Some(State { word: it.word ^ flag, ..it }).filter(|it| it.refuses(text)).unwrap_or(it))
 }
 
 /// Finds states with up to this many new roles that accept the text.
@@ -343,22 +334,25 @@ fn is_mark(byte: u8) -> bool {
     matches!(byte, b'_' | b'\'' | b',' | b'.' | b' ')
 }
 
+/// Returns the radix that the letter of a prefix or a suffix shows.
+fn shown_radix(letter: u8) -> Option<u8> {
+    match letter.to_ascii_lowercase() {
+        b'x' | b'h' => Some(16),
+        b'd' | b't' => Some(10),
+        b'o' | b'q' => Some(8),
+        b'b' | b'y' => Some(2),
+        _ => None,
+    }
+}
+
 /// A letter behind the first zero is the base prefix, and shows the radix. A digit of this radix is never before a sign,
 /// so the radix is kept if the exponent character is such a digit and is before a sign.
 fn prefix(state: State, before: &[u8], byte: u8, rest: &[u8]) -> Option<State> {
-    let radix = match byte.to_ascii_lowercase() {
-        b'x' | b'h' => 16,
-        b'd' | b't' => 10,
-        b'o' | b'q' => 8,
-        b'b' | b'y' => 2,
-        _ => return None,
-    };
+    let radix = shown_radix(byte)?;
     let is_digit = value(state.exponent).is_some_and(|digit| digit < radix);
     let is_exponent = |it: &[u8]| it[0].eq_ignore_ascii_case(&state.exponent) && matches!(it[1], b'+' | b'-');
-    let shown = match is_digit && rest.windows(2).any(is_exponent) {
-        true => state,
-        false => state.with_radix(radix),
-    };
+    let is_kept = is_digit && rest.windows(2).any(is_exponent);
+    let shown = if is_kept { state } else { state.with_radix(radix) };
     (unsigned(before) == b"0").then(|| shown.with(BASE_PREFIX, byte))
 }
 
@@ -374,20 +368,15 @@ fn exponent(state: State, before: &[u8], byte: u8, rest: &[u8]) -> Option<State>
 /// The last comma or point of a number, if there is one of it, is the decimal point. The other one is a separator then.
 fn point(state: State, before: &[u8], byte: u8, rest: &[u8]) -> Option<State> {
     let is_last = !before.contains(&byte) && !rest.iter().any(|it| matches!(it, b',' | b'.'));
-    let state = match before.contains(&state.point) {
-        true => state.with(DIGIT_SEPARATOR, state.point),
-        false => state,
-    };
+    let is_separator = before.contains(&state.point);
+    let state = if is_separator { state.with(DIGIT_SEPARATOR, state.point) } else { state };
     (matches!(byte, b',' | b'.') && is_last).then_some(State { point: byte, ..state })
 }
 
 /// A mark is the digit separator. If it was the decimal point, that is the other one of comma and point then.
 fn separator(state: State, byte: u8) -> Option<State> {
-    let point = match (state.point == byte, byte) {
-        (true, b'.') => b',',
-        (true, _) => b'.',
-        (false, _) => state.point,
-    };
+    let other = if byte == b'.' { b',' } else { b'.' };
+    let point = if state.point == byte { other } else { state.point };
     is_mark(byte).then(|| State { point, ..state.with(DIGIT_SEPARATOR, byte) })
 }
 
@@ -398,13 +387,8 @@ fn suffixes(state: State, text: &[u8], at: usize) -> [Option<State>; 3] {
     if last.is_ascii_digit() || is_mark(last) || matches!(last, b'+' | b'-' | b'x' | b'X') {
         return [None; 3];
     }
-    let shown = match last.to_ascii_lowercase() {
-        b'b' | b'y' => Some(2),
-        b'o' | b'q' => Some(8),
-        b'h' => Some(16),
-        _ => None,
-    };
-    let shown = shown.filter(|&radix| radix_of(digits, 2).is_some_and(|least| least <= radix));
+    let is_shown = |&radix: &u8| radix != 10 && radix_of(digits, 2).is_some_and(|least| least <= radix);
+    let shown = shown_radix(last).filter(is_shown);
     let needed = radix_of(digits, state.radix() + 1).filter(|_| at < digits.len());
     let with = |radix| state.with_radix(radix).with(BASE_SUFFIX, last);
     [shown.map(with), Some(state.with(BASE_SUFFIX, last)), needed.map(with)]

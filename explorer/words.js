@@ -16,40 +16,66 @@ function placesOf(flags) {
     });
 }
 
-/* Returns the words for a condition with a number, which is 0 if there is none. */
-function groupWords(name, size) {
-    const where = { integer_group_size: "", higher_group_size: " before the last one", fraction_group_size: " in the fraction" }[name];
-    return `groups of ${size || "any number of"} digits${where}`;
-}
+/* Where groups of digits have sizes. */
+const SIZES = { integer_group_size: "", higher_group_size: " before the last one", fraction_group_size: " in the fraction" };
 
 /* Returns in words what fields that differ, as `differences` returns them, do to a form, which has them then. */
 function changeWords(library, form, changes) {
     const isSeparator = ({ part, isByte }) => part === "separator" && !isByte;
     const changed = (name) => changes.find((it) => it.name === name);
-    const character = (name) => byteText(library.value(form, changed(name) ?? library.named.get(name)));
-    const radix = radixWord(library.get(form.word, "mantissa_radix"));
+    const character = (name) => byteText(library.value(form, name));
+    const radix = radixWord(library.value(form, "mantissa_radix"));
     const separators = [["allow", 1], ["refuse", 0]].flatMap(([verb, value]) => {
         const places = placesOf(changes.filter((it) => isSeparator(it) && it.value === value));
         return places.length ? [`${verb} \`${character("digit_separator")}\` ${places.join(", ")}`] : [];
     });
     const [prefix, suffix] = ["base_prefix", "base_suffix"].map(changed);
     const hasRadix = changed("mantissa_radix");
+    const [verb, asRadix] = hasRadix ? ["read", ` as ${radix}`] : ["allow", ""];
     const words = {
         digit_separator: ({ value }) => (separators.length ? "" : value ? `\`${byteText(value)}\` separates digits` : "no separator"),
         base_prefix: ({ value }) => (value ? `read \`0${byteText(value)}\` as ${radix}` : "no prefix"),
-        base_suffix: ({ value }) => (!value ? "no suffix" : `${hasRadix ? "read" : "allow"} \`${byteText(value)}\` at the end${hasRadix ? ` as ${radix}` : ""}`),
+        base_suffix: ({ value }) => (value ? `${verb} \`${byteText(value)}\` at the end${asRadix}` : "no suffix"),
         mantissa_radix: () => (prefix?.value || suffix?.value ? "" : `read ${radix} digits`),
         exponent_base: ({ value }) => (hasRadix ? "" : `exponents of ${value || "the radix"}`),
-        exponent_radix: ({ value }) => (hasRadix ? "" : `${radixWord(value || library.get(form.word, "mantissa_radix"))} exponents`),
+        exponent_radix: ({ value }) => (hasRadix ? "" : `${radixWord(value || library.value(form, "mantissa_radix"))} exponents`),
         exponent: ({ value }) => (!value ? "integers alone" : `an exponent behind \`${byteText(value)}\``),
         point: ({ value }) => (value ? `\`${byteText(value)}\` is the decimal point` : ""),
     };
     const others = changes.filter((it) => !isSeparator(it)).map((it) => {
         if (words[it.name]) return words[it.name](it);
-        if (it.name.endsWith("group_size")) return groupWords(it.name, it.value);
-        const required = it.shift !== undefined && it.name.startsWith("required_") && it.name.slice(9).replaceAll("_", " ");
+        if (it.name in SIZES) return `groups of ${it.value || "any number of"} digits${SIZES[it.name]}`;
+        const required = it.holder === "conditions" && it.name.startsWith("required_") && it.name.slice(9).replaceAll("_", " ");
         if (required) return it.value ? `require the ${required}` : `the ${required} is optional`;
         return `${it.value ? "refuse" : "allow"} ${it.refuses.slice(0, 1).map((text) => `\`${text}\``)}`;
     });
     return [...separators, ...others].filter(Boolean).join(", ");
+}
+
+/* The words for parts of numbers, before their texts. */
+const PART_WORDS = { sign: "a sign", prefix: "the prefix", digits: "", point: "the point", exponent_character: "an exponent behind", suffix: "the suffix" };
+
+/* Returns in words what numbers of a form are, by the parts that they have. A part is that of the first number with it. */
+function numberWords(library, form, answers) {
+    const parts = answers.flatMap((it) => it.parts);
+    const mark = String.fromCharCode(answers[0].mark);
+    const wordsOf = (kind) => {
+        if (kind === "digits") return separatorWords(mark, parts);
+        const part = parts.find((it) => it.kind === kind && it.text !== ".");
+        return part && (kind === "sign" ? PART_WORDS.sign : `${PART_WORDS[kind]} \`${visible(part.text)}\``);
+    };
+    const all = Object.keys(PART_WORDS).map(wordsOf).filter(Boolean);
+    const kinds = ["integer", "float"].filter((kind) => answers.some(({ is }) => is === kind)).join("s and ");
+    const numbers = `${radixWord(library.value(form, "mantissa_radix"))} ${kinds}`;
+    const count = answers.length > 1 ? `${numbers}s` : `${/^o/.test(numbers) ? "an" : "a"} ${numbers}`;
+    return all.length ? `${count} with ${new Intl.ListFormat("en-GB").format(all)}` : count;
+}
+
+/* Returns in words where the digits of parts have a separator, if they have it. */
+function separatorWords(mark, parts) {
+    const digits = parts.filter(({ kind }) => DIGITS.includes(kind)).map(({ text }) => text);
+    const isInside = digits.some((it) => it.split(mark).filter(Boolean).length > 1);
+    const isOutside = digits.some((it) => it.startsWith(mark) || it.endsWith(mark));
+    const places = [[isInside, "between"], [isOutside, "before or behind"]].filter(([is]) => is).map(([, place]) => place).join(", ");
+    return places && `\`${visible(mark)}\` ${places} digits${digits.some((it) => it.includes(mark + mark)) ? ", several in a row" : ""}`;
 }

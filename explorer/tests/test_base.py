@@ -40,7 +40,7 @@ TEXTS = r"""1 1\5 1'5 1"5 -0 12 1F inf nan 9007199254740993 12345678901234567 12
 0x4000000000000000 0x8000000000000000 0xffffffffffffffff 0x10000000000000001 0ffffffffffffffffh 0b11111111111111111111111111111111""".split()
 # Links with all parts of a number, several forms, reasons, notes, offers, and a condition that does not fit.
 LINKS = [f"#word={MIXED}&exponent=112&point=44&numbers=-0x1_0%2C8p%2B1h%0A!0x1h%0A1k&compare=JSON",
-         f"#language=C&numbers={60 * '1'}%0A0xg%0A0b1.5&compare=standard",
+         f"#language=C&numbers={60 * '1'}%0A0xg%0A0b1.5{30 * '%0A1'}&compare=standard",
          "#word=0x000010006200005F00000000000000CC&exponent=112&compare=standard",
          f"#word={STANDARD}&conditions=integer_group_size%3D3&numbers=-inf%0A1_0%0A0x1F&compare=standard"]
 # The functions of the scripts here, which run in the page.
@@ -65,6 +65,13 @@ class Walk(unittest.TestCase):
     """A walk through the page in the browser of all tests. Each test loads the page anew."""
 
     driver = None
+
+    def __init_subclass__(cls):
+        """Makes a test of each function of the script of a class that is one: it returns nothing that is wrong."""
+        script = HERE / f"{cls.__module__}.js"
+        states = [(word, ord(exponent), ord(point)) for word, exponent, point in STATES]
+        for name in re.findall(r"^function (test_\w+)", script.read_text() if script.exists() else "", re.M):
+            setattr(cls, name, lambda self, name=name: self.assertEqual(self.call(name, TEXTS, states), []))
 
     @classmethod
     def setUpClass(cls):
@@ -94,9 +101,9 @@ class Walk(unittest.TestCase):
         self.driver.get(PAGE.as_uri() + fragment)
         self.wait(lambda: self.run_script("return document.documentElement.dataset.ready"))
 
-    def follow(self, fragment):
-        """Shows the state of a link without a new page."""
-        self.run_script("history.replaceState(null, '', arguments[0]); page.read();", fragment)
+    def refresh(self):
+        self.driver.refresh()
+        self.wait(lambda: self.run_script("return document.documentElement.dataset.ready"))
 
     def links(self):
         """Loads each of LINKS, shows each tab, opens all that is closed, and returns the link."""
@@ -143,10 +150,6 @@ class Walk(unittest.TestCase):
         self.open(selector)
         return self.find(selector).is_selected()
 
-    def code(self, tab):
-        """Returns the code of a tab."""
-        return self.run_script("page.chooseTab(arguments[0]); return find('code').textContent", tab)
-
     def focused(self):
         return self.run_script("return document.activeElement.id")
 
@@ -169,8 +172,20 @@ class Walk(unittest.TestCase):
         self.run_script("arguments[0].scrollIntoView({block: 'center'})", chosen)
         chosen.click()
 
-    def emulate(self, width, height, is_mobile):
-        """Shows the page from now on as on a screen of this size."""
-        metrics = {"width": width, "height": height, "deviceScaleFactor": 1, "mobile": is_mobile}
+    def screens(self, *sizes):
+        """Shows the page on each of these screens, by default those of a laptop and a phone, and returns its width."""
+        for width, height in sizes or ((1280, 720), (360, 700)):
+            self.emulate(width, height)
+            yield width
+
+    def emulate(self, width, height):
+        """Shows the page from now on as on a screen of this size. Narrow ones are those of phones."""
+        metrics = {"width": width, "height": height, "deviceScaleFactor": 1, "mobile": width < 500}
         self.driver.execute_cdp_cmd("Emulation.setDeviceMetricsOverride", metrics)
         self.addCleanup(self.driver.execute_cdp_cmd, "Emulation.clearDeviceMetricsOverride", {})
+
+    def media(self, media="", **features):
+        """Shows the page from now on in a medium with these features."""
+        features = [{"name": name.replace("_", "-"), "value": value} for name, value in features.items()]
+        self.driver.execute_cdp_cmd("Emulation.setEmulatedMedia", {"media": media, "features": features})
+        self.addCleanup(self.driver.execute_cdp_cmd, "Emulation.setEmulatedMedia", {"media": "", "features": []})

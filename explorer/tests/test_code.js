@@ -1,85 +1,76 @@
 /* Functions of test_code.py, which run in the page. */
 "use strict";
 
-function eachTabShowsItsCode() {
-    navigator.clipboard.writeText = async (text) => { window.copied = text; };
-    const stops = [...document.querySelectorAll("[role=tab]")].filter((it) => it.tabIndex === 0).map((it) => it.id);
-    return [page.tab, find("code").getAttribute("aria-labelledby"), new URLSearchParams(page.fragment()).get("tab"), ...stops];
-}
-
-function theGrammarAndTheExpressionAreThoseOfAllForms() {
-    const { languages } = page.data;
-    const texts = [...new Set(languages.flatMap((it) => it.numbers.replaceAll("!", "").split("\n")))];
-    const code = (tab) => (page.chooseTab("words"), find(tab).textContent);
+function test_the_sentence_the_grammar_and_the_expression_are_those_of_all_forms() {
+    const { library, data: { languages } } = page;
+    const texts = textsAndNumbers();
     return languages.flatMap(({ name, forms }) => {
-        page.jump({ forms, at: 0, language: name, numbers: "" });
-        const expression = new RegExp(`^(?:${code("regex")})$`);
-        const answers = page.library.numbers({ forms, specials: ["", "", ""] }, texts.join("\n"));
-        const isNamed = (form) => forms.length === 1 || code("grammar").includes(`/* ${form.name} */\n${page.library.explain(form).grammar}`);
-        const isTold = (form, at) => {
+        show(forms, "", name);
+        page.chooseTab("words");
+        const [grammar, expression] = [find("grammar").textContent, new RegExp(`^(?:${find("regex").textContent})$`)];
+        const answers = library.call("numbers", { forms, specials: ["", "", ""] }, texts.join("\n"));
+        const isShown = (form, at) => {
             page.jump({ at });
-            const sentence = page.library.explain(form).sentence.replaceAll("`", "");
-            return find("sentence").textContent === `Numbers${forms.length > 1 ? ` of the form ${form.name}` : ""} are ${sentence}.`;
+            const [told, count] = [library.explain(form), forms.length];
+            const sentence = `Numbers${count > 1 ? ` of the form ${form.name}` : ""} are ${told.sentence.replaceAll("`", "")}.`;
+            return grammar.includes(count > 1 ? `/* ${form.name} */\n${told.grammar}` : told.grammar) && find("sentence").textContent === sentence;
         };
-        const lost = forms.filter((form, at) => !isNamed(form) || !isTold(form, at) || !code("grammar").includes(page.library.explain(form).grammar));
-        const others = texts.filter((text, index) => expression.test(text) === Boolean(answers[index].error));
-        return [...lost.map((it) => it.name), ...others].map((it) => `${name} ${it}`);
+        const lost = forms.filter((form, at) => !isShown(form, at)).map((it) => it.name);
+        return [...lost, ...texts.filter((text, index) => expression.test(text) === Boolean(answers[index].error))].map((it) => `${name} ${it}`);
     });
 }
 
-function settingsAreThoseOfTheForm() {
+/* What the tab of settings shows makes the same form, in place of the usual one and, with the line ends of Windows, of another. */
+function test_settings_are_those_of_the_form(_, shown) {
     const { library, data: { languages } } = page;
-    const usual = library.usual;
-    const shown = arguments[0].map(([word, exponent, point]) => ({ ...usual, word: BigInt(word), exponent, point }));
-    const each = library.conditions.flatMap((it) => (it.limits ?? [1]).map((value) => library.with(shown.at(-1), it.name, value)));
-    const other = { ...shown.at(-1), conditions: library.withConditions(0n, "integer_group_size=3 required_base_prefix=true wraps=8 single=true") };
-    const text = ({ word, exponent, point, conditions }) => `${word} ${exponent} ${point} ${conditions}`;
-    return [usual, ...shown, ...each, ...languages.flatMap(({ forms }) => forms)].flatMap((form) => [usual, other].flatMap((before) => {
-        page.jump({ forms: [form], at: 0, language: "", numbers: "" });
-        page.chooseTab("settings");
-        const settings = find("code").textContent;
+    const states = shown.map(stateOfWord);
+    const each = library.conditions.flatMap((it) => (it.limits ?? [1]).map((value) => library.with(states.at(-1), it.name, value)));
+    const other = { ...states.at(-1), conditions: library.withConditions(0n, "integer_group_size=3 required_base_prefix=true wraps=8 single=true") };
+    const ends = [[library.usual, "\n"], [other, "\r\n"]];
+    return [library.usual, ...states, ...each, ...languages.flatMap(({ forms }) => forms)].flatMap((form) => ends.flatMap(([before, end]) => {
+        show([form]);
+        const settings = codeOf("settings");
         const nearest = /nearest one, (0x\w+)/.exec(settings)?.[1] ?? form.word;
         page.jump({ forms: [before] });
         const clipboardData = new DataTransfer();
-        clipboardData.setData("text", settings);
+        clipboardData.setData("text", settings.replaceAll("\n", end));
         find("word").dispatchEvent(new ClipboardEvent("paste", { clipboardData, cancelable: true }));
-        return text(page.form) === text({ ...form, word: BigInt(nearest) }) ? [] : [settings];
+        return json(stateOf(page.form)) === json(stateOf({ ...form, word: BigInt(nearest) })) ? [] : [settings];
     }));
 }
 
-function settingsArePastedFromTheCode() {
-    const clipboardData = new DataTransfer();
-    clipboardData.setData("text", arguments[0]);
-    const event = new ClipboardEvent("paste", { clipboardData, cancelable: true });
-    document.querySelector("#word").dispatchEvent(event)
+/* Returns the tab of a group that is a stop, that is selected and that names what is shown, and the code or the pane. */
+function shownTab(id) {
+    const stops = [...find(id).children].filter((it) => it.tabIndex === 0).map((it) => it.id);
+    const [pane] = [...document.querySelectorAll("#pane > section")].filter((it) => it.checkVisibility());
+    const shown = id === "tabs" ? find("code") : pane;
+    const text = id === "tabs" ? shown.textContent : shown.id;
+    return [stops.join(), find(id).querySelector("[aria-selected=true]").id, shown.getAttribute("aria-labelledby"), text];
 }
 
-/* Returns all texts that are tried and, for the states, the last one with each condition that fits and with all, and each form of
- * a language: its link, that of the page, its normal form, the code in three languages, and what is told of each text. */
-function shown() {
-    const [shown, tried] = arguments;
-    const { library, trial, data } = page;
-    const states = shown.map(([word, exponent, point]) => [[{ word: BigInt(word), exponent, point, conditions: 0n, name: "" }], ""]);
+/* Returns all texts that are tried and, for the states, the last one with each condition that fits and with all, and each form
+ * of a language: its link, that of the page, its normal form, the code in three languages, and what is told of each text. */
+function shown(tried, shown) {
+    const { library, trial, data: { languages } } = page;
+    const states = shown.map(stateOfWord);
+    const isRight = (form) => !library.explain(form).problems.length;
     const set = (form, { name, isNumber }) => library.with(form, name, isNumber ? 3 : 1);
-    const [[last]] = states.at(-1);
-    const all = [...library.conditions.map((it) => set(last, it)), library.conditions.reduce(set, last)].map((form) => [[form], ""])
-        .filter(([[form]]) => !library.explain(form).problems.length);
-    const named = states.map(([[form]], index) => ({ ...form, name: ['"', "\\", "*/?", "\u05d0'", "%s:{}", "??=??/??'??(??)??!??<??>??-", ""].at(index % 7) }))
-        .filter((form) => !library.explain(form).problems.length);
-    const forms = data.languages.flatMap(({ name, forms }) => [[forms, name], [forms, ""], ...forms.map((form) => [[form], name])]);
-    const json = ({ forms, at }) => JSON.stringify([forms, at], (_, it) => (typeof it === "bigint" ? String(it) : it));
-    const texts = [...new Set([...tried, ...data.languages.flatMap((it) => it.numbers.replaceAll("!", "").split("\n"))])];
-    return [texts, [...states, [named, ""], ...all, ...forms].map(([forms, language]) => {
+    const all = [...library.conditions.map((it) => set(states.at(-1), it)), library.conditions.reduce(set, states.at(-1))].filter(isRight);
+    const names = ['"', "\\", "*/?", "\u05d0'", "%s:{}", "??=??/??'??(??)??!??<??>??-", ""];
+    const named = states.map((form, index) => ({ ...form, name: names.at(index % 7) })).filter(isRight);
+    const ofLanguages = languages.flatMap(({ name, forms }) => [[forms, name], [forms, ""], ...forms.map((form) => [[form], name])]);
+    const texts = textsAndNumbers(tried);
+    return [texts, [...states.map((form) => [[form], ""]), [named, ""], ...all.map((form) => [[form], ""]), ...ofLanguages].map(([forms, language]) => {
         page.jump({ forms, at: forms.length - 1, language, numbers: "1_0 %&\n!+" });
-        const before = json(page.state);
+        const before = json([page.state.forms, page.state.at]);
         const link = page.fragment();
-        history.replaceState(null, "", link);
-        page.read();
-        const again = json(page.state) === before ? page.fragment() : json(page.state);
+        follow(link);
+        const after = json([page.state.forms, page.state.at]);
+        const again = after === before ? page.fragment() : after;
         const answers = trial.read(texts.map((text, place) => ({ text, place })));
         const told = answers.map((answer) => trial.told(answer));
         const tests = answers.map(({ text, error }) => ({ text, isRefused: Boolean(error) }));
-        const codes = ["rust", "c", "python"].map((tab) => (trial.answers = tests, page.chooseTab(tab), find("code").textContent));
+        const codes = ["rust", "c", "python"].map((tab) => ((trial.answers = tests), codeOf(tab)));
         const names = trial.forms.map(({ name }) => name).join("|");
         return [link, again, wordText(trial.forms[0].normal), names, codes, told];
     })];

@@ -72,7 +72,7 @@ def is_same(told, printed):
 class Code(Walk):
     @unittest.skipUnless(has("cargo", "cc"), "no cargo, or no C compiler")
     def test_code_reads_what_the_page_tells(self):
-        tried, states = self.call("shown", [(word, ord(exponent), ord(point)) for word, exponent, point in STATES], TEXTS)
+        tried, states = self.call("shown", TEXTS, [(word, ord(exponent), ord(point)) for word, exponent, point in STATES])
         self.addCleanup(shutil.rmtree, folder := pathlib.Path(tempfile.mkdtemp()))
         (folder / "texts").write_text("\n".join(tried))
         run("make", "--silent", "-C", TOP / "c", f"BUILD={BUILD}")
@@ -83,88 +83,23 @@ class Code(Walk):
                 for text, wanted, value in zip(tried, told, lines):
                     self.assertTrue(is_same(wanted, value), (program, link, text, wanted, value))
 
-    def test_settings_are_pasted_from_the_code(self):
-        word = "0x00000A00270000200000000100000400"
-        self.load(f"#word={word}")
-        self.code("settings")
-        self.assertIn("digit_separator=32\nbase_prefix='''", self.text("#code"))
-        self.click("#copy-code")
-        self.wait(lambda: self.text("#copy-code") == "copied")
-        text = self.text("#code")
-        self.select("#language", "")
-        self.type("#word", Keys.CONTROL + "v")
-        self.wait(lambda: self.value("#digit_separator") == "SPACE")
-        self.find("#word").send_keys(Keys.TAB)
-        self.assertEqual(self.value(), word)
-        self.select("#language", "")
-        self.call("settingsArePastedFromTheCode", text.replace("\n", "\r\n"))
-        self.assertEqual(self.value(), word)
-
-    def test_settings_are_those_of_the_form(self):
-        """What the tab of settings shows makes the same form, in place of the usual one and of one in which all differs."""
-        wrong = self.call("settingsAreThoseOfTheForm", [(word, ord(exponent), ord(point)) for word, exponent, point in STATES])
-        self.assertEqual(wrong, [])
-
-    def test_notations_are_those_of_the_library(self):
-        self.select("#language", "JSON")
-        self.assertIn("no `+`".replace("`", ""), self.text("#sentence"))
-        self.assertEqual(self.text("#regex"), "[-]?(?:[1-9][0-9]*|[0])(?:[.][0-9]+)?(?:[Ee][+-]?[0-9]+)?")
-        self.assertIn('Integer  ::= [1-9] Digit* | "0"', self.text("#grammar"))
-
-    def test_the_grammar_and_the_expression_are_those_of_all_forms(self):
-        wrong = self.call("theGrammarAndTheExpressionAreThoseOfAllForms")
-        self.assertEqual(wrong, [])
-
-    def test_each_tab_shows_its_code(self):
-        """By its button and by keys, in both directions. The link has it, and the code is that of the tab."""
-        heads = {"rust": "use peltzivar::", "c": '#include "peltzivar.h"', "python": "from peltzivar import", "settings": f"# {MIXED}"}
+    def test_each_tab_shows_what_it_names(self):
+        """By its button, and by keys in both directions. The link that the page makes shows it again."""
         self.load(f"#word={MIXED}&exponent=112&point=44&tab=rust")
-        self.assertEqual(self.texts("[role=tab]"), ["Languages", "Code", "Compare", "Settings", "In words", "Rust", "C", "Python", "As text"])
-        for step in (lambda name: self.click(f"#tab-{name}"), lambda _: self.find("#tabs [aria-selected=true]").send_keys(Keys.ARROW_RIGHT)):
-            for name in [*heads][1:] + [*heads][:1]:
-                step(name)
-                self.assertEqual(self.call("eachTabShowsItsCode"), [name, f"tab-{name}", name, "tab-code", f"tab-{name}"])
-                self.assertIn(heads[name], self.text("#code"))
-        for name in [*heads][::-1] + [*heads][-1:]:
-            self.find("#tabs [aria-selected=true]").send_keys(Keys.ARROW_LEFT)
-            self.assertEqual(self.run_script("return [page.tab, document.activeElement.id]"), [name, f"tab-{name}"])
-        for name in ("code", "word", "grammar", "regex"):
-            self.click(f"#copy-{name}")
-            self.assertEqual(*self.run_script("const it = find(arguments[0]); return [window.copied, it.value ?? it.textContent]", name))
-
-    def test_each_tab_shows_its_pane(self):
-        """By its button and by keys. The link has it, and so does the one that the page makes."""
-        panes = ["languages", "code", "compare", "edit", "words"]
-        self.find("#tab-languages").send_keys(Keys.ARROW_LEFT)
-        for name in panes:
-            self.find("#panes [aria-selected=true]").send_keys(Keys.ARROW_RIGHT)
-            shown = [it for it in panes if self.find(f"#pane-{it}").is_displayed()]
-            self.assertEqual((shown, self.focused()), ([name], f"tab-{name}"))
-            link = self.run_script("return page.fragment()")
-            self.click(f"#tab-{panes[panes.index(name) - 1]}")
-            self.follow(link)
-            self.assertTrue(self.find(f"#pane-{name}").is_displayed())
-            self.find(f"#tab-{name}").click()
-
-    def test_the_code_can_be_scrolled_to_its_end(self):
-        """With a wheel, at the sizes of a laptop and of a phone, the end of each line and the last line come into view."""
-        end = """const range = document.createRange();
-            range.selectNodeContents(find("code"));
-            const [text, box] = [range.getBoundingClientRect(), find("code").getBoundingClientRect()];
-            const at = document.elementFromPoint(box.left + 9, text.bottom - 3);
-            return text.bottom <= innerHeight && text.right <= Math.min(box.right, innerWidth) && at === find("code");"""
-        for width, height in ((1280, 720), (360, 700)):
-            self.emulate(width, height, width < 1000)
-            for tab in ("rust", "c", "python", "settings"):
-                self.load(f"#language=NASM&tab={tab}&numbers=")
-                self.run_script("find('code').scrollIntoView({ block: 'start' })")
-                for _ in range(6):
-                    if is_seen := self.run_script(end):
-                        break
-                    x, y = self.run_script("const { left, top } = find('code').getBoundingClientRect(); return [left + 20, top + 9]")
-                    place = {"x": x, "y": min(max(y, 60), height - 60), "xDistance": -20000, "yDistance": -20000, "speed": 900000}
-                    self.driver.execute_cdp_cmd("Input.synthesizeScrollGesture", {**place, "gestureSourceType": "mouse"})
-                self.assertTrue(is_seen, (width, tab))
+        heads = {"rust": "use peltzivar::", "c": '#include "peltzivar.h"', "python": "from peltzivar import", "settings": f"# {MIXED}"}
+        panes = {it: it for it in ("languages", "code", "compare", "edit", "words")}
+        for group, tabs in (("tabs", heads), ("panes", panes)):
+            names = [*tabs]
+            clicks = [(f"#tab-{name}", Keys.ENTER, name) for name in names]
+            arrows = [(None, Keys.ARROW_RIGHT, name) for name in names]
+            arrows += [(None, Keys.ARROW_LEFT, name) for name in names[-2::-1] + names[-1:]]
+            for selector, key, name in clicks + arrows:
+                self.find(selector or f"#{group} [aria-selected=true]").send_keys(key)
+                self.assertEqual(self.focused(), f"tab-{name}")
+                self.call("follow", self.run_script("return page.fragment()"))
+                *shown, text = self.call("shownTab", group)
+                self.assertEqual(shown, 3 * [f"tab-{name}"])
+                self.assertIn(tabs[name], text)
 
     def rust(self, folder, codes):
         codes = [code.replace("#[test]\nfn", "pub fn") for code in codes]
@@ -180,7 +115,8 @@ class Code(Walk):
     def c(self, folder, codes):
         names = r"\b(SETTINGS|SPECIALS|WORD|LIST|FORMS|make_forms|read_number|test_numbers)\b"
         parts = [re.sub(names, rf"\1_{index}", code) for index, code in enumerate(codes)]
-        show = [("show(make_forms_{0}, &FORMS_{0}, read_number_{0}, test_numbers_{0});" if "make" in it else "print(WORD_{0}.low, WORD_{0}.high); puts(\"\");") for it in codes]
+        shown = "show(make_forms_{0}, &FORMS_{0}, read_number_{0}, test_numbers_{0});"
+        show = [shown if "make" in it else 'print(WORD_{0}.low, WORD_{0}.high); puts("");' for it in codes]
         calls = " ".join(call.format(index) for index, call in enumerate(show))
         names = set(re.findall(r"\bpeltzivar_\w+", "".join(codes)))
         self.assertLessEqual(names, set(re.findall(r"\bpeltzivar_\w+", (TOP / "c/peltzivar.h").read_text())))

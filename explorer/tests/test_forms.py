@@ -37,23 +37,14 @@ class Forms(Walk):
             before, after = self.run_script("return [page.past.at(-1), page.state].map(({ forms }) => forms.map((it) => wordText(it.word)))")
             self.assertEqual([it for it, old, new in zip(words, before, after) if old != new], [name])
 
-    def test_a_changed_language_keeps_its_special_values(self):
-        lost = self.call("aChangedLanguageKeepsItsSpecialValues")
-        self.assertEqual(lost, [])
-
     def test_links_show_the_form_of_their_word(self):
         """In each order of lines, the one without a syntax is shown, and those that cannot be read are told and left out."""
         for lines in itertools.permutations([":shown", "bad:x", f"{STANDARD} 101 46 :a", f"{STANDARD} 101 44 :b"]):
             for kept in (lines, lines[1:]):
-                self.follow(f"#word={MIXED}&forms=" + "%0A".join(kept))
+                self.call("follow", f"#word={MIXED}&forms=" + "%0A".join(kept))
                 names = [it.split(":")[1] for it in kept if it != "bad:x"] + ([] if ":shown" in kept else ["hexadecimal"])
                 self.assertEqual((self.texts("#forms button") or names, self.value()), (names, MIXED))
                 self.assertEqual("forms=bad:x" in self.text("#told"), "bad:x" in kept)
-
-    def test_forms_are_added(self):
-        """Each choice adds the forms that it names behind the last one."""
-        wrong = self.call("formsAreAdded")
-        self.assertEqual(wrong, [])
 
     def test_forms_of_a_language_are_read_together(self):
         self.type("#literal", "0x1F\n0b12\n1_000\n!1u")
@@ -61,19 +52,13 @@ class Forms(Walk):
         self.assertEqual(self.texts("#read p"), [
             "accepted: integer = 31, hexadecimal", "at index 3: unexpected character '2' binary",
             "accepted: integer = 1000, decimal", "refused: at index 1: unexpected character 'u' decimal"])
-        self.assertIn("peltzivar::literal::Language::RUST.", self.text("#code"))
         self.click("#forms button", "hexadecimal")
-        self.assertEqual((self.value("#base_prefix"), self.value("#language"), self.focused()), ("x", "RUST", ""))
-        self.assertTrue(self.is_checked("#required_base_prefix"))
-        self.assertEqual((self.value("#exponent"), self.value("#point")), ("", ""))
-        self.assertEqual(self.text("#count"), "3 of 4 as expected")
-        self.click("#no_special")
-        self.assertEqual((self.value("#language"), self.text("#count")), ("own", "3 of 4 as expected"))
-        self.assertEqual(self.text("#told"), "The format is not that of Rust any more. Undo brings it back.")
-        self.click("#undo")
-        self.assertEqual((self.value("#language"), self.text("#told")), ("RUST", ""))
+        self.assertEqual((self.value("#base_prefix"), self.value("#exponent"), self.is_checked("#required_base_prefix")), ("x", "", True))
+        for step, language, told in (("#no_special", "own", "The format is not that of Rust any more. Undo brings it back."), ("#undo", "RUST", "")):
+            self.click(step)
+            self.assertEqual((self.value("#language"), self.text("#told"), self.text("#count")), (language, told, "3 of 4 as expected"))
 
     def shown_forms(self):
         """Returns the names of the forms, that of the shown one, its word, and the names in the code of Python."""
-        names = re.findall(r'\("(.*)", Syntax', self.code("python"))
+        names = re.findall(r'\("(.*)", Syntax', self.call("codeOf", "python"))
         return self.texts("#forms button"), self.text("#forms [aria-pressed=true]"), self.value(), names

@@ -1,15 +1,17 @@
 /* Functions of test_languages.py, which run in the page. */
 "use strict";
 
-function comparisonsFindWhatTellsTwoLanguagesApart() {
+/* Each pair of languages is told apart by texts like those that do: of each spelling of special values, and of octal. The
+ * texts that are told are those that one reads, and the other refuses or gives another value. Each cause of a flag is told. */
+function test_comparisons_find_what_tells_two_languages_apart(tried) {
     const { library, data: { languages } } = page;
-    const tried = [...new Set([...arguments[0], ...languages.flatMap((it) => [...it.specials, ...it.numbers.replaceAll("!", "").split("\n")])])];
-    const readings = (texts) => library.readers(texts.join("\n")).map((all) => new Map(all.map((it) => [it.language, valueText(it)])));
+    const all = textsAndNumbers([...tried, ...languages.flatMap((it) => it.specials)]).filter(Boolean);
+    const readings = (texts) => library.call("readers", texts.join("\n")).map((all) => new Map(all.map((it) => [it.language, valueText(it)])));
     const pairs = languages.flatMap((here, first) => languages.slice(first + 1).map((there, next) => [first, first + next + 1]));
-    const listed = pairs.map(([here, there]) => library.differ(languages[here], languages[there]));
-    const texts = [...new Set([...tried.filter(Boolean), ...listed.flat(2).map(({ text }) => text)])];
+    const listed = pairs.map(([here, there]) => library.call("differ", languages[here], languages[there]));
+    const texts = [...new Set([...all, ...listed.flat(2).map(({ text }) => text)])];
     const read = new Map(readings(texts).map((all, index) => [texts[index], all]));
-    const errors = languages.map((list) => new Map(library.numbers(list, texts.join("\n")).map(({ error }, index) => [texts[index], error])));
+    const errors = languages.map((list) => new Map(library.call("numbers", list, texts.join("\n")).map(({ error }, index) => [texts[index], error])));
     const cause = (it) => it?.split(", which ")[1];
     return pairs.flatMap((pair, index) => listed[index].flatMap((list, part) => {
         const [here, there] = part === 1 ? pair.toReversed() : pair;
@@ -32,37 +34,42 @@ function comparisonsFindWhatTellsTwoLanguagesApart() {
     }));
 }
 
-function spellingsInOneCaseAreToldApart() {
+function test_spellings_in_one_case_are_told_apart() {
     const { library, data: { languages } } = page;
     const words = languages.flatMap(({ specials }) => specials).flatMap((it) => [it, it.toLowerCase(), it.toUpperCase()]);
     const forms = [library.with(library.usual, "case_sensitive_special", 1)];
     return [...new Set(words)].filter((it) => /[a-z]/i.test(it)).filter((it) => {
         const specials = /n.?a/i.test(it) ? [it, "", ""] : ["", it, ""];
-        return !library.differ({ forms: [library.usual], specials }, { forms, specials }).flat().length;
+        return !library.call("differ", { forms: [library.usual], specials }, { forms, specials }).flat().length;
     });
 }
 
-function twoFormatsAreCompared() {
-    return Array.from({ length: 12 }, (_, it) => it).filter((count) => {
-        const texts = Array.from({ length: count }, (_, it) => ({ text: String(it), error: "" }));
-        return page.report.texts([texts]).some((it) => it.tagName === "UL" && Boolean(it.querySelector("summary")) !== (count > MOST_TEXTS));
+function test_long_lists_of_texts_are_cut() {
+    return range(0, 12).filter((count) => {
+        const [head, list] = page.report.texts([range(1, count).map((it) => ({ text: String(it), error: "" }))]);
+        const more = list?.querySelector("details");
+        const isTold = !more || parseInt(more.textContent) === more.childElementCount - 1;
+        return count && !(head.textContent.endsWith(`: ${count}`) && isTold && Boolean(more) === count > MOST_TEXTS);
     });
 }
 
-function languagesAreShownAsTheyAreDocumented() {
+/* Returns what is shown of each language after it is chosen: the code, what is told of it, its forms and its numbers. */
+function shownLanguages() {
     return page.data.languages.map(({ name, title }) => {
         page.jump({ numbers: "" });
-        page.start(name);
-        const codes = ["rust", "c", "python"].map((tab) => (page.chooseTab(tab), find("code").textContent));
+        choose("language", name);
+        const codes = ["rust", "c", "python"].map(codeOf);
         const forms = page.state.forms.map((it) => it.name);
-        return [name, [codes, find("about").textContent, forms, find("literal").value.split("\n"), title]];
+        const wrong = [find("verdict").textContent, ...textsOf("#read .unexpected")].filter(Boolean);
+        return [name, [codes, find("about").textContent, forms, find("literal").value.split("\n"), wrong, title]];
     });
 }
 
-function eachLanguageIsBelowWhatItReads() {
+/* Each language is behind its value and its form, and leads to that form. Those that read all as expected are first. */
+function test_each_language_is_below_what_it_reads() {
     const { languages } = page.data;
     page.chooseTab("languages");
-    const reads = (list, text) => page.library.numbers(list, text)[0];
+    const reads = (list, text) => page.library.call("numbers", list, text)[0];
     return ["010", "0x1F", "1_0", "NaN", "1e5", "-5", "2147483648", "0xffffffff", "9223372036854775808"].flatMap((first) => {
         const numbers = ["1", first];
         page.change({ numbers: numbers.join("\n") });
@@ -81,16 +88,4 @@ function eachLanguageIsBelowWhatItReads() {
         })];
         return [...lines.filter((it) => !wanted.includes(it)), ...wanted.filter((it) => !lines.includes(it))];
     });
-}
-
-function languagesAreThoseThatReadANumber() {
-    const { library, data: { languages } } = page;
-    const texts = [...new Set([...arguments[0], ...languages.flatMap((it) => it.numbers.replaceAll("!", "").split("\n"))])];
-    const found = library.readers(texts.join("\n"));
-    return languages.flatMap((list, language) => library.numbers(list, texts.join("\n")).map((answer, index) => {
-        const reader = found[index].find((it) => it.language === language);
-        const told = (it) => (it ? `${it.form} ${valueText(it)}` : "refused");
-        const there = told(answer.error ? undefined : answer);
-        return told(reader) === there ? [] : [list.name, texts[index], told(reader), there];
-    }).filter((it) => it.length));
 }

@@ -9,48 +9,63 @@ function outOfView() {
         const { left, right, top, bottom } = it.getBoundingClientRect();
         return top >= 0 && bottom <= innerHeight && left >= 0 && right <= innerWidth && bottom > top;
     };
-    const lines = (node) => {
-        const range = document.createRange();
-        const text = document.createTreeWalker(node, NodeFilter.SHOW_TEXT);
-        const ends = [];
-        while (text.nextNode() && ends.length < 10) {
-            const rows = text.currentNode.data.split("\n");
-            let at = 0;
-            for (const row of rows.slice(0, 10)) {
-                range.setStart(text.currentNode, at);
-                range.setEnd(text.currentNode, at + Math.min(row.length, 20));
-                if (row.trim()) ends.push(range.getBoundingClientRect());
-                at += row.length + 1;
-            }
-        }
-        return ends.slice(0, 10);
-    };
-    const isRead = (node) => lines(node).every(({ top, bottom }) => top >= 0 && bottom <= innerHeight && bottom > top);
-    const choose = (id, value) => {
-        find(id).value = value;
-        find(id).dispatchEvent(new Event("change"));
-    };
+    const { lineHeight } = getComputedStyle(find("code"));
     return page.data.languages.flatMap(({ name }) => {
         choose("language", name);
-        const isCode = isSeen(find("code-title")) && isRead(find("code"));
+        const isCode = isSeen(find("code-title")) && find("code").getBoundingClientRect().top + 10 * parseFloat(lineHeight) < innerHeight;
         const isFirst = isSeen(find("summary")) && isSeen(find("read").firstChild);
         choose("compare", name === "TOML" ? "YAML" : "TOML");
-        const isCompared = isSeen(find("compare-title")) && isRead(find("texts"));
+        const isCompared = [find("compare-title"), ...document.querySelectorAll("#texts :is(h3, li)")].slice(0, 11).every(isSeen);
         return isCode && isFirst && isCompared ? [] : [[name, isCode, isFirst, isCompared]];
     });
 }
 
-function whatDiffersIsMarked() {
-    const names = page.library.differences(page.form).map(({ name }) => name);
-    const blamed = page.shown.problems.flatMap(({ fields }) => fields);
-    return [...document.querySelectorAll("#controls .control")].filter(({ dataset: { field }, classList }) => {
-        return classList.contains("changed") !== names.includes(field) || classList.contains("blamed") !== blamed.includes(field);
-    }).map((it) => it.dataset.field);
+/* Returns the controls that are shown, the width of the page, and what looks wrong, by the name of a check. */
+function looks() {
+    const controls = [...document.querySelectorAll("button, input, select")].filter((it) => it.id && it.checkVisibility());
+    const checks = { faint, misleading, beyond, narrow, small, cutOff, wordless, wronglyMarked, pointless };
+    const wrong = Object.entries(checks).flatMap(([name, check]) => check().map((it) => `${name}: ${it.outerHTML?.slice(0, 99) ?? it}`));
+    return [controls.map(({ id }) => id), document.documentElement.scrollWidth, wrong];
 }
 
-function eachControlHasANameAndEachButtonDoesSomething() {
+/* Returns the controls that are not marked as changed or blamed, or are in vain. */
+function wronglyMarked() {
+    const names = page.library.differences(page.form).map(({ name }) => name);
+    const blamed = page.shown.problems.flatMap(({ fields }) => fields);
+    return page.tab !== "edit" ? [] : [...document.querySelectorAll("#controls .control")].filter(({ dataset: { field }, classList }) => {
+        return classList.contains("changed") !== names.includes(field) || classList.contains("blamed") !== blamed.includes(field);
+    });
+}
+
+/* Returns the references to elements that do not exist. */
+function pointless() {
     return ["aria-describedby", "aria-labelledby", "aria-controls", "aria-errormessage", "for"].flatMap((name) => {
         return [...document.querySelectorAll(`[${name}]`)].map((it) => it.getAttribute(name)).filter((it) => !find(it));
+    });
+}
+
+/* Returns the controls that are lower than a finger needs. */
+function small() {
+    return [...document.querySelectorAll("button, select, summary, label:has(input), label[for], textarea")]
+        .filter((it) => it.checkVisibility() && !it.closest(".skips, h2, h3") && it.getBoundingClientRect().height < 24);
+}
+
+/* Returns the controls that are refused without a message. */
+function wordless() {
+    return [...document.querySelectorAll("[aria-invalid=true]:not([type=checkbox])")].filter((it) => {
+        const message = find(it.getAttribute("aria-errormessage"));
+        return !message?.textContent || !message.closest("[role=status], [role=alert]");
+    });
+}
+
+/* Returns what has more than it shows and cannot be scrolled, but for texts that end in dots, and what stays in view and is higher
+ * than the screen. */
+function cutOff() {
+    return [...document.querySelectorAll("body *")].filter((it) => it.checkVisibility() && !it.closest("input, select, .skips")).filter((it) => {
+        const { overflowX, overflowY, textOverflow, contain, position } = getComputedStyle(it);
+        const hides = (overflow) => textOverflow !== "ellipsis" && (["hidden", "clip"].includes(overflow) || contain.includes("paint"));
+        const stays = ["sticky", "fixed"].includes(position) && it.getBoundingClientRect().height > innerHeight;
+        return stays || (hides(overflowX) && it.scrollWidth > it.clientWidth + 1) || (hides(overflowY) && it.scrollHeight > it.clientHeight + 1);
     });
 }
 
@@ -58,15 +73,15 @@ function eachControlHasANameAndEachButtonDoesSomething() {
 function beyond() {
     return [...document.querySelectorAll(`:is(${PARTS_OF_PAGE}) *`)].filter((it) => {
         const [panel, box] = [it.closest(PARTS_OF_PAGE), it].map((it) => it.getBoundingClientRect());
-        return box.width && (box.left < panel.left - 1 || box.right > panel.right + 1);
-    }).map((it) => it.outerHTML.slice(0, 99));
+        return box.width && panel.width && (box.left < panel.left - 1 || box.right > panel.right + 1);
+    });
 }
 
 /* Returns the long texts that are squeezed into a few letters a line. */
 function narrow() {
     return [...document.querySelectorAll("body :not(option)")].filter((it) => it.checkVisibility({ opacityProperty: true })
     && [...it.childNodes].some((node) => node.nodeType === 3 && node.data.trim()) && it.textContent.trim().length > 20
-    && it.getBoundingClientRect().width < 50).map((it) => it.outerHTML.slice(0, 99));
+    && it.getBoundingClientRect().width < 50);
 }
 
 /* Returns the parts of numbers in another colour than the dots of their fields, and what is good in red or bad in green. */
@@ -78,19 +93,18 @@ function misleading() {
         ? colour(it, "borderLeftColor") !== colour(it.querySelector(".bad")) : colour(it, "borderLeftColor") !== colour(it.querySelector(".good")));
     return [...document.querySelectorAll(".written [data-field], .good, .bad")].filter((it) => (it.matches("[data-field]")
         ? dots(it).some((dot) => colour(dot, "backgroundColor") !== colour(it)) : isGreen(it) !== it.matches(".good")))
-        .concat(rows).map((it) => it.outerHTML);
+        .concat(rows);
 }
 
 /* Calls back with the shown buttons that neither change the state nor go elsewhere, nor copy what is beside them. */
 function idle() {
     const [link, done] = arguments;
-    const not = ":not(#undo, #redo, .rover ~ .rover, [aria-pressed=true], [aria-selected=true])";
+    const not = ":not(#undo, #redo, .row, .rover ~ .rover, [aria-pressed=true], [aria-selected=true])";
     const where = link.endsWith("languages") ? "" : "#pane ";
     const buttons = () => [...document.querySelectorAll(`${where}button:enabled${not}`)].filter((it) => it.checkVisibility());
     navigator.clipboard.writeText = async (text) => { window.copied = text; };
     const start = () => {
-        history.replaceState(null, "", link);
-        page.read();
+        follow(link);
         document.activeElement.blur();
         page.change({ numbers: `${page.state.numbers}\n1` });
     };
@@ -107,10 +121,10 @@ function idle() {
             if (!(button.id.startsWith("copy") ? isCopied : page.fragment() !== before || hasMoved)) idle.push(button.outerHTML);
         }
         done(idle);
-    })();
+    })().catch((error) => done([String(error)]));
 }
 
-/* Returns the texts whose contrast with the ground behind them is below 4.5, and borders below 3, with these contrasts. */
+/* Returns the texts whose contrast with the ground behind them is below 4.5, and what has a border below 3. */
 function faint() {
     const canvas = document.createElement("canvas").getContext("2d", { willReadFrequently: true });
     const luminance = (colours) => {
@@ -120,16 +134,12 @@ function faint() {
         return 0.2126 * red + 0.7152 * green + 0.0722 * blue;
     };
     const grounds = (node) => (node ? [...grounds(node.parentElement), getComputedStyle(node).backgroundColor] : []);
-    const contrast = (node) => {
-        const [ground, text] = [[], [getComputedStyle(node).color]].map((it) => luminance([...grounds(node), ...it]) + 0.05);
-        return Math.max(ground / text, text / ground);
-    };
-    const hasText = (node) => node.value || [...node.childNodes].some((it) => it.nodeType === 3 && it.data.trim());
-    const beside = (node, colour) => {
-        const ground = grounds(node.parentElement);
+    const contrast = (ground, colour) => {
         const [one, other] = [ground, [...ground, colour]].map((it) => luminance(it) + 0.05);
         return Math.max(one / other, other / one);
     };
+    const hasText = (node) => node.value || [...node.childNodes].some((it) => it.nodeType === 3 && it.data.trim());
+    const isFaint = (node) => hasText(node) && contrast(grounds(node), getComputedStyle(node).color) < 4.5;
     const lines = (node, style = getComputedStyle(node)) => [
         ...["Top", "Right", "Bottom", "Left"].filter((it) => !node.matches(rules) && parseFloat(style[`border${it}Width`]))
             .map((it) => style[`border${it}Color`]),
@@ -137,8 +147,7 @@ function faint() {
         ...(node.matches(".dot") ? [style.backgroundColor] : []), ...(style.boxShadow === "none" ? [] : [/^\w+\(.*?\)/.exec(style.boxShadow)[0]])];
     const rules = "h1, #start, header, .bar, #panes, #pane, fieldset, th, td, input[type=checkbox]";
     const shown = [...document.querySelectorAll("body *")].filter((it) => it.checkVisibility({ visibilityProperty: true }) && !it.disabled);
-    return [...shown.filter((it) => hasText(it) && contrast(it) < 4.5).map((it) => `${it.textContent.slice(0, 40)} ${contrast(it)}`),
-        ...shown.filter((it) => lines(it).some((colour) => beside(it, colour) < 3)).map((it) => `${it.outerHTML.slice(0, 80)} ${lines(it)}`)];
+    return shown.filter((it) => isFaint(it) || lines(it).some((colour) => contrast(grounds(it.parentElement), colour) < 3));
 }
 
 /* Returns the controls that have the focus without an outline. */
@@ -148,4 +157,13 @@ function bare() {
         const { outlineStyle, outlineWidth } = getComputedStyle(it);
         return it === document.activeElement && (outlineStyle === "none" || parseFloat(outlineWidth) < 2);
     }).map((it) => it.id || it.textContent);
+}
+
+function test_arrows_lead_among_buttons() {
+    const all = [...find("readers").querySelectorAll(".rover")];
+    all[0].focus();
+    return Object.entries({ ArrowRight: 1, ArrowDown: 2, ArrowLeft: 1, ArrowUp: 0 }).filter(([key, place]) => {
+        document.activeElement.dispatchEvent(new KeyboardEvent("keydown", { key, bubbles: true }));
+        return document.activeElement !== all[place] || all.filter((it) => it.tabIndex === 0).length !== 1;
+    });
 }

@@ -1,50 +1,55 @@
 /* Functions of test_numbers.py, which run in the page. */
 "use strict";
 
-function goodAndBadHaveMarks() {
+function test_good_and_bad_have_marks() {
     page.change({ numbers: "1\n0x\n!1\n!x" });
     const shows = (it) => getComputedStyle(it, "::before").content[1] === (it.matches(".good") ? "\u2713" : "\u2717");
     return [...document.querySelectorAll(".good, .bad")].filter((it) => it.textContent && !shows(it)).map((it) => it.outerHTML);
 }
 
-function partsAreThoseOfTheFormThatReads() {
+/* The separators that are marked are those of the form that reads the number, at each place where a flag allows one. */
+function test_separators_are_those_of_the_form_that_reads() {
+    const shown = () => textsOf(".written .separator").join("");
     const marks = ["_", "'", ",", " "];
-    const form = (mark, ...settings) => {
-        const all = ["internal_digit_separator=true", `digit_separator='${mark}'`, ...settings];
-        return { ...page.library.usual, word: page.library.build(all).word, exponent: 112, name: mark };
-    };
-    return marks.flatMap((first) => marks.map((second) => {
-        const forms = [form(first), form(second, "mantissa_radix=16", "exponent_base=16", "exponent_radix=16", "base_prefix='x'")];
-        page.jump({ forms, at: 0, language: "", numbers: `1${first}0.5\n0x1${second}F` });
-        return [first, second, ...document.querySelectorAll(".written .separator")].map((it) => it.textContent ?? it).join("|");
-    })).filter((it) => it.split("|").slice(0, 2).join() !== it.split("|").slice(2).join());
+    const form = (mark, ...settings) => ({ ...formOf("internal_digit_separator=true", `digit_separator='${mark}'`, ...settings), exponent: 112 });
+    const hexadecimal = ["mantissa_radix=16", "exponent_base=16", "exponent_radix=16", "base_prefix='x'"];
+    const pairs = marks.flatMap((first) => marks.map((second) => first + second)).filter(([first, second]) => {
+        show([form(first), form(second, ...hexadecimal)], `1${first}0.5\n0x1${second}F`);
+        return shown() !== first + second;
+    });
+    const flags = page.library.flags.filter(({ name, part }) => part === "separator" && !name.startsWith("special"));
+    return [...pairs, ...flags.flatMap(({ accepts }) => accepts).filter((text) => {
+        show([formOf("digit_separator_flags=true", "digit_separator='_'")], text);
+        return shown() !== text.replace(/[^_]/g, "");
+    })];
 }
 
-function partsAreThoseOfTheFormThatReads2() {
-    const word = page.library.build(["digit_separator_flags=true", "digit_separator='_'"]).word;
-    const flags = page.library.flags.filter(({ name, part }) => part === "separator" && !name.startsWith("special"));
-    return flags.flatMap(({ accepts }) => accepts).filter((text) => {
-        page.jump({ forms: [{ ...page.library.usual, word }], at: 0, language: "", numbers: text });
-        return [...document.querySelectorAll(".written .separator")].map((it) => it.textContent).join("") !== text.replace(/[^_]/g, "");
+/* A clause for each form has the parts that its numbers have, no others, and the languages that read all of them. */
+function test_the_sentence_tells_what_the_numbers_are() {
+    const { library, data: { languages } } = page;
+    const names = { float: " float", prefix: "the prefix", exponent_character: "an exponent behind", suffix: "the suffix", sign: "a sign", runs: " digits" };
+    return languages.flatMap(({ name, forms, numbers }) => {
+        show(forms, numbers.replace(/^!.*$/gm, ""), name);
+        const answers = page.trial.answers.map((it) => ({ ...it, readers: library.call("readers", it.text)[0] }));
+        const clauses = textsOf("#summary p");
+        const places = [...new Set(answers.map((it) => (it.is === "special value" ? forms.length : it.form)))].sort((a, b) => a - b);
+        return places.flatMap((place, index) => {
+            const group = answers.filter((it) => (it.is === "special value" ? forms.length : it.form) === place);
+            const reads = (it, language) => it.readers.some((one) => one.language === language && !one.refused);
+            const others = languages.filter((it, language) => it.name !== name && group.every((it) => reads(it, language))).map(({ title }) => title);
+            const titles = named([page.data.languages.find((it) => it.name === name).title, ...others]);
+            const ends = `: ${titles} read${others.length ? "" : "s"} ${group.length > 1 ? "them" : "it"}.`;
+            const has = (kind) => group.some(({ is, parts }) => is === kind || parts.some((it) => it.kind === kind || (it.runs[1] && kind === "runs")));
+            const isTold = ([kind, words]) => place === forms.length || has(kind) === clauses[index].toLowerCase().includes(words);
+            return clauses[index].endsWith(ends) && Object.entries(names).every(isTold) ? [] : [`${name}: ${clauses[index]} ${ends}`];
+        });
     });
 }
 
-/* Returns the clauses on the numbers of languages that tell something else than the numbers have. */
-function theSentenceTellsWhatTheNumbersAre() {
-    const { library, data: { languages } } = page;
-    const names = { prefix: "the prefix", exponent_character: "an exponent behind", suffix: "the suffix", sign: "a sign" };
-    return languages.flatMap(({ name, forms, specials, numbers }) => {
-        const texts = numbers.split("\n").filter((it) => it[0] !== "!");
-        const answers = library.numbers({ forms, specials }, texts.join("\n"));
-        const readers = library.readers(texts.join("\n"));
-        const isSpecial = (it) => it.parts.some(({ kind }) => kind === "special");
-        const groups = [...forms.keys(), "special"].map((form) => texts.flatMap((_, it) => ((isSpecial(answers[it]) ? "special" : answers[it].form) === form ? [it] : [])));
-        const clauses = library.summary({ forms, specials }, numbers);
-        return groups.filter((it) => it.length).flatMap((group, index) => {
-            const { words, count, readers: told } = clauses[index];
-            const all = languages.map((_, language) => language).filter((it) => group.every((line) => readers[line].some((one) => one.language === it && !one.refused)));
-            const isTold = ([kind, it]) => isSpecial(answers[group[0]]) || group.some((line) => answers[line].parts.some((part) => part.kind === kind)) === words.includes(it);
-            return count === group.length && String(told) === String(all) && Object.entries(names).every(isTold) ? [] : [`${name}: ${words}`];
-        });
+function test_characters_that_cannot_be_seen_have_their_numbers() {
+    return ["1\u061c", "1\u200b2", "1\u00a02"].filter((text) => {
+        show([page.library.usual], text);
+        const number = `U+${text.charCodeAt(1).toString(16).toUpperCase().padStart(4, "0")}`;
+        return textsOf("#read p, #first-error, #summary").join().includes(text[1]) || !textsOf("#first-error, #summary").every((it) => it.includes(number));
     });
 }

@@ -6,42 +6,26 @@ class Numbers(Walk):
     def test_numbers_are_tried(self):
         self.load("#word=0x00000A000000005F000000020000000C")
         self.type("#literal", "-0.1_2e-5\n-1_000\n1\u00e95\n!1\n!.x")
-        self.assertEqual(self.texts("#read > li:first-child .written span"), ["-", "0", ".", "1", "_", "2", "e", "-", "5"])
-        self.assertEqual(self.find("#read .separator").get_attribute("data-field"), "digit_separator")
-        self.assertEqual(self.run_script("return [...document.querySelectorAll('#read > li:first-child .written span')].map((it) => it.title).join()"),
-            "sign,integer,point,fraction,digit separator,fraction,exponent character,exponent sign,exponent")
-        self.assertEqual(self.texts("#read > li:nth-child(2) .written"), ["-1_000"])
-        self.assertEqual(self.texts("#read > li:nth-child(2) .written span"), ["-", "1"])
-        self.assertEqual(self.texts("#read mark"), ["_", "\u00e9"])
-        self.assertEqual(self.texts("#read p"), [
+        parts = self.run_script("return [...find('read').firstChild.querySelectorAll('.written span')].map((it) => [it.title, it.textContent])")
+        self.assertEqual(parts, [
+            ["sign", "-"], ["integer", "0"], ["point", "."], ["fraction", "1"], ["digit separator", "_"], ["fraction", "2"],
+            ["exponent character", "e"], ["exponent sign", "-"], ["exponent", "5"]])
+        self.assertEqual((self.texts("#read > li:nth-child(2) .written"), self.texts("#read mark")), (["-1_000"], ["_", "\u00e9"]))
+        self.assertEqual(self.texts("#read p, #read .row"), [
             "accepted: float = -0.0000012",
             "at index 2: unexpected digit separator in the integer after a digit, which requires "
             "integer_internal_digit_separator or integer_trailing_digit_separator",
             "at index 1: unexpected character '\u00e9'",
-            "accepted as integer = 1, but it must be refused"])
-        self.assertEqual(self.texts("#read .row"), [".x refused: at index 1: unexpected character 'x'"])
+            "accepted as integer = 1, but it must be refused",
+            ".x refused: at index 1: unexpected character 'x'"])
         self.assertEqual((self.text("#count"), self.text("#first-error").split(" ")[0]), ("2 of 5 as expected", "-1_000"))
         self.find("#refuse-3").send_keys(Keys.SPACE)
-        self.assertEqual((self.value("#literal").split("\n")[3], self.focused()), ("1", "refuse-3"))
-        self.assertEqual(self.text("#count"), "3 of 5 as expected")
+        self.assertEqual((self.value("#literal").split("\n")[3], self.focused(), self.text("#count")), ("1", "refuse-3", "3 of 5 as expected"))
         self.click("#read .row")
         self.assertEqual((self.focused(), self.texts("#read mark")[-1], len(self.texts("#read .row"))), ("refuse-4", "x", 1))
-        self.click("#no_special")
-        self.click("#case_sensitive_special")
-        self.assertEqual((self.texts("#read li"), self.text("#summary")), ([], "Nothing is read, since the format is not valid."))
-        self.load("#word=0x00000A0000000000000000000000101E")
-        self.type("#literal", "001\n+Infinity\n1.")
-        self.assertEqual(self.texts("#read mark"), ["001", "+", " "])
-        self.assertEqual(self.texts("#read mark span"), ["0"])
+        self.load("#word=0x00000A0000000000000000000000101E&numbers=001%0A%2BInfinity%0A1.")
+        self.assertEqual((self.texts("#read mark"), self.texts("#read mark span")), (["001", "+", " "], ["0"]))
         self.assertEqual(self.texts("#read .use"), ["allow 01", "allow +1", "allow 1."])
-        self.click("#read .use", "allow +1")
-        self.assertEqual(self.texts("#read > li:nth-child(2) .written span"), ["+", "Infinity"])
-
-    def test_parts_are_those_of_the_form_that_reads(self):
-        wrong = self.call("partsAreThoseOfTheFormThatReads")
-        self.assertEqual(wrong, [])
-        wrong = self.call("partsAreThoseOfTheFormThatReads2")
-        self.assertEqual(wrong, [])
 
     def test_numbers_are_shown_as_they_are_typed_and_with_the_reason_for_no_value(self):
         shown = """page.jump({ forms: [page.library.usual], at: 0, language: "", numbers: arguments[0] });
@@ -58,13 +42,8 @@ class Numbers(Walk):
         self.assertEqual((len(self.texts("#read > li")), self.focused()), (4, "literal"))
         self.select("#language", "JSON")
         self.assertNotIn("1__0", self.value("#literal"))
-        self.type("#literal", "7")
         self.click("#clear")
         self.assertEqual((self.value("#literal"), self.focused()), ("", "literal"))
-
-    def test_good_and_bad_have_marks(self):
-        wrong = self.call("goodAndBadHaveMarks")
-        self.assertEqual(wrong, [])
 
     def test_parts_differ_by_more_than_colour(self):
         self.load(f"#word={MIXED}&exponent=112&point=44&numbers=-0x1_0%2C8p%2B1h%0ANaN".replace("441F", "401F"))
@@ -78,8 +57,7 @@ class Numbers(Walk):
         self.type("#literal", "12\u05d03")
         before, mark = (self.run_script(f"return document.querySelector('#read {it}').getBoundingClientRect().toJSON()") for it in (".digits", "mark"))
         self.assertAlmostEqual(before["right"], mark["left"], delta=3)
-        self.driver.execute_cdp_cmd("Emulation.setEmulatedMedia", {"features": [{"name": "forced-colors", "value": "active"}]})
-        self.addCleanup(self.driver.execute_cdp_cmd, "Emulation.setEmulatedMedia", {"features": []})
+        self.media(forced_colors="active")
         outlines = self.run_script("return [...document.querySelectorAll('#panes [role=tab]')].map((it) => getComputedStyle(it).outlineStyle)")
         self.assertEqual(outlines, ["solid"] + 4 * ["none"])
 
@@ -96,20 +74,12 @@ class Numbers(Walk):
                 self.click("#verdict")
                 self.assertEqual((self.text("#forms [aria-pressed=true]"), self.focused()), ("ab"[at], "report-title"))
 
-    def test_the_sentence_tells_what_the_numbers_are(self):
-        """A clause for each form: the parts that its numbers have, no others, and the languages that read all of them."""
+    def test_the_sentence_has_a_clause_for_each_form(self):
         self.load("#language=RUST&numbers=0x1_F%0A0xFF%0A-1%0A!5")
         self.assertRegex(self.text("#summary"), r"^Hexadecimal integers with the prefix 0x and _ between digits: Rust, C# and \d+ more read them\.\n"
             r"-1 and 1 more are not as expected: In Rust, - is an operator, so that numbers have no sign\.$")
-        self.assertEqual(self.call("theSentenceTellsWhatTheNumbersAre"), [])
 
     def test_a_value_that_is_too_large_is_not_as_expected(self):
         self.load("#language=JAVA&numbers=2147483648%0A1%0A!2147483648")
         self.assertEqual((self.text("#count"), self.texts("#read > li:first-child .use")), ("1 of 3 as expected", []))
         self.assertIn("above 2147483647", self.text("#summary"))
-
-    def test_characters_that_cannot_be_seen_have_their_numbers(self):
-        for text in ("1\u061c", "1\u200b2", "1\u00a02"):
-            self.run_script("page.jump({ numbers: arguments[0] })", text)
-            told = self.text("#read p") + self.text("#first-error")
-            self.assertEqual((f"U+{ord(text[1]):04X}" in told, text[1] in told), (True, False))

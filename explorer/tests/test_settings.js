@@ -1,25 +1,23 @@
 /* Functions of test_settings.py, which run in the page. */
 "use strict";
 
-function kindsAreToldApart() {
+function test_kinds_are_told_apart() {
     const { library } = page;
-    const usual = { forms: [library.usual] };
-    return library.conditions.filter(({ isKind }) => isKind).flatMap(({ name, limits: [least, most] = [1, 1] }) => {
-        return Array.from({ length: most - least + 1 }, (_, it) => ({ forms: [library.with(library.usual, name, least + it)] }))
-            .filter((other) => !library.differ(usual, other).flat().length || !library.differ(other, usual).flat().length);
-    }).map(({ forms: [form] }) => library.differences(form).map((it) => it.text).join());
+    const differ = (...lists) => library.call("differ", ...lists.map((form) => ({ forms: [form] }))).flat().length;
+    const kinds = library.conditions.filter(({ isKind }) => isKind);
+    const forms = kinds.flatMap(({ name, limits = [1, 1] }) => range(...limits).map((it) => library.with(library.usual, name, it)));
+    return forms.filter((it) => !differ(library.usual, it) || !differ(it, library.usual)).map((it) => library.conditionsText(it));
 }
 
-function numbersBeyondTheLimitsOfAConditionAreTold() {
-    const { library } = page;
+function test_numbers_beyond_the_limits_of_a_condition_are_told() {
     const beyond = ([least, most]) => [least - 1, most + 1, -1, 1.5, "x"].filter((it) => it !== 0);
-    return library.conditions.flatMap(({ name, limits = [1, 1] }) => beyond(limits).map((it) => `${name}=${it}`)).filter((it) => {
+    return page.library.conditions.flatMap(({ name, limits = [1, 1] }) => beyond(limits).map((it) => `${name}=${it}`)).filter((it) => {
         const lost = [];
-        return library.withConditions(0n, it, lost) || !lost.length;
+        return page.library.withConditions(0n, it, lost) || !lost.length;
     });
 }
 
-function controlsAreCalledByWhatTheyDo() {
+function test_controls_are_called_by_what_they_do() {
     const wrong = [...page.library.fields, ...page.library.groups, ...page.library.conditions].filter(({ name, isByte }) => {
         const [box, title] = [find(name), name.replace("_", " ")];
         return isByte ? box.labels[0].textContent !== title : !box.ariaLabel.endsWith(`(${name})`) || !box.closest(`[data-field=${name}]`);
@@ -31,25 +29,22 @@ function controlsAreCalledByWhatTheyDo() {
     return [...wrong.map(({ name }) => name), ...cells.map(({ id }) => id)];
 }
 
-function fieldsAreShownAsTheyAreDocumented() {
-    const { library } = page;
-    return library.bytes.filter(({ name }) => {
-        const means = library.effective(library.usual.word, name) !== library.get(library.usual.word, name);
-        return find(`${name}-meaning`).textContent.includes("0 means the mantissa radix") !== means;
-    }).map((it) => it.name);
+/* Returns what is told of each flag, group, byte and condition: its name, its bits, its meaning, what it refuses, and what is shown. */
+function shownFields() {
+    const { fields, groups, conditions, usual } = page.library;
+    return [...fields, ...groups, ...conditions].map(({ name, mask, meaning, part, refuses, isByte, isKind }) => {
+        const box = find(name).closest("td, th, .control");
+        const bits = isByte ? String(page.library.effective(usual, name) !== page.library.value(usual, name)) : String(mask);
+        return { name, bits, meaning, isKind, isByte, refuses: part === "option" ? refuses : [], cell: find(name).closest("td")?.textContent,
+            shown: `${find(name).ariaLabel} ${box.textContent}`.replaceAll("`", "") };
+    });
 }
 
-function fieldsAreShownAsTheyAreDocumented2() {
-    const { flags, groups, conditions } = page.library;
-    const all = [...flags, ...groups, ...conditions.filter(({ isKind }) => !isKind)];
-    return all.map(({ name, meaning, part, refuses }) => [name, meaning, part === "option" ? refuses : []]);
-}
-
-function eachChoiceLandsInTheStateTheLinkAndTheCode() {
+/* Each value of each control that the library takes can be chosen, and no other one. It changes nothing else, and is in the state
+ * that a link has, and in the code. */
+function test_each_choice_lands_in_the_state_the_link_and_the_code() {
     const { library } = page;
-    const { word } = library.build(["digit_separator_flags=true", "digit_separator='_'", "base_prefix='x'", "base_suffix='h'"]);
-    const json = () => JSON.stringify(page.state.forms, (_, it) => (typeof it === "bigint" ? String(it) : it));
-    const code = (tab) => (page.chooseTab(tab), find("code").textContent);
+    const whole = formOf("digit_separator_flags=true", "digit_separator='_'", "base_prefix='x'", "base_suffix='h'");
     const kinds = {
         at_most: ["::AtMost(%)", "_AT_MOST, .integer_bits = %}", "(at_most=%)"],
         wraps: ["::Wraps(%)", "_WRAP, .integer_bits = %}", "(wraps=%)"],
@@ -57,61 +52,54 @@ function eachChoiceLandsInTheStateTheLinkAndTheCode() {
         single: ["::Single", "_FLOATS_SINGLE", "(single=True)"],
     };
     const start = (name) => {
-        const conditions = library.withConditions(0n, name === "higher_group_size" ? "integer_group_size=3" : "");
-        page.jump({ forms: [{ ...library.usual, word, conditions }], at: 0, language: "", numbers: "" });
+        show([{ ...whole, conditions: library.withConditions(0n, name === "higher_group_size" ? "integer_group_size=3" : "") }]);
         page.chooseTab("edit");
         return page.form;
     };
-    const choose = (control, value, isOther) => {
+    const set = (control, value, isOther) => {
         control.focus();
-        if (control.type === "checkbox") return isOther ? control.click() : (control.click(), control.click());
-        control.value = value;
-        control.dispatchEvent(new Event(control.options ? "change" : "input"));
+        if (control.type !== "checkbox") choose(control.id, value);
+        else for (let clicks = isOther ? 1 : 2; clicks; clicks -= 1) control.click();
     };
-    return [...library.fields, ...OPTIONS, ...library.conditions].flatMap((field) => {
+    return library.differing.flatMap((field) => {
         const { name, isKind, isNumber } = field;
         const [form, control] = [start(name), find(name)];
-        const usual = library.value(form, field);
+        const usual = library.value(form, name);
         const isTaken = (it) => !library.explain(library.with(form, name, it)).problems.some(({ fields }) => fields.includes(name));
-        const numbers = Array.from({ length: 99 }, (_, it) => it).filter((it) => it === 0 || (isKind ? it <= 64 : isTaken(it)));
+        const numbers = range(0, 98).filter((it) => it === 0 || (isKind ? it <= 64 : isTaken(it)));
         const typed = isNumber ? [2, 4, 8, 16, 32, 36] : [33, 59, 126];
         const values = control.type === "checkbox" ? [1 - usual, usual] : control.options ? numbers : typed;
         const options = control.options ? [...control.options].map(({ value }) => Number(value)) : values;
         const lost = String(options) === String(values) ? [] : [`${name}: ${options}`];
         return [...lost, ...values.flatMap((value) => {
             start(name);
-            choose(control, isNumber ? value : String.fromCharCode(value), value !== usual);
-            const [chosen, text] = [json(), library.setting(field, value)];
+            set(control, isNumber ? value : String.fromCharCode(value), value !== usual);
+            const [chosen, text] = [json(page.state.forms), library.setting(field, value)];
             const changed = library.differences(page.form, form).map((it) => it.text).join();
-            history.replaceState(null, "", page.fragment());
-            page.read();
-            const isUsual = value === library.value(library.usual, field);
+            follow(page.fragment());
+            const isUsual = value === library.value(library.usual, name);
             const setter = OPTIONS.includes(field) ? `'${String.fromCharCode(value)}'` : `.${name}(`;
             const codes = kinds[name]?.map((it) => it.replace("%", value)) ?? [setter, `"${text}`, `"${text}"`];
             const wanted = { settings: `\n${text}\n`, ...(page.shown.problems.length ? {} : { rust: codes[0], c: codes[1], python: codes[2] }) };
-            const missing = isUsual ? [] : Object.entries(wanted).filter(([tab, it]) => !code(tab).includes(it));
-            const isAlone = changed === (value === usual ? "" : text) && code("settings").includes(wanted.settings) === !isUsual;
-            return isAlone && json() === chosen && !missing.length ? [] : [`${text}: ${changed} ${missing}`];
+            const missing = isUsual ? [] : Object.entries(wanted).filter(([tab, it]) => !codeOf(tab).includes(it));
+            const isAlone = changed === (value === usual ? "" : text) && codeOf("settings").includes(wanted.settings) === !isUsual;
+            return isAlone && json(page.state.forms) === chosen && !missing.length ? [] : [`${text}: ${changed} ${missing}`];
         })];
     });
 }
 
-function repairsEndAllReasons() {
+/* The first repair of the first problem, again and again, ends all. Of a radix, one keeps it. */
+function test_repairs_end_all_reasons() {
     const { library } = page;
-    const words = Array.from({ length: 60 }, (_, index) => BigInt.asUintN(128, (7919n ** BigInt(index + 9)) >> 40n));
-    return words.filter((word) => {
+    const problems = (form) => library.explain(form).problems;
+    const words = range(9, 68).map((it) => BigInt.asUintN(128, (7919n ** BigInt(it)) >> 40n)).filter((word) => {
         let state = { ...library.usual, word };
-        const problems = () => library.explain(state).problems;
-        for (let step = 0; problems().length && step < 40; step += 1) state = library.repairs(state, problems()[0])[0];
-        return problems().length;
-    }).map(wordText);
-}
-
-function repairsEndAllReasons2() {
-    const { library } = page;
-    return Array.from({ length: 35 }, (_, it) => it + 2).filter((radix) => {
-        const form = library.with(library.usual, "mantissa_radix", radix);
-        const isKept = (it) => library.get(it.word, "mantissa_radix") === radix && !library.explain(it).problems.length;
-        return library.explain(form).problems.some((it) => !library.repairs(form, it).some(isKept));
+        for (let step = 0; problems(state).length && step < 40; step += 1) [state] = library.repairs(state, problems(state)[0]);
+        return problems(state).length;
     });
+    return [...words.map(wordText), ...range(2, 36).filter((radix) => {
+        const form = library.with(library.usual, "mantissa_radix", radix);
+        const isKept = (it) => library.value(it, "mantissa_radix") === radix && !problems(it).length;
+        return problems(form).some((it) => !library.repairs(form, it).some(isKept));
+    })];
 }

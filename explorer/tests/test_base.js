@@ -1,0 +1,50 @@
+/* Functions for all scripts here, which run in the page. Of the others, each one that is a test returns what is wrong. */
+"use strict";
+
+const range = (least, most) => Array.from({ length: most - least + 1 }, (_, it) => least + it);
+
+/* Returns texts and the numbers of all languages, each once. */
+function textsAndNumbers(texts = []) {
+    return [...new Set([...texts, ...page.data.languages.flatMap((it) => it.numbers.replaceAll("!", "").split("\n"))])];
+}
+
+/* Shows forms and numbers in place of those of the page. */
+function show(forms, numbers = "", language = "") {
+    page.jump({ forms, at: 0, language, numbers });
+}
+
+function follow(link) {
+    history.replaceState(null, "", link);
+    page.read();
+}
+
+/* Does what a choice of a select or a typed text does. */
+function choose(id, value) {
+    find(id).value = value;
+    find(id).dispatchEvent(new Event(find(id).options ? "change" : "input"));
+}
+
+/* Returns the code of a tab. */
+function codeOf(tab) {
+    page.chooseTab(tab);
+    return find("code").textContent;
+}
+
+/* Returns the usual form with settings. */
+function formOf(...settings) {
+    return { ...page.library.usual, word: page.library.call("build", ...settings).word };
+}
+
+/* Returns the form of a word with its options, as of `STATES`. */
+function stateOfWord([word, exponent, point]) {
+    return { ...page.library.usual, word: BigInt(word), exponent, point };
+}
+
+/* Returns the texts of what a selector finds in a node. */
+function textsOf(selector, node = document) {
+    return [...node.querySelectorAll(selector)].map((it) => it.textContent);
+}
+
+function json(value) {
+    return JSON.stringify(value, (_, it) => (typeof it === "bigint" ? String(it) : it));
+}
