@@ -19,7 +19,7 @@ import sys
 
 CALLS = """edit_word normal_form format_error check build_strict is_built edits_of is_valid_options_punctuation
 options_error migrate same_format apply Format::new Syntax::new Syntax::integers Syntax::with_conditions read read_prefix
-Specials::read Forms::read Forms::read_prefix Forms::token mantissa scale to_integer parse_integer to_float parse_float
+Specials::read Forms::read Forms::read_prefix Forms::token mantissa scale to_integer to_scaled parse_integer to_float parse_float
 format_integer format_float format_literal choose spell""".split()
 CRATES = """lexical_base lexical_flags lexical_builder lexical_util lexical_number lexical_literal lexical_forms lexical_value
 lexical_writer""".split()

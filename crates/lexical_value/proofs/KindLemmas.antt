@@ -57,6 +57,8 @@ exact_error least largest r l kinds.TooLarge (whole, (sign, above)) = (whole, si
 exact_error least largest r l kinds.TooSmall (whole, (sign, below)) = (whole, sign, below)
 exact_error least largest r l kinds.UnsupportedRadix is = is
 exact_error least largest r l kinds.Special is = is
+exact_error least largest r l kinds.NotWhole is = is
+exact_error least largest r l kinds.TooLong is = is
 
 abbrev value_of : Float → Result Float ValueErrorKind → Float
 value_of x (Ok value) = value

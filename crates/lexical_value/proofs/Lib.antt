@@ -1,4 +1,5 @@
 mod Common
 pub mod FloatLemmas
 pub mod KindLemmas
+pub mod ScaledLemmas
 mod ValueLemmas

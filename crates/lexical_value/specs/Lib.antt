@@ -3,3 +3,5 @@ pub mod Integer
 pub mod Float
 pub mod Parsed
 pub mod Kind
+pub mod Scaled
+pub mod Private

@@ -147,7 +147,7 @@ pub const fn supports_floats(format: NumberFormat) -> bool
 
 // Returns whether floats of `format` are decimal.
 #[inline(always)]
-const fn has_decimal_floats(format: NumberFormat) -> bool
+pub(crate) const fn has_decimal_floats(format: NumberFormat) -> bool
     ensures { result ≡ is_decimal (bytes_of format) }
 {
     format.mantissa_radix() == 10 && format.exponent_base() == 10
@@ -155,7 +155,7 @@ const fn has_decimal_floats(format: NumberFormat) -> bool
 
 // Returns the number that the exponent digits of a literal represent, or `2 ^ 90` if that is less.
 #[inline(always)]
-fn exponent_of(literal: &Literal) -> u128
+pub(crate) fn exponent_of(literal: &Literal) -> u128
     ensures { result ≡ min (exponent (bytes_of literal.now.format) literal.now.literal) (2 ^ 90) }
 {
     match literal.scale() {
@@ -225,7 +225,7 @@ fn long_binary_size(double: bool, literal: &Literal, radix_bits: u32, base_bits:
 }
 
 // Returns the leading digits of the mantissa, all of them if it is known.
-fn leading_of(literal: &Literal, radix: u32) -> Leading
+pub(crate) fn leading_of(literal: &Literal, radix: u32) -> Leading
     requires some { 1 ≤ radix }
     requires radix { radix ≡ (raw literal.now.format).byte layout.mantissa_radix }
     ensures leads { Leads radix (mantissa (bytes_of literal.now.format) literal.now.literal) result.digits result.more result.dropped }

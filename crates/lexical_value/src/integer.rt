@@ -22,11 +22,15 @@ pub enum ValueErrorKind {
     TooLarge,
     /// The value is below the least value of the type.
     TooSmall,
-    /// The type is a float type, and the mantissa radix and the exponent base of the format are neither both 10 nor both
-    /// powers of two.
+    /// The type is a float type, or a float is to be scaled, and the mantissa radix and the exponent base of the format are
+    /// neither both 10 nor both powers of two.
     UnsupportedRadix,
     /// The type is an integer type, and the number is NaN or infinity, which no literal is.
     Special,
+    /// The value times a power of ten, which is to be an integer, is not whole.
+    NotWhole,
+    /// The value times a power of ten is to be an integer of 128 bits, and the number has too many digits: more than 27, or 90 bits.
+    TooLong,
 }
 
 impl ValueErrorKind {

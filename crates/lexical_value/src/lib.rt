@@ -8,3 +8,4 @@ pub mod integer;
 mod kind;
 pub mod laws;
 pub mod parse;
+pub mod scaled;

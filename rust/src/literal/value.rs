@@ -12,6 +12,7 @@ mod error;
 pub(crate) mod float;
 pub(crate) mod integer;
 pub(crate) mod kind;
+mod scaled;
 pub(crate) mod number {
     pub(crate) mod big;
     pub(crate) mod binary;
@@ -36,6 +37,7 @@ use float::{binary_size, exponent_of, nearest_float, to_float};
 use integer::{integer_numeral, own_numeral, to_integer};
 use number::decimal::{decimal_to_bits, digits_to_bits};
 use number::float::Float;
+use scaled::to_scaled;
 
 /// A type that can be [parsed][Syntax::parse]: each integer type of Rust, `f64` and `f32`, and a type of your own.
 ///
@@ -86,6 +88,48 @@ pub trait FromLiteral: Sized {
 }
 
 impl<'a> Literal<'a> {
+    /// Returns the value times 10 to the power of `places`, from 0 to 255, as an exact integer: with 2, a price in cents. A float
+    /// has a value here, if the product is whole. All its digits count, also if floats are single. Of an integer, the value is
+    /// that of its [kind][Literal::kind].
+    ///
+    /// # Errors
+    ///
+    /// If the product is [not whole][ValueErrorKind::NotWhole], if it is out of the range of the type, if an integer is too large
+    /// for its kind, or if the mantissa radix and the exponent base of a float are neither both 10 nor both powers of two, returns
+    /// which. A float as an `i128` or `u128` may also be [too long][ValueErrorKind::TooLong].
+    ///
+    /// ```
+    /// use peltzivar::literal::{FromLiteral, Language, Literal, Target, ValueErrorKind};
+    ///
+    /// let price = Language::CSV_DE.read("1.234,5")?.literal().unwrap();
+    /// assert_eq!(price.to_scaled::<i64>(2), Ok(123450));
+    /// assert_eq!(price.to_scaled::<u32>(0).unwrap_err().kind(), ValueErrorKind::NotWhole);
+    ///
+    /// /// A price in cents. It is parsed without a literal in memory.
+    /// struct Cents(i64);
+    ///
+    /// impl FromLiteral for Cents {
+    ///     const TARGET: Target = Target::new("price in cents");
+    ///
+    ///     fn from_literal(literal: Literal<'_>) -> Result<Cents, ValueErrorKind> {
+    ///         literal.to_scaled(2).map(Cents).map_err(|error| error.kind())
+    ///     }
+    /// }
+    ///
+    /// assert_eq!(Language::CSV_DE.parse::<Cents>("-19,99").unwrap().0, -1999);
+    /// # Ok::<(), peltzivar::literal::FormError>(())
+    /// ```
+    #[inline(always)]
+    pub fn to_scaled<T: FromLiteral + TryFrom<i128> + TryFrom<u128>>(self, places: u8) -> Result<T, ValueError> {
+        let (least, largest) = const { T::TARGET.limits() };
+        let value = match to_scaled(&self, places, least, largest) {
+            Ok((false, size)) => T::try_from(size).map_err(|_| ValueErrorKind::TooLarge),
+            Ok((true, size)) => T::try_from(0_i128.wrapping_sub_unsigned(size)).map_err(|_| ValueErrorKind::TooSmall),
+            Err(kind) => Err(kind),
+        };
+        value.map_err(|kind| ValueError::of::<T>(kind, self.text.len(), self.kind()))
+    }
+
     /// Returns the literal as Rust and most other programs read it: without digit separators, prefix, suffix and plus
     /// signs, with `.`, `e` and lowercase digits, and with a `0` for digits that are absent. Nothing is allocated.
     ///
@@ -477,6 +521,19 @@ impl Number<'_> {
             Number::Special(special) => (T::from_special(special), 0, Kind::EXACT),
         };
         value.map_err(|kind| ValueError::of::<T>(kind, size, of))
+    }
+
+    /// Returns the value times 10 to the power of `places` as an exact integer, as [`Literal::to_scaled`] does.
+    ///
+    /// # Errors
+    ///
+    /// Those of [`Literal::to_scaled`], and [`ValueErrorKind::Special`].
+    #[inline]
+    pub fn to_scaled<T: FromLiteral + TryFrom<i128> + TryFrom<u128>>(self, places: u8) -> Result<T, ValueError> {
+        match self {
+            Number::Literal { literal, .. } => literal.to_scaled(places),
+            Number::Special(_) => Err(ValueError::of::<T>(ValueErrorKind::Special, 0, Kind::EXACT)),
+        }
     }
 
     /// Returns the value, rounded once to the nearest `f64`. The literals of each [`Language`][crate::literal::Language]

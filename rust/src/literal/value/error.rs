@@ -36,6 +36,14 @@ impl Target {
         Target { name, limits: Some((least, largest)) }
     }
 
+    /// Returns the sizes of the least and the largest value that the type may have.
+    pub(super) const fn limits(&self) -> (u128, u128) {
+        match self.limits {
+            Some((least, largest)) => (least.unsigned_abs(), largest),
+            None => (u128::MAX, u128::MAX),
+        }
+    }
+
     /// Returns whether the type may have values of more than 64 bits.
     pub(super) const fn has_long_values(&self) -> bool {
         match self.limits {
@@ -97,6 +105,8 @@ impl fmt::Display for ValueError {
         match self.kind {
             ValueErrorKind::Float => write!(f, "a float, and {target} is an integer type"),
             ValueErrorKind::Special => write!(f, "NaN or infinity, and {target} is an integer type"),
+            ValueErrorKind::NotWhole => write!(f, "not whole after scaling, and {target} is an integer type"),
+            ValueErrorKind::TooLong => write!(f, "too many digits for scaling, as an {target}"),
             ValueErrorKind::UnsupportedRadix => {
                 write!(f, "no {target}: the mantissa radix and the exponent base are not both 10 or both powers of two")
             }

@@ -99,7 +99,7 @@ pub const fn supports_floats(format: FormatView) -> bool {
 
 // Returns whether floats of `format` are decimal.
 #[inline(always)]
-const fn has_decimal_floats(format: FormatView) -> bool {
+pub(crate) const fn has_decimal_floats(format: FormatView) -> bool {
     format.mantissa_radix() == 10 && format.exponent_base() == 10
 }
 
@@ -151,7 +151,7 @@ const fn long_binary_size(double: bool, literal: &Literal, radix_bits: u32, base
 }
 
 // Returns the leading digits of the mantissa, all of them if it is known.
-const fn leading_of(literal: &Literal, radix: u32) -> Leading {
+pub(crate) const fn leading_of(literal: &Literal, radix: u32) -> Leading {
     match literal.mantissa() {
         Some(size) => Leading::whole(size),
         None => {
