@@ -163,7 +163,8 @@ enum {
     PELTZIVAR_VALUE_RADIX = 4,
     PELTZIVAR_VALUE_NO_LITERAL = 5, /* No call has made the literal. */
     PELTZIVAR_VALUE_REFUSED = 6, /* The text is neither a literal nor a special value, or an argument is refused. */
-    PELTZIVAR_VALUE_SPECIAL = 7 /* The text is NaN or infinity, and the type an integer type. */
+    PELTZIVAR_VALUE_SPECIAL = 7, /* The text is NaN or infinity, and the type an integer type. */
+    PELTZIVAR_VALUE_NOT_WHOLE = 8 /* The value times the power of ten is not whole. */
 };
 
 /* Where reading stopped. The first `valid_up_to` bytes are the longest beginning of the text that some literal begins
@@ -312,6 +313,13 @@ typedef struct {
 PELTZIVAR_MUST_USE peltzivar_value_status peltzivar_to_i64(const peltzivar_literal *literal, int64_t *out);
 PELTZIVAR_MUST_USE peltzivar_value_status peltzivar_to_u64(const peltzivar_literal *literal, uint64_t *out);
 PELTZIVAR_MUST_USE peltzivar_value_status peltzivar_to_i128(const peltzivar_literal *literal, peltzivar_i128 *out);
+
+/* Writes the exact value of an integer or a float times 10 to the power of `places` to *out and returns
+ * PELTZIVAR_VALUE_OK: of `1.234,5` with 2, a price in cents, 123450. All digits of a float count. Of an integer, the
+ * value is that of its kind. Otherwise, leaves *out unchanged and returns PELTZIVAR_VALUE_NOT_WHOLE, _TOO_LARGE,
+ * _TOO_SMALL or _NO_LITERAL, or _RADIX for a float. */
+PELTZIVAR_MUST_USE peltzivar_value_status peltzivar_to_scaled_i64(
+    const peltzivar_literal *literal, uint8_t places, int64_t *out);
 
 /* Write the nearest float of an integer or a float to *out and return PELTZIVAR_VALUE_OK, as peltzivar_parse_f64 does.
  * Otherwise, leave *out unchanged and return PELTZIVAR_VALUE_RADIX or _NO_LITERAL, or _TOO_LARGE or _TOO_SMALL for an

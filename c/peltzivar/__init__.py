@@ -771,6 +771,20 @@ class Literal(_peltzivar.Found, Generic[AnyStr]):
         except (DecimalException, OverflowError):
             raise OverflowError(_TOO_LONG) from None
 
+    def scaled(self, places: int) -> int:
+        """Returns the value times 10 to the power of `places`, from 0 to 255, as an int: with 2, a price in cents. Raises
+        ValueError if it is not whole. All digits of a float count, and an integer has the value of its `kind`.
+
+            >>> languages.CSV_DE.read("1.234,5").scaled(2)
+            123450
+        """
+        if (found := self._times(places := _number("places", places))) is not None:
+            return cast(int, found)
+        product = (self.fraction() if self.is_float else int(self)) * 10**places
+        if product.denominator != 1:
+            raise ValueError(_c.describe("value", _c.NOT_WHOLE))
+        return int(product)
+
     def fraction(self) -> Fraction:
         """Returns the exact value. Raises OverflowError if its numerator or denominator has more than 10^6 digits before
         the fraction is reduced."""
@@ -1022,7 +1036,8 @@ class _Reader(_peltzivar.Reader):
     def column(
         self, cells: Union[Iterable[Union[str, bytes, None]], Tuple[Any, Any]],
         type: Union[Type[float], Type[Decimal], typing.Literal["d", "f", "q", "Q"]] = float, *,
-        errors: typing.Literal["raise", "coerce"] = "raise", fill: Union[float, Decimal, None] = None, out: Any = None
+        errors: typing.Literal["raise", "coerce"] = "raise", fill: Union[float, Decimal, None] = None, out: Any = None,
+        scale: Optional[int] = None
     ) -> Column:
         """Returns the values of cells, some ten times as fast as `read` does.
 
@@ -1037,8 +1052,13 @@ class _Reader(_peltzivar.Reader):
         of such a format to which the values are written, such as an array of numpy. Otherwise, `values` is a new
         `array.array`. A cell that is missing or wrong has the value `fill`, which is NaN for floats if it is None, and
         which integers need. With the `errors` "raise", a wrong cell raises ColumnError after the whole column is read.
+        With a `scale` from 0 to 255, the `type` is `int`, and the values are those of `scaled(scale)` of literals: with 2,
+        prices in cents.
         """
         kind = _format(float if type is Decimal and out is None else type, out)
+        if scale is not None and kind != "q":
+            raise TypeError("with a scale, type must be int, or the format q")
+        places = -1 if scale is None else _number("scale", scale)
         texts, data, offsets = _texts_of(cells)
         status, size = bytearray(len(texts) or len(offsets) - 1), {"f": 4}.get(kind, 8)
         if errors not in ("raise", "coerce"):
@@ -1055,7 +1075,7 @@ class _Reader(_peltzivar.Reader):
         if (shape := memoryview(values).shape) != (len(status),):
             raise ValueError(f"out has the shape {shape}, and there are {len(status)} cells")
         na = getattr(sys.modules.get("pandas"), "NA", None)
-        missing = self._column(texts, data, offsets, kind, values, status, filling, na)
+        missing = self._column(texts, data, offsets, kind, values, status, filling, na, places)
         if is_left and (missing or errors == "coerce"):
             raise ValueError("integers have no NaN: pass `fill`, the value of cells that are missing or wrong")
         wrong = _Wrong(self, texts or (data, offsets), bytes(status))

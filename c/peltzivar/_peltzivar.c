@@ -219,6 +219,22 @@ static size_t parse_column_as(char format, const peltzivar_forms *by, const void
                            : peltzivar_parse_u64_column(by, data, offsets, count, out, status);
 }
 
+/* Parses a text, or each text of a column, as its value times a power of ten. */
+static peltzivar_value_status parse_scaled(const peltzivar_forms *by, const char *text, Py_ssize_t size, uint8_t places, int64_t *out) {
+    peltzivar_literal it;
+    peltzivar_special special;
+    if (peltzivar_forms_read(by, text, (size_t)size, &it, NULL)) return peltzivar_to_scaled_i64(&it, places, out);
+    return peltzivar_forms_read_special(by, text, (size_t)size, &special) ? PELTZIVAR_VALUE_SPECIAL : PELTZIVAR_VALUE_REFUSED;
+}
+
+static void parse_scaled_column(
+    const peltzivar_forms *by, const char *data, const int64_t *offsets, Py_ssize_t count, uint8_t places, int64_t *out, uint8_t *status) {
+    for (Py_ssize_t i = 0; i < count; i++) {
+        bool is_text = offsets[0] <= offsets[i] && offsets[i] <= offsets[i + 1] && offsets[i + 1] <= offsets[count];
+        status[i] = is_text ? parse_scaled(by, data + offsets[i], (Py_ssize_t)(offsets[i + 1] - offsets[i]), places, &out[i]) : PELTZIVAR_VALUE_REFUSED;
+    }
+}
+
 static PyObject *refuse(Reader *self, PyObject *text, PyObject *start) {
     PyObject *arguments = PyTuple_Pack(start ? 3 : 2, self, text, start);
     if (arguments) PyErr_SetObject(self->state->refusal, arguments);
@@ -361,22 +377,24 @@ static int is_missing(PyObject *cell, PyObject *na) {
     return result;
 }
 
-/* _column(cells, data, offsets, format, values, status, fill, na): the indexes of missing cells. The cells are a tuple of
- * texts, or () for data with offsets, whose memory nothing else changes. `fill` has the bytes of the value of cells without one. */
+/* _column(cells, data, offsets, format, values, status, fill, na, scale): the indexes of missing cells. The cells are a tuple of
+ * texts, or () for data with offsets, whose memory nothing else changes. `fill` has the bytes of the value of cells without one.
+ * Integers have a scale, unless it is below 0. */
 static PyObject *reader_column(PyObject *self, PyObject *given) {
     Reader *by = (Reader *)self;
     PyObject *cells, *na, *missing = PyList_New(0), *kind = NULL;
     Py_buffer data, offsets, values, status, fill;
-    int format;
-    if (!missing || !is_made(by) || !PyArg_ParseTuple(given, "O!y*y*Cw*w*y*O", &PyTuple_Type, &cells, &data, &offsets, &format,
-        &values, &status, &fill, &na)) return Py_XDECREF(missing), NULL;
+    int format, scale;
+    if (!missing || !is_made(by) || !PyArg_ParseTuple(given, "O!y*y*Cw*w*y*Oi", &PyTuple_Type, &cells, &data, &offsets, &format,
+        &values, &status, &fill, &na, &scale)) return Py_XDECREF(missing), NULL;
     Py_ssize_t size = fill.len, count = status.len, of_texts = PyTuple_Size(cells);
     uint8_t *statuses = status.buf;
     if (size != (format == 'f' ? 4 : 8) || values.len != count * size || (of_texts ? of_texts != count : offsets.len != 8 * (count + 1))) {
         PyErr_SetString(PyExc_ValueError, "the sizes differ");
     } else if (!of_texts) {
         Py_BEGIN_ALLOW_THREADS
-        parse_column_as((char)format, by->forms, data.buf, offsets.buf, (size_t)count, values.buf, statuses);
+        if (scale < 0) parse_column_as((char)format, by->forms, data.buf, offsets.buf, (size_t)count, values.buf, statuses);
+        else parse_scaled_column(by->forms, data.buf, offsets.buf, count, (uint8_t)scale, values.buf, statuses);
         Py_END_ALLOW_THREADS
     }
     for (Py_ssize_t i = 0; i < of_texts && !kind; i++) {
@@ -387,7 +405,8 @@ static PyObject *reader_column(PyObject *self, PyObject *given) {
         PyObject *it = PyTuple_GetItem(cells, i), *name, *index;
         Text text;
         if ((kind == (PyObject *)&PyBytes_Type ? PyBytes_Check(it) : PyUnicode_Check(it)) && opened(it, &text)) {
-            statuses[i] = parse_as((char)format, by->forms, &text, (char *)values.buf + i * size);
+            statuses[i] = scale < 0 ? parse_as((char)format, by->forms, &text, (char *)values.buf + i * size)
+                                    : parse_scaled(by->forms, text.bytes, text.size, (uint8_t)scale, (int64_t *)values.buf + i);
             Py_DECREF(text.data);
         } else if (!PyErr_Occurred() && (statuses[i] = (uint8_t)is_missing(it, na)) == 1 && (index = PyLong_FromSsize_t(i))) {
             statuses[i] = PyList_Append(missing, index) ? 1 : UINT8_MAX;
@@ -606,6 +625,15 @@ static PyObject *literal_int(PyObject *self, PyObject *none) {
     return Py_BuildValue("(LK)", wide.high, wide.low);
 }
 
+/* _times(places): the value times a power of ten, or None if it needs more than 64 bits or has another radix. */
+static PyObject *literal_times(PyObject *self, PyObject *places) {
+    int64_t value;
+    peltzivar_value_status status = peltzivar_to_scaled_i64(&((Literal *)self)->found, (uint8_t)PyLong_AsLong(places), &value);
+    if (!status) return PyLong_FromLongLong(value);
+    if (status != PELTZIVAR_VALUE_NOT_WHOLE) return Py_NewRef(Py_None);
+    return PyErr_SetString(PyExc_ValueError, peltzivar_value_description(status)), NULL;
+}
+
 static PyObject *literal_float(PyObject *self) {
     double value;
     peltzivar_value_status status = peltzivar_to_f64(&((Literal *)self)->found, &value);
@@ -643,6 +671,7 @@ static PyMethodDef LITERAL_METHODS[] = {
     {"_ends", literal_ends, METH_NOARGS, NULL},
     {"_int", literal_int, METH_NOARGS, NULL},
     {"_plain", literal_plain, METH_NOARGS, NULL},
+    {"_times", literal_times, METH_O, NULL},
     {NULL, NULL, 0, NULL},
 };
 static PyMemberDef LITERAL_MEMBERS[] = {
@@ -940,6 +969,7 @@ static int filled(PyObject *module) {
     PyModule_AddIntConstant(module, "WORDS_MAX", PELTZIVAR_WORDS_MAX);
     PyModule_AddIntConstant(module, "REFUSED", PELTZIVAR_VALUE_REFUSED);
     PyModule_AddIntConstant(module, "SPECIAL", PELTZIVAR_VALUE_SPECIAL);
+    PyModule_AddIntConstant(module, "NOT_WHOLE", PELTZIVAR_VALUE_NOT_WHOLE);
     PyModule_AddIntConstant(module, "WRITE_SPECIAL", PELTZIVAR_WRITE_SPECIAL);
     return PyErr_Occurred() ? -1 : 0;
 }

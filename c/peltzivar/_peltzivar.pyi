@@ -8,7 +8,8 @@ class Reader:
     _write: Any; _write_column: Any
 
 class Found:
-    _ends: Any; _form: Any; _int: Any; _is_float: Any; _owner: Any; _plain: Any; _suffix: Any; _text: Any; _value: Any
+    _ends: Any; _form: Any; _int: Any; _is_float: Any; _owner: Any; _plain: Any; _suffix: Any; _text: Any
+    _times: Any; _value: Any
     def __float__(self) -> float: ...
 
 class Setter(_Named):

@@ -246,8 +246,14 @@ static void test_values(void) {
     CHECK(peltzivar_forms_read(swift, near, sizeof near - 1, &it, NULL) && !peltzivar_to_f32(&it, &real) && real == strtof(near, NULL));
     CHECK(peltzivar_forms_read(language("C"), "0x1.8p-1", 8, &it, NULL) && !peltzivar_to_f32(&it, &real) && real == 0.75F);
     CHECK(peltzivar_to_i64(&it, NULL) == 1 && peltzivar_to_u64(&it, NULL) == 1 && peltzivar_to_i128(&it, NULL) == PELTZIVAR_VALUE_FLOAT);
+    int64_t scaled = 7;
+    CHECK(!peltzivar_to_scaled_i64(&it, 2, &scaled) && scaled == 75 && peltzivar_to_scaled_i64(&it, 1, &scaled) == PELTZIVAR_VALUE_NOT_WHOLE);
+    CHECK(peltzivar_to_scaled_i64(&it, 99, &scaled) == PELTZIVAR_VALUE_TOO_LARGE && scaled == 75);
+    CHECK(peltzivar_forms_read(language("CSV_DE"), "-1.234,5", 8, &it, NULL) && !peltzivar_to_scaled_i64(&it, 2, &scaled) && scaled == -123450);
+    CHECK(peltzivar_to_scaled_i64(&it, 255, NULL) == PELTZIVAR_VALUE_TOO_SMALL && !peltzivar_to_scaled_i64(&it, 1, NULL));
     memset(&it, 0, sizeof it);
     CHECK(peltzivar_to_f32(&it, &real) == PELTZIVAR_VALUE_NO_LITERAL && real == 0.75F && peltzivar_to_i64(&it, NULL));
+    CHECK(peltzivar_to_scaled_i64(&it, 0, &scaled) == PELTZIVAR_VALUE_NO_LITERAL && scaled == -123450);
 }
 
 /* A column has the values of its texts, and the status of each. Offsets that do not ascend refuse a text. */

@@ -75,6 +75,24 @@ class Columns(unittest.TestCase):
             self.assertRaisesRegex(ValueError, sentence, Language.TOML.parse, text, int)
         self.assertRaisesRegex(ValueError, "mantissa radix", Syntax(Format.of(radix=3)).parse, "12")
 
+    def test_integers_with_a_scale(self):
+        cells, german = ["1.234,5", "-0,07", None, "1,999", "x", "NaN", "9" * 17, "-92233720368547758,08"], Language.CSV_DE
+        values, wrong, missing = german.column(cells, int, errors="coerce", fill=-1, scale=2)
+        self.assertEqual((values.typecode, values.tolist(), missing), ("q", [123450, -7, -1, -1, -1, -1, -1, -(2**63)], (2,)))
+        self.assertEqual([str(it)[:9] for it in wrong], ["not whole", "unexpecte", "unexpecte", "above the"])
+        self.assertRegex(str(Language.TOML.column(["inf"], int, errors="coerce", fill=0, scale=2).wrong[0]), "^NaN or infinity")
+        data, offsets = b"1,5-7x9", array("i", [0, 3, 5, 6, 99, 6, 7])
+        self.assertEqual(german.column((data, offsets), int, errors="coerce", fill=0, scale=1).values.tolist(), [15, -70, 0, 0, 0, 90])
+        self.assertEqual(german.forms["decimal"].column(["1,5"], "q", scale=3, out=array("l", [0])).values, array("l", [1500]))
+        for kind in (float, Decimal, "Q"):
+            self.assertRaisesRegex(TypeError, "with a scale", german.column, ["1"], kind, scale=2)
+        self.assertRaisesRegex(ValueError, "^scale must be", german.column, ["1"], int, scale=256)
+        for text, places, value in (("19,99", 2, 1999), ("9" * 40 + ",5", 3, int("9" * 40 + "500")), ("-0,0", 0, 0), ("12", 30, 12 * 10**30)):
+            self.assertEqual(german.read(text).scaled(places), value)
+        self.assertEqual((Language.JAVA.read("0xffffffff").scaled(2), Syntax.of(radix=6).read("0.3").scaled(1)), (-100, 5))
+        for text, places in (("0,001", 2), ("9" * 40 + ",5", 0)):
+            self.assertRaisesRegex(ValueError, "^not whole after scaling", german.read(text).scaled, places)
+
     def test_columns_of_decimals_and_of_texts(self):
         self.assertEqual(Language.CSV_DE.column(["1.234,50", b"2"[:0].decode() or "7"], Decimal).values, [Decimal("1234.50"), Decimal(7)])
         cells = ["0,10", None, "x", "1,5"]

@@ -37,7 +37,7 @@ sizes: Tuple[Optional[int], ...] = syntax.integer_group_size, syntax.higher_grou
 texts: Tuple[str, str, str, Optional[Role]] = syntax.sentence(), syntax.grammar(), syntax.regex(), syntax.role_of("_")
 literal: Literal[str] = syntax.read("-1_234,50")
 prefix: Tuple[Literal[bytes], bytes] = syntax.read_prefix(b"1;2")
-values: Tuple[Union[int, float], Decimal, Fraction, int] = literal.value, literal.decimal(), literal.fraction(), int(prefix[0])
+values: Tuple[Union[int, float], Decimal, Fraction, int] = literal.value, literal.decimal(), literal.fraction(), int(prefix[0]) + literal.scaled(2)
 parts: Parts[bytes] = prefix[0].parts
 ranges: Tuple[bytes, ...] = (
     parts.sign, parts.prefix, parts.integer, parts.point, parts.fraction, parts.exponent_character, parts.exponent_sign,

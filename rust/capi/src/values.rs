@@ -13,7 +13,7 @@ type ValueStatus = u8;
 const REFUSED: ValueStatus = 6;
 
 texts! {
-    DESCRIPTIONS: [8] = |status| match status {
+    DESCRIPTIONS: [9] = |status| match status {
         1 => b"a float, where an integer is required",
         2 => b"above the largest value of the type",
         3 => b"below the least value of the type",
@@ -21,6 +21,7 @@ texts! {
         5 => b"no call has made this literal",
         6 => b"neither a literal nor a special value",
         7 => b"NaN or infinity, where an integer is required",
+        8 => b"not whole after scaling, where an integer is required",
         _ => b"",
     };
 }
@@ -64,6 +65,7 @@ fn write_value<T, C: From<T>>(value: Result<T, ValueErrorKind>, out: Out<C>) -> 
             ValueErrorKind::TooLarge => 2,
             ValueErrorKind::TooSmall => 3,
             ValueErrorKind::Special => 7,
+            ValueErrorKind::NotWhole => 8,
             _ => 4,
         },
     }
@@ -142,6 +144,9 @@ calls! {
     }
     fn peltzivar_to_i128(literal: &Literal, out: Out<I128>) -> ValueStatus {
         literal.value().map_or(5, |it| write::<i128, _>(it, out))
+    }
+    fn peltzivar_to_scaled_i64(literal: &Literal, places: u8, out: Out<i64>) -> ValueStatus {
+        literal.value().map_or(5, |it| write_value::<i64, _>(it.to_scaled(places).map_err(|error| error.kind()), out))
     }
     fn peltzivar_to_f64(literal: &Literal, out: Out<f64>) -> ValueStatus {
         literal.value().map_or(5, |it| write::<f64, _>(it, out))
