@@ -715,7 +715,6 @@ typedef struct {
     uint64_t conditions;
 } peltzivar_explanation;
 enum {
-    /* Made by make_python.py: condition_bits */
     PELTZIVAR_CONDITION_REQUIRED_BASE_PREFIX = 1,
     PELTZIVAR_CONDITION_REQUIRED_BASE_SUFFIX = 2,
     PELTZIVAR_CONDITION_NO_NEGATIVE_MANTISSA_SIGN = 4,
@@ -724,7 +723,6 @@ enum {
     PELTZIVAR_CONDITION_FRACTION_GROUP_SIZE = 32,
     PELTZIVAR_CONDITION_REQUIRED_LEADING_ZERO = 64,
     PELTZIVAR_CONDITION_DECIMAL_FIRST_DIGIT = 128
-    /* End */
 };
 
 /* Writes why a text is not a literal to *out and returns true: a caret below `span` shows where. If no call has written

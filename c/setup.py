@@ -1,5 +1,5 @@
-"""Builds the package: its extension module for each Python from 3.11 on, over the library that cargo builds, and a source
-distribution with cargo's workspace."""
+"""Builds the package: its extension module for each Python from 3.11 on, over the library that cargo builds, and a
+source distribution with cargo's workspace."""
 import ast
 import json
 import os
@@ -49,7 +49,7 @@ class BuildModule(build_ext):
 
 class Wheel(bdist_wheel):
     def get_tag(self):
-        """Returns the tag of the stable ABI, and of each Linux whose C library has the functions that the module needs."""
+        """Returns the tag of the stable ABI, and of each Linux whose C library has what the module needs."""
         *python, platform = super().get_tag()
         library = Path(self.get_finalized_command("build_ext").get_ext_fullpath("peltzivar._peltzivar"))
         needed = re.findall(rb"GLIBC_2\.(\d+)", library.read_bytes() if library.exists() else b"")

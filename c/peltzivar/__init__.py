@@ -8,28 +8,19 @@
     >>> prices = Syntax.of(
     ...     digit_separator=".", integer_internal_digit_separator=True, integer_group_size=3, point=","
     ... )
-    >>> price = prices.read("1.234,50")
-    >>> price.value, price.decimal()
-    (1234.5, Decimal('1234.50'))
-
-`read` returns a `Literal`, or raises a LiteralError, whose `span` has the position. `parse` returns the value alone, and
-`column` those of many texts, several times as fast. A `Language`, such as `languages.CSV_DE`, reads the numbers of a
-language or a file, and `Forms` those of several syntaxes. `Syntax.of` takes settings: a keyword argument for each field
-of a format, the exponent character, the decimal point and the conditions of `Syntax`. Each field is an attribute of
-`FormatView`. Settings can also be texts, such as the lines of a file. Wrong ones raise a SettingsError:
-
-    >>> Syntax.of("radix = 16", "base_prefix = 'b'")
-    Traceback (most recent call last):
-    peltzivar.SettingsError: the base prefix 'b' is a digit in radix 16
+    >>> prices.read("1.234,50").decimal()
+    Decimal('1234.50')
     >>> prices.read("12.34")
     Traceback (most recent call last):
     peltzivar.LiteralError: expected groups of 3 digits
 
-A format is a 128-bit word. It is lawful if it satisfies all rules. A `FormatView` holds any word, and a `Format` a lawful
-one. In the repository, docs/FORMAT.md describes fields, rules and literals, and docs/C-AND-PYTHON.md this module. A
-value of a wrong type raises a TypeError, and another wrong value a ValueError.
+`read` returns a `Literal`, or raises a LiteralError, whose `span` has the position. `parse` returns the value alone,
+and `column` those of many texts, several times as fast. A `Language`, such as `languages.CSV_DE`, reads the numbers of
+a language or a file, and `Forms` those of several syntaxes. `Syntax.of` makes a syntax, and raises a SettingsError if
+it is wrong. A value of a wrong type raises a TypeError, and another wrong value a ValueError.
 
-The calls are those of peltzivar.h, which the extension module beside this file has in it. It needs no other package.
+A format is a 128-bit word. It is lawful if it satisfies all rules. A `FormatView` holds any word, and a `Format` a
+lawful one. In the repository, docs/PYTHON.md shows tasks, and docs/FORMAT.md describes fields, rules and literals.
 """
 
 from __future__ import annotations
@@ -43,13 +34,15 @@ import re
 import reprlib
 import sys
 import typing
+from abc import ABCMeta
 from array import array
 from dataclasses import dataclass, field
-from decimal import MAX_EMAX, MIN_EMIN, Context, Decimal, DecimalException, InvalidOperation, Overflow, Rounded, Subnormal, ROUND_05UP, ROUND_HALF_EVEN
+from decimal import MAX_EMAX, MIN_EMIN, ROUND_05UP, ROUND_HALF_EVEN, Context, Decimal, DecimalException
+from decimal import InvalidOperation, Overflow, Rounded, Subnormal
 from enum import Enum
 from fractions import Fraction
 from itertools import count
-from typing import Any, AnyStr, Callable, Concatenate, Dict, Generic, Iterable, Iterator, List, Mapping, Optional, ParamSpec
+from typing import Any, AnyStr, Callable, Dict, Generic, Iterable, Iterator, List, Mapping, Optional, ParamSpec
 from typing import Sequence, SupportsFloat, SupportsIndex, Tuple, Type, TypeVar, Union, cast
 
 from . import _peltzivar
@@ -58,9 +51,10 @@ from . import _peltzivar
 _c: Any = _peltzivar
 
 __all__ = ["STANDARD", "Byte", "Column", "ColumnError", "Edit", "Error", "Format", "FormatError", "FormatView", "Forms"]
-__all__ += ["Kind", "Language", "Literal", "LiteralError", "Note", "OptionsError", "Part", "Parts", "ReadErrorKind", "Reason", "ReasonsError"]
-__all__ += ["Role", "Rule", "Separators", "Setter", "SettingsError", "Special", "Specials", "Spelling", "Suffixes", "Syntax"]
-__all__ += ["Token", "Tokens", "Value", "WrongCell", "languages", "notes_of"]
+__all__ += ["Kind", "Language", "Literal", "LiteralError", "Note", "OptionsError", "Part", "Parts", "ReadErrorKind"]
+__all__ += ["Reason", "ReasonsError", "Role", "Rule", "Separators", "Setter", "SettingsError", "Special", "Specials"]
+__all__ += ["Spelling", "Suffixes", "Syntax", "Token", "Tokens", "Value", "WrongCell", "languages", "notes_of"]
+
 
 class _Named(Enum):
     def __str__(self) -> str:
@@ -87,8 +81,8 @@ class _Error(_Named):
 # The enumerations: their documentation, and what they have beside their members, which C names.
 _ENUMERATIONS: Any = {
     "Setter": (_Named, "The setters. A member has the name of the setter in uppercase."),
-    "Rule": (_Rule, "The rules, in the order in which they are checked. `condition` is what a rule requires of a word."),
-    "Error": (_Error, "The errors, and success. `description` is the sentence of an error in single quotes. Success is 0, and false."),
+    "Rule": (_Rule, "The rules, in the order in which they are checked. `condition` is what one requires of a word."),
+    "Error": (_Error, "The errors, with their sentences as `description`, and success, which is 0, and false."),
     "Part": (_Named, "The parts of a number that can have digit separators."),
     "Role": (_Named, "The roles of a byte in a number."),
     "ReadErrorKind": (_Named, "The kinds of causes why a text is not a literal."),
@@ -103,7 +97,6 @@ from ._peltzivar import Error, Part, ReadErrorKind, Role, Rule, Setter, Spelling
 
 __version__: str = _c.VERSION
 STANDARD: int = _c.STANDARD[1] << 64 | _c.STANDARD[0]
-_NO_PART = 255
 
 # A byte: a number from 0 to 255, or one ASCII character.
 Byte = Union[int, str, bytes]
@@ -125,6 +118,30 @@ _CONDITIONS: Dict[str, Any] = {it: int if it.endswith("size") else bool for it i
 _c.fields = (*_SETTERS,)
 _c.settings = (*_SETTERS, "exponent", "point", *_CONDITIONS)
 _SETTING = "a str or an Edit (pass a list as `*settings`)"
+
+
+class _Class(ABCMeta):
+    """A class of which `dir`, and so `help`, leaves out what each exception and each data class has."""
+
+    def __dir__(cls) -> List[str]:
+        common = {*dir(ValueError), "__post_init__", *(it for it in type.__dir__(Parts) if it.startswith("__"))}
+        return [it for it in super().__dir__() if it not in common]
+
+
+class _Keyed(metaclass=_Class):
+    """Objects that are equal if their keys are."""
+
+    __slots__ = ()
+
+    _key: Any
+
+    def __eq__(self, other: object) -> bool:
+        if (key := getattr(other, "_key", None)) is None:
+            return NotImplemented
+        return bool(self._key() == key())
+
+    def __hash__(self) -> int:
+        return hash(self._key())
 
 
 def _members(kind: Type[Any], bits: int) -> Tuple[Any, ...]:
@@ -192,15 +209,7 @@ def _takes(names: Callable[P, object]) -> Callable[[Callable[..., Result]], Call
     """Makes a call pass its keyword arguments as settings, in order and behind its other settings."""
 
     def made(call: Any) -> Any:
-        @functools.wraps(call)
-        def calling(*settings: Any, **fields: Any) -> Any:
-            for name in fields:
-                if name not in cast(Any, names):
-                    text = _c.settings_text(f"{name}=".encode()) if "point" in cast(Any, names) else _refusal(f"{name}=")
-                    raise TypeError(f"{call.__name__}() got an unexpected keyword argument {name!r}: {text}")
-            return call(*settings, *(_setting(name, value) for name, value in fields.items()))
-
-        return calling
+        return functools.wraps(call)(lambda *it, **fields: call(*it, *_settings(names, call, fields)))
 
     return made
 
@@ -211,13 +220,19 @@ def _of(names: Callable[P, object]) -> Callable[[Callable[..., object]], _OfFiel
     return cast(Callable[[Callable[..., object]], _OfFields[P]], made)
 
 
-def _setting(name: str, value: Value) -> Union[Edit, str]:
-    """Returns an argument as a setting."""
-    if name in _SETTERS:
-        return Edit.of(name, value)
-    if name in _CONDITIONS:
-        return f"{name}={str(_condition(name, value)).lower()}"
-    return f"{name}={'none' if value is None else _byte(name, value)}"
+def _settings(names: Any, call: Any, fields: Dict[str, Any]) -> Iterator[Union[Edit, str]]:
+    """Returns keyword arguments as settings."""
+    if unknown := [it for it in fields if it not in names]:
+        setting = f"{unknown[0]}="
+        text = _c.settings_text(setting.encode()) if "point" in names else _refusal(setting)
+        raise TypeError(f"{call.__name__}() got an unexpected keyword argument {unknown[0]!r}: {text}")
+    for name, value in fields.items():
+        if name in _CONDITIONS:
+            yield f"{name}={str(_condition(name, value)).lower()}"
+        elif name in _SETTERS:
+            yield Edit.of(name, value)
+        else:
+            yield f"{name}={'none' if value is None else _byte(name, value)}"
 
 
 def _condition(name: str, value: Value) -> Optional[int]:
@@ -228,13 +243,13 @@ def _condition(name: str, value: Value) -> Optional[int]:
 
 
 @dataclass(frozen=True, init=False, repr=False)
-class Edit:
+class Edit(metaclass=_Class):
     """An edit: a setter and its value, parsed from a text NAME=VALUE such as `Edit("digit_separator='_'")`.
 
     A flag or a group takes `true` or `false`, and a byte a number such as 95 or `0x5F`. Every byte except
-    `mantissa_radix` also takes `none`, and a separator, prefix or suffix a character in single quotes. White space around
-    the name and the value is skipped. `radix` is another name of `mantissa_radix`. Raises ValueError if the text is not a
-    setting. `value` is a bool, an ASCII character, a number, or None. A byte of 128 or more is a number.
+    `mantissa_radix` also takes `none`, and a separator, prefix or suffix a character in single quotes. White space
+    around the name and the value is skipped. `radix` is another name of `mantissa_radix`. Raises ValueError if the text
+    is not a setting. `value` is a bool, an ASCII character, a number, or None. A byte of 128 or more is a number.
     """
 
     setter: Setter
@@ -249,11 +264,11 @@ class Edit:
     def of(cls, setter: Union[Setter, str], value: Value) -> Edit:
         """Returns the edit with this setter, or the setter with this name, and this value, such as
         `Edit.of("digit_separator", "_")`. Raises TypeError or ValueError if the setter does not take the value."""
-        named = _SETTERS.get(setter.strip(" \t\n\f\r")) if isinstance(setter, str) else _typed("setter", setter, Setter)
+        text = setter.strip(" \t\n\f\r") if isinstance(setter, str) else ""
+        named = _SETTERS.get(text) if isinstance(setter, str) else _typed("setter", setter, Setter)
         if named is None:
             raise ValueError(f"setter {reprlib.repr(setter)}: {_refusal(f'{setter}=')}")
-        edit = cls.__new__(cls)
-        vars(edit).update(setter=named, value=_value(named, _number_of(named, value)))
+        vars(edit := cls.__new__(cls)).update(setter=named, value=_value(named, _number_of(named, value)))
         return edit
 
     @property
@@ -270,7 +285,6 @@ class Edit:
         return self.setter.value, int(_number_of(self.setter, self.value))
 
     def __str__(self) -> str:
-        """Returns NAME=VALUE."""
         return str(_c.describe("edit", *self._numbers()))
 
     def __repr__(self) -> str:
@@ -297,7 +311,7 @@ def _value(setter: Setter, number: int) -> Union[bool, int, str, None]:
 
 
 @dataclass(frozen=True)
-class Note:
+class Note(metaclass=_Class):
     """A note on fields that have no effect, with a mask of their bits, or on settings, with their indexes."""
 
     text: str
@@ -313,15 +327,14 @@ class Reason(Note):
     """A reason why a word is not lawful, or why options do not fit it: its text, a mask of the bits that it blames, the
     rules that it breaks, and the options that it blames, which are `Role.EXPONENT` and `Role.POINT`. An edit is to
     blame if its mask has a bit in common with this mask that no later edit writes. If settings cause the reason, it has
-    the indexes of those to blame instead.
-    """
+    the indexes of those to blame instead."""
 
     rules: Tuple[Rule, ...] = ()
     options: Tuple[Role, ...] = ()
 
 
 @dataclass(frozen=True)
-class Separators:
+class Separators(metaclass=_Class):
     """Where a part of a number may have digit separators: between, before and after digits, and several in a row."""
 
     internal: bool
@@ -331,7 +344,7 @@ class Separators:
 
 
 @dataclass(eq=False)
-class ReasonsError(ValueError):
+class ReasonsError(ValueError, metaclass=_Class):
     """Raised with the reasons why there is no such format or syntax. Options are checked if the format is lawful."""
 
     reasons: Tuple[Reason, ...]
@@ -356,16 +369,16 @@ class SettingsError(ReasonsError):
     """Raised if settings make no syntax. Of more than 100 reasons, it has the first 100."""
 
 
-class LiteralError(ValueError):
+class LiteralError(ValueError, metaclass=_Class):
     """Raised if a text is not a literal. `str` returns the cause as a sentence, and `full_sentence` names the flags and
     conditions to blame, too. If the cause is mended, another may follow.
 
     `text` is what was to be read. `valid_up_to` is the length of the longest beginning of it that some literal begins
-    with. If it is the length of the text, characters are missing. `span` is the first index and the end of the characters to show, maybe
-    none, as in `text[slice(*span)]`. `kind` is the kind of the cause, and `part` the part of a separator or of
-    missing digits. `mask` has the flags to blame as bits of a word, and `conditions` the names of conditions. A wrong
-    byte and missing digits blame none. `error` is the cause as one of the errors of the parsers of Rust's crate
-    `lexical`. `form` is the name of the form of a language for which most of the text is right, or empty.
+    with. If it is the length of the text, characters are missing. `span` is the first index and the end of the
+    characters to show, maybe none, as in `text[slice(*span)]`. `kind` is the kind of the cause, and `part` the part of
+    a separator or of missing digits. `mask` has the flags to blame as bits of a word, and `conditions` the names of
+    conditions. A wrong byte and missing digits blame none. `error` is the cause as one of the errors of the parsers of
+    Rust's crate `lexical`. `form` is the name of the form of a language for which most of the text is right, or empty.
     """
 
     sentence: str
@@ -385,15 +398,15 @@ class LiteralError(ValueError):
         if name not in LiteralError.__annotations__:
             raise AttributeError(name)
         owner, text, *start = self.args
-        at, is_bytes = start[0] if start else 0, isinstance(text, bytes)
-        sentence, full, valid, begin, end, kind, part, mask, code, form, bits = owner._explain(text, start[0] if start else -1)
+        at, found = start[0] if start else 0, owner._explain(text, start[0] if start else -1)
+        self.sentence, self.full_sentence, valid, begin, end, kind, part, mask, code, form, bits = found
         self.text, self.valid_up_to, self.span = text, at + valid, (at + begin, at + end)
         # Python shows each character, also one that a terminal does not.
-        wrong = "" if is_bytes else text[self.valid_up_to : self.valid_up_to + 1]
+        wrong = "" if isinstance(text, bytes) else text[self.valid_up_to : self.valid_up_to + 1]
         if not wrong.isascii() and kind == ReadErrorKind.BYTE.value:
-            sentence = full = f"unexpected character {wrong!r}"
-        self.sentence, self.full_sentence, self.kind, self.mask = sentence, full, ReadErrorKind(kind), _joined(mask)
-        self.part = Part(part) if part != _NO_PART else None
+            self.sentence = self.full_sentence = f"unexpected character {wrong!r}"
+        self.kind, self.mask = ReadErrorKind(kind), _joined(mask)
+        self.part = next(iter(_members(Part, 1 << part)), None)
         self.conditions = tuple(it for bit, it in enumerate(_CONDITIONS) if bits >> bit & 1)
         self.error, self.form = Error(code), owner._listed[form][0]
         return vars(self)[name]
@@ -403,8 +416,8 @@ class LiteralError(ValueError):
 
     @property
     def edits(self) -> Tuple[Edit, ...]:
-        """The edits of the format that end the cause: each alone for a separator, and otherwise all together. Conditions
-        are not part of a format."""
+        """The edits of the format that end the cause: each alone for a separator, and otherwise all together.
+        Conditions are not part of a format."""
         return tuple(Edit.of(it, self.kind is ReadErrorKind.SEPARATOR) for it in _members(Setter, self.mask))
 
     def __str__(self) -> str:
@@ -425,7 +438,7 @@ class _Field:
             return self
         if self._setter not in _BYTES + _RADIXES:
             return _c.flag(view._halves, self._setter.value)
-        byte = view._unpacked()[1 + (*_BYTES, *_RADIXES).index(self._setter)]
+        byte = _c.fields_of(view._halves)[1 + (*_BYTES, *_RADIXES).index(self._setter)]
         return _value(self._setter, byte) if self._setter in _BYTES else byte
 
     def __set__(self, view: FormatView, value: Value) -> None:
@@ -435,9 +448,13 @@ class _Field:
         return f"<field {self._name}>"
 
 
-_field: Any = _Field
+# Fields of each type: flags, bytes with a role, and radixes.
+_flag = cast(Callable[[str], bool], lambda meaning: _Field(f"Whether {meaning}."))
+_mark = cast(Callable[[str], Union[str, int, None]], lambda meaning: _Field(f"The {meaning}, or None if it is absent."))
+_radix = cast(Callable[[str], int], lambda meaning: _Field(f"The {meaning}."))
 
-class FormatView:
+
+class FormatView(metaclass=_Class):
     """A view of a format word, lawful or not. `int(view)` is the word, and `str(view)` is its text.
 
     An absent digit separator, base prefix or base suffix is None. An absent exponent base or exponent radix has the
@@ -447,52 +464,52 @@ class FormatView:
     __slots__ = ("_word", "_halves")
 
     # Made by make_python.py: attributes
-    required_integer_digits: bool = _field("Whether the format requires digits before the decimal point. If so, a parser rejects `.5`.")
-    required_fraction_digits: bool = _field("Whether the format requires digits after a decimal point. If so, a parser rejects `1.` but accepts `1`.")
-    required_exponent_digits: bool = _field("Whether the format requires digits after an exponent character. If so, a parser rejects `1e`. The default is `true`.")
-    required_mantissa_digits: bool = _field("Whether the format requires a digit in the mantissa of a float. If so, a parser rejects `.`. Otherwise, `.` is parsed as 0. An empty string is always rejected. The default is `true`.")
-    no_positive_mantissa_sign: bool = _field("Whether the format forbids a `+` before an integer or a float. If so, a parser rejects `+1` but accepts `-1`.")
-    required_mantissa_sign: bool = _field("Whether the format requires a sign before an integer or a float. If so, a parser rejects `1`, and a writer writes `+1`.")
-    no_exponent_notation: bool = _field("Whether the format forbids an exponent in a float. If so, a parser rejects `1e5`, and a writer writes out all digits.")
-    no_positive_exponent_sign: bool = _field("Whether the format forbids a `+` in the exponent. If so, a parser rejects `1e+5` but accepts `1e5` and `1e-5`.")
-    required_exponent_sign: bool = _field("Whether the format requires a sign in the exponent. If so, a parser rejects `1e5`, and a writer writes `1e+5`.")
-    no_exponent_without_fraction: bool = _field("Whether the format requires a decimal point before an exponent. If so, a parser rejects `1e5` but accepts `1.0e5`. No digit is required after that decimal point.")
-    no_special: bool = _field("Whether the format forbids all special values. If so, a parser rejects `NaN` and `inf`.")
-    case_sensitive_special: bool = _field("Whether special values are case-sensitive. If so, a parser rejects `nan` when the spelling of NaN is `NaN`. Otherwise, it accepts any case.")
-    no_integer_leading_zeros: bool = _field("Whether the format forbids leading zeros in an integer. If so, a parser rejects the integer `01` but accepts `0`.")
-    no_float_leading_zeros: bool = _field("Whether the format forbids leading zeros in a float. If so, a parser rejects `01.0` but accepts `0.1`. It also rejects `01` as a float.")
-    required_exponent_notation: bool = _field("Whether the format requires an exponent in a float. If so, a parser rejects `1.0`, and a writer writes every float with an exponent.")
-    case_sensitive_exponent: bool = _field("Whether the exponent character is case-sensitive. If so, a parser rejects `1E5` when the exponent character is `e`. Otherwise, it accepts both cases.")
-    case_sensitive_base_prefix: bool = _field("Whether the base prefix is case-sensitive. If so, a parser rejects `0X1F` when the base prefix is `x`. Otherwise, it accepts both cases.")
-    case_sensitive_base_suffix: bool = _field("Whether the base suffix is case-sensitive. If so, a parser rejects `1FH` when the base suffix is `h`. Otherwise, it accepts both cases.")
-    integer_internal_digit_separator: bool = _field("Whether the format allows a digit separator between integer digits. If so, a parser accepts `1_2`.")
-    fraction_internal_digit_separator: bool = _field("Whether the format allows a digit separator between fraction digits. If so, a parser accepts `0.1_2`.")
-    exponent_internal_digit_separator: bool = _field("Whether the format allows a digit separator between exponent digits. If so, a parser accepts `1e1_2`.")
-    integer_leading_digit_separator: bool = _field("Whether the format allows a digit separator before the integer digits. If so, a parser accepts `_12`.")
-    fraction_leading_digit_separator: bool = _field("Whether the format allows a digit separator before the fraction digits. If so, a parser accepts `0._12`.")
-    exponent_leading_digit_separator: bool = _field("Whether the format allows a digit separator before the exponent digits. If so, a parser accepts `1e_12`.")
-    integer_trailing_digit_separator: bool = _field("Whether the format allows a digit separator after the integer digits. If so, a parser accepts `12_`.")
-    fraction_trailing_digit_separator: bool = _field("Whether the format allows a digit separator after the fraction digits. If so, a parser accepts `0.12_`.")
-    exponent_trailing_digit_separator: bool = _field("Whether the format allows a digit separator after the exponent digits. If so, a parser accepts `1e12_`.")
-    integer_consecutive_digit_separator: bool = _field("Whether the format allows consecutive digit separators in the integer part. If so, a parser accepts several separators in a row wherever it accepts a single one: `1__2`, `__12`, `12__`. In a lawful format, this flag is set only if the internal, leading or trailing separator flag of the integer part is set too.")
-    fraction_consecutive_digit_separator: bool = _field("Whether the format allows consecutive digit separators in the fraction. If so, a parser accepts several separators in a row wherever it accepts a single one: `0.1__2`, `0.__12`, `0.12__`. In a lawful format, this flag is set only if the internal, leading or trailing separator flag of the fraction is set too.")
-    exponent_consecutive_digit_separator: bool = _field("Whether the format allows consecutive digit separators in the exponent. If so, a parser accepts several separators in a row wherever it accepts a single one: `1e1__2`, `1e__12`, `1e12__`. In a lawful format, this flag is set only if the internal, leading or trailing separator flag of the exponent is set too.")
-    special_digit_separator: bool = _field("Whether the format allows digit separators in special values. If so, a parser accepts `N__a_N_` as `NaN`. Digit separators can be before, between and after the letters, and can be consecutive.")
-    digit_separator: Union[str, int, None] = _field("The digit separator: the byte that separates groups of digits, such as the `_` in `1_000`.")
-    base_prefix: Union[str, int, None] = _field("The base prefix: the byte that may follow a leading zero to indicate the radix, such as the `x` in `0x1F`.")
-    base_suffix: Union[str, int, None] = _field("The base suffix: the byte that may follow the digits to indicate the radix, such as the `h` in `1Fh`.")
-    mantissa_radix: int = _field("The mantissa radix: the radix of the integer and fraction digits.")
-    exponent_base: int = _field("The exponent base: the base that is raised to the exponent, such as the 2 in 1 * 2^3.")
-    exponent_radix: int = _field("The exponent radix: the radix of the exponent digits.")
-    required_digits: bool = _field("Whether any of the flags that require digits is set. An integer parser always requires a digit.")
-    internal_digit_separator: bool = _field("Whether any of the flags that allow a digit separator between digits is set.")
-    leading_digit_separator: bool = _field("Whether any of the flags that allow a digit separator before digits is set.")
-    trailing_digit_separator: bool = _field("Whether any of the flags that allow a digit separator after digits is set.")
-    consecutive_digit_separator: bool = _field("Whether any of the flags that allow consecutive digit separators is set.")
-    digit_separator_flags: bool = _field("Whether any of the flags that allow digit separators is set, including the flag that allows them in special values.")
-    integer_digit_separator_flags: bool = _field("Whether any of the flags that allow digit separators in the integer part is set.")
-    fraction_digit_separator_flags: bool = _field("Whether any of the flags that allow digit separators in the fraction is set.")
-    exponent_digit_separator_flags: bool = _field("Whether any of the flags that allow digit separators in the exponent is set.")
+    required_integer_digits = _flag("the format requires digits before the decimal point")
+    required_fraction_digits = _flag("the format requires digits after a decimal point")
+    required_exponent_digits = _flag("the format requires digits after an exponent character")
+    required_mantissa_digits = _flag("the format requires a digit in the mantissa of a float")
+    no_positive_mantissa_sign = _flag("the format forbids a `+` before an integer or a float")
+    required_mantissa_sign = _flag("the format requires a sign before an integer or a float")
+    no_exponent_notation = _flag("the format forbids an exponent in a float")
+    no_positive_exponent_sign = _flag("the format forbids a `+` in the exponent")
+    required_exponent_sign = _flag("the format requires a sign in the exponent")
+    no_exponent_without_fraction = _flag("the format requires a decimal point before an exponent")
+    no_special = _flag("the format forbids all special values")
+    case_sensitive_special = _flag("special values are case-sensitive")
+    no_integer_leading_zeros = _flag("the format forbids leading zeros in an integer")
+    no_float_leading_zeros = _flag("the format forbids leading zeros in a float")
+    required_exponent_notation = _flag("the format requires an exponent in a float")
+    case_sensitive_exponent = _flag("the exponent character is case-sensitive")
+    case_sensitive_base_prefix = _flag("the base prefix is case-sensitive")
+    case_sensitive_base_suffix = _flag("the base suffix is case-sensitive")
+    integer_internal_digit_separator = _flag("the format allows a digit separator between integer digits")
+    fraction_internal_digit_separator = _flag("the format allows a digit separator between fraction digits")
+    exponent_internal_digit_separator = _flag("the format allows a digit separator between exponent digits")
+    integer_leading_digit_separator = _flag("the format allows a digit separator before the integer digits")
+    fraction_leading_digit_separator = _flag("the format allows a digit separator before the fraction digits")
+    exponent_leading_digit_separator = _flag("the format allows a digit separator before the exponent digits")
+    integer_trailing_digit_separator = _flag("the format allows a digit separator after the integer digits")
+    fraction_trailing_digit_separator = _flag("the format allows a digit separator after the fraction digits")
+    exponent_trailing_digit_separator = _flag("the format allows a digit separator after the exponent digits")
+    integer_consecutive_digit_separator = _flag("the format allows consecutive digit separators in the integer part")
+    fraction_consecutive_digit_separator = _flag("the format allows consecutive digit separators in the fraction")
+    exponent_consecutive_digit_separator = _flag("the format allows consecutive digit separators in the exponent")
+    special_digit_separator = _flag("the format allows digit separators in special values")
+    digit_separator = _mark("digit separator: the byte that separates groups of digits")
+    base_prefix = _mark("base prefix: the byte that may follow a leading zero to indicate the radix")
+    base_suffix = _mark("base suffix: the byte that may follow the digits to indicate the radix")
+    mantissa_radix = _radix("mantissa radix: the radix of the integer and fraction digits")
+    exponent_base = _radix("exponent base: the base that is raised to the exponent")
+    exponent_radix = _radix("exponent radix: the radix of the exponent digits")
+    required_digits = _flag("any of the flags that require digits is set")
+    internal_digit_separator = _flag("any of the flags that allow a digit separator between digits is set")
+    leading_digit_separator = _flag("any of the flags that allow a digit separator before digits is set")
+    trailing_digit_separator = _flag("any of the flags that allow a digit separator after digits is set")
+    consecutive_digit_separator = _flag("any of the flags that allow consecutive digit separators is set")
+    digit_separator_flags = _flag("any of the flags that allow digit separators is set")
+    integer_digit_separator_flags = _flag("any of the flags that allow digit separators in the integer part is set")
+    fraction_digit_separator_flags = _flag("any of the flags that allow digit separators in the fraction is set")
+    exponent_digit_separator_flags = _flag("any of the flags that allow digit separators in the exponent is set")
     # End
 
     def __init__(self, word: int = STANDARD) -> None:
@@ -502,9 +519,6 @@ class FormatView:
     @_of(_peltzivar.fields)
     def of(cls: Any, *settings: Union[Edit, str], **fields: Value) -> FormatView:
         """Applies the settings and then the fields, in order, to the default fields, and returns a view of the word.
-
-            FormatView.of(mantissa_radix=16, base_prefix="x")
-            FormatView.of("mantissa_radix=16", "base_prefix='x'")
 
         If no flag allows the digit separator, a `FormatView` drops it, and `notes_of` reports it. A `Format` raises a
         ValueError then, and a FormatError if the word is not lawful.
@@ -545,8 +559,8 @@ class FormatView:
 
     def role_of(self, byte: Byte, *, exponent: Byte = 0, point: Byte = 0) -> Optional[Role]:
         """Returns the first role that a byte has in numbers with this exponent character and this decimal point, or
-        None. An option that is 0 matches no byte. If this is a `Format` and the options fit it, no byte has two roles.
-        """
+        None. An option that is 0 matches no byte. If this is a `Format` and the options fit it, no byte has two
+        roles."""
         options = _byte("exponent", exponent), _byte("point", point)
         role = _c.role_of(self._halves, *options, _byte("a byte", byte))
         return Role(role) if role else None
@@ -559,7 +573,7 @@ class FormatView:
         no flag allows is dropped. So set a digit separator and its flags in one call. A `Format` raises a ValueError if
         it would drop a separator that was passed, and a FormatError if the new word is not lawful.
         """
-        return self._packed(self._unpacked(), settings)
+        return self._packed(_c.fields_of(self._halves), settings)
 
     def edits(self) -> Tuple[Edit, ...]:
         """Returns an edit for each field of the word that differs from its default, in the order of the bits."""
@@ -579,16 +593,17 @@ class FormatView:
 
     def reasons(self) -> Tuple[Reason, ...]:
         """Returns each reason why the word is not lawful."""
-        return tuple(Reason(text, _joined(mask), (), _members(Rule, bits)) for text, mask, bits in _c.reasons(self._halves))
+        found = _c.reasons(self._halves)
+        return tuple(Reason(text, _joined(mask), rules=_members(Rule, bits)) for text, mask, bits in found)
 
     def options_reasons(self, exponent: Byte, point: Byte) -> Tuple[Reason, ...]:
         """Returns each reason why an exponent character and a decimal point do not fit the word."""
         found = _c.options_reasons(self._halves, _byte("exponent", exponent), _byte("point", point))
-        return tuple(Reason(text, _joined(mask), (), (), _members(Role, bits)) for text, mask, bits in found)
+        return tuple(Reason(text, _joined(mask), options=_members(Role, bits)) for text, mask, bits in found)
 
     def notes(self) -> Tuple[Note, ...]:
         """Returns the notes on fields of the word that have no effect."""
-        return _notes(self._unpacked())
+        return _notes(_c.fields_of(self._halves))
 
     def source(self) -> str:
         """Returns Rust code that sets the fields of the word and packs them."""
@@ -605,8 +620,13 @@ class FormatView:
             raise ValueError("; ".join(note.text for note in _notes(changed) if note.mask >> 64 & 255))
         return view
 
-    def _unpacked(self) -> Tuple[int, ...]:
-        return cast(Tuple[int, ...], _c.fields_of(self._halves))
+    def __eq__(self, other: object) -> bool:
+        if (word := getattr(other, "_word", None)) is None:
+            return NotImplemented
+        return bool(self._word == word)
+
+    def __hash__(self) -> int:
+        return hash(self._word)
 
     def __int__(self) -> int:
         return self._word
@@ -626,14 +646,6 @@ class FormatView:
             return f"{name}({self})"
         return f"{name}.of({', '.join(f'{edit.name}={edit.value!r}' for edit in self.edits())})"
 
-    def __eq__(self, other: object) -> bool:
-        if not isinstance(other, FormatView):
-            return NotImplemented
-        return self._word == other._word
-
-    def __hash__(self) -> int:
-        return hash(self._word)
-
 
 class Format(FormatView):
     """A view of a lawful word. Raises FormatError if the word is not lawful."""
@@ -652,9 +664,9 @@ class Format(FormatView):
 
 
 @dataclass(frozen=True)
-class Parts(Generic[AnyStr]):
-    """The parts of a literal, in the order of the text. An absent part is empty. The prefix includes the zero before it,
-    and a part with digits includes digit separators."""
+class Parts(Generic[AnyStr], metaclass=_Class):
+    """The parts of a literal, in the order of the text. An absent part is empty. The prefix includes the zero before
+    it, and a part with digits includes digit separators."""
 
     sign: AnyStr
     prefix: AnyStr
@@ -667,27 +679,22 @@ class Parts(Generic[AnyStr]):
     suffix: AnyStr
 
 
-class Literal(_peltzivar.Found, Generic[AnyStr]):
+class Literal(_Keyed, _peltzivar.Found, Generic[AnyStr]):
     """A text that is a literal of a syntax. `str(literal)` is the text, and `read` makes a literal.
 
-        >>> literal = languages.TOML.read("-1_000.50e-3")
-        >>> literal.value, literal.decimal(), literal.fraction()
-        (-1.0005, Decimal('-1.00050'), Fraction(-2001, 2000))
-        >>> literal.parts.sign, literal.parts.integer, literal.digits(Part.INTEGER)
-        ('-', '1_000', '1000')
-
-    `int(literal)` is the value of an integer, and raises a ValueError for a float. As for each text, `int` raises a
-    ValueError for more than 4300 digits, unless the radix is a power of two: see `sys.set_int_max_str_digits`.
-    `float(literal)` is the float that is nearest to the value, or `inf` if that is too large. It raises a ValueError if
-    the mantissa radix and the exponent base are neither both 10 nor both powers of two.
-
-    All three are those of the `kind` of the form. `digits`, `decimal()` and `fraction()` are those of the text.
+    `int(literal)` is the value of an integer, and raises a ValueError for a float and, as for each text, for more than
+    4300 digits, unless the radix is a power of two. `float(literal)` is the float that is nearest to the value, or
+    `inf` if that is too large. It raises a ValueError if the mantissa radix and the exponent base are neither both 10
+    nor both powers of two. These and `value` are those of the `kind` of the form. The others are those of the text.
 
     Literals are equal if their formats, their parts and their kinds are equal, as in Rust.
     """
 
     __slots__ = ()
     __match_args__ = ("syntax", "text")
+    text: AnyStr
+    is_float: bool
+    value: Union[int, float]
 
     def __init__(self, *arguments: object) -> None:
         raise TypeError("`read` of a Syntax or a Language makes a Literal")
@@ -706,39 +713,23 @@ class Literal(_peltzivar.Found, Generic[AnyStr]):
     def kind(self) -> Kind:
         """The kind of the form or, of a token, of its suffix if that has one."""
         _, _, kind, own = self._owner._listed[self._form]
-        word = _shown(_encoded("a suffix", self._suffix or ""))
-        found = [of for it, of in own.kinds if it == word or own.either_case and it.lower() == word.lower()] if own and word else []
-        return cast(Kind, (found or [kind])[0])
-
-    @property
-    def text(self) -> AnyStr:
-        """The text."""
-        return cast(AnyStr, self._text)
+        word, kinds = _shown(_encoded("a suffix", self._suffix or "")), own.kinds if own else ()
+        found = (of for it, of in kinds if word and (it == word or own.either_case and it.lower() == word.lower()))
+        return cast(Kind, next(found, kind))
 
     @property
     def parts(self) -> Parts[AnyStr]:
         """The parts of the text."""
         ends: Tuple[int, ...] = self._ends()
-        return Parts(*(self._text[start:end] for start, end in zip((0, *ends), ends)))
-
-    @property
-    def is_float(self) -> bool:
-        """Whether the literal has a decimal point or an exponent character."""
-        return bool(self._is_float)
-
-    @property
-    def value(self) -> Union[int, float]:
-        """The value: an int if the literal is an integer, and otherwise a float. Raises ValueError if it is too large for the
-        kind of its form, as 3000000000 is for the decimal integers of JAVA."""
-        return cast("Union[int, float]", self._value)
+        return Parts(*(self.text[start:end] for start, end in zip((0, *ends), ends)))
 
     def __int__(self) -> int:
         if (found := self._int()) is not None:
             return found if isinstance(found, int) else cast(int, found[0] << 64 | found[1])
         if self.is_float:
-            raise ValueError(f"{reprlib.repr(self._text)} is a float")
+            raise ValueError(f"{reprlib.repr(self.text)} is a float")
         if self.kind.at_most or self.kind.wraps:
-            raise ValueError(f"{reprlib.repr(self._text)} is too large for its kind")
+            raise ValueError(f"{reprlib.repr(self.text)} is too large for its kind")
         sign, integer, *_ = self._written()
         return int(sign + integer, self.syntax.format.mantissa_radix)
 
@@ -772,8 +763,8 @@ class Literal(_peltzivar.Found, Generic[AnyStr]):
             raise OverflowError(_TOO_LONG) from None
 
     def scaled(self, places: int) -> int:
-        """Returns the value times 10 to the power of `places`, from 0 to 255, as an int: with 2, a price in cents. Raises
-        ValueError if it is not whole. All digits of a float count, and an integer has the value of its `kind`.
+        """Returns the value times 10 to the power of `places`, from 0 to 255, as an int: with 2, a price in cents.
+        Raises ValueError if it is not whole. All digits of a float count, and an integer has the value of its `kind`.
 
             >>> languages.CSV_DE.read("1.234,5").scaled(2)
             123450
@@ -786,8 +777,8 @@ class Literal(_peltzivar.Found, Generic[AnyStr]):
         return int(product)
 
     def fraction(self) -> Fraction:
-        """Returns the exact value. Raises OverflowError if its numerator or denominator has more than 10^6 digits before
-        the fraction is reduced."""
+        """Returns the exact value. Raises OverflowError if its numerator or denominator has more than 10^6 digits
+        before the fraction is reduced."""
         try:
             fraction: Any = object.__new__(Fraction)
             # The two have no common factor, and Fraction would look for one.
@@ -805,7 +796,8 @@ class Literal(_peltzivar.Found, Generic[AnyStr]):
         return Fraction(number * base**up, radix**places * base**down)
 
     def _scaled(self) -> Tuple[str, int, int]:
-        """Returns the sign with the digits of the integer and the fraction, the number of the latter, and the exponent."""
+        """Returns the sign with the digits of the integer and the fraction, the number of the latter, and the
+        exponent."""
         sign, integer, fraction, exponent_sign, exponent = self._written()
         digits, of = (integer + fraction).lstrip("0"), self.syntax.format
         if (len(digits) - 1) * math.log10(of.mantissa_radix) >= _MOST_DIGITS:
@@ -816,48 +808,37 @@ class Literal(_peltzivar.Found, Generic[AnyStr]):
 
     def _written(self) -> List[str]:
         """Returns the sign, the digits of the integer and of the fraction, the sign of the exponent, and its digits."""
-        text = str(self)
-        parts = [text[start:end] for start, end in zip((0, *self._ends()), self._ends())]
-        separator = self.syntax.format.digit_separator
-        return [parts[it].replace(str(separator or ""), "") for it in (0, 2, 4, 6, 7)]
+        text, ends, separator = str(self), (0, *self._ends()), self.syntax.format.digit_separator
+        return [text[ends[it] : ends[it + 1]].replace(str(separator or ""), "") for it in (0, 2, 4, 6, 7)]
 
     def digits(self, part: Part) -> AnyStr:
         """Returns the digits of a part without digit separators."""
         _, integer, fraction, _, exponent = self._written()
         digits: Any = (integer, fraction, exponent)[_typed("part", part, Part).value]
-        return cast(AnyStr, digits.encode() if isinstance(self._text, bytes) else digits)
+        return cast(AnyStr, digits.encode() if isinstance(self.text, bytes) else digits)
 
     def __str__(self) -> str:
-        text: Union[str, bytes] = self._text
+        text: Union[str, bytes] = self.text
         return text.decode() if isinstance(text, bytes) else text
 
     def __repr__(self) -> str:
-        whole = self._text if self._suffix is None else self._text + self._suffix
+        whole = self.text if self._suffix is None else self.text + self._suffix
         owner = repr(self._owner) if isinstance(self._owner, Language) else f"<{type(self._owner).__name__}>"
         return f"{owner}." + (f"read({whole!r})" if self._suffix is None else f"token({whole!r}).literal")
 
-    def __eq__(self, other: object) -> bool:
-        if not isinstance(other, Literal):
-            return NotImplemented
-        return self._key() == other._key()
-
-    def __hash__(self) -> int:
-        return hash(self._key())
-
     def _key(self) -> Tuple[Any, ...]:
-        return self.syntax.format, self._text, self._ends(), self.kind
+        return self.syntax.format, self.text, self._ends(), self.kind
 
     def __reduce__(self) -> Tuple[Any, ...]:
-        """Returns what reads the text again."""
         if self._suffix is not None:
-            return _Several._literal_of, (self._owner, self._text + self._suffix)
-        return type(self._owner).read, (self._owner, self._text)
+            return _Several._literal_of, (self._owner, self.text + self._suffix)
+        return type(self._owner).read, (self._owner, self.text)
 
 
 @dataclass(frozen=True)
-class WrongCell:
-    """A cell of a column that has no value. `str` returns the cause as a sentence. `error` is a LiteralError if the text is
-    not a number, and otherwise a ValueError."""
+class WrongCell(metaclass=_Class):
+    """A cell of a column that has no value. `str` returns the cause as a sentence. `error` is a LiteralError if the
+    text is not a number, and otherwise a ValueError."""
 
     index: int
     text: Union[str, bytes]
@@ -868,9 +849,9 @@ class WrongCell:
 
 
 @dataclass(frozen=True, eq=False)
-class Column:
-    """The values of cells. `values` is the `array.array` or the buffer that has them. `wrong` is a sequence of the cells
-    that have no value, each of which is made when it is asked for. `missing` has the indexes of missing cells."""
+class Column(metaclass=_Class):
+    """The values of cells. `values` is the `array.array` or the buffer that has them. `wrong` is a sequence of the
+    cells that have no value, each of which is made when it is asked for. `missing` has the indexes of missing cells."""
 
     values: Any
     wrong: Sequence[WrongCell]
@@ -880,12 +861,11 @@ class Column:
         return iter((self.values, self.wrong, self.missing))
 
 
-class ColumnError(ValueError):
+@dataclass(eq=False)
+class ColumnError(ValueError, metaclass=_Class):
     """Raised if a cell is wrong. `column` has the values of the others, and all wrong cells. `str` shows the first."""
 
-    def __init__(self, column: Column) -> None:
-        super().__init__(column)
-        self.column = column
+    column: Column
 
     def __str__(self) -> str:
         first, *others = self.column.wrong[:2]
@@ -894,21 +874,18 @@ class ColumnError(ValueError):
 
 
 class _Wrong(Sequence[WrongCell]):
-    """Wrong cells."""
+    """Wrong cells of texts by their indexes or, if there are none, of data with offsets."""
 
-    def __init__(self, owner: _Reader, cells: Any, status: bytes) -> None:
-        self._owner, self._cells, self._status = owner, cells, status
+    def __init__(self, owner: _Reader, texts: Any, data: bytes, offsets: Any, status: bytes) -> None:
+        self._owner, self._texts, self._data, self._offsets, self._status = owner, texts, data, offsets, status
         self._count = len(status) - status.count(0)
 
     def __reduce__(self) -> Tuple[Any, ...]:
         """Returns what makes the same of the wrong cells alone."""
-        return _Wrong, (self._owner, {it: self._text(it) for it in self.indexes}, self._status)
+        return _Wrong, (self._owner, {it: self._text(it) for it in self.indexes}, b"", None, self._status)
 
     def _text(self, index: int) -> Any:
-        if isinstance(self._cells, tuple) and len(self._cells) == 2 and isinstance(self._cells[1], array):
-            data, offsets = self._cells
-            return data[offsets[index] : offsets[index + 1]]
-        return self._cells[index]
+        return self._texts[index] if self._texts else self._data[self._offsets[index] : self._offsets[index + 1]]
 
     def __len__(self) -> int:
         return self._count
@@ -920,8 +897,10 @@ class _Wrong(Sequence[WrongCell]):
     def __getitem__(self, at: Any) -> Any:
         if isinstance(at, slice):
             return [self[it] for it in range(len(self))[at]]
-        text = self._text(index := self.indexes[at])
-        return WrongCell(index, text, self._owner._why(text, self._status[index]))
+        text, status = self._text(index := self.indexes[at]), self._status[index]
+        is_refused = status == _c.REFUSED
+        error = LiteralError(self._owner, text) if is_refused else ValueError(_c.describe("value", status))
+        return WrongCell(index, text, error)
 
     def __repr__(self) -> str:
         return f"<{len(self)} wrong cells>"
@@ -933,11 +912,6 @@ class _Reader(_peltzivar.Reader):
     _named: Any  # The syntaxes of the forms, by their names.
     _listed: Any  # The name, syntax, kind and suffixes of each form, and then of those that need a suffix.
     read: Any
-
-    def _why(self, text: Union[str, bytes], status: int) -> ValueError:
-        """Returns why a text has no value."""
-        refused = status == _c.REFUSED
-        return LiteralError(self, text) if refused else ValueError(_c.describe("value", status))
 
     def read_prefix(self, text: AnyStr) -> Tuple[Literal[AnyStr], AnyStr]:
         """Returns the longest literal that a text begins with, and the rest. Raises LiteralError if there is none.
@@ -955,77 +929,63 @@ class _Reader(_peltzivar.Reader):
         keep_leading_zeros: bool = False, exponent: Union[int, typing.Literal["never", "always"], None] = None,
         point: bool = False, decimals: Optional[int] = None, nearest: bool = False
     ) -> str:
-        """Returns a number as a literal, or as NaN or infinity of several forms. Reading the text returns the same value.
+        """Returns a number as a literal, or as NaN or infinity of several forms. Reading the text returns the same
+        value.
 
             >>> prices = Syntax.of(digit_separator=".", internal_digit_separator=True, point=",")
-            >>> prices.format_number(Decimal("1234567.50"), group=3)
-            '1.234.567,50'
-            >>> languages.PYTHON.format_number(languages.C.read("0x1.8p1"))
-            '3'
+            >>> prices.format_number(Decimal("1234567.50"), group=3), prices.format_number(7, decimals=2)
+            ('1.234.567,50', '7,00')
 
-        Takes an int, a float, a Decimal, a `Literal`, a `Special`, or an object with `__index__` or `__float__`, as numpy
-        has, but no bool. Without `decimals`, the digits of a float are those of `repr` or, if two texts are as near to it,
-        those of the upper one, and a Fraction is exact. A `Literal` keeps its exponent, and a Decimal has one from 1E+401
-        on and below 1E-400. Where no exponent is allowed, the point moves, and the text has at most 800 bytes.
+        Takes an int, a float, a Decimal, a Fraction, a `Literal`, a `Special`, or an object with `__index__` or
+        `__float__`, as numpy has, but no bool. Without `decimals`, the digits of a float are those of `repr` or, if two
+        texts are as near to it, those of the upper one. A `Literal` keeps its exponent, and a Decimal has one from
+        1E+401 on and below 1E-400. Where no exponent is allowed, the point moves, and the text has at most 800 bytes.
 
         The other arguments are wishes: what the syntax forbids is not done, and what it requires is. `group` and
-        `fraction_group` are the numbers of digits in a group of the integer, counted from the right, and of the
-        fraction, counted from the left. If the syntax has a size, its groups are written, unless the number is 0,
-        for no groups. Without a size, None is no groups, too. `without_base` leaves out the base prefix and the base
-        suffix. `lowercase` writes digits in lowercase, and `min_digits` at least so many integer digits, with zeros
-        before the others. `keep_leading_zeros` keeps those of a `Literal` whose point does not move. `exponent` is
-        "never", for a point that moves in place of an exponent, "always", or a number n: an exponent that is at least n
-        or at most -n is kept, and another moves the point. With `point`, a float has a point with a digit behind it,
-        also before an exponent. `decimals` rounds to so many digits behind the point, as `format(value, ".2f")` does: to
-        the nearest, or to the even one if two are as near. In radix 10, it does so with each number, a `Literal` by its
-        `value`, and otherwise with floats alone. With `nearest`, a `Literal` of another radix or base that cannot be
-        written exactly is written by the nearest float.
+        `fraction_group` (0 to 254) are the digits in a group of the integer, from the right, and of the fraction. 0 is
+        no groups, and None those of the size of the syntax, if it has one. `without_base` leaves out the base prefix
+        and suffix. `lowercase` writes digits in lowercase, and `min_digits` (0 to 255) at least so many integer digits.
+        `keep_leading_zeros` keeps those of a `Literal` whose point does not move. `exponent` is "never", for a point
+        that moves instead, "always", or a number n: an exponent that is at least n or at most -n is kept. With `point`,
+        a float has a point with a digit behind it. `decimals` (0 to 255) rounds to so many digits behind the point, as
+        `format(value, ".2f")` does: to the nearest, or to the even one if two are as near. In radix 10, it does so with
+        each number, a `Literal` by its `value`, and otherwise with floats alone. With `nearest`, a `Literal` of another
+        radix or base that cannot be written exactly is written by the nearest float.
 
-            >>> prices.format_number(1234.5, group=3, decimals=2), prices.format_number(7, decimals=2)
-            ('1.234,50', '7,00')
-
-        Of several forms, as those of a Language, that is taken whose text all of them read as the same integer, or the same
-        float. Forms of the radix of a `Literal` are asked first, then decimal ones, and then the others. If there is none,
-        the error is that of the first or, of a float, of the first with a point. An int that no form of integers can have
-        is written as a float that is equal to it: `languages.JAVA.format_number(3000000000)` is 0xB2D05E00p0.
+        Of several forms, as those of a Language, that is taken whose text all of them read as the same integer, or the
+        same float: one of the radix of a `Literal`, or else decimal, or else another. If there is none, the error is
+        that of the first or, of a float, of the first with a point. An int that no form of integers can have is written
+        as a float that is equal to it: `languages.JAVA.format_number(3000000000)` is 0xB2D05E00p0.
 
         Raises ValueError for NaN and infinity without a spelling that is read as them, for a Fraction that no decimal
         number is equal to, for a sign `-` if no literal has one, for a number that is not whole if literals are
-        integers, for an int of more than 4300 digits in radix 10, as `str`
-        does, for another mantissa radix than that of the syntax, which is 10 for a float and a Decimal, if the number
-        is not whole or has more than 128 bits, and, of a float, for another exponent base.
+        integers, for an int of more than 4300 digits in radix 10, as `str` does, for another mantissa radix than that
+        of the syntax, which is 10 for a float and a Decimal, if the number is not whole or has more than 128 bits, and,
+        of a float, for another exponent base.
         """
-        wishes = group, fraction_group, without_base, lowercase, min_digits, keep_leading_zeros, exponent, point, decimals, nearest
-        return self._text_of(value, _style(*wishes))
+        wishes = group, fraction_group, without_base, lowercase, min_digits, keep_leading_zeros, exponent, point
+        return self._text_of(value, _style(*wishes, decimals, nearest))
 
     def format_column(self, numbers: Iterable[Any], *, fill: Optional[str] = None, **wishes: Any) -> List[str]:
-        """Returns numbers as texts, as `format_number` does with the same wishes, several times as fast. `numbers` is a list
-        or an array of numpy. If `fill` is a text, that of None and NaN is this.
-
-            >>> languages.CSV_DE.format_column([1234.5, Decimal("-7"), None], fill="", group=3, decimals=2)
-            ['1.234,50', '-7,00', '']
-        """
+        """Returns a list, or an array of numpy, as texts, as `format_number` does with the same wishes, several times
+        as fast. If `fill` is a text, that of None and NaN is this."""
         style = _style(**wishes)
         listed: Any = numbers.tolist() if hasattr(numbers, "tolist") else numbers
         other = lambda it: fill if fill is not None and (it is None or it != it) else self._text_of(it, style)
-        return cast("List[str]", self._write_column(tuple(listed), style, other))
+        return cast("List[str]", self._write(tuple(listed), style, other))
 
     def _text_of(self, value: Any, style: Tuple[int, ...]) -> str:
         """Returns a number as a text."""
         syntaxes: List[Syntax] = [*self._named.values()]
         if isinstance(self, _Several) and (special := _special_of(value)):
             return self._spelled_as(special)
-        radix = syntaxes[0].format.mantissa_radix if isinstance(self, Syntax) else 10
+        radix = 10 if isinstance(self, _Several) else syntaxes[0].format.mantissa_radix
         syntax = next((it for it in syntaxes if it.point), syntaxes[0])
-        return str(self._write(_writable(value, radix, syntax, style), style))
+        return str(self._write((_writable(value, radix, syntax, style),), style, None)[0])
 
     def parse(self, text: Union[str, bytes], type: Type[Number] = cast(Any, float)) -> Number:
-        """Returns the value of a text as a `float` or an `int`, faster than `read` does. Raises LiteralError if the text is
-        not a number, and ValueError if an `int` is wanted and it is not an integer.
-
-            >>> languages.CSV_DE.parse("1.234,50"), languages.RUST.parse("0x1F", int)
-            (1234.5, 31)
-        """
+        """Returns the value of a text as a `float` or an `int`, faster than `read` does. Raises LiteralError if the
+        text is not a number, and ValueError if an `int` is wanted and it is not an integer."""
         if type is not float and type is not int:
             raise TypeError(f"type must be float or int, not {type!r}")
         number = self.read(text)
@@ -1041,18 +1001,14 @@ class _Reader(_peltzivar.Reader):
     ) -> Column:
         """Returns the values of cells, some ten times as fast as `read` does.
 
-            >>> values, wrong, missing = languages.CSV_DE.column(["1.234,50", "12,3x", None], errors="coerce")
-            >>> values.tolist(), [(it.index, str(it)) for it in wrong], missing
-            ([1234.5, nan, nan], [(1, "unexpected character 'x'")], (2,))
-
         `cells` is a sequence of `str`, such as a column of pandas, or of `bytes`, or a tuple `(data, offsets)` of
         buffers, as Arrow holds texts, with offsets of 32 or 64 bits: `memoryview(offsets).cast("i")` or `"q"` if the
         buffer has bytes. None, NaN and `pandas.NA` in a sequence are missing, and not wrong. `type` is `float`, `int`,
-        `Decimal`, whose values are a list, or the format of an array: `d` or `f` for floats, `q` or `Q` for integers of 64 bits. `out` is a writable buffer
-        of such a format to which the values are written, such as an array of numpy. Otherwise, `values` is a new
-        `array.array`. A cell that is missing or wrong has the value `fill`, which is NaN for floats if it is None, and
-        which integers need. With the `errors` "raise", a wrong cell raises ColumnError after the whole column is read.
-        With a `scale` from 0 to 255, the `type` is `int`, and the values are those of `scaled(scale)` of literals: with 2,
+        `Decimal`, whose values are a list, or the format of an array: `d` or `f` for floats, `q` or `Q` for integers of
+        64 bits. `values` is an `array.array`, or `out`, a writable buffer of such a format, such as an array of numpy.
+        A cell that is missing or wrong has the value `fill`, which is NaN for floats if it is None, and which integers
+        need. With the `errors` "raise", a wrong cell raises ColumnError after the whole column is read.
+        With a `scale` from 0 to 255, `type` is `int`, and the values are those of `scaled(scale)` of literals: with 2,
         prices in cents.
         """
         kind = _format(float if type is Decimal and out is None else type, out)
@@ -1063,10 +1019,8 @@ class _Reader(_peltzivar.Reader):
         status, size = bytearray(len(texts) or len(offsets) - 1), {"f": 4}.get(kind, 8)
         if errors not in ("raise", "coerce"):
             raise ValueError(f"errors must be 'raise' or 'coerce', not {errors!r}")
-        if is_left := fill is None and kind in "qQ":
-            fill = 0
-        elif fill is None:
-            fill = math.nan
+        is_left = fill is None and kind in "qQ"
+        fill = fill if fill is not None else 0 if is_left else math.nan
         try:
             filling: Any = array(kind, [cast(Any, fill)])
         except OverflowError:
@@ -1078,7 +1032,7 @@ class _Reader(_peltzivar.Reader):
         missing = self._column(texts, data, offsets, kind, values, status, filling, na, places)
         if is_left and (missing or errors == "coerce"):
             raise ValueError("integers have no NaN: pass `fill`, the value of cells that are missing or wrong")
-        wrong = _Wrong(self, texts or (data, offsets), bytes(status))
+        wrong = _Wrong(self, texts, data, offsets, bytes(status))
         if type is Decimal:
             left = {*missing, *wrong.indexes}
             values = [fill if at in left else self.read(wrong._text(at)).decimal() for at in range(len(status))]
@@ -1086,6 +1040,10 @@ class _Reader(_peltzivar.Reader):
         if wrong and errors == "raise":
             raise ColumnError(column)
         return column
+
+
+_OFFSETS = ("i", "I", "l", "L", "q", "Q")
+_FORMATS = ("d", "f", "q", "Q")
 
 
 def _format(type: Any, out: Any) -> str:
@@ -1121,27 +1079,23 @@ def _texts_of(cells: Any) -> Tuple[Tuple[Any, ...], bytes, Any]:
     return tuple(cells), b"", array("q", [0])
 
 
-_OFFSETS = ("i", "I", "l", "L", "q", "Q")
-_FORMATS = ("d", "f", "q", "Q")
-
-
 def _style(
-    group: Optional[int] = None, fraction_group: Optional[int] = None, without_base: bool = False,
-    lowercase: bool = False, min_digits: int = 0, keep_leading_zeros: bool = False,
-    exponent: Union[int, str, None] = None, point: bool = False, decimals: Optional[int] = None, nearest: bool = False
+    group: Any = None, fraction_group: Any = None, without_base: Any = False, lowercase: Any = False,
+    min_digits: Any = 0, keep_leading_zeros: Any = False, exponent: Any = None, point: Any = False,
+    decimals: Any = None, nearest: Any = False
 ) -> Tuple[int, ...]:
     """Returns wishes as the members of a style."""
-    sizes = ((group, "group"), (fraction_group, "fraction_group"))
-    groups = [0 if size is None else _number(name, size, 255, "a number from 0 to 254") or 255 for size, name in sizes]
-    flags = (without_base, "without_base"), (lowercase, "lowercase"), (keep_leading_zeros, "keep_leading_zeros")
-    flags_of, least = [_typed(name, flag, bool) for flag, name in flags], _number("min_digits", min_digits)
-    if isinstance(exponent, (str, type(None))) and exponent in (None, "never", "always"):
-        wish = (None, "never", "always").index(exponent), 0
-    else:
-        wish = 3, _number("exponent", exponent, 1 << 32, '"never", "always" or a number from 0 to 4294967295')
+    sizes = ("group", group), ("fraction_group", fraction_group)
+    groups = [0 if it is None else _number(name, it, 255, "a number from 0 to 254") or 255 for name, it in sizes]
+    flags = ("without_base", without_base), ("lowercase", lowercase), ("keep_leading_zeros", keep_leading_zeros)
+    flags_of, least = [_typed(name, it, bool) for name, it in flags], _number("min_digits", min_digits)
+    is_name = exponent is None or isinstance(exponent, str) and exponent in ("never", "always")
+    wish = (None, "never", "always").index(exponent) if is_name else 3
+    wanted = '"never", "always" or a number from 0 to 4294967295'
+    power = 0 if is_name else _number("exponent", exponent, 1 << 32, wanted)
     places = 0 if decimals is None else _number("decimals", decimals)
     last = _typed("point", point, bool), decimals is not None, places, _typed("nearest", nearest, bool)
-    return *groups, *flags_of, least, *wish, *last
+    return *groups, *flags_of, least, wish, power, *last
 
 
 # How often 2 and 5 divide each number that no other prime divides.
@@ -1154,26 +1108,26 @@ _NEAR = Context(400, Emin=-999, Emax=999, traps=[InvalidOperation, Rounded, Over
 
 
 @dataclass(frozen=True, repr=False)
-class Syntax(_Reader):
-    """What literals are read by: a format, an exponent character and a decimal point that fit it, and conditions. If the
-    exponent character and the decimal point are both None, literals are integers.
+class Syntax(_Reader, metaclass=_Class):
+    """What literals are read by: a format, an exponent character and a decimal point that fit it, and conditions. If
+    the exponent character and the decimal point are both None, literals are integers.
 
-        >>> syntax = Syntax(Format.of(mantissa_radix=16, base_prefix="x", exponent_base=2, exponent_radix=10), exponent="p")
+        >>> syntax = Syntax(Format.of(radix=16, base_prefix="x", exponent_base=2, exponent_radix=10), exponent="p")
         >>> literal = syntax.read("-0x1.8p3")
         >>> literal.value, literal.parts.fraction, literal.parts.exponent
         (-12.0, '8', '3')
 
-    The conditions are that a literal has the base prefix or the base suffix, that its sign is not `-`, and that the
-    digit separators of its integer or its fraction, if there are any, make groups of 2 to 8 digits, as in `1,234`, with
-    groups before the last of `higher_group_size`, as in `12,34,567`. The format is in normal form, so equivalent formats
-    have the same syntax. Raises OptionsError if the exponent character or the decimal point does not fit the normal
-    form, if only one of them is None, or if the format contradicts a condition.
+    The conditions are that a literal has the base prefix or the base suffix, that its sign is not `-`, that the digit
+    separators of its integer or its fraction, if there are any, make groups of 2 to 8 digits, as in `1,234`, with
+    groups before the last of `higher_group_size`, as in `12,34,567`, and that its first digit is `0`, or one from `0`
+    to `9`. The format is in normal form, so equivalent formats have the same syntax. Raises OptionsError if the
+    exponent character or the decimal point does not fit the normal form, if only one of them is None, or if the format
+    contradicts a condition.
     """
 
     format: Format
     exponent: Optional[Byte] = "e"
     point: Optional[Byte] = "."
-    # Made by make_python.py: conditions
     required_base_prefix: bool = False
     required_base_suffix: bool = False
     no_negative_mantissa_sign: bool = False
@@ -1182,7 +1136,6 @@ class Syntax(_Reader):
     fraction_group_size: Optional[int] = None
     required_leading_zero: bool = False
     decimal_first_digit: bool = False
-    # End
     _notes: Tuple[Note, ...] = field(init=False, repr=False, compare=False)
     _by: Any = field(init=False, repr=False, compare=False)  # The members of the structure.
 
@@ -1208,7 +1161,6 @@ class Syntax(_Reader):
         return f"Syntax({self.format!r}, {self.exponent!r}, {self.point!r}{conditions})"
 
     def __reduce__(self) -> Tuple[Any, ...]:
-        """Returns what makes the syntax again."""
         made = self.format, self.exponent, self.point, *(getattr(self, it) for it in _CONDITIONS)
         return type(self), made, {"_notes": self._notes}
 
@@ -1226,12 +1178,11 @@ class Syntax(_Reader):
             Syntax.of(mantissa_radix=16, base_prefix="x", exponent="p")
 
         The keyword arguments are the attributes of a `FormatView` that are fields or groups, `radix`, and the other
-        attributes of a `Syntax`: `exponent`, `point` and its conditions. A setting has the form that `Edit` takes, and
-        a setting of `exponent` or `point` that of `base_prefix`. If both are `none`, or None, literals are integers,
-        and one alone is refused: for floats without an exponent, keep its character and set `no_exponent_notation`. A
-        setting that is blank or begins with `#` is skipped. A setting overrides those before it. A digit separator that
-        no flag allows is dropped, and `notes` of the syntax reports it: set a flag, such as
-        `integer_internal_digit_separator`, too.
+        attributes of a `Syntax`. A setting has the form that `Edit` takes, and a setting of `exponent` or `point` that
+        of `base_prefix`. If both are `none`, or None, literals are integers, and one alone is refused: for floats
+        without an exponent, set `no_exponent_notation`. A setting that is blank or begins with `#` is skipped. A
+        setting overrides those before it. A digit separator that no flag allows is dropped, and `notes` of the syntax
+        reports it: set a flag, such as `integer_internal_digit_separator`, too.
         """
         problems, made = _c.read_settings(text := _lines(settings))
         if problems:
@@ -1249,11 +1200,8 @@ class Syntax(_Reader):
         return tuple(Note(*it) for it in _findings(text, count(_c.read_settings(text)[0])))
 
     def notes(self) -> Tuple[Note, ...]:
-        """Returns the notes on the format or the settings of which the syntax was made. Equal syntaxes can have other notes.
-
-            >>> [str(note) for note in Syntax.of(digit_separator="_").notes()]
-            ["no flag allows the digit separator '_'"]
-        """
+        """Returns the notes on the format or the settings of which the syntax was made. Equal syntaxes can have
+        others."""
         return self._notes
 
     @classmethod
@@ -1272,12 +1220,7 @@ class Syntax(_Reader):
         return cast("Literal[AnyStr]", self._read(text))
 
     def sentence(self) -> str:
-        """Returns a sentence that states what differs from decimal digits with an optional sign, point and exponent.
-
-            >>> grouped = Syntax.of(digit_separator="'", integer_internal_digit_separator=True, integer_group_size=3)
-            >>> grouped.sentence()
-            "decimal; `'` between groups of three; NaN"
-        """
+        """Returns a sentence that states what differs from decimal digits with an optional sign, point and exponent."""
         return str(self._notation(0))
 
     def grammar(self) -> str:
@@ -1310,26 +1253,29 @@ class Syntax(_Reader):
 
 
 def _writable(value: Any, radix: int, syntax: Syntax, style: Tuple[int, ...]) -> Any:
-    """Returns a number as what C writes: a float, or a literal. A float is rounded by C, and any other number here. An int of
-    more than 128 bits is a literal of the radix."""
+    """Returns a number as what C writes: a float, or a literal. A float is rounded by C, and any other number here. An
+    int of more than 128 bits is a literal of the radix."""
     kind, (*_, wish, least, _, has_decimals, places, _) = type(value), style
     if kind is bool or not (hasattr(kind, "__float__") or hasattr(kind, "__index__")):
         raise TypeError(f"value must be a number or a Literal, not {kind.__name__}")
     is_rounded = has_decimals and radix == 10
-    value = value.value if is_rounded and isinstance(value, Literal) else value
-    if isinstance(value, Literal):
+    is_literal = isinstance(value, _peltzivar.Found)
+    if is_literal and not is_rounded:
         return value
+    value = value.value if is_literal else value
     if hasattr(type(value), "__index__"):
         value = operator.index(value)
         if radix != 10 and value.bit_length() > 127:
             return Syntax.integers(Format.of(radix=radix)).read(_digits(value, radix))
         value = value if is_rounded else Decimal(str(value))
     if isinstance(value, Fraction) and not is_rounded:
-        value = float(value) if radix != 10 and value.denominator > 1 and value == float(value) else _decimal_of(value)
+        is_float = radix != 10 and value.denominator > 1 and value == float(value)
+        value = float(value) if is_float else _decimal_of(value)
     if is_rounded and isinstance(value, (int, Fraction)):
         # What is divided so is rounded as the exact quotient is.
         size = value.numerator.bit_length() - value.denominator.bit_length()
-        value = Context(places + max(0, size) // 3 + 9, ROUND_05UP, MIN_EMIN, MAX_EMAX).divide(Decimal(value.numerator), value.denominator)
+        rounding = Context(places + max(0, size) // 3 + 9, ROUND_05UP, MIN_EMIN, MAX_EMAX)
+        value = rounding.divide(Decimal(value.numerator), value.denominator)
     if not isinstance(value, Decimal) or not value.is_finite():
         return float(value)
     if not is_rounded:
@@ -1349,19 +1295,11 @@ def _digits(number: int, radix: int) -> str:
     return digits if number > 0 else f"-{digits}"
 
 
-def _special_of(value: Any) -> Optional[Special]:
-    """Returns a special value, also that of a Decimal, which can have a sign, and None for another number."""
-    if not isinstance(value, Decimal) or value.is_finite():
-        return value if isinstance(value, Special) else None
-    return Special("-" * value.is_signed(), Spelling.NAN if value.is_nan() else Spelling.INF)
-
-
 def _decimal_of(value: Fraction) -> Decimal:
+    """Returns the Decimal that is equal to a Fraction. Raises ValueError if there is none."""
     twos = (value.denominator & -value.denominator).bit_length() - 1
-    rest, fives = value.denominator >> twos, 0
-    while rest % 5 == 0:
-        rest, fives = rest // 5, fives + 1
-    if rest != 1:
+    fives = round(math.log(value.denominator >> twos, 5))
+    if value.denominator != 5**fives << twos:
         raise ValueError(f"no decimal number is equal to {value}")
     places = max(twos, fives)
     return _EXACT.scaleb(Decimal(value.numerator * 10**places // value.denominator), -places)
@@ -1427,8 +1365,21 @@ class Special:
         return f"{self.sign}{self.spelling}"
 
 
+def _special(found: Any) -> Optional[Special]:
+    """Returns a special value of its numbers, if there is one."""
+    return Special(chr(found[1]) if found[1] else "", Spelling(found[0])) if found else None
+
+
+def _special_of(value: Any) -> Optional[Special]:
+    """Returns a special value, also that of a Decimal, which can have a sign, and None for another number."""
+    if not isinstance(value, Decimal):
+        return value if isinstance(value, Special) else None
+    spelling = Spelling.NAN if value.is_nan() else Spelling.INF
+    return None if value.is_finite() else Special("-" * value.is_signed(), spelling)
+
+
 @dataclass(frozen=True)
-class Specials:
+class Specials(metaclass=_Class):
     """The spellings of NaN and infinity. A spelling that is None or empty matches no text."""
 
     nan: Optional[str] = None
@@ -1441,8 +1392,8 @@ class Specials:
         return _special(self._reader(syntax)._special(text))
 
     def format(self, syntax: Syntax, special: Special) -> str:
-        """Returns a special value as a text: its sign, if that is `-` or one is required, and the first of its spellings
-        that is read back, in the order inf, infinity. Raises ValueError if there is none.
+        """Returns a special value as a text: its sign, if that is `-` or one is required, and the first of its
+        spellings that is read back, in the order inf, infinity. Raises ValueError if there is none.
 
             >>> Specials(nan="NaN", infinity="Infinity").format(Syntax(Format.of()), Special("-", Spelling.INF))
             '-Infinity'
@@ -1457,23 +1408,18 @@ class Specials:
         return reader
 
     def _spellings(self) -> Tuple[bytes, ...]:
-        spellings = tuple(_encoded("a spelling", "" if it is None else it) for it in (self.nan, self.inf, self.infinity))
+        spellings = tuple(_encoded("a spelling", "" if it is None else it) for it in vars(self).values())
         if any(b"\0" in it for it in spellings):
             raise ValueError(f"a spelling has a null character: {self}")
         return spellings
-
-
-def _special(found: Any) -> Optional[Special]:
-    """Returns a special value of its numbers, if there is one."""
-    return Special(chr(found[1]) if found[1] else "", Spelling(found[0])) if found else None
 
 
 class _Several(_Reader):
     specials: Any
 
     def read(self, text: AnyStr) -> Union[Literal[AnyStr], Any]:
-        """Returns the number that a text is: a literal or a special value. Raises LiteralError if it is neither. For type
-        checkers, it is a `Literal` or anything, so that they take attributes of both."""
+        """Returns the number that a text is: a literal or a special value. Raises LiteralError if it is neither. For
+        type checkers, it is a `Literal` or anything, so that they take attributes of both."""
         found: Any = self._read(text)
         return _special(found) if type(found) is tuple else found
 
@@ -1488,13 +1434,11 @@ class _Several(_Reader):
         raise ValueError(_c.describe("write", _c.WRITE_SPECIAL))
 
     def token(self, text: AnyStr, start: int = 0) -> Token[AnyStr]:
-        """Returns the number that a text has from the index `start` on as a token, as a lexer reads it: the longest literal of a form with the
-        longest of its suffixes. Raises LiteralError if a form goes on behind the number without an end, if what follows may
-        not, or if there is no number, and ValueError if there are no rules for tokens, or too many words. Special values are
-        names, and no tokens.
+        """Returns the number that a text has from the index `start` on as a token, as a lexer reads it: the longest
+        literal of a form with the longest of its suffixes. Raises LiteralError if a form goes on behind the number
+        without an end, if what follows may not, or if there is no number, and ValueError if there are no rules for
+        tokens, or too many words. Special values are names, and no tokens.
 
-            >>> languages.RUST.token("1..2").rest, languages.C.token("10L;").suffix, languages.PYTHON.token("1if x").literal.value
-            ('..2', 'L', 1)
             >>> languages.JAVA.token("1.5u99")
             Traceback (most recent call last):
             peltzivar.LiteralError: unknown suffix; known are f, d
@@ -1506,8 +1450,9 @@ class _Several(_Reader):
         return self.token(text).literal
 
 
-class Token(Generic[AnyStr]):
-    """A number in a text, its suffix, which is empty if it has none, the index `end` behind it, and what follows: `rest`."""
+class Token(_Keyed, Generic[AnyStr]):
+    """A number in a text, its suffix, which is empty if it has none, the index `end` behind it, and what follows:
+    `rest`."""
 
     __slots__ = ("literal", "suffix", "end", "_text")
 
@@ -1525,27 +1470,17 @@ class Token(Generic[AnyStr]):
     def _key(self) -> Tuple[Any, ...]:
         return self.literal, self.suffix, self.rest
 
-    def __eq__(self, other: object) -> bool:
-        return isinstance(other, Token) and self._key() == other._key()
-
-    def __hash__(self) -> int:
-        return hash(self._key())
-
     def __repr__(self) -> str:
         return f"Token(literal={self.literal!r}, suffix={self.suffix!r}, rest={reprlib.repr(self.rest)})"
 
 
 @dataclass(frozen=True)
-class Kind:
+class Kind(metaclass=_Class):
     """How the values of literals of a form are computed. Without arguments, they are the numbers as they are written.
 
-    From 2^at_most on, an integer is too large. From 2^(wraps - 1) on, it is 2^wraps less, and too large from 2^wraps on or,
-    if `modulo` is true, its lowest bits count. A float is the nearest one of 32 bits if `single` is true. Raises ValueError
-    if both numbers are given, or if one is not from 1 to 64.
-
-        >>> forms = Forms([("number", Syntax(Format()))], kinds={"number": Kind(wraps=8, single=True)})
-        >>> forms.parse("200", int), forms.parse("0.1"), languages.JAVA.read("0xffffffff").value
-        (-56, 0.10000000149011612, -1)
+    From 2^at_most on, an integer is too large. From 2^(wraps - 1) on, it is 2^wraps less, and too large from 2^wraps on
+    or, if `modulo` is true, its lowest bits count. A float is the nearest one of 32 bits if `single` is true. Raises
+    ValueError if both numbers are given, or if one is not from 1 to 64.
     """
 
     at_most: Optional[int] = None
@@ -1569,19 +1504,19 @@ class Kind:
 
 
 @dataclass(frozen=True)
-class Suffixes:
-    """The suffixes of a form, which only `token` reads: words directly behind `integers` and `floats`, with spaces between
-    them, in this case or in either one. Words have letters, digits, `_` and characters that are not ASCII. One that begins
-    with a digit of the form, such as `5k`, is never found. Any word that begins with a character of `any` is a suffix, too,
-    as in `1_km`. `kinds` has the kinds of numbers by their suffixes, a dict or pairs. A number is not a token if it is at one
-    of the `stops`: if it ends in a character of the first string, one of the second follows, and then one of the third. An
-    empty string asks for nothing. Raises ValueError for another character in a word, and for a null character.
+class Suffixes(metaclass=_Class):
+    """The suffixes of a form, which only `token` reads: words directly behind `integers` and `floats`, with spaces
+    between them, in this case or in either one. Words have letters, digits, `_` and characters that are not ASCII. One
+    that begins with a digit of the form, such as `5k`, is never found. Any word that begins with a character of `any`
+    is a suffix, too, as in `1_km`. `kinds` has the kinds of numbers by their suffixes, a dict or pairs. A number is not
+    a token if it is at one of the `stops`: if it ends in a character of the first string, one of the second follows,
+    and then one of the third. An empty string asks for nothing. Raises ValueError for another character in a word, and
+    for a null character.
 
         >>> words = Suffixes("u8 i8", "f32", kinds={"f32": Kind(single=True)}, stops=[("", ".", "0123456789")])
         >>> forms = Forms([("number", Syntax(Format()))], suffixes={"number": words}, tokens=Tokens())
-        >>> token = forms.token("7u8;")
-        >>> token.literal.value, token.suffix, token.rest, forms.token("0.1f32").literal.value
-        (7, 'u8', ';', 0.10000000149011612)
+        >>> forms.token("7u8;").suffix, forms.token("0.1f32").literal.value
+        ('u8', 0.10000000149011612)
     """
 
     integers: str = ""
@@ -1593,8 +1528,9 @@ class Suffixes:
 
     def __post_init__(self) -> None:
         pairs = self.kinds.items() if isinstance(self.kinds, Mapping) else self.kinds
-        object.__setattr__(self, "kinds", tuple((_typed("a word", it, str), _typed("a kind", kind, Kind)) for it, kind in pairs))
-        object.__setattr__(self, "stops", tuple(tuple(_typed("a stop", it, str) for it in stop) for stop in self.stops))
+        kinds = tuple((_typed("a word", it, str), _typed("a kind", kind, Kind)) for it, kind in pairs)
+        stops = tuple(tuple(_typed("a stop", it, str) for it in stop) for stop in self.stops)
+        vars(self).update(kinds=kinds, stops=stops)
         _typed("either_case", self.either_case, bool)
         if any(len(stop) != 3 for stop in self.stops):
             raise ValueError(f"a stop has three strings: {self.stops}")
@@ -1605,21 +1541,22 @@ class Suffixes:
 
     def _members(self) -> Tuple[Any, ...]:
         """Returns the members of the structure."""
-        kinds = tuple((_string(it), *kind._numbers()) for it, kind in self.kinds)
         stops = tuple(tuple(map(_string, stop)) for stop in self.stops)
+        kinds = tuple((_string(it), *kind._numbers()) for it, kind in self.kinds)
         return *map(_string, (self.integers, self.floats, self.any)), kinds, stops, int(self.either_case)
 
     @classmethod
     def _of(cls, integers: Any, floats: Any, any: Any, kinds: Any, stops: Any, either_case: int) -> Suffixes:
         named = [(_shown(word), Kind._of(*numbers)) for word, *numbers in kinds]
-        return cls(_shown(integers), _shown(floats), _shown(any), named, [[*map(_shown, it)] for it in stops], bool(either_case))
+        shown = [[*map(_shown, it)] for it in stops]
+        return cls(_shown(integers), _shown(floats), _shown(any), named, shown, bool(either_case))
 
 
 @dataclass(frozen=True)
-class Tokens:
-    """The rules by which a list has tokens: forms that need a suffix, which only `token` takes, such as `08f` in Java, words
-    that may follow a number directly, with spaces between them, such as `else` in `1else`, and whether a point at the end of a
-    number is none of its characters if another point or a word follows, as in `1..2` and `1.max(2)`."""
+class Tokens(metaclass=_Class):
+    """The rules by which a list has tokens: forms that need a suffix, which only `token` takes, such as `08f` in Java,
+    words that may follow a number directly, with spaces between them, such as `else` in `1else`, and whether a point at
+    the end of a number is none of its characters if another point or a word follows, as in `1..2` and `1.max(2)`."""
 
     forms: Optional[Forms] = None
     following: str = ""
@@ -1632,23 +1569,16 @@ class Tokens:
         _typed("gives_points_back", self.gives_points_back, bool)
 
 
-class Forms(_Several, Mapping[str, Syntax]):
+class Forms(_Keyed, _Several, Mapping[str, Syntax]):
     """Several forms of numbers, such as `10` and `0x1F`, and the spellings of NaN and infinity.
 
-        >>> hexadecimal = Syntax.of(radix=16, base_prefix="x", exponent=None, point=None, required_base_prefix=True)
-        >>> forms = Forms([("decimal", Syntax(Format())), ("hexadecimal", hexadecimal)], nan="NaN", infinity="Infinity")
-        >>> forms.parse("0x1F", int), forms.read("1e3").form, forms.read("-Infinity").value
-        (31, 'decimal', -inf)
-        >>> forms.read("0x1G")
-        Traceback (most recent call last):
-        peltzivar.LiteralError: unexpected character 'G'
-
-    The first form of which a text is a literal decides its parts and its value, so the order matters. If it is a literal
-    of none, a spelling may match, by the flags of the first form. A LiteralError is that of the form for which most of
-    the text is right. `forms["hexadecimal"]` is the syntax with this name. `kinds` has the kinds of forms, by
-    their names, `suffixes` the `Suffixes` of forms, and `tokens` the rules for `token`. They are those of `forms` if these
-    are `Forms`. Raises ValueError if there are no forms or more than 64, if two have the same name, if there is a kind or
-    there are suffixes of no form, or if forms that have tokens have more than 256 words, kinds of suffixes, or stops.
+    The first form of which a text is a literal decides its parts and its value, so the order matters. If it is a
+    literal of none, a spelling may match, by the flags of the first form. A LiteralError is that of the form for which
+    most of the text is right. `forms["hexadecimal"]` is the syntax with this name. `kinds` has the kinds of forms, by
+    their names, `suffixes` the `Suffixes` of forms, and `tokens` the rules for `token`. They are those of `forms` if
+    these are `Forms`. Raises ValueError if there are no forms or more than 64, if two have the same name, if there is a
+    kind or there are suffixes of no form, or if forms that have tokens have more than 256 words, kinds of suffixes, or
+    stops.
     """
 
     def __init__(
@@ -1659,7 +1589,8 @@ class Forms(_Several, Mapping[str, Syntax]):
         pairs = [*(forms.items() if isinstance(forms, Mapping) else forms)]
         self._named = {_typed("a name", name, str): _typed("a form", it, Syntax) for name, it in pairs}
         if not 0 < len(pairs) == len(self) <= _c.FORMS_MAX:
-            raise ValueError(f"there are 1 to {_c.FORMS_MAX} forms, no two with the same name: {reprlib.repr([it for it, _ in pairs])}")
+            names = reprlib.repr([it for it, _ in pairs])
+            raise ValueError(f"there are 1 to {_c.FORMS_MAX} forms, no two with the same name: {names}")
         self.specials = Specials(nan, inf, infinity)
         if isinstance(forms, Forms):
             kinds, suffixes = forms.kinds if kinds is None else kinds, forms.suffixes if suffixes is None else suffixes
@@ -1667,11 +1598,12 @@ class Forms(_Several, Mapping[str, Syntax]):
         self.kinds: Dict[str, Kind] = self._by_form("a kind", kinds, Kind)
         self.suffixes: Dict[str, Suffixes] = self._by_form("suffixes", suffixes, Suffixes)
         self.tokens: Optional[Tokens] = None if tokens is None else _typed("tokens", tokens, Tokens)
-        own = [(self.kinds.get(name, Kind()), self.suffixes.get(name)) for name in self]
         behind = self.tokens.forms if self.tokens is not None else None
-        self._listed: Any = [(*item, *more) for item, more in zip(self.items(), own)] + (behind._listed if behind is not None else [])
-        made = tuple((None, it._by, *kind._numbers(), more and more._members()) for it, (kind, more) in zip(self.values(), own))
-        rules = self.tokens and (behind._made[0] if behind is not None else (), _string(self.tokens.following), int(self.tokens.gives_points_back))
+        own = [(name, it, self.kinds.get(name, Kind()), self.suffixes.get(name)) for name, it in self.items()]
+        self._listed: Any = own + (behind._listed if behind is not None else [])
+        made = tuple((None, it._by, *kind._numbers(), more and more._members()) for _, it, kind, more in own)
+        forms_behind = behind._made[0] if behind is not None else ()
+        rules = self.tokens and (forms_behind, _string(self.tokens.following), int(self.tokens.gives_points_back))
         self._made: Any = made, self.specials._spellings(), rules
         _c.make(self, self._made, True)
         if self.tokens is not None and isinstance(self._explain(b"", 0), str):
@@ -1698,15 +1630,8 @@ class Forms(_Several, Mapping[str, Syntax]):
         more = "".join(f", {name}={it!r}" for name in ("kinds", "suffixes", "tokens") if (it := getattr(self, name)))
         return f"Forms({[*self.items()]}{spelled}{more})"
 
-    def __eq__(self, other: object) -> bool:
-        return isinstance(other, Forms) and self._key() == other._key()
-
-    def __hash__(self) -> int:
-        return hash(self._key())
-
     def _key(self) -> Tuple[Any, ...]:
-        own = ((self.kinds.get(it, Kind()), self.suffixes.get(it)) for it in self)
-        return *self.items(), self.specials, *own, self.tokens
+        return *self._listed[: len(self)], self.specials, self.tokens
 
     def __reduce__(self) -> Tuple[Any, ...]:
         more = {"kinds": self.kinds, "suffixes": self.suffixes, "tokens": self.tokens}
@@ -1718,103 +1643,23 @@ def _forms_of(listed: Any, more: Dict[str, Any]) -> Forms:
     named = {_shown(name): it for name, *it in listed}
     kinds = {name: kind for name, (_, *numbers, _) in named.items() if (kind := Kind._of(*numbers)) != Kind()}
     suffixes = {name: Suffixes._of(*it[-1]) for name, it in named.items() if it[-1]}
-    return Forms({name: Syntax._of_numbers(it[0]) for name, it in named.items()}, **more, kinds=kinds, suffixes=suffixes)
+    forms = {name: Syntax._of_numbers(it[0]) for name, it in named.items()}
+    return Forms(forms, **more, kinds=kinds, suffixes=suffixes)
 
 
 class _Language(_Several, _Named):
-    # Made by make_python.py: languages
     """How a language, or a file, writes numbers. `languages` is another name of this class.
 
     `read(text)` returns a `Literal` of one of its forms, or a `Special`. Raises LiteralError if the text is neither.
-    `read_prefix(text)` returns the longest literal that a text begins with, and the rest. Raises LiteralError if there
-    is none. `forms` has the same forms, with the syntax of each by its name, and the spellings of NaN and infinity.
+    `forms` has the same forms, with the syntax of each by its name, and the spellings of NaN and infinity. In the
+    repository, docs/LANGUAGES.md describes each language, with its standard, and what no format can accept.
 
-    Numbers have a sign in CSS, CSV_DE, CSV_EN, FORTRAN, JSON, RUBY, SQL, SWIFT, TOML, XML_SCHEMA, YAML and YAML_1_1.
-    In the other languages, `-` is an operator: they refuse `-5`, so read what is behind it.
-
-    ADA: Ada's decimal literals (Reference Manual 2012, 2.4.1). A format cannot accept based literals, such as
-        `16#FF#`, or accept `1.0E-3` and `1E3` but reject `1E-3`. So `1E-3` is read here, but the first form never
-        writes it. Forms: decimal; integer with an exponent.
-    C: C's integer and floating constants (C23, 6.4.4.1 and 6.4.4.2). A format cannot accept `1u`, `1L` and `1.0f`.
-        Forms: decimal; octal; hexadecimal; binary; hexadecimal float.
-    CSS: CSS's numbers, with signs (CSS Syntax Module Level 3, 4.3.12). A format cannot accept a unit, as in `10px` and
-        `5%`. A token has a word as its unit. It ends before `%`, and before a `-` that follows a digit: of `1p2-x`, it
-        is `1p2`. Forms: decimal.
-    CSV_DE: Numbers in CSV, as German spreadsheets write cells of the format `#.##0,00` (RFC 4180): `1.234,50`. `0.123`
-        is refused for its leading zero, since its groups are right. LibreOffice reads `-0` as 0. Forms: decimal.
-    CSV_EN: Numbers in CSV, as English spreadsheets write cells of the format `#,##0.00`, in quotes (RFC 4180):
-        `"1,234.50"`. Remove the quotes, as CSV readers do. A format cannot accept the minus sign U+2212 of Gnumeric:
-        replace it by `-`. LibreOffice reads `-0` as 0. Forms: decimal.
-    C_PLUS_PLUS: C++'s integer and floating literals (C++17, 5.13.2 and 5.13.4). A format cannot accept `1u`, `1L`,
-        `1.0f` and suffixes of users. Forms: decimal; octal; hexadecimal; binary; hexadecimal float.
-    C_SHARP: C#'s integer and real literals (C# standard, 6.4.5.3 and 6.4.5.4). A format cannot accept `1L`, `1f` and
-        `1m`. Forms: decimal; hexadecimal; binary.
-    ELIXIR: Elixir's integers and floats (Syntax reference 1.14, Numbers). Elixir refuses numbers from 1.8e308 on,
-        which are infinity here. Forms: decimal; hexadecimal; octal; binary.
-    FORTRAN: Fortran's signed integers and reals (ISO/IEC 1539-1:2018, 7.4.3). A format cannot accept a kind, as in
-        `1.0_8`, or binary, octal and hexadecimal constants, such as `Z'FF'`. Integers have at most 31 bits, and `0.1`,
-        but not `0.1d0`, is an `f32`. Forms: decimal; double precision.
-    GO: Go's integer and floating-point literals (Language Specification). A format cannot accept `1i`. Forms: decimal;
-        octal; hexadecimal; octal, 0o; binary; hexadecimal float.
-    HASKELL: Haskell's integers and floats (Haskell 2010 Report, 2.5). GHC reads more since 9.2: those of
-        `HASKELL_GHC2021`. Forms: decimal; hexadecimal; octal.
-    HASKELL_GHC2021: Haskell's integers and floats with the extensions of GHC that `GHC2021` has (GHC User's Guide 9.2,
-        NumericUnderscores, BinaryLiterals and HexFloatLiterals). A format cannot accept `1_e5` but reject `1_.5`. GHC
-        also accepts `_0.1`, which the guide does not. Forms: decimal; hexadecimal; octal; binary.
-    JAVA: Java's integer and floating-point literals (Language Specification 21, 3.10.1 and 3.10.2). A format cannot
-        accept `1L`, `1f` and `1d`. Values are those of `int` or, with `L`, of `long`: a hexadecimal, octal or binary
-        integer from 2^31 on is negative, as `0xffffffff`, which is -1. `2147483648`, which is lawful only after the
-        operator `-`, is too large. Forms: decimal; octal; hexadecimal; binary; hexadecimal float.
-    JAVASCRIPT: JavaScript's numeric literals in strict code (ECMA-262, Numeric Literals). A format cannot accept `1n`.
-        JavaScript makes integers doubles, which it rounds from 2^53 on: take their values as `f64`. Forms: decimal;
-        hexadecimal; octal; binary.
-    JSON: JSON's numbers (RFC 8259, 6. Numbers). Forms: decimal.
-    JULIA: Julia's integers and floats (Manual 1.11, Integers and Floating-Point Numbers). `0.1f0`, but not `0.1`, is
-        an `f32`. Forms: decimal; 32 bits; hexadecimal; octal; binary; hexadecimal float.
-    KOTLIN: Kotlin's integer and real literals (Kotlin language specification 1.9, Literals). A format cannot accept
-        `1L`, `1f` and `1u`. Forms: decimal; hexadecimal; binary.
-    LUA: Lua's integers and floats (Reference Manual 5.4, 3.1). In Lua, a decimal integer from 2^63 on is a float: take
-        its value as an `f64`. A hexadecimal one keeps its last 64 bits: `0xffffffffffffffff` is -1. Forms: decimal;
-        hexadecimal.
-    NASM: NASM's numeric constants (NASM manual, Numeric Constants and Floating-Point Constants). A format cannot
-        accept `$0c8`, `0x_`, `0._` and `1e_`, which have separators alone, or `0h.` and `0op7`, which have no digit.
-        NASM keeps the last 64 bits of an integer, with a sign: `0x10000000000000001` is 1, and `0xffffffffffffffff`
-        -1. Forms: decimal; decimal, d; decimal, t; hexadecimal, h; hexadecimal, x; octal, o; octal, q; binary, b;
-        binary, y; decimal, 0d; decimal, 0t; hexadecimal, 0h; hexadecimal, 0x; octal, 0o; octal, 0q; binary, 0b;
-        binary, 0y.
-    OCAML: OCaml's integers and floats (Manual 5.2, 11.1 Lexical conventions). A format cannot accept `1._`, whose
-        fraction has a separator alone, or `1l`, `1L` and `1n`. An integer has 63 bits, so `0x7fffffffffffffff` is -1.
-        `4611686018427387904`, of which OCaml makes its least integer, -2^62, is too large. Forms: decimal;
-        hexadecimal; octal; binary.
-    PHP: PHP's integers and floats (Manual, 8.1 and later, Integers and Floating point numbers). In PHP, an integer
-        from 2^63 on is a float. Forms: decimal; octal; hexadecimal; octal, 0o; binary.
-    PYTHON: Python's integers and floats (Language Reference 3.12, 2.4.5 and 2.4.6). A format cannot accept `00` and
-        reject `01`, or accept `1j`. CPython takes the `0o` of `0or x` for a prefix, and refuses it: its token here is
-        `0`. Forms: decimal; hexadecimal; octal; binary.
-    R: R's numeric constants (R Language Definition 4.2, 10.3.1). A format cannot accept `1L` and `1i`. In R, all are
-        doubles: `9007199254740993` is 9007199254740992 there. Forms: decimal; hexadecimal; hexadecimal float.
-    RUBY: Ruby's integers and floats (ISO/IEC 30170:2012, 8.7.6.2), with signs. A format cannot accept `1r` and `1i`.
-        Forms: decimal; octal; hexadecimal; octal, 0o; binary; decimal, 0d.
-    RUST: Rust's integers and floats (Reference, Integer literals and Floating-point literals). A format cannot accept
-        the suffixes in `0x1F_u8` and `1f32`. At the end of a text, the token of `0b1.` is `0b1`, but rustc takes the
-        point, and refuses it. Forms: decimal; with a point at the end; hexadecimal; octal; binary.
-    SQL: SQL's signed numeric literals (ISO/IEC 9075-2:2016, 5.3 `<literal>`). PostgreSQL reads `-0.0` as 0. Forms:
-        decimal.
-    SWIFT: Swift's numeric literals, with the sign `-` (The Swift Programming Language, Lexical Structure). Forms:
-        decimal; hexadecimal; octal; binary; hexadecimal float.
-    TOML: TOML's integers and floats (TOML 1.0.0, Integer and Float). Forms: decimal; hexadecimal; octal; binary.
-    XML_SCHEMA: The decimals of XML Schema, with signs (XML Schema 1.1, Part 2, 3.3.3). Forms: decimal.
-    YAML: YAML's integers and floats (YAML 1.2.2, 10.3.2 Tag Resolution). A format cannot accept `.inf` and `.INF` but
-        reject `.iNF`, or accept `-.inf` but reject `-.nan`. Tools for YAML 1.1, such as PyYAML, read `YAML_1_1`:
-        there, `010` is 8, and `1e3` is a string. Forms: decimal; octal; hexadecimal.
-    YAML_1_1: YAML 1.1's integers and floats (int.html and float.html of its type repository). A format cannot accept
-        `1:30`, which is 90 there, `1._`, whose fraction has a separator alone, or `-.inf` but reject `-.nan` and
-        `.iNF`. PyYAML reads `-.5` and `._5` as strings. Forms: decimal; octal; hexadecimal; binary.
+    Numbers have a sign in CSS, CSV_DE, CSV_EN, FORTRAN, JSON, RUBY, SQL, SWIFT, TOML, XML_SCHEMA, YAML and YAML_1_1. In
+    the other languages, `-` is an operator: they refuse `-5`, so read what is behind it.
     """
-    # End
 
     def __init__(self, name: str) -> None:
-        _c.language(self, name)
+        _c.make(self, name, True)
 
     @functools.cached_property
     def forms(self) -> Forms:
@@ -1863,11 +1708,9 @@ def _edits(settings: Iterable[Union[Edit, str]]) -> List[Edit]:
 
 
 for _of_class, _name in ((_Reader, "parse"), (_Reader, "format_number"), (Syntax, "read"), (_Several, "read")):
-    # The method is one of C, with the signature and the documentation that it has above. It calls that for what it leaves.
+    # The method is one of C, with the signature and the documentation of that above, which it calls for what it leaves.
     _call = vars(_of_class)[_name]
-    _signature = inspect.signature(_call)
-    _plain = [it.replace(annotation=it.empty) for it in _signature.parameters.values()]
-    _shown_as = str(_signature.replace(parameters=_plain, return_annotation=_signature.empty)).replace("<class 'float'>", "float")
-    _doc = f"{_name}{_shown_as.replace('(self', '($self', 1)}\n--\n\n{inspect.getdoc(_call)}"
-    setattr(_of_class, _name, _c.fast(_of_class, _call, _doc))
+    _call.__annotations__.clear()
+    _shown_as = str(inspect.signature(_call)).replace("(self", "($self", 1).replace("<class 'float'>", "float")
+    setattr(_of_class, _name, _c.fast(_of_class, _call, f"{_name}{_shown_as}\n--\n\n{inspect.getdoc(_call)}"))
 _c.register(Literal, LiteralError)

@@ -1,10 +1,11 @@
-/* The calls of both headers for Python, by its stable ABI. __init__.py has the classes and their documentation. It passes
- * structures as tuples of their members, words as (low, high), and strings as bytes. */
+/* The calls of both headers for Python, by its stable ABI. __init__.py has the classes and their documentation. It
+ * passes structures as tuples of their members, words as (low, high), and strings as bytes. */
 #define Py_LIMITED_API 0x030B0000
 #define PY_SSIZE_T_CLEAN
 #include <Python.h>
 #include <peltzivar.h>
 #include <peltzivar_words.h>
+#include <ctype.h>
 #include <stddef.h>
 #include <stdlib.h>
 #include <string.h>
@@ -16,15 +17,14 @@ typedef struct {
     PyTypeObject *reader;
 } State;
 
-/* What reads texts by forms: those of a language, or its own, which are in `kept`. The character of `walked` with the
- * index `characters` begins at `bytes`: a lexer goes on from there. */
+/* What reads texts by forms: those of a language, or its own, which `kept` has. `uses` has the USES of bytes, or 0. */
 typedef struct {
     PyObject_HEAD
     State *state;
     const peltzivar_forms *forms;
     bool is_list;
-    PyObject *kept, *walked;
-    Py_ssize_t characters, bytes;
+    uint8_t uses[256];
+    PyObject *kept;
 } Reader;
 
 /* A literal of `text`, whose bytes `data` has. A token has a suffix. */
@@ -44,34 +44,39 @@ struct Structure {
         char kind;
         size_t at, count;
         const Structure *of;
+        const char *name;
     } members[16];
 };
 
 #define AT(type, member) offsetof(peltzivar_##type, member)
 #define IS(type) static const Structure type##_members = {sizeof(peltzivar_##type), {
-#define M(kind, type, member) {kind, AT(type, member), 0, NULL},
-IS(syntax) M('8', syntax, format.low) M('8', syntax, format.high) M('1', syntax, exponent) M('1', syntax, decimal_point)
-    M('1', syntax, required_base_prefix) M('1', syntax, required_base_suffix) M('1', syntax, no_negative_mantissa_sign)
-    M('1', syntax, integer_group_size) M('1', syntax, higher_group_size) M('1', syntax, fraction_group_size)
-    M('1', syntax, required_leading_zero) M('1', syntax, decimal_first_digit) }};
-IS(specials) M('s', specials, nan) M('s', specials, inf) M('s', specials, infinity) }};
-IS(suffix_kind) M('s', suffix_kind, word) M('1', suffix_kind, integer_kind) M('1', suffix_kind, integer_bits) M('1', suffix_kind, float_kind) }};
-IS(stop) M('s', stop, last) M('s', stop, next) M('s', stop, second) }};
-IS(suffixes) M('s', suffixes, integers) M('s', suffixes, floats) M('s', suffixes, any)
-    {'[', AT(suffixes, kinds), AT(suffixes, kind_count), &suffix_kind_members},
-    {'[', AT(suffixes, stops), AT(suffixes, stop_count), &stop_members}, M('1', suffixes, either_case) }};
-IS(form) M('s', form, name) {'>', AT(form, syntax), 0, &syntax_members}, M('1', form, integer_kind) M('1', form, integer_bits)
-    M('1', form, float_kind) {'*', AT(form, suffixes), 0, &suffixes_members} }};
-IS(tokens) {'[', AT(tokens, forms), AT(tokens, count), &form_members}, M('s', tokens, following) M('1', tokens, gives_points_back) }};
-IS(forms) {'[', AT(forms, forms), AT(forms, count), &form_members}, {'>', AT(forms, specials), 0, &specials_members},
-    {'*', AT(forms, tokens), 0, &tokens_members} }};
-IS(style) M('1', style, group) M('1', style, fraction_group) M('1', style, without_base) M('1', style, lowercase)
-    M('1', style, keep_leading_zeros) M('1', style, min_digits) M('1', style, exponent) M('4', style, exponent_from) M('1', style, point)
-    M('1', style, has_decimals) M('1', style, decimals) M('1', style, nearest) }};
-IS(fields) M('8', fields, flags) M('1', fields, digit_separator) M('1', fields, base_prefix) M('1', fields, base_suffix)
-    M('1', fields, mantissa_radix) M('1', fields, exponent_base) M('1', fields, exponent_radix) }};
-IS(edit) M('1', edit, setter) M('1', edit, value) }};
-IS(special) M('1', special, spelling) M('1', special, sign) }};
+#define M(kind, type, member) {kind, AT(type, member), 0, NULL, #member},
+#define B(type, member) M('1', type, member)
+#define S(type, member) M('s', type, member)
+#define OF(kind, type, member, of) {kind, AT(type, member), 0, &of##_members, #member},
+#define ARRAY(type, member, count, of) {'[', AT(type, member), AT(type, count), &of##_members, #member},
+IS(syntax) M('8', syntax, format.low) M('8', syntax, format.high) B(syntax, exponent) B(syntax, decimal_point)
+    B(syntax, required_base_prefix) B(syntax, required_base_suffix) B(syntax, no_negative_mantissa_sign)
+    B(syntax, integer_group_size) B(syntax, higher_group_size) B(syntax, fraction_group_size)
+    B(syntax, required_leading_zero) B(syntax, decimal_first_digit) }};
+IS(specials) S(specials, nan) S(specials, inf) S(specials, infinity) }};
+IS(suffix_kind) S(suffix_kind, word) B(suffix_kind, integer_kind) B(suffix_kind, integer_bits)
+    B(suffix_kind, float_kind) }};
+IS(stop) S(stop, last) S(stop, next) S(stop, second) }};
+IS(suffixes) S(suffixes, integers) S(suffixes, floats) S(suffixes, any) ARRAY(suffixes, kinds, kind_count, suffix_kind)
+    ARRAY(suffixes, stops, stop_count, stop) B(suffixes, either_case) }};
+IS(form) S(form, name) OF('>', form, syntax, syntax) B(form, integer_kind) B(form, integer_bits) B(form, float_kind)
+    OF('*', form, suffixes, suffixes) }};
+IS(tokens) ARRAY(tokens, forms, count, form) S(tokens, following) B(tokens, gives_points_back) }};
+IS(forms) ARRAY(forms, forms, count, form) OF('>', forms, specials, specials) OF('*', forms, tokens, tokens) }};
+IS(style) B(style, group) B(style, fraction_group) B(style, without_base) B(style, lowercase)
+    B(style, keep_leading_zeros) B(style, min_digits) B(style, exponent) M('4', style, exponent_from) B(style, point)
+    B(style, has_decimals) B(style, decimals) B(style, nearest) }};
+IS(fields) M('8', fields, flags) B(fields, digit_separator) B(fields, base_prefix) B(fields, base_suffix)
+    B(fields, mantissa_radix) B(fields, exponent_base) B(fields, exponent_radix) }};
+IS(edit) B(edit, setter) B(edit, value) }};
+IS(special) B(special, spelling) B(special, sign) }};
+#undef OF
 
 static bool packed(const Structure *as, PyObject *from, char *to, PyObject *kept);
 
@@ -116,7 +121,8 @@ static PyObject *tuple_of(const Structure *as, const char *from) {
     PyObject *made = PyTuple_New(count);
     for (Py_ssize_t i = 0; made && i < count; i++) {
         const Structure *of = as->members[i].of;
-        const char kind = as->members[i].kind, *at = from + as->members[i].at, *pointed = strchr("s*[", kind) ? *(char *const *)at : NULL;
+        const char kind = as->members[i].kind, *at = from + as->members[i].at;
+        const char *pointed = strchr("s*[", kind) ? *(char *const *)at : NULL;
         PyObject *value = NULL;
         if (kind == '1') value = PyLong_FromLong(*(const uint8_t *)at);
         else if (kind == '8') value = PyLong_FromUnsignedLongLong(*(const uint64_t *)at);
@@ -170,30 +176,18 @@ static Py_ssize_t characters(const char *bytes, Py_ssize_t size) {
     return count;
 }
 
-/* Finds where the character with an index begins in a text that has others than ASCII. */
-static Py_ssize_t byte_of(Reader *reader, PyObject *text, const Text *in, Py_ssize_t index) {
-    if (reader->walked != text || reader->characters > index) {
-        PyObject *old = reader->walked;
-        reader->walked = Py_NewRef(text), reader->characters = reader->bytes = 0;
-        Py_XDECREF(old);
-    }
-    for (; reader->characters < index && reader->bytes < in->size; reader->characters++)
-        do reader->bytes++; while (reader->bytes < in->size && (in->bytes[reader->bytes] & 0xC0) == 0x80);
-    return reader->bytes;
-}
-
 static PyObject *shown(const char *text) { return PyUnicode_DecodeUTF8(text, (Py_ssize_t)strlen(text), "replace"); }
 static PyObject *halves(peltzivar_word word) { return Py_BuildValue("(KK)", word.low, word.high); }
 
 /* READING */
 
 /* Calls a function of Python with the arguments of a method. */
-static PyObject *by_python(PyObject *function, PyObject *self, PyObject *const *given, Py_ssize_t count, PyObject *names) {
+static PyObject *by_python(PyObject *call, PyObject *self, PyObject *const *given, Py_ssize_t count, PyObject *names) {
     PyObject *all = PyTuple_New(count + 1), *keywords = names ? PyDict_New() : NULL, *result = NULL;
     for (Py_ssize_t i = -1; all && i < count; i++) PyTuple_SetItem(all, i + 1, Py_NewRef(i < 0 ? self : given[i]));
     for (Py_ssize_t i = 0; keywords && i < PyTuple_Size(names); i++)
         PyDict_SetItem(keywords, PyTuple_GetItem(names, i), given[count + i]);
-    if (all && !PyErr_Occurred()) result = PyObject_Call(function, all, keywords);
+    if (all && !PyErr_Occurred()) result = PyObject_Call(call, all, keywords);
     Py_XDECREF(all), Py_XDECREF(keywords);
     return result;
 }
@@ -203,35 +197,31 @@ static bool is_made(Reader *self) {
     return self->state;
 }
 
-/* Parses a text as a double (d), a float (f), or an integer (q, Q), and a column of texts. */
-static peltzivar_value_status parse_as(char format, const peltzivar_forms *by, const Text *text, void *out) {
-    const size_t len = (size_t)text->size;
-    return format == 'd'   ? peltzivar_parse_f64(by, text->bytes, len, out, NULL)
-           : format == 'f' ? peltzivar_parse_f32(by, text->bytes, len, out, NULL)
-           : format == 'q' ? peltzivar_parse_i64(by, text->bytes, len, out, NULL)
-                           : peltzivar_parse_u64(by, text->bytes, len, out, NULL);
-}
+/* Calls a function for doubles (d), floats (f), or integers (q, Q), that parses a text, or a column of texts. */
+#define PARSE(format, of, ...) \
+    (format == 'd' ? peltzivar_parse_f64##of(__VA_ARGS__) : format == 'f' ? peltzivar_parse_f32##of(__VA_ARGS__) \
+        : format == 'q' ? peltzivar_parse_i64##of(__VA_ARGS__) : peltzivar_parse_u64##of(__VA_ARGS__))
 
-static size_t parse_column_as(char format, const peltzivar_forms *by, const void *data, const void *offsets, size_t count, void *out, uint8_t *status) {
-    return format == 'd'   ? peltzivar_parse_f64_column(by, data, offsets, count, out, status)
-           : format == 'f' ? peltzivar_parse_f32_column(by, data, offsets, count, out, status)
-           : format == 'q' ? peltzivar_parse_i64_column(by, data, offsets, count, out, status)
-                           : peltzivar_parse_u64_column(by, data, offsets, count, out, status);
+static peltzivar_value_status parse_as(char format, const peltzivar_forms *by, const Text *text, void *out) {
+    return PARSE(format, , by, text->bytes, (size_t)text->size, out, NULL);
 }
 
 /* Parses a text, or each text of a column, as its value times a power of ten. */
-static peltzivar_value_status parse_scaled(const peltzivar_forms *by, const char *text, Py_ssize_t size, uint8_t places, int64_t *out) {
+static peltzivar_value_status parse_scaled(
+    const peltzivar_forms *by, const char *text, Py_ssize_t size, uint8_t places, int64_t *out) {
     peltzivar_literal it;
     peltzivar_special special;
     if (peltzivar_forms_read(by, text, (size_t)size, &it, NULL)) return peltzivar_to_scaled_i64(&it, places, out);
     return peltzivar_forms_read_special(by, text, (size_t)size, &special) ? PELTZIVAR_VALUE_SPECIAL : PELTZIVAR_VALUE_REFUSED;
 }
 
-static void parse_scaled_column(
-    const peltzivar_forms *by, const char *data, const int64_t *offsets, Py_ssize_t count, uint8_t places, int64_t *out, uint8_t *status) {
+static void parse_scaled_column(const peltzivar_forms *by, const char *data, const int64_t *offsets, Py_ssize_t count,
+    uint8_t places, int64_t *out, uint8_t *status) {
     for (Py_ssize_t i = 0; i < count; i++) {
-        bool is_text = offsets[0] <= offsets[i] && offsets[i] <= offsets[i + 1] && offsets[i + 1] <= offsets[count];
-        status[i] = is_text ? parse_scaled(by, data + offsets[i], (Py_ssize_t)(offsets[i + 1] - offsets[i]), places, &out[i]) : PELTZIVAR_VALUE_REFUSED;
+        int64_t start = offsets[i], end = offsets[i + 1];
+        bool is_text = offsets[0] <= start && start <= end && end <= offsets[count];
+        status[i] = is_text ? parse_scaled(by, data + start, (Py_ssize_t)(end - start), places, &out[i])
+                            : PELTZIVAR_VALUE_REFUSED;
     }
 }
 
@@ -248,9 +238,10 @@ static PyObject *reader_parse(PyObject *self, PyObject *const *given, Py_ssize_t
     double real;
     int64_t whole;
     bool is_int = count == 2 && given[1] == (PyObject *)&PyLong_Type;
+    bool is_known = is_int || count == 1 || (count == 2 && given[1] == (PyObject *)&PyFloat_Type);
     peltzivar_value_status status = PELTZIVAR_VALUE_NO_LITERAL;
     if (!is_made(by)) return NULL;
-    if (!names && (count == 1 || is_int || (count == 2 && given[1] == (PyObject *)&PyFloat_Type)) && opened(given[0], &text)) {
+    if (!names && is_known && opened(given[0], &text)) {
         status = is_int ? parse_as('q', by->forms, &text, &whole) : parse_as('d', by->forms, &text, &real);
         Py_DECREF(text.data);
     }
@@ -280,9 +271,11 @@ static PyObject *reader_read(PyObject *self, PyObject *const *given, Py_ssize_t 
     if (!is_made(by) || !is_text(given[0], &text)) return NULL;
     Literal *it = new_literal(by, &text);
     PyObject *result = NULL;
-    if (it && (of_prefix ? peltzivar_forms_read_prefix : peltzivar_forms_read)(by->forms, text.bytes, (size_t)text.size, &it->found, NULL)) {
+    size_t len = (size_t)text.size;
+    if (it && (of_prefix ? peltzivar_forms_read_prefix(by->forms, text.bytes, len, &it->found, NULL)
+                         : peltzivar_forms_read(by->forms, text.bytes, len, &it->found, NULL))) {
         result = (it->text = part_of(given[0], 0, (Py_ssize_t)it->found.size)) ? Py_NewRef((PyObject *)it) : NULL;
-    } else if (it && !of_prefix && peltzivar_forms_read_special(by->forms, text.bytes, (size_t)text.size, &special)) {
+    } else if (it && !of_prefix && peltzivar_forms_read_special(by->forms, text.bytes, len, &special)) {
         result = tuple_of(&special_members, (const char *)&special);
     } else if (it) {
         refuse(by, given[0], NULL);
@@ -291,61 +284,100 @@ static PyObject *reader_read(PyObject *self, PyObject *const *given, Py_ssize_t 
     return result;
 }
 
-/* Finds the bytes of a text from a character on. */
-static bool opened_from(Reader *self, PyObject *text, PyObject *start, Text *to, Text *rest) {
-    Py_ssize_t index = PyLong_AsSsize_t(start);
+/* Returns the syntax of a form. Those that need a suffix are behind the others. */
+static const peltzivar_syntax *syntax_of(const peltzivar_forms *by, size_t form) {
+    return form < by->count ? &by->forms[form].syntax : &by->tokens->forms[form - by->count].syntax;
+}
+
+/* USES: how numbers of the forms, and words behind them, use a byte. */
+enum { USES_KNOWN = 1, USES_ROLE = 2, USES_EXPONENT = 4, USES_WORD = 8 };
+
+static uint8_t uses_of(Reader *by, uint8_t byte) {
+    if (by->uses[byte]) return by->uses[byte];
+    uint8_t uses = USES_KNOWN | (byte > 127 || isalnum(byte) || byte == '_' ? USES_WORD : 0);
+    for (size_t i = 0; i < by->forms->count + (by->forms->tokens ? by->forms->tokens->count : 0); i++) {
+        const peltzivar_syntax *of = syntax_of(by->forms, i);
+        peltzivar_role role = peltzivar_role_of(of->format, of->exponent, of->decimal_point, byte);
+        if (role && role != PELTZIVAR_ROLE_SIGN) uses |= USES_ROLE;
+        if (role == PELTZIVAR_ROLE_EXPONENT) uses |= USES_EXPONENT;
+    }
+    return by->uses[byte] = uses;
+}
+
+/* Whether more text behind a window changes nothing: a byte is in no number and word, and the word behind it, which an
+ * error shows, has an end. A sign is in a number only behind an exponent character. */
+static bool is_enough(Reader *by, const Text *window) {
+    bool has_end = false;
+    for (Py_ssize_t i = 1; i < window->size; i++) {
+        uint8_t byte = (uint8_t)window->bytes[i], uses = uses_of(by, byte);
+        bool is_signed = (byte == '+' || byte == '-') && uses_of(by, (uint8_t)window->bytes[i - 1]) & USES_EXPONENT;
+        if (has_end && !(uses & USES_WORD)) return true;
+        has_end |= !(uses & (USES_ROLE | USES_WORD)) && !is_signed;
+    }
+    return false;
+}
+
+/* Finds the bytes of a text from an index on: of a str, those of a window, which is doubled until it is enough. */
+static bool opened_from(Reader *self, PyObject *text, PyObject *start, Text *to) {
+    Py_ssize_t index = PyLong_AsSsize_t(start), size = 32;
     if (index < 0 && !PyErr_Occurred()) PyErr_SetString(PyExc_ValueError, "start must be an index of the text");
-    if (!is_made(self) || PyErr_Occurred() || !is_text(text, to)) return false;
-    Py_ssize_t length = PyObject_Size(text);
-    index = index < length ? index : length;
-    index = PyUnicode_Check(text) && length != to->size ? byte_of(self, text, to, index) : index;
-    rest->bytes = to->bytes + index, rest->size = to->size - index;
-    return true;
+    if (!is_made(self) || PyErr_Occurred()) return false;
+    if (!PyUnicode_Check(text)) {
+        if (!is_text(text, to)) return false;
+        index = index < to->size ? index : to->size;
+        to->bytes += index, to->size -= index;
+        return true;
+    }
+    for (Py_ssize_t rest = PyUnicode_GetLength(text) - index;; size *= 2) {
+        PyObject *window = PyUnicode_Substring(text, index, size < rest ? index + size : PY_SSIZE_T_MAX);
+        bool is_open = window && opened(window, to);
+        Py_XDECREF(window);
+        if (!is_open || size >= rest || is_enough(self, to)) return is_open;
+        Py_DECREF(to->data);
+    }
 }
 
 /* _token(text, start): the literal, its suffix, the index behind it, and the text. */
 static PyObject *reader_token(PyObject *self, PyObject *const *given, Py_ssize_t count) {
     Reader *by = (Reader *)self;
-    Text text, rest;
+    Text rest;
     peltzivar_token token;
     peltzivar_read_error error = {0};
     peltzivar_explanation why;
     char sentence[PELTZIVAR_TEXT_SIZE];
-    if (count != 2 || !opened_from(by, given[0], given[1], &text, &rest)) return NULL;
+    if (count != 2 || !opened_from(by, given[0], given[1], &rest)) return NULL;
     PyObject *result = NULL;
     Literal *it = NULL;
     if (peltzivar_forms_token(by->forms, rest.bytes, (size_t)rest.size, &token, &error)) {
         Py_ssize_t start = PyLong_AsSsize_t(given[1]), middle = start + (Py_ssize_t)token.literal.size;
         Py_ssize_t end = start + (Py_ssize_t)token.size;
         if (PyUnicode_Check(given[0])) end = start + characters(rest.bytes, (Py_ssize_t)token.size);
-        if ((it = new_literal(by, &text))) {
-            it->found = token.literal, it->text = part_of(given[0], start, middle), it->suffix = part_of(given[0], middle, end);
+        if ((it = new_literal(by, &rest))) {
+            it->found = token.literal, it->text = part_of(given[0], start, middle);
+            it->suffix = part_of(given[0], middle, end);
             if (it->text && it->suffix) result = Py_BuildValue("(OOnO)", it, it->suffix, end, given[0]);
         }
-        if ((size_t)rest.size == token.size) Py_CLEAR(by->walked);
     } else if (peltzivar_explain(&error, &why)) {
         refuse(by, given[0], given[1]);
     } else {
         peltzivar_read_error_text(&error, sentence, sizeof sentence);
         PyErr_SetString(PyExc_ValueError, sentence);
     }
-    Py_XDECREF((PyObject *)it), Py_DECREF(text.data);
+    Py_XDECREF((PyObject *)it), Py_DECREF(rest.data);
     return result;
 }
 
 /* _explain(text, start): why a text is refused, or None. A token is read from the index `start` on, if it is not -1. */
 static PyObject *reader_explain(PyObject *self, PyObject *const *given, Py_ssize_t count) {
     Reader *by = (Reader *)self;
-    Text text, rest;
+    Text rest;
     peltzivar_read_error error;
     peltzivar_explanation why;
     char sentence[PELTZIVAR_TEXT_SIZE], full[PELTZIVAR_TEXT_SIZE];
     PyObject *result = NULL;
     if (count != 2) return NULL;
     bool is_token = PyObject_RichCompareBool(given[1], Py_False, Py_GE) > 0;
-    PyObject *start = is_token ? Py_NewRef(given[1]) : PyLong_FromLong(0);
-    if (!start || !opened_from(by, given[0], start, &text, &rest)) return NULL;
-    Py_DECREF(start);
+    if (!(is_token ? opened_from(by, given[0], given[1], &rest) : is_made(by) && is_text(given[0], &rest))) return NULL;
     memset(&error, 0, sizeof error);
     bool is_right = is_token ? peltzivar_forms_token(by->forms, rest.bytes, (size_t)rest.size, NULL, &error)
                              : peltzivar_forms_read(by->forms, rest.bytes, (size_t)rest.size, NULL, &error);
@@ -358,12 +390,12 @@ static PyObject *reader_explain(PyObject *self, PyObject *const *given, Py_ssize
             peltzivar_token_error_text(by->forms, rest.bytes, (size_t)rest.size, sentence, sizeof sentence);
             strcpy(full, sentence);
         }
-        size_t begin = why.span.start, end = why.span.end;
-        if (PyUnicode_Check(given[0])) end = begin + (size_t)characters(rest.bytes + begin, (Py_ssize_t)(end - begin));
-        result = Py_BuildValue("(NNnnniiNiiK)", shown(sentence), shown(full), (Py_ssize_t)error.valid_up_to, (Py_ssize_t)begin,
-            (Py_ssize_t)end, why.kind, why.part, halves(why.mask), (int)why.code, error.form, why.conditions);
+        Py_ssize_t at[] = {(Py_ssize_t)error.valid_up_to, (Py_ssize_t)why.span.start, (Py_ssize_t)why.span.end};
+        for (int i = 0; i < 3 && PyUnicode_Check(given[0]); i++) at[i] = characters(rest.bytes, at[i]);
+        result = Py_BuildValue("(NNnnniiNiiK)", shown(sentence), shown(full), at[0], at[1], at[2], why.kind, why.part,
+            halves(why.mask), (int)why.code, error.form, why.conditions);
     }
-    Py_DECREF(text.data);
+    Py_DECREF(rest.data);
     return is_right ? Py_NewRef(Py_None) : result;
 }
 
@@ -377,42 +409,47 @@ static int is_missing(PyObject *cell, PyObject *na) {
     return result;
 }
 
-/* _column(cells, data, offsets, format, values, status, fill, na, scale): the indexes of missing cells. The cells are a tuple of
- * texts, or () for data with offsets, whose memory nothing else changes. `fill` has the bytes of the value of cells without one.
+/* _column(cells, data, offsets, format, values, status, fill, na, scale): the indexes of missing cells. The cells are a
+ * tuple of texts, or () for data with offsets, whose memory nothing else changes. `fill` has the bytes of other values.
  * Integers have a scale, unless it is below 0. */
 static PyObject *reader_column(PyObject *self, PyObject *given) {
     Reader *by = (Reader *)self;
-    PyObject *cells, *na, *missing = PyList_New(0), *kind = NULL;
+    PyObject *cells, *na, *missing = PyList_New(0);
+    const char *kind = NULL;
     Py_buffer data, offsets, values, status, fill;
     int format, scale;
-    if (!missing || !is_made(by) || !PyArg_ParseTuple(given, "O!y*y*Cw*w*y*Oi", &PyTuple_Type, &cells, &data, &offsets, &format,
-        &values, &status, &fill, &na, &scale)) return Py_XDECREF(missing), NULL;
+    if (!missing || !is_made(by) || !PyArg_ParseTuple(given, "O!y*y*Cw*w*y*Oi", &PyTuple_Type, &cells, &data, &offsets,
+        &format, &values, &status, &fill, &na, &scale)) return Py_XDECREF(missing), NULL;
     Py_ssize_t size = fill.len, count = status.len, of_texts = PyTuple_Size(cells);
     uint8_t *statuses = status.buf;
-    if (size != (format == 'f' ? 4 : 8) || values.len != count * size || (of_texts ? of_texts != count : offsets.len != 8 * (count + 1))) {
+    bool is_wrong = of_texts ? of_texts != count : offsets.len != 8 * (count + 1);
+    if (is_wrong || size != (format == 'f' ? 4 : 8) || values.len != count * size) {
         PyErr_SetString(PyExc_ValueError, "the sizes differ");
     } else if (!of_texts) {
         Py_BEGIN_ALLOW_THREADS
-        if (scale < 0) parse_column_as((char)format, by->forms, data.buf, offsets.buf, (size_t)count, values.buf, statuses);
-        else parse_scaled_column(by->forms, data.buf, offsets.buf, count, (uint8_t)scale, values.buf, statuses);
+        if (scale >= 0) parse_scaled_column(by->forms, data.buf, offsets.buf, count, (uint8_t)scale, values.buf, statuses);
+        else (void)PARSE(format, _column, by->forms, data.buf, offsets.buf, (size_t)count, values.buf, statuses);
         Py_END_ALLOW_THREADS
     }
     for (Py_ssize_t i = 0; i < of_texts && !kind; i++) {
         PyObject *it = PyTuple_GetItem(cells, i);
-        kind = PyUnicode_Check(it) ? (PyObject *)&PyUnicode_Type : PyBytes_Check(it) ? (PyObject *)&PyBytes_Type : NULL;
+        kind = PyUnicode_Check(it) ? "str" : PyBytes_Check(it) ? "bytes" : NULL;
     }
     for (Py_ssize_t i = 0; i < of_texts && !PyErr_Occurred(); i++) {
         PyObject *it = PyTuple_GetItem(cells, i), *name, *index;
         Text text;
-        if ((kind == (PyObject *)&PyBytes_Type ? PyBytes_Check(it) : PyUnicode_Check(it)) && opened(it, &text)) {
-            statuses[i] = scale < 0 ? parse_as((char)format, by->forms, &text, (char *)values.buf + i * size)
-                                    : parse_scaled(by->forms, text.bytes, text.size, (uint8_t)scale, (int64_t *)values.buf + i);
+        bool is_text_of_kind = kind && *kind == 'b' ? PyBytes_Check(it) : PyUnicode_Check(it);
+        int is_none = 0;
+        if (is_text_of_kind && opened(it, &text)) {
+            char *value = (char *)values.buf + i * size;
+            statuses[i] = scale < 0 ? parse_as((char)format, by->forms, &text, value)
+                                    : parse_scaled(by->forms, text.bytes, text.size, (uint8_t)scale, (int64_t *)value);
             Py_DECREF(text.data);
-        } else if (!PyErr_Occurred() && (statuses[i] = (uint8_t)is_missing(it, na)) == 1 && (index = PyLong_FromSsize_t(i))) {
+        } else if (!PyErr_Occurred() && (is_none = is_missing(it, na)) == 1 && (index = PyLong_FromSsize_t(i))) {
             statuses[i] = PyList_Append(missing, index) ? 1 : UINT8_MAX;
             Py_DECREF(index);
         } else if (!PyErr_Occurred() && (name = PyType_GetName(Py_TYPE(it)))) {
-            PyErr_Format(PyExc_TypeError, "cell %zd must be a %s, not %S", i, kind == (PyObject *)&PyBytes_Type ? "bytes" : "str", name);
+            PyErr_Format(PyExc_TypeError, "cell %zd must be a %s, not %S", i, kind ? kind : "str", name);
             Py_DECREF(name);
         }
     }
@@ -421,7 +458,8 @@ static PyObject *reader_column(PyObject *self, PyObject *given) {
             memcpy((char *)values.buf + i * size, fill.buf, (size_t)size);
             if (statuses[i] == UINT8_MAX) statuses[i] = 0;
         }
-    PyBuffer_Release(&data), PyBuffer_Release(&offsets), PyBuffer_Release(&values), PyBuffer_Release(&status), PyBuffer_Release(&fill);
+    PyBuffer_Release(&data), PyBuffer_Release(&offsets), PyBuffer_Release(&values);
+    PyBuffer_Release(&status), PyBuffer_Release(&fill);
     PyObject *result = PyErr_Occurred() ? NULL : PyList_AsTuple(missing);
     Py_DECREF(missing);
     return result;
@@ -441,7 +479,8 @@ static peltzivar_write_status write_number(
         double real = PyFloat_AsDouble(number);
         return WRITE(format_f64, real == real ? real : Py_NAN);
     }
-    if (PyObject_TypeCheck(number, (PyTypeObject *)by->state->literal)) return WRITE(format_literal, &((Literal *)number)->found);
+    bool is_literal = PyObject_TypeCheck(number, (PyTypeObject *)by->state->literal);
+    if (is_literal) return WRITE(format_literal, &((Literal *)number)->found);
     if (!PyLong_CheckExact(number)) return OTHER_NUMBER;
     long long whole = PyLong_AsLongLongAndOverflow(number, &is_long);
     return is_long ? OTHER_NUMBER : WRITE(format_i64, whole);
@@ -452,10 +491,15 @@ static PyObject *written(Reader *by, PyObject *number, const peltzivar_style *st
     char text[PELTZIVAR_FLOAT_SIZE], *to = text;
     size_t needed;
     *status = by->forms ? write_number(by, number, style, text, sizeof text, &needed) : PELTZIVAR_WRITE_ARGUMENT;
-    if (*status == PELTZIVAR_WRITE_BUFFER && (to = PyMem_Malloc(needed))) *status = write_number(by, number, style, to, needed, &needed);
+    if (*status == PELTZIVAR_WRITE_BUFFER && (to = PyMem_Malloc(needed)))
+        *status = write_number(by, number, style, to, needed, &needed);
     PyObject *result = *status ? NULL : PyUnicode_FromStringAndSize(to, (Py_ssize_t)needed - 1);
     if (to != text) PyMem_Free(to);
     return result;
+}
+
+static PyObject *unwritten(peltzivar_write_status status) {
+    return PyErr_SetString(PyExc_ValueError, peltzivar_write_description(status)), NULL;
 }
 
 /* Wishes: a group (g), a flag (b), or a number. */
@@ -463,8 +507,9 @@ static const struct {
     const char *name;
     char kind;
     size_t at;
-} WISHES[] = {{"decimals", 'd', AT(style, decimals)}, {"group", 'g', AT(style, group)}, {"fraction_group", 'g', AT(style, fraction_group)},
-    {"without_base", 'b', AT(style, without_base)}, {"lowercase", 'b', AT(style, lowercase)},
+} WISHES[] = {{"decimals", 'd', AT(style, decimals)}, {"group", 'g', AT(style, group)},
+    {"fraction_group", 'g', AT(style, fraction_group)}, {"without_base", 'b', AT(style, without_base)},
+    {"lowercase", 'b', AT(style, lowercase)},
     {"keep_leading_zeros", 'b', AT(style, keep_leading_zeros)}, {"min_digits", 'd', AT(style, min_digits)},
     {"point", 'b', AT(style, point)}, {"nearest", 'b', AT(style, nearest)}};
 
@@ -474,8 +519,9 @@ static bool wished(PyObject *name, PyObject *value, peltzivar_style *style) {
         if (PyUnicode_CompareWithASCIIString(name, WISHES[i].name)) continue;
         int is_far = 0;
         long number = PyLong_CheckExact(value) || PyBool_Check(value) ? PyLong_AsLongAndOverflow(value, &is_far) : -1;
-        if (number < 0 || number > 255 - (WISHES[i].kind == 'g') || is_far || PyBool_Check(value) != (WISHES[i].kind == 'b')) return false;
-        *((uint8_t *)style + WISHES[i].at) = (uint8_t)(WISHES[i].kind == 'g' && !number ? PELTZIVAR_NO_GROUPS : number);
+        bool is_group = WISHES[i].kind == 'g', is_flag = WISHES[i].kind == 'b';
+        if (number < 0 || number > 255 - is_group || is_far || PyBool_Check(value) != is_flag) return false;
+        *((uint8_t *)style + WISHES[i].at) = (uint8_t)(is_group && !number ? PELTZIVAR_NO_GROUPS : number);
         style->has_decimals |= WISHES[i].at == AT(style, decimals);
         return true;
     }
@@ -497,21 +543,9 @@ static PyObject *reader_format_number(PyObject *self, PyObject *const *given, Py
     return by_python(by->state->slow[1], self, given, count, names);
 }
 
-/* _write(number, style): the text of a float, an int of 64 bits, or a literal. */
+/* _write(numbers, style, other): a list of texts of floats, ints of 64 bits, and literals. `other`, if it is not None,
+ * returns those of NaN, and of numbers that are not written. */
 static PyObject *reader_write(PyObject *self, PyObject *given) {
-    peltzivar_style style = {0};
-    peltzivar_write_status status;
-    PyObject *number, *wishes, *kept = PyDict_New(), *result = NULL;
-    if (kept && is_made((Reader *)self) && PyArg_ParseTuple(given, "OO", &number, &wishes) && packed(&style_members, wishes, (char *)&style, kept)) {
-        result = written((Reader *)self, number, &style, &status);
-        if (!result && !PyErr_Occurred()) PyErr_SetString(PyExc_ValueError, peltzivar_write_description(status));
-    }
-    Py_XDECREF(kept);
-    return result;
-}
-
-/* _write_column(numbers, style, other): a list of texts. `other` returns those of other numbers, and of those without one. */
-static PyObject *reader_write_column(PyObject *self, PyObject *given) {
     peltzivar_style style = {0};
     peltzivar_write_status status;
     PyObject *numbers, *wishes, *other, *kept = PyDict_New(), *result = NULL;
@@ -520,7 +554,10 @@ static PyObject *reader_write_column(PyObject *self, PyObject *given) {
     for (Py_ssize_t i = 0; result && i < PyTuple_Size(numbers); i++) {
         PyObject *it = PyTuple_GetItem(numbers, i), *text = NULL;
         double real = PyFloat_CheckExact(it) ? PyFloat_AsDouble(it) : Py_NAN;
-        if (real == real || (PyLong_CheckExact(it) && !style.has_decimals)) text = written((Reader *)self, it, &style, &status);
+        bool is_all = other == Py_None;
+        bool is_own = is_all || real == real || (PyLong_CheckExact(it) && !style.has_decimals);
+        if (is_own) text = written((Reader *)self, it, &style, &status);
+        if (!text && is_all && !PyErr_Occurred()) unwritten(status);
         if (!text && !PyErr_Occurred()) text = PyObject_CallFunctionObjArgs(other, it, NULL);
         if (!text || PyList_SetItem(result, i, text)) Py_CLEAR(result);
     }
@@ -528,7 +565,7 @@ static PyObject *reader_write_column(PyObject *self, PyObject *given) {
     return result;
 }
 
-/* _special(text): the numbers of a special value, or None. _spelled(spelling, sign): its text. Spellings are those of the forms. */
+/* _special(text): the numbers of a special value, or None. _spelled(spelling, sign): its text. */
 static PyObject *reader_special(PyObject *self, PyObject *given) {
     Text text;
     peltzivar_special special;
@@ -544,12 +581,13 @@ static PyObject *reader_spelled(PyObject *self, PyObject *given) {
     char text[PELTZIVAR_FLOAT_SIZE];
     size_t needed = 0;
     if (!is_made((Reader *)self) || !PyArg_ParseTuple(given, "bb", &special.spelling, &special.sign)) return NULL;
-    peltzivar_write_status status = peltzivar_format_special(&by->forms->syntax, &by->specials, special, text, sizeof text, &needed);
-    if (!status) return PyUnicode_FromStringAndSize(text, (Py_ssize_t)needed - 1);
-    return PyErr_SetString(PyExc_ValueError, peltzivar_write_description(status)), NULL;
+    peltzivar_write_status status =
+        peltzivar_format_special(&by->forms->syntax, &by->specials, special, text, sizeof text, &needed);
+    return status ? unwritten(status) : PyUnicode_FromStringAndSize(text, (Py_ssize_t)needed - 1);
 }
 
-/* _members(): the forms as a tuple. _notation(number): a sentence, a grammar, a regular expression, or why a syntax is refused. */
+/* _members(): the forms as a tuple. _notation(number): a sentence, a grammar, a regular expression, or why a syntax is
+ * refused. */
 static PyObject *reader_members(PyObject *self, PyObject *none) {
     const char *forms = (const char *)((Reader *)self)->forms;
     return (void)none, is_made((Reader *)self) ? tuple_of(&forms_members, forms) : NULL;
@@ -571,7 +609,6 @@ static PyMethodDef READER_METHODS[] = {
     {"_explain", (PyCFunction)(void (*)(void))reader_explain, METH_FASTCALL, NULL},
     {"_column", reader_column, METH_VARARGS, NULL},
     {"_write", reader_write, METH_VARARGS, NULL},
-    {"_write_column", reader_write_column, METH_VARARGS, NULL},
     {"_special", reader_special, METH_O, NULL},
     {"_spelled", reader_spelled, METH_VARARGS, NULL},
     {"_members", reader_members, METH_NOARGS, NULL},
@@ -580,10 +617,12 @@ static PyMethodDef READER_METHODS[] = {
 };
 static PyObject *reader_read_fast(PyObject *self, PyObject *const *given, Py_ssize_t count, PyObject *names) {
     Reader *by = (Reader *)self;
-    PyObject *result = NULL;
     if (!is_made(by)) return NULL;
-    if (count == 1 && !names && ((result = reader_read(self, given, 1)) == NULL || !PyTuple_Check(result))) return result;
-    Py_XDECREF(result);
+    if (count == 1 && !names) {
+        PyObject *result = reader_read(self, given, 1);
+        if (!result || !PyTuple_Check(result)) return result;
+        Py_DECREF(result);
+    }
     return by_python(by->state->slow[2], self, given, count, names);
 }
 
@@ -600,19 +639,20 @@ static void freed(PyObject *self) {
 }
 
 static void reader_free(PyObject *self) {
-    Py_XDECREF(((Reader *)self)->kept), Py_XDECREF(((Reader *)self)->walked);
+    Py_XDECREF(((Reader *)self)->kept);
     freed(self);
 }
 static PyType_Slot READER_SLOTS[] = {{Py_tp_dealloc, (void *)reader_free}, {Py_tp_methods, READER_METHODS}, {0, NULL}};
-static PyType_Spec READER = {"peltzivar._peltzivar.Reader", sizeof(Reader), 0, Py_TPFLAGS_DEFAULT | Py_TPFLAGS_BASETYPE, READER_SLOTS};
+static PyType_Spec READER = {
+    "peltzivar._peltzivar.Reader", sizeof(Reader), 0, Py_TPFLAGS_DEFAULT | Py_TPFLAGS_BASETYPE, READER_SLOTS};
 
 /* VALUES */
 
 /* _ends(): the ends of the nine parts, each of which begins where that before it ends. */
 static PyObject *literal_ends(PyObject *self, PyObject *none) {
     const peltzivar_literal *it = &((Literal *)self)->found;
-    return (void)none, Py_BuildValue("(nnnnnnnnn)", it->sign.end, it->prefix.end, it->integer.end, it->point.end, it->fraction.end,
-        it->exponent_character.end, it->exponent_sign.end, it->exponent.end, it->suffix.end);
+    return (void)none, Py_BuildValue("(nnnnnnnnn)", it->sign.end, it->prefix.end, it->integer.end, it->point.end,
+        it->fraction.end, it->exponent_character.end, it->exponent_sign.end, it->exponent.end, it->suffix.end);
 }
 
 /* _int(): the value of an integer, or None if it is a float, or needs more than 128 bits or is too large. */
@@ -644,7 +684,8 @@ static PyObject *literal_float(PyObject *self) {
 static PyObject *literal_value(PyObject *self, void *none) {
     int64_t value;
     if (((Literal *)self)->found.is_float) return literal_float(self);
-    return (void)none, peltzivar_to_i64(&((Literal *)self)->found, &value) ? PyNumber_Long(self) : PyLong_FromLongLong(value);
+    if (!peltzivar_to_i64(&((Literal *)self)->found, &value)) return PyLong_FromLongLong(value);
+    return (void)none, PyNumber_Long(self);
 }
 
 /* _plain(): the text as Python writes floats, or None if a radix is not 10, or if it is long. */
@@ -654,15 +695,14 @@ static PyObject *literal_plain(PyObject *self, PyObject *none) {
     char plain[400], *to = plain;
     (void)none;
     if (!by || it->found.size > sizeof plain) return Py_NewRef(Py_None);
-    const peltzivar_form *behind = by->tokens ? by->tokens->forms : NULL;
-    const peltzivar_syntax *of = it->found.form < by->count ? &by->forms[it->found.form].syntax : &behind[it->found.form - by->count].syntax;
-    peltzivar_fields fields = peltzivar_fields_of(of->format);
-    if (fields.mantissa_radix != 10 || fields.exponent_base != 10 || fields.exponent_radix != 10 || fields.base_prefix || fields.base_suffix)
-        return Py_NewRef(Py_None);
+    peltzivar_fields fields = peltzivar_fields_of(syntax_of(by, it->found.form)->format);
+    bool is_decimal = fields.mantissa_radix == 10 && fields.exponent_base == 10 && fields.exponent_radix == 10;
+    if (!is_decimal || fields.base_prefix || fields.base_suffix) return Py_NewRef(Py_None);
+    const char *from = it->found.text;
     for (size_t i = 0; i < it->found.size; i++) {
         if (i == it->found.exponent_character.start && i < it->found.exponent_character.end) *to++ = 'e';
         else if (i == it->found.point.start && i < it->found.point.end) *to++ = '.';
-        else if (!fields.digit_separator || it->found.text[i] != (char)fields.digit_separator) *to++ = it->found.text[i];
+        else if (!fields.digit_separator || from[i] != (char)fields.digit_separator) *to++ = from[i];
     }
     return PyUnicode_FromStringAndSize(plain, to - plain);
 }
@@ -676,22 +716,49 @@ static PyMethodDef LITERAL_METHODS[] = {
 };
 static PyMemberDef LITERAL_MEMBERS[] = {
     {"_owner", T_OBJECT, offsetof(Literal, owner), READONLY, NULL},
-    {"_text", T_OBJECT, offsetof(Literal, text), READONLY, NULL},
     {"_suffix", T_OBJECT, offsetof(Literal, suffix), READONLY, NULL},
     {"_form", T_UBYTE, offsetof(Literal, found.form), READONLY, NULL},
-    {"_is_float", T_BOOL, offsetof(Literal, found.is_float), READONLY, NULL},
+    {"text", T_OBJECT, offsetof(Literal, text), READONLY, "The text, as it was read: a str or bytes."},
+    {"is_float", T_BOOL, offsetof(Literal, found.is_float), READONLY, "Whether it has a point or an exponent."},
     {NULL, 0, 0, 0, NULL},
 };
-static PyGetSetDef LITERAL_GETTERS[] = {{"_value", literal_value, NULL, NULL, NULL}, {NULL, NULL, NULL, NULL, NULL}};
+static PyGetSetDef LITERAL_GETTERS[] = {
+    {"value", literal_value, NULL,
+        "The value: an int if the literal is an integer, and otherwise a float. Raises ValueError if it is too large\n"
+        "for the kind of its form, as 3000000000 is for the decimal integers of JAVA.", NULL},
+    {NULL, NULL, NULL, NULL, NULL},
+};
+
+/* A literal is in a cycle if its owner, or a text of one's own class, refers to it. No call takes a cleared one. */
+static int literal_traverse(PyObject *self, visitproc visit, void *arg) {
+    const Literal *it = (Literal *)self;
+    Py_VISIT(Py_TYPE(self));
+    Py_VISIT(it->owner);
+    Py_VISIT(it->text);
+    Py_VISIT(it->data);
+    return 0;
+}
+
+static int literal_clear(PyObject *self) {
+    Literal *it = (Literal *)self;
+    memset(&it->found, 0, sizeof it->found);
+    Py_CLEAR(it->owner);
+    Py_CLEAR(it->text);
+    Py_CLEAR(it->data);
+    return 0;
+}
 
 static void literal_free(PyObject *self) {
-    Literal *it = (Literal *)self;
-    Py_XDECREF(it->owner), Py_XDECREF(it->text), Py_XDECREF(it->data), Py_XDECREF(it->suffix);
+    PyObject_GC_UnTrack(self);
+    literal_clear(self);
+    Py_XDECREF(((Literal *)self)->suffix);
     freed(self);
 }
-static PyType_Slot LITERAL_SLOTS[] = {{Py_tp_dealloc, (void *)literal_free}, {Py_tp_methods, LITERAL_METHODS}, {Py_tp_members, LITERAL_MEMBERS},
+static PyType_Slot LITERAL_SLOTS[] = {{Py_tp_dealloc, (void *)literal_free}, {Py_tp_traverse, (void *)literal_traverse},
+    {Py_tp_clear, (void *)literal_clear}, {Py_tp_methods, LITERAL_METHODS}, {Py_tp_members, LITERAL_MEMBERS},
     {Py_tp_getset, LITERAL_GETTERS}, {Py_nb_float, (void *)literal_float}, {0, NULL}};
-static PyType_Spec LITERAL = {"peltzivar._peltzivar.Found", sizeof(Literal), 0, Py_TPFLAGS_DEFAULT | Py_TPFLAGS_BASETYPE, LITERAL_SLOTS};
+static PyType_Spec LITERAL = {"peltzivar._peltzivar.Found", sizeof(Literal), 0,
+    Py_TPFLAGS_DEFAULT | Py_TPFLAGS_BASETYPE | Py_TPFLAGS_HAVE_GC, LITERAL_SLOTS};
 
 /* WORDS */
 
@@ -725,7 +792,9 @@ static PyType_Spec LITERAL = {"peltzivar._peltzivar.Found", sizeof(Literal), 0, 
     it(reasons, reasons(w, false, 0, 0)) \
     it(options_reasons, reasons(w, true, a, b))
 
-static PyObject *digit(uint32_t it) { return it == PELTZIVAR_NO_DIGIT ? Py_NewRef(Py_None) : PyLong_FromUnsignedLong(it); }
+static PyObject *digit(uint32_t it) {
+    return it == PELTZIVAR_NO_DIGIT ? Py_NewRef(Py_None) : PyLong_FromUnsignedLong(it);
+}
 static PyObject *fields(peltzivar_fields it) { return tuple_of(&fields_members, (const char *)&it); }
 static PyObject *separators(peltzivar_separators it) {
     return Py_BuildValue("(NNNN)", TRUTH(it.internal), TRUTH(it.leading), TRUTH(it.trailing), TRUTH(it.consecutive));
@@ -749,7 +818,8 @@ static PyObject *edits(peltzivar_word word) {
 static PyObject *reasons(peltzivar_word word, bool of_options, uint8_t exponent, uint8_t point) {
     char text[PELTZIVAR_TEXT_SIZE];
     PyObject *list = PyList_New(0);
-#define OF(call, ...) (of_options ? peltzivar_options_reason_##call(word, exponent, point, __VA_ARGS__) : peltzivar_reason_##call(word, __VA_ARGS__))
+#define OF(call, ...) (of_options ? peltzivar_options_reason_##call(word, exponent, point, __VA_ARGS__) \
+                                  : peltzivar_reason_##call(word, __VA_ARGS__))
     for (size_t i = 0; list && OF(text, i, text, sizeof text); i++)
         append(list, Py_BuildValue("(NNI)", shown(text), halves(OF(mask, i)),
             of_options ? peltzivar_options_reason_roles(word, exponent, point, i) : peltzivar_reason_rules(word, i)));
@@ -774,7 +844,8 @@ static PyObject *pack(PyObject *self, PyObject *given) {
     peltzivar_fields changed = {0};
     PyObject *from, *list;
     (void)self;
-    if (!PyArg_ParseTuple(given, "OO", &from, &list) || !packed(&fields_members, from, (char *)&changed, NULL)) return NULL;
+    if (!PyArg_ParseTuple(given, "OO", &from, &list)) return NULL;
+    if (!packed(&fields_members, from, (char *)&changed, NULL)) return NULL;
     for (Py_ssize_t i = 0; i < PyList_Size(list); i++) {
         peltzivar_edit edit;
         if (!packed(&edit_members, PyList_GetItem(list, i), (char *)&edit, NULL)) return NULL;
@@ -815,7 +886,8 @@ static PyObject *edit_of(const char *from, size_t len) {
 }
 
 static PyObject *lines(const char *from, size_t len, size_t index) {
-    size_t lines[PELTZIVAR_FIELD_COUNT], count = peltzivar_settings_lines(from, len, index, lines, PELTZIVAR_FIELD_COUNT);
+    size_t lines[PELTZIVAR_FIELD_COUNT];
+    size_t count = peltzivar_settings_lines(from, len, index, lines, PELTZIVAR_FIELD_COUNT);
     PyObject *list = PyList_New(0);
     for (size_t i = 0; list && i < count && i < PELTZIVAR_FIELD_COUNT; i++) append(list, PyLong_FromSize_t(lines[i]));
     return list;
@@ -837,7 +909,8 @@ static PyObject *describe(PyObject *self, PyObject *given) {
     (void)self;
     if (!PyArg_ParseTuple(given, "sb|b", &what, &number, &value)) return NULL;
     if (!strcmp(what, "mask")) return halves(peltzivar_setter_mask(number));
-    if (!strcmp(what, "edit")) return peltzivar_edit_text((peltzivar_edit){number, value}, text, sizeof text), shown(text);
+    peltzivar_edit edit = {number, value};
+    if (!strcmp(what, "edit")) return peltzivar_edit_text(edit, text, sizeof text), shown(text);
     if (!strcmp(what, "error")) return shown(peltzivar_description(number));
     if (!strcmp(what, "rule")) return shown(peltzivar_rule_condition(number));
     return shown(what[0] == 'v' ? peltzivar_value_description(number) : peltzivar_write_description(number));
@@ -847,33 +920,28 @@ static PyObject *describe(PyObject *self, PyObject *given) {
 
 #define STATE(module) ((State *)PyModule_GetState(module))
 
-/* make(reader, members, is_list): gives it forms. language(reader, name): gives it those of a language. */
+/* make(reader, members, is_list): gives it forms. Members can be the name of a language. */
 static PyObject *make(PyObject *self, PyObject *given) {
     Reader *to;
-    PyObject *members;
+    PyObject *members, *kept = NULL;
     int is_list;
-    if (!PyArg_ParseTuple(given, "O!O!p", STATE(self)->reader, &to, &PyTuple_Type, &members, &is_list)) return NULL;
-    PyObject *kept = PyDict_New();
-    const char *forms = kept ? packed_array(&forms_members, members, 1, true, kept) : NULL;
-    if (!forms || to->state) {
-        if (forms) PyErr_SetString(PyExc_TypeError, "an object does not change");
-        return Py_XDECREF(kept), NULL;
+    Text name;
+    if (!PyArg_ParseTuple(given, "O!Op", STATE(self)->reader, &to, &members, &is_list)) return NULL;
+    if (to->state) return PyErr_Format(PyExc_TypeError, "an object does not change");
+    const void *forms = NULL;
+    if (PyTuple_Check(members)) {
+        if ((kept = PyDict_New())) forms = packed_array(&forms_members, members, 1, true, kept);
+    } else if (is_text(members, &name)) {
+        forms = peltzivar_language(name.bytes, (size_t)name.size);
+        Py_DECREF(name.data);
     }
-    to->state = STATE(self), to->forms = (const peltzivar_forms *)forms, to->kept = kept, to->is_list = is_list;
+    if (!forms) return Py_XDECREF(kept), NULL;
+    to->state = STATE(self), to->forms = forms, to->kept = kept, to->is_list = is_list;
     return Py_NewRef(Py_None);
 }
 
-static PyObject *language(PyObject *self, PyObject *given) {
-    Reader *to;
-    const char *name;
-    Py_ssize_t size;
-    if (!PyArg_ParseTuple(given, "O!s#", STATE(self)->reader, &to, &name, &size)) return NULL;
-    if (!to->state) to->state = STATE(self), to->forms = peltzivar_language(name, (size_t)size), to->is_list = true;
-    return Py_NewRef(Py_None);
-}
-
-/* fast(class, function, documentation): the method of C that calls the function for what it leaves. It lasts as long as the
- * program. */
+/* fast(class, function, documentation): the method of C that calls the function for what it leaves. It lasts as long as
+ * the program. */
 static PyObject *fast(PyObject *self, PyObject *given) {
     PyObject *type, *function;
     const char *doc;
@@ -902,7 +970,6 @@ static PyMethodDef FUNCTIONS[] = {
     {"pack", pack, METH_VARARGS, NULL},
     {"describe", describe, METH_VARARGS, NULL},
     {"make", make, METH_VARARGS, NULL},
-    {"language", language, METH_VARARGS, NULL},
     {"fast", fast, METH_VARARGS, NULL},
     {"register", register_classes, METH_VARARGS, NULL},
     {NULL, NULL, 0, NULL},
@@ -915,9 +982,10 @@ static const struct {
 } NAMES[] = {
     {"Rule",
      "MANTISSA_RADIX_IN_RANGE EXPONENT_BASE_IN_RANGE EXPONENT_RADIX_IN_RANGE DIGIT_SEPARATOR_IS_PUNCTUATION "
-     "BASE_PREFIX_IS_PUNCTUATION BASE_SUFFIX_IS_PUNCTUATION PUNCTUATION_DIFFERS EXPONENT_FLAGS_AGREE MANTISSA_SIGN_FLAGS_AGREE "
-     "EXPONENT_SIGN_FLAGS_AGREE SPECIAL_CASE_FLAGS_AGREE SPECIAL_SEPARATOR_FLAGS_AGREE INTEGER_CONSECUTIVE_IS_ALLOWED "
-     "FRACTION_CONSECUTIVE_IS_ALLOWED EXPONENT_CONSECUTIVE_IS_ALLOWED RESERVED_BITS_ARE_ZERO", PELTZIVAR_RULE_MANTISSA_RADIX_IN_RANGE},
+     "BASE_PREFIX_IS_PUNCTUATION BASE_SUFFIX_IS_PUNCTUATION PUNCTUATION_DIFFERS EXPONENT_FLAGS_AGREE "
+     "MANTISSA_SIGN_FLAGS_AGREE EXPONENT_SIGN_FLAGS_AGREE SPECIAL_CASE_FLAGS_AGREE SPECIAL_SEPARATOR_FLAGS_AGREE "
+     "INTEGER_CONSECUTIVE_IS_ALLOWED FRACTION_CONSECUTIVE_IS_ALLOWED EXPONENT_CONSECUTIVE_IS_ALLOWED "
+     "RESERVED_BITS_ARE_ZERO", PELTZIVAR_RULE_MANTISSA_RADIX_IN_RANGE},
     /* Made by make_python.py: error_names */
     {"Error",
      "SUCCESS OVERFLOW UNDERFLOW INVALID_DIGIT EMPTY EMPTY_MANTISSA EMPTY_EXPONENT EMPTY_INTEGER EMPTY_FRACTION "
@@ -942,9 +1010,10 @@ static const struct {
 /* Puts what is constant into the module: numbers, and the names of enumerations, setters and languages. */
 static int filled(PyObject *module) {
     State *state = STATE(module);
-    PyObject *literal = PyType_FromModuleAndSpec(module, &LITERAL, NULL), *members = PyDict_New(), *setters = PyList_New(0), *languages = PyList_New(0);
+    PyObject *literal = PyType_FromModuleAndSpec(module, &LITERAL, NULL), *members = PyDict_New();
+    PyObject *setters = PyList_New(0), *languages = PyList_New(0), *conditions = PyList_New(0);
     state->reader = (PyTypeObject *)PyType_FromModuleAndSpec(module, &READER, NULL);
-    if (!literal || !state->reader || !members || !setters || !languages) return -1;
+    if (!literal || !state->reader || !members || !setters || !languages || !conditions) return -1;
     for (size_t i = 0; i < sizeof NAMES / sizeof *NAMES; i++) {
         PyObject *names = Py_BuildValue("(si)", NAMES[i].members, NAMES[i].first);
         if (!names || PyDict_SetItemString(members, NAMES[i].name, names)) return -1;
@@ -954,24 +1023,19 @@ static int filled(PyObject *module) {
         if (peltzivar_setter_name((peltzivar_setter)number)[0])
             append(setters, Py_BuildValue("(si)", peltzivar_setter_name((peltzivar_setter)number), number));
     for (size_t i = 0; peltzivar_language_name(i)[0]; i++) append(languages, shown(peltzivar_language_name(i)));
+    for (size_t i = 4; syntax_members.members[i].kind; i++) append(conditions, shown(syntax_members.members[i].name));
     peltzivar_fields new = PELTZIVAR_NEW_FIELDS;
-    if (PyErr_Occurred() || PyModule_AddType(module, (PyTypeObject *)literal) || PyModule_AddType(module, state->reader)) return -1;
+    if (PyErr_Occurred() || PyModule_AddType(module, (PyTypeObject *)literal)) return -1;
+    if (PyModule_AddType(module, state->reader)) return -1;
     Py_DECREF(literal);
-    PyObject *conditions = Py_BuildValue("(ssssssss)", "required_base_prefix", "required_base_suffix", "no_negative_mantissa_sign",
-        "integer_group_size", "higher_group_size", "fraction_group_size", "required_leading_zero", "decimal_first_digit");
-    PyObject *values[] = {members, setters, languages, conditions, fields(new), halves(PELTZIVAR_STANDARD), shown(PELTZIVAR_VERSION)};
-    const char *names[] = {"MEMBERS", "SETTERS", "LANGUAGES", "CONDITIONS", "NEW_FIELDS", "STANDARD", "VERSION"};
-    for (int i = 0; i < 7; i++) {
-        if (PyModule_AddObjectRef(module, names[i], values[i])) return -1;
-        Py_DECREF(values[i]);
-    }
-    PyModule_AddIntConstant(module, "FORMS_MAX", PELTZIVAR_FORMS_MAX);
-    PyModule_AddIntConstant(module, "WORDS_MAX", PELTZIVAR_WORDS_MAX);
-    PyModule_AddIntConstant(module, "REFUSED", PELTZIVAR_VALUE_REFUSED);
-    PyModule_AddIntConstant(module, "SPECIAL", PELTZIVAR_VALUE_SPECIAL);
-    PyModule_AddIntConstant(module, "NOT_WHOLE", PELTZIVAR_VALUE_NOT_WHOLE);
-    PyModule_AddIntConstant(module, "WRITE_SPECIAL", PELTZIVAR_WRITE_SPECIAL);
-    return PyErr_Occurred() ? -1 : 0;
+    PyObject *made = Py_BuildValue("{sN sN sN sN sN sN sN si si si si si si}", "MEMBERS", members, "SETTERS", setters,
+        "LANGUAGES", languages, "CONDITIONS", conditions, "NEW_FIELDS", fields(new),
+        "STANDARD", halves(PELTZIVAR_STANDARD), "VERSION", shown(PELTZIVAR_VERSION), "NOT_WHOLE", PELTZIVAR_VALUE_NOT_WHOLE,
+        "FORMS_MAX", PELTZIVAR_FORMS_MAX, "WORDS_MAX", PELTZIVAR_WORDS_MAX, "REFUSED", PELTZIVAR_VALUE_REFUSED,
+        "SPECIAL", PELTZIVAR_VALUE_SPECIAL, "WRITE_SPECIAL", PELTZIVAR_WRITE_SPECIAL);
+    int status = made ? PyDict_Update(PyModule_GetDict(module), made) : -1;
+    Py_XDECREF(made);
+    return status;
 }
 
 static int cleared(PyObject *module) {
@@ -984,7 +1048,8 @@ static int cleared(PyObject *module) {
 }
 
 static PyModuleDef_Slot SLOTS[] = {{Py_mod_exec, (void *)filled}, {0, NULL}};
-static struct PyModuleDef MODULE = {PyModuleDef_HEAD_INIT, "peltzivar._peltzivar", NULL, sizeof(State), FUNCTIONS, SLOTS, NULL, cleared, NULL};
+static struct PyModuleDef MODULE = {
+    PyModuleDef_HEAD_INIT, "peltzivar._peltzivar", NULL, sizeof(State), FUNCTIONS, SLOTS, NULL, cleared, NULL};
 
 PyMODINIT_FUNC PyInit__peltzivar(void);
 PyMODINIT_FUNC PyInit__peltzivar(void) { return PyModuleDef_Init(&MODULE); }

@@ -5,11 +5,10 @@ from . import Byte, Edit, _Error, _Language, _Named, _Rule
 
 class Reader:
     _column: Any; _explain: Any; _members: Any; _notation: Any; _read: Any; _special: Any; _spelled: Any; _token: Any
-    _write: Any; _write_column: Any
+    _write: Any
 
 class Found:
-    _ends: Any; _form: Any; _int: Any; _is_float: Any; _owner: Any; _plain: Any; _suffix: Any; _text: Any
-    _times: Any; _value: Any
+    _ends: Any; _form: Any; _int: Any; _owner: Any; _plain: Any; _suffix: Any; _times: Any
     def __float__(self) -> float: ...
 
 class Setter(_Named):

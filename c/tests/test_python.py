@@ -26,6 +26,7 @@ import time
 import tracemalloc
 import typing
 import unittest
+import weakref
 from array import array
 from decimal import Decimal
 from fractions import Fraction
@@ -717,6 +718,9 @@ Syntax(Format()).read("1").parts.whole
         text = pydoc.plain(pydoc.render_doc(peltzivar))
         self.assertEqual(re.findall(r"^ +\|  (_[a-z]\w*)", text, re.M), [])
         self.assertNotRegex(text, r"builtins\.int|ctypes|Ellipsis|libpeltzivar|'_[A-Z][a-z]")
+        kinds = "Error|Language|Part|ReadErrorKind|Role|Rule|Setter|Spelling"
+        others = re.sub(rf"(?s)    (?:languages = )?class (?:{kinds})\(.*?\n *\n(?= {{0,4}}\w)", "", text)
+        self.assertLessEqual(len(others.splitlines()), 1500)
         self.assertRegex(text, r"(?s)DESCRIPTION\n.*?\.read\(.*?\.value.*?Syntax\.of\(.*?Error.*?128-bit")
 
 
@@ -985,6 +989,14 @@ class Extension(unittest.TestCase):
             used.append(tracemalloc.get_traced_memory()[0])
         self.assertLess(used[3] - used[1], 20_000, used)
 
+    def test_cycles_through_a_literal_are_collected(self):
+        text, forms = type("Text", (str,), {})("1.5"), Forms({"": SYNTAX})
+        text.literal, forms.literal = Language.JSON.read(text), forms.read("1")
+        alive = [*map(weakref.ref, (text, forms))]
+        del text, forms
+        gc.collect()
+        self.assertEqual([it() for it in alive], [None, None])
+
     def test_eight_threads_share_what_reads(self):
         cells, data = ["1,5", "x", None] * 1000, b"12" * 3000
 
@@ -1005,15 +1017,27 @@ class Extension(unittest.TestCase):
             self.assertRaises((TypeError, AttributeError, ValueError), call, literal)
 
     def test_a_lexer_takes_time_for_its_tokens_alone(self):
-        def seconds(text):
-            at, start = 1, time.process_time()
-            while at < len(text):
-                at = Language.C.token(text, at).end + 1
+        def seconds(first, count):
+            text, start = first + count * "12345;", time.process_time()
+            # From the last token on: no call goes on from the place of that before.
+            for at in range(6 * count - 5, 0, -6):
+                Language.C.token(text, at)
             return time.process_time() - start
 
-        for first in " \u00e9":
-            ratios = (seconds(first + "12345;" * 40_000) / seconds(first + "12345;" * 10_000) for _ in range(9))
+        for first in " \u00e9\ud800":
+            ratios = (seconds(first, 40_000) / seconds(first, 10_000) for _ in range(9))
             self.assertTrue(any(it < 8 for it in ratios), first)
+        # What is read of a window of a str is what is read of bytes.
+        tails = ("", ";", "..2", ".max", "else 0", "e+x", "_u8", "x", "+1", "-", "\u00e9-1")
+        for size, tail, name in itertools.product((1, *range(28, 36), 62), tails, ("C", "RUST", "PYTHON", "RUBY", "CSS")):
+            text, places = size * "1" + tail, []
+            for given, start in ((f"\u00e9{text}", 1), (text.encode(), 0)):
+                try:
+                    found = (Language[name].token(given, start).end,)
+                except LiteralError as error:
+                    found = error.span
+                places.append([len(text[: it - start].encode()) if start else it for it in found])
+            self.assertEqual(*places, (name, text))
         token = Language.C.token("\u00e9 0x1FuL;\u00e9", 2)
         self.assertEqual((token.literal.text, token.suffix, token.end, token.rest), ("0x1F", "uL", 8, ";\u00e9"))
         with self.assertRaisesRegex(LiteralError, "unknown suffix") as caught:
@@ -1053,6 +1077,7 @@ class Extension(unittest.TestCase):
         variables = {"PELTZIVAR_PACKAGE": str(folder), "LD_PRELOAD": sanitizer, "PYTHONMALLOC": "malloc", "ASAN_OPTIONS": "detect_leaks=0", "PATH": os.environ["PATH"]}
         tests = ["Words", "Literals", "Extension.test_no_call_keeps_memory", "Extension.test_eight_threads_share_what_reads"]
         tests += ["Extension.test_an_object_that_nothing_has_made_is_refused", "Extension.test_a_lexer_takes_time_for_its_tokens_alone"]
+        tests += ["Extension.test_cycles_through_a_literal_are_collected"]
         ran = subprocess.run([sys.executable, "-B", __file__, *tests], env=variables, capture_output=True, text=True)
         self.assertEqual((ran.returncode, re.findall("AddressSanitizer|runtime error", ran.stderr)), (0, []), ran.stderr[-3000:])
 
