@@ -212,7 +212,8 @@ static peltzivar_value_status parse_scaled(
     peltzivar_literal it;
     peltzivar_special special;
     if (peltzivar_forms_read(by, text, (size_t)size, &it, NULL)) return peltzivar_to_scaled_i64(&it, places, out);
-    return peltzivar_forms_read_special(by, text, (size_t)size, &special) ? PELTZIVAR_VALUE_SPECIAL : PELTZIVAR_VALUE_REFUSED;
+    return peltzivar_forms_read_special(by, text, (size_t)size, &special) ? PELTZIVAR_VALUE_SPECIAL
+                                                                          : PELTZIVAR_VALUE_REFUSED;
 }
 
 static void parse_scaled_column(const peltzivar_forms *by, const char *data, const int64_t *offsets, Py_ssize_t count,
@@ -427,7 +428,8 @@ static PyObject *reader_column(PyObject *self, PyObject *given) {
         PyErr_SetString(PyExc_ValueError, "the sizes differ");
     } else if (!of_texts) {
         Py_BEGIN_ALLOW_THREADS
-        if (scale >= 0) parse_scaled_column(by->forms, data.buf, offsets.buf, count, (uint8_t)scale, values.buf, statuses);
+        if (scale >= 0)
+            parse_scaled_column(by->forms, data.buf, offsets.buf, count, (uint8_t)scale, values.buf, statuses);
         else (void)PARSE(format, _column, by->forms, data.buf, offsets.buf, (size_t)count, values.buf, statuses);
         Py_END_ALLOW_THREADS
     }
@@ -668,7 +670,8 @@ static PyObject *literal_int(PyObject *self, PyObject *none) {
 /* _times(places): the value times a power of ten, or None if it needs more than 64 bits or has another radix. */
 static PyObject *literal_times(PyObject *self, PyObject *places) {
     int64_t value;
-    peltzivar_value_status status = peltzivar_to_scaled_i64(&((Literal *)self)->found, (uint8_t)PyLong_AsLong(places), &value);
+    const peltzivar_literal *found = &((Literal *)self)->found;
+    peltzivar_value_status status = peltzivar_to_scaled_i64(found, (uint8_t)PyLong_AsLong(places), &value);
     if (!status) return PyLong_FromLongLong(value);
     if (status != PELTZIVAR_VALUE_NOT_WHOLE) return Py_NewRef(Py_None);
     return PyErr_SetString(PyExc_ValueError, peltzivar_value_description(status)), NULL;
@@ -1030,7 +1033,8 @@ static int filled(PyObject *module) {
     Py_DECREF(literal);
     PyObject *made = Py_BuildValue("{sN sN sN sN sN sN sN si si si si si si}", "MEMBERS", members, "SETTERS", setters,
         "LANGUAGES", languages, "CONDITIONS", conditions, "NEW_FIELDS", fields(new),
-        "STANDARD", halves(PELTZIVAR_STANDARD), "VERSION", shown(PELTZIVAR_VERSION), "NOT_WHOLE", PELTZIVAR_VALUE_NOT_WHOLE,
+        "STANDARD", halves(PELTZIVAR_STANDARD), "VERSION", shown(PELTZIVAR_VERSION),
+        "NOT_WHOLE", PELTZIVAR_VALUE_NOT_WHOLE,
         "FORMS_MAX", PELTZIVAR_FORMS_MAX, "WORDS_MAX", PELTZIVAR_WORDS_MAX, "REFUSED", PELTZIVAR_VALUE_REFUSED,
         "SPECIAL", PELTZIVAR_VALUE_SPECIAL, "WRITE_SPECIAL", PELTZIVAR_WRITE_SPECIAL);
     int status = made ? PyDict_Update(PyModule_GetDict(module), made) : -1;
