@@ -141,9 +141,17 @@ fn flags_accept_and_reject_the_texts_of_the_page() {
     assert_eq!(flags.next(), None);
 }
 
+/// Each condition is one of `names`.
+fn has_each_condition<'a>(names: impl Iterator<Item = &'a str>) {
+    let (names, all) = (HashSet::<_>::from_iter(names), Condition::ALL.iter().map(|it| it.name()));
+    assert_eq!(Vec::from_iter(all.filter(|it| !names.contains(it))), [""; 0], "conditions without a row");
+}
+
 /// Each condition, by the texts in its row: all are literals without it.
 #[test]
 fn conditions_accept_and_reject_the_texts_of_the_page() {
+    let settings = table(FORMAT, "Conditions").map(|row| row[0].split(' ').next_back().unwrap());
+    has_each_condition(settings.map(|it| it.split('=').next().unwrap()));
     for row in table(FORMAT, "Conditions") {
         let [setting, _, with, accepted, rejected, refused] = row[..] else { panic!("{row:?}") };
         // Without other settings, the format contradicts the last condition, unless that is on the first digit.
@@ -195,6 +203,9 @@ fn questions_have_the_answers_of_the_page() {
 
 #[test]
 fn causes_are_those_of_the_page() {
+    let causes = table(EXPLANATIONS, "Texts and their causes").flat_map(|row| row[2].split(' '));
+    // The last one is never blamed.
+    has_each_condition(causes.chain(["higher_group_size"]));
     for row in table(EXPLANATIONS, "Texts and their causes") {
         let [text, settings, cause, valid_up_to, span] = row[..] else { panic!("{row:?}") };
         let error = read(syntax_of(settings), text).expect_err(text);
@@ -316,8 +327,9 @@ fn languages_answer_as_their_grammars_and_tools_do() {
         }
     }
     let forms = Language::ALL.iter().flat_map(|it| (0..it.forms().as_slice().len()).map(move |form| (it, form)));
-    let mut wanted = forms.flat_map(|(it, form)| [(it, form, true), (it, form, false)]);
-    assert_eq!(wanted.find(|it| !seen.contains(it)), None, "a form without a row");
+    let wanted = forms.flat_map(|(it, form)| [(it, form, true), (it, form, false)]);
+    let missing = wanted.filter(|it| !seen.contains(it)).map(|it| (it.0, it.0.forms()[it.1].name(), it.2));
+    assert_eq!(Vec::from_iter(missing), [], "forms without a row that is a number of theirs, or that is none");
 }
 
 /// Returns the settings of each row, and what a sentence has beside `decimal` and `NaN`, or lacks.
