@@ -107,8 +107,8 @@ typedef struct peltzivar_syntax peltzivar_syntax;
  * "C_SHARP", or a null pointer if there is none. They last as long as the program. LANGUAGES.md describes each, such
  * as which C `C` is.
  *
- * Numbers have a sign in CSS, CSV_DE, CSV_EN, FORTRAN, JSON, RUBY, SQL, SWIFT, TOML, XML_SCHEMA, YAML and YAML_1_1. In
- * the other languages, `-` is an operator: they refuse `-5`, so read what is behind it. */
+ * Numbers have a sign in CSS, CSV_DE, CSV_EN, FORTRAN, JSON, JSON5, NIM, RUBY, SQL, SWIFT, TOML, XML_SCHEMA, YAML and
+ * YAML_1_1. In the other languages, `-` is an operator: they refuse `-5`, so read what is behind it. */
 const peltzivar_forms *peltzivar_language(const char *name, size_t len);
 
 /* Return the forms of a language. A program that calls these alone has only the forms of these languages in it. */
@@ -120,6 +120,7 @@ const peltzivar_forms *peltzivar_language_csv_de(void);
 const peltzivar_forms *peltzivar_language_csv_en(void);
 const peltzivar_forms *peltzivar_language_c_plus_plus(void);
 const peltzivar_forms *peltzivar_language_c_sharp(void);
+const peltzivar_forms *peltzivar_language_d(void);
 const peltzivar_forms *peltzivar_language_elixir(void);
 const peltzivar_forms *peltzivar_language_fortran(void);
 const peltzivar_forms *peltzivar_language_go(void);
@@ -128,18 +129,23 @@ const peltzivar_forms *peltzivar_language_haskell_ghc2021(void);
 const peltzivar_forms *peltzivar_language_java(void);
 const peltzivar_forms *peltzivar_language_javascript(void);
 const peltzivar_forms *peltzivar_language_json(void);
+const peltzivar_forms *peltzivar_language_json5(void);
 const peltzivar_forms *peltzivar_language_julia(void);
 const peltzivar_forms *peltzivar_language_kotlin(void);
 const peltzivar_forms *peltzivar_language_lua(void);
 const peltzivar_forms *peltzivar_language_nasm(void);
+const peltzivar_forms *peltzivar_language_nim(void);
 const peltzivar_forms *peltzivar_language_ocaml(void);
+const peltzivar_forms *peltzivar_language_perl(void);
 const peltzivar_forms *peltzivar_language_php(void);
 const peltzivar_forms *peltzivar_language_python(void);
 const peltzivar_forms *peltzivar_language_r(void);
 const peltzivar_forms *peltzivar_language_ruby(void);
 const peltzivar_forms *peltzivar_language_rust(void);
+const peltzivar_forms *peltzivar_language_scala(void);
 const peltzivar_forms *peltzivar_language_sql(void);
 const peltzivar_forms *peltzivar_language_swift(void);
+const peltzivar_forms *peltzivar_language_tcl(void);
 const peltzivar_forms *peltzivar_language_toml(void);
 const peltzivar_forms *peltzivar_language_xml_schema(void);
 const peltzivar_forms *peltzivar_language_yaml(void);

@@ -22,8 +22,8 @@ in [source text](FORMS.md#tokens), with its suffix, such as the `L` of `1L`, whi
 explorer have the same lists. `cargo run --example languages -- 0x1F` prints which languages read a text, and without a
 text the syntax of each form. What no format can express is in [FORMAT](FORMAT.md#what-a-format-cannot-express).
 
-Numbers have a sign in CSS, CSV_DE, CSV_EN, FORTRAN, JSON, RUBY, SQL, SWIFT, TOML, XML_SCHEMA, YAML and YAML_1_1. In the
-other languages, `-` is an operator: they refuse `-5`, so read what is behind it.
+Numbers have a sign in CSS, CSV_DE, CSV_EN, FORTRAN, JSON, JSON5, NIM, RUBY, SQL, SWIFT, TOML, XML_SCHEMA, YAML and
+YAML_1_1. In the other languages, `-` is an operator: they refuse `-5`, so read what is behind it.
 
 A form reads an optional sign, `.5` and `1.` beside `1.5`, and exponents with `e` or `E`, unless its row says otherwise:
 *integers* have neither a point nor an exponent, and a prefix is required. Values are those of the numbers, unless a

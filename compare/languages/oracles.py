@@ -6,9 +6,10 @@ import sys
 # A tool: its packages in Debian, the programs that it needs, commands that print its version and build its judge, and the
 # judge.
 Tool = collections.namedtuple("Tool", "package programs version build judge")
-PYTHON, DEBIAN, YAML, MCS = sys.executable, "/usr/bin/python3", "/usr/share/nodejs/yaml", "/usr/lib/mono/4.5/mcs.exe"
+PYTHON, DEBIAN, NODE, MCS = sys.executable, "/usr/bin/python3", "/usr/share/nodejs", "/usr/lib/mono/4.5/mcs.exe"
 PACKAGES = "/usr/lib/python3/dist-packages"
 JAVAC = " ".join(f"--add-exports jdk.compiler/com.sun.tools.javac.{it}=ALL-UNNAMED" for it in ("file", "parser", "tree", "util"))
+SCALA = "/usr/share/java/scala-compiler.jar:/usr/share/java/scala-library.jar:/usr/share/java/scala-reflect.jar"
 OCAMLC = "ocamlc -w -a -I +compiler-libs ocamlcommon.cma"
 TOOLS = {
     "ast": Tool("python3", [PYTHON], f"{PYTHON} --version", "", f"{PYTHON} libraries.py python"),
@@ -17,18 +18,23 @@ TOOLS = {
     "g++": Tool("g++", ["g++"], "g++ --version", "", f"{PYTHON} compilers.py g++"),
     "gcc": Tool("gcc", ["gcc"], "gcc --version", "", f"{PYTHON} compilers.py gcc"),
     "gfortran": Tool("gfortran", ["gfortran"], "gfortran --version", "", f"{PYTHON} compilers.py gfortran"),
+    "gdc": Tool("gdc", ["gdc"], "gdc --version", "", f"{PYTHON} compilers.py gdc"),
     "ghc": Tool("ghc", ["ghc"], "ghc --version", "ghc -v0 -package ghc -outputdir {work} -o {work}/ghc haskell.hs", "{work}/ghc"),
     "gnat": Tool("gnat", ["gnatmake"], "gnatmake --version", "", f"{PYTHON} compilers.py gnat"),
     "go": Tool("golang-go", ["go"], "go version", "go build -o {work}/go scanner.go", "{work}/go"),
     "javac": Tool("openjdk-17-jdk", ["javac"], "javac --version", f"javac {JAVAC} -d {{work}} Scanner.java", f"java {JAVAC} -cp {{work}} Scanner"),
     "json": Tool("nodejs", ["node"], "echo JSON.parse of node $(node --version)", "", "node node.js json"),
+    "json5": Tool("nodejs node-json5", ["node", f"{NODE}/json5"], f"node -p '`json5 ${{require(\"{NODE}/json5/package.json\").version}}`'",
+                  "", "node node.js json5"),
     "kotlinc": Tool("kotlin openjdk-17-jdk", ["kotlinc", "javap"], "kotlinc -version 2>&1 | grep info", "", f"{PYTHON} compilers.py kotlinc"),
     "lua": Tool("lua5.4", ["lua5.4"], "lua5.4 -v", "", "lua5.4 lua.lua"),
     "mcs": Tool("mono-mcs", ["mcs", MCS], "mcs --version", f"mcs -r:{MCS} -out:{{work}}/cs.exe mcs.cs",
                 "env MONO_PATH=/usr/lib/mono/4.5 mono {work}/cs.exe"),
     "nasm": Tool("nasm", ["nasm"], "nasm --version", "", f"{PYTHON} compilers.py nasm"),
+    "nim": Tool("nim", ["nim"], "nim --version", "", "nim e --hints:off nim.nims"),
     "ocaml": Tool("ocaml-nox ocaml-compiler-libs", ["ocamlc"], "echo OCaml $(ocamlc -version)", f"cp ocaml.ml {{work}} && cd {{work}} && {OCAMLC} -o judge ocaml.ml",
                   "{work}/judge"),
+    "perl": Tool("perl", ["perl"], "perl -e 'print \"Perl $^V\"'", "", "perl perl.pl"),
     "php": Tool("php-cli", ["php"], "php --version", "", "php php.php"),
     "postgres": Tool("postgresql libpq-dev", ["pg_config"], "pg_config --version", "", "./postgres.sh"),
     "pyyaml": Tool("python3-yaml", [DEBIAN, f"{PACKAGES}/yaml"],
@@ -36,14 +42,17 @@ TOOLS = {
     "r": Tool("r-base-core", ["Rscript"], "Rscript --version 2>&1", "", "Rscript --vanilla r.R"),
     "ruby": Tool("ruby", ["ruby"], "ruby --version", "", "ruby ruby.rb"),
     "rustc": Tool("rustc", ["rustc"], "rustc --version", "", f"{PYTHON} compilers.py rustc"),
+    "scala": Tool("scala openjdk-17-jdk", ["scalac", "java"], "scala -version 2>&1", f"scalac -d {{work}} -cp {SCALA} scanner.scala",
+                  f"java -cp {{work}}:{SCALA} Scan"),
     "sqlite": Tool("python3", [PYTHON], f"{PYTHON} -c 'import sqlite3; print(\"SQLite\", sqlite3.sqlite_version)'", "",
                    f"{PYTHON} libraries.py sqlite"),
+    "tcl": Tool("tcl", ["tclsh"], "echo 'puts Tcl\\ [info patchlevel]' | tclsh", "", "tclsh tcl.tcl"),
     "tinycss2": Tool("python3-tinycss2", [DEBIAN, f"{PACKAGES}/tinycss2"],
                      f"{DEBIAN} -c 'import tinycss2; print(\"tinycss2\", tinycss2.__version__)'", "", f"{DEBIAN} libraries.py css"),
     "tomllib": Tool("python3", [PYTHON], f"echo tomllib of $({PYTHON} --version)", "", f"{PYTHON} libraries.py toml"),
     "v8": Tool("nodejs", ["node"], "echo V8 of node $(node --version)", "", "node node.js javascript"),
     "xmllint": Tool("libxml2-utils", ["xmllint"], "xmllint --version 2>&1", "", "./xmllint.sh"),
-    "yaml": Tool("nodejs node-yaml", ["node", YAML], f"node -p '`yaml ${{require(\"{YAML}/package.json\").version}}`'", "", "node node.js yaml"),
+    "yaml": Tool("nodejs node-yaml", ["node", f"{NODE}/yaml"], f"node -p '`yaml ${{require(\"{NODE}/yaml/package.json\").version}}`'", "", "node node.js yaml"),
 }
 
 # A difference: the mark `+` if the tool alone takes the texts, `-` if the library alone does, `=` if they differ in value, and
@@ -101,6 +110,12 @@ LANGUAGES = [
     # mcs has faults with separators, so it gets none.
     Language("C_SHARP", "mcs", "0189.exf-+b", "", "1m 1f 1UL", [
         suffix("[uUlL]+|[fFdDmM]"), out_of_range(2**64), ROUNDED]),
+    Language("D", "gdc", "018._exp-b", "_", "1L 1uL 1.5f 1i 0x1p3L 0x.8p3 1e_5 0x_1p_3", [
+        suffix("[uU]?L?[uU]?|[fFL]?i?"), Cause("+", "0[0-7_]+([uU]?L?[uU]?)", "an octal number below 8, beside the specification"),
+        Cause("+", "0[0-9_]*([fF]i?|L?i)", "a float of leading zeros, beside the specification"),
+        Cause("+", r"0[\d_]+\._*([eE][+-]?[\d_]+|_[\d_]*([eE][+-]?[\d_]+)?)?[fFL]?i?", "no digit behind a point and leading zeros, beside the specification"),
+        Cause("+", r"0[xX]_*(\.[\da-fA-F_]*)?[pP][+-]?[\d_]+[fFL]?i?", "no digits behind a prefix, beside the specification"),
+        out_of_range(math.inf), ROUNDED]),
     Language("ELIXIR", "elixir", "018._exo-+", "_", "1.0e10 1.5e-3", [out_of_range(math.inf)]),
     Language("FORTRAN", "gfortran", "019.edD-+_", "_", "1.0_8 1d3 1.5d300", [
         out_of_range(math.inf, single="0"), Cause("=", ".*", "a subnormal number, which the tool rounds to zero",
@@ -116,6 +131,7 @@ LANGUAGES = [
         out_of_range(math.inf)]),
     Language("JAVASCRIPT", "v8", "018._exn-+b", "_", "1n 0b1n", [suffix("n"), Cause("+", "NaN|Infinity", "a name")]),
     Language("JSON", "json", "012.eE+-x_", "_", "", []),
+    Language("JSON5", "json5", "018.eE+-x", "", "NaN Infinity -Infinity +NaN nan -0x1F", []),
     Language("KOTLIN", "kotlinc", "01._exL-", "_", "1L 1f 1u 1uL", [
         suffix("[uU]?L|[uU]|[fF]"), Cause("+", r"\d[\d_]*[fF]", "a float by its suffix alone"), out_of_range(2**63),
         Cause("+", r"[\da-fA-FxXbB_]+_[uU]L?", "a separator before a suffix, beside the specification")]),
@@ -127,9 +143,16 @@ LANGUAGES = [
         Cause("+", r"[\w.]+(\._+([eEpP][+-]?[\d_]*)?|[eEpP][+-]?_+)|0[a-zA-Z]_+\.[\w.]*([pP][+-]?[\d_]*)?", "a part of separators alone"),
         ROUNDED, Cause("=", ".*", "an infinite value, which the tool makes NaN",
                        lambda ours, theirs: ours.double == math.inf and math.isnan(theirs))]),
+    Language("NIM", "nim", "018._exo-b", "_", "1'i8 1'u64 1i8 1u 1.5f32 1d -1.5e3 0xFF'u8 1'x 0c17 -9223372036854775808", [
+        suffix("'?([iI](8|16|32|64)|[uU](8|16|32|64)?|[fF](32|64)?|[dD])"), Cause("+", r"-?0[cC][0-7_]+\w*", "the prefix 0c, beside the manual"),
+        Cause("+", r"-[\d_]+", "the least integer", lambda _, theirs: theirs == -2**63)]),
     Language("OCAML", "ocaml", "018._exp-+b", "_", "1l 1n 1L 1z", [
         suffix("[lLn]"), Cause("+", r"\w+\._+([eEpP][+-]?\d[\d_]*)?", "a fraction of separators alone"),
         Cause("+", r"[\d_]+", "the least integer without its sign", lambda _, theirs: theirs == -2**62)]),
+    Language("PERL", "perl", "018._exp-o", "_", "01.4p0 0o1.4p0 0b1.1p0 07_7 1.2.3", [
+        Cause("-", "0_[0-7_]+(\\.[0-7_]*)?([pP][+-]?[\\d_]+)?", "a separator behind the first zero, of which the tool warns"),
+        Cause("-", r"0(\.[0-7_]*)?[pP][+-]?[\d_]+", "an octal float with one digit before its point"),
+        Cause("=", "0.*[pP].*", "a fraction of more than 52 bits, of which the tool drops the rest", lambda ours, theirs: theirs < ours.double)]),
     Language("PHP", "php", "018._exo-b", "_", "0o17 0O17 0b1", []),
     Language("PYTHON", "ast", "018._exj-+b", "_", "1j 0j", [
         suffix("[jJ]"), Cause("+", "0[0_]*", "an integer of zeros alone"), Cause("+", "[0-9_]+[jJ]", "digits of an imaginary number")]),
@@ -138,8 +161,12 @@ LANGUAGES = [
     Language("RUBY", "ruby", "018._exr-+b", "_", "1r 1i 1ri 0d10", [suffix("ri?|i")]),
     Language("RUST", "rustc", "018._exo-u", "_", "1u8 1.5f32 1_i64 0x1z", [
         suffix("([ui](8|16|32|64|128|size)|f32|f64)"), out_of_range(2**128)]),
+    # Debian's compiler, 2.11, has no separators, so it gets none.
+    Language("SCALA", "scala", "0189.exf-+", "", "1L 1f 08f 08.5 1d", [
+        suffix("[lLfFdD]"), Cause("+", "[0-9]*[fFdD]", "a float by its suffix alone"), out_of_range(math.inf)]),
     Language("SQL", "postgres", "019.eE+-x_", "_", "", [ZERO]),
     Language("SQL", "sqlite", "019.eE+-x_", "_", "", [Cause("+", r"[+-]?0[xX][\da-fA-F]+", "hexadecimal, beyond the standard"), ROUNDED]),
+    Language("TCL", "tcl", "018.exo-bI", "", "Inf inf Infinity -Inf 1eq1 017.5", []),
     Language("TOML", "tomllib", "018._exo-+b", "_", "inf nan +inf", []),
     Language("XML_SCHEMA", "xmllint", "0189.eE+-x", "_", "+1.5 -.5", [
         Cause("-", r"[+-]?[\d.]{25,}", "more than the 24 digits of the tool")]),
@@ -153,12 +180,14 @@ LANGUAGES = [
 ]
 
 # Languages that no package of Debian has a tool for, and what only its faulty one judges.
-TABLES = {"JULIA": "no tool", "SWIFT": "no tool", "C_SHARP": "separators have no tool"}
+TABLES = {"JULIA": "no tool", "SWIFT": "no tool", "C_SHARP": "separators have no tool", "SCALA": "separators have no tool"}
 
 # Languages without tokens, and suffixes that the tools alone take.
-DATA = "ADA CSV_DE CSV_EN FORTRAN JSON NASM SQL TOML XML_SCHEMA YAML YAML_1_1".split()
+DATA = "ADA CSV_DE CSV_EN FORTRAN JSON JSON5 NASM SQL TOML XML_SCHEMA YAML YAML_1_1".split()
 SUFFIXES = {
     "C": [Cause("+", ".*[dD][fFdDlL]", "a decimal float")],
     "C_PLUS_PLUS": [Cause("+", ".*([uU]?[zZ]|[zZ][uU])", "a size of C++23")],
+    "D": [Cause("+", "0[0-9]+([fF]i?|L?i)", "a float of leading zeros")],
+    "NIM": [Cause("+", "0[ob].*", "a float of which the digits are the bits")],
     "C_SHARP": [Cause("+", "[^lLuU]*(?i:[ul]*(u[ul]*u|l[ul]*l)[ul]*)", "a letter that is repeated, beside the standard")],
 }

@@ -145,7 +145,7 @@ fn languages_are_found_by_name() {
     assert!(["", " C", "C ", "C\n"].iter().all(|it| Language::from_name(it).is_none()));
     let error = |name: &str| name.parse::<Language>().unwrap_err().to_string();
     assert_eq!(error("javascrip"), "unknown language; did you mean `JAVASCRIPT`?");
-    assert_eq!(error("D"), "unknown language");
+    assert_eq!(error("Q"), "unknown language");
 }
 
 /// Groups decide which of two forms has a text, and where a front of it ends: `1,234.50` is English, and `1.234,50` German.

@@ -112,6 +112,9 @@ fn a_suffix_of_floats_has_no_limit() {
     for language in Language::ALL {
         for suffixes in language.forms().into_iter().filter_map(|it| it.suffixes()) {
             for word in suffixes.integers().iter().filter(|it| suffixes.floats().contains(it)) {
+                if (language.name(), *word) == ("D", b"L") {
+                    continue; // `1L` is an integer.
+                }
                 let text = ["1".repeat(39).as_bytes(), word].concat();
                 let token = language.token(&text).unwrap();
                 assert!(token.literal.to_f64().is_ok(), "{language}: {}", text.escape_ascii());
@@ -133,7 +136,8 @@ fn tokens_end_where_scanners_end_them() {
 
 #[test]
 fn languages_of_data_have_no_tokens() {
-    let none = ["ADA", "CSV_DE", "CSV_EN", "FORTRAN", "JSON", "NASM", "SQL", "TOML", "XML_SCHEMA", "YAML", "YAML_1_1"];
+    #[rustfmt::skip]
+    let none = ["ADA", "CSV_DE", "CSV_EN", "FORTRAN", "JSON", "JSON5", "NASM", "SQL", "TOML", "XML_SCHEMA", "YAML", "YAML_1_1"];
     let found = Language::ALL.iter().filter(|it| it.token("1") == Err(TokenError::NoTokens)).map(Language::name);
     assert_eq!(Vec::from_iter(found), none);
 }

@@ -37,6 +37,16 @@ procedure Show (It : Long_Long_Long_Integer) is begin Ada.Text_IO.Put_Line (It'I
 procedure Show (It : Long_Float) is begin Bits_IO.Put (Bits (It), Base => 16); Ada.Text_IO.New_Line; end Show;
 begin
 """, "begin Show (\n{text}\n); exception when others => Ada.Text_IO.New_Line; end;\n", "end A;\n"
+# An error takes one semicolon.
+D = "", "auto number{i} =\n{text}\n;;\n", "void main() {}\n"
+PRINT_D = """import core.stdc.stdio;
+void show(T)(T it) {
+static if (is(T : ireal)) show(it.im);
+else static if (is(T : ulong)) printf("%llu\\n", cast(ulong) it);
+else printf(is(T == float) ? "%.9gf\\n" : "%a\\n", cast(double) it);
+}
+void main() {
+""", SHOW, "}\n"
 FORTRAN = "implicit double precision (v)\n", "data value{i} / &\n{text} &\n/\n", "end\n"
 # The value, with the digits that its kind has, and the kind: 4 is that of integers and singles.
 PRINT_FORTRAN = "", "print '(G0, 1X, I0)', {text}, kind( &\n{text} &\n)\n", "end\n"
@@ -52,6 +62,7 @@ COMPILERS = {
     "gcc": [Compiler(f"gcc -std=c2x {GCC}", "a.c", *C, PRINT_C, scanner=[sys.executable, f"{SCANNERS}/gcc.py", "gcc -x c -std=c2x"])],
     "g++": [Compiler(f"g++ -std=c++17 -D_Static_assert=static_assert {GCC}", "a.cc", *C, PRINT_CC,
                      scanner=[sys.executable, f"{SCANNERS}/gcc.py", "g++ -x c++ -std=c++17"])],
+    "gdc": [Compiler("gdc -fmax-errors=0 -fno-diagnostics-show-caret -o out", "a.d", *D, PRINT_D)],
     "gnat": [Compiler("gnatmake -f -q -o out -gnatf -gnatm999999 -gnatws", "a.adb", *ADA, PRINT_ADA)],
     "gfortran": [Compiler(f"gfortran -std=f2018 {GCC}", "a.f90", *FORTRAN, PRINT_FORTRAN, signed=True)],
     "nasm": [Compiler("nasm -f bin -o out", "a.asm", "bits 64\n", "mov rax, {text}\n\n\n", "", "q"),

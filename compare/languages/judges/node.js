@@ -1,4 +1,4 @@
-// Judges of node: V8, JSON.parse and the package yaml. Reads texts on standard input, and prints `-`, or `+` and the value.
+// Judges of node: V8, JSON.parse and the packages json5 and yaml. Reads texts on standard input, and prints `-`, or `+` and the value.
 const evaluate = text => {
     try {
         return (0, eval)(`"use strict";(${text})`);
@@ -16,7 +16,8 @@ function javascript(text) {
 
 const options = { version: "1.2", schema: "core", logLevel: "silent" };
 const yaml = text => require("/usr/share/nodejs/yaml").parse(text, options);
-const judge = { javascript, json: JSON.parse, yaml }[process.argv[2]];
+const json5 = text => require("/usr/share/nodejs/json5").parse(text);
+const judge = { javascript, json: JSON.parse, json5, yaml }[process.argv[2]];
 const bits = Buffer.alloc(8);
 for (const text of require("fs").readFileSync(0, "utf8").split("\n").slice(0, -1)) {
     let value;

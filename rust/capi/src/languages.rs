@@ -390,6 +390,7 @@ languages! {
     CSV_EN peltzivar_language_csv_en
     C_PLUS_PLUS peltzivar_language_c_plus_plus
     C_SHARP peltzivar_language_c_sharp
+    D peltzivar_language_d
     ELIXIR peltzivar_language_elixir
     FORTRAN peltzivar_language_fortran
     GO peltzivar_language_go
@@ -398,18 +399,23 @@ languages! {
     JAVA peltzivar_language_java
     JAVASCRIPT peltzivar_language_javascript
     JSON peltzivar_language_json
+    JSON5 peltzivar_language_json5
     JULIA peltzivar_language_julia
     KOTLIN peltzivar_language_kotlin
     LUA peltzivar_language_lua
     NASM peltzivar_language_nasm
+    NIM peltzivar_language_nim
     OCAML peltzivar_language_ocaml
+    PERL peltzivar_language_perl
     PHP peltzivar_language_php
     PYTHON peltzivar_language_python
     R peltzivar_language_r
     RUBY peltzivar_language_ruby
     RUST peltzivar_language_rust
+    SCALA peltzivar_language_scala
     SQL peltzivar_language_sql
     SWIFT peltzivar_language_swift
+    TCL peltzivar_language_tcl
     TOML peltzivar_language_toml
     XML_SCHEMA peltzivar_language_xml_schema
     YAML peltzivar_language_yaml

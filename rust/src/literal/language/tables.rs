@@ -48,10 +48,14 @@ const fn integers(radix: u8, builder: NumberFormatBuilder) -> Syntax {
     unsigned(Syntax::integers(builder.mantissa_radix(radix).build_format_or_panic()))
 }
 
-/// Returns the syntax of octal integers, which begin with a zero: `017` is accepted, and `17` rejected.
-const fn octal(builder: NumberFormatBuilder) -> Syntax {
-    let syntax = integers(8, builder);
+/// Returns the same syntax with a zero in front of the digits: `017` is accepted, and `17` rejected.
+const fn zero_first(syntax: Syntax) -> Syntax {
     syntax.with_conditions_or_panic(syntax.conditions().required_leading_zero(true))
+}
+
+/// Returns the syntax of octal integers, which begin with a zero.
+const fn octal(builder: NumberFormatBuilder) -> Syntax {
+    zero_first(integers(8, builder))
 }
 
 /// Returns the same syntax with a first digit that is not a letter: `0FFh` is accepted, and `FFh`, a name, rejected.
@@ -78,9 +82,13 @@ const fn suffixed(suffix: u8, radix: u8, builder: NumberFormatBuilder) -> Syntax
 /// Returns the syntax of floats, and of integers if no exponent is required, of a radix with a prefix, which is required.
 /// The exponent is decimal, and its base is 2: `0x1.8p3` is 1.5 × 2^3.
 const fn binary_floats(prefix: u8, radix: u8, builder: NumberFormatBuilder) -> Syntax {
-    let builder = builder.mantissa_radix(radix).base_prefix(NonZeroU8::new(prefix));
-    let builder = builder.exponent_base(NonZeroU8::new(2)).exponent_radix(NonZeroU8::new(10));
-    required_prefix(unsigned(numbers(b'p', b'.', builder)))
+    required_prefix(powers_of_two(radix, builder.base_prefix(NonZeroU8::new(prefix))))
+}
+
+/// Returns the syntax of the same numbers without a prefix.
+const fn powers_of_two(radix: u8, builder: NumberFormatBuilder) -> Syntax {
+    let builder = builder.mantissa_radix(radix).exponent_base(NonZeroU8::new(2)).exponent_radix(NonZeroU8::new(10));
+    unsigned(numbers(b'p', b'.', builder))
 }
 
 /// Returns the same syntax with the sign `-`, which `unsigned` forbids: accepts `-1`.
@@ -106,10 +114,11 @@ const RUST: NumberFormatBuilder = JAVA.trailing_digit_separator(true); // accept
 /// Digits of YAML 1.1, after a sign.
 const YAML_1_1: NumberFormatBuilder = RUST.no_positive_mantissa_sign(false); // accepts `+1`
 
+/// Digits of D behind a prefix.
+const D_PREFIXED: NumberFormatBuilder = RUST.integer_leading_digit_separator(true); // accepts `0x_1F`
+
 /// Digits of Rust behind a prefix.
-const RUST_PREFIXED: NumberFormatBuilder = RUST
-    .case_sensitive_base_prefix(true) // rejects `0X1F`
-    .integer_leading_digit_separator(true); // accepts `0x_1F`
+const RUST_PREFIXED: NumberFormatBuilder = D_PREFIXED.case_sensitive_base_prefix(true); // rejects `0X1F`
 
 /// Digits of Julia, which has no separator in an exponent.
 const JULIA: NumberFormatBuilder = separated(b'_').exponent_internal_digit_separator(false); // rejects `1e1_0`
@@ -148,7 +157,10 @@ const WRAPS_64: Kind = whole(IntegerKind::Wraps(64));
 const AT_MOST_62: Kind = whole(IntegerKind::AtMost(62));
 const WRAPS_63: Kind = whole(IntegerKind::Wraps(63));
 
-/// Integers of Lua and NASM, of which the last 64 bits count.
+/// Integers of D and Nim without a sign.
+const AT_MOST_64: Kind = whole(IntegerKind::AtMost(64));
+
+/// Integers of Lua, NASM and Nim, of which the last 64 bits count.
 const LAST_64: Kind = whole(IntegerKind::WrapsModulo(64));
 
 /// Integers and reals of Fortran.
@@ -207,6 +219,19 @@ const C_SHARP_INTEGERS: &[&[u8]] = &[b"u", b"l", b"ul", b"lu"];
 const C_SHARP_DECIMALS: Suffixes =
     words(&[b"u", b"l", b"ul", b"lu", b"f", b"d", b"m"], &[b"f", b"d", b"m"]).either_case(true).with_kinds(FLOAT);
 
+/// Suffixes of D: `1uL` and `1.5Li`.
+const D_INTEGERS: Suffixes = words(&[b"L", b"u", b"U", b"Lu", b"LU", b"uL", b"UL"], &[]);
+const D_WORDS: Suffixes = words(
+    &[b"L", b"u", b"U", b"Lu", b"LU", b"uL", b"UL", b"f", b"F", b"i", b"fi", b"Fi", b"Li"],
+    &[b"f", b"F", b"L", b"i", b"fi", b"Fi", b"Li"],
+)
+.with_kinds(D_KINDS);
+#[rustfmt::skip]
+const D_KINDS: &[(&[u8], Kind)] = &[
+    (b"u", AT_MOST_64), (b"U", AT_MOST_64), (b"Lu", AT_MOST_64), (b"LU", AT_MOST_64), (b"uL", AT_MOST_64), (b"UL", AT_MOST_64),
+    (b"f", SINGLE), (b"F", SINGLE), (b"i", Kind::EXACT), (b"fi", SINGLE), (b"Fi", SINGLE), (b"Li", Kind::EXACT),
+];
+
 /// Suffixes of imaginary numbers of Go, and a point that no binary and octal number has: `0b1.`.
 const GO_WORDS: Suffixes = words(&[b"i"], &[b"i"]);
 const GO_POINTLESS: Suffixes = Suffixes::new(&[b"i"], &[], &[Stop::new(b"", b".", b"")]);
@@ -232,6 +257,33 @@ const KOTLIN_INTEGERS: &[&[u8]] = &[b"u", b"U", b"L", b"uL", b"UL"];
 const KOTLIN_DECIMALS: Suffixes = words(&[b"u", b"U", b"L", b"uL", b"UL", b"f", b"F"], &[b"f", b"F"]).with_kinds(FLOAT);
 const KOTLIN_FLOATS: Suffixes = words(&[b"f", b"F"], &[]).with_kinds(FLOAT);
 
+/// Suffixes of Nim, in either case. A word behind `'`, as in `1'i8`, is refused, and so is a second point.
+const NIM_STOPS: &[Stop] = &[Stop::new(b"", b"'", b""), Stop::new(b"", b".", b"0123456789")];
+const NIM_INTEGERS: Suffixes =
+    Suffixes::new(&[b"i8", b"i16", b"i32", b"i64", b"u", b"u8", b"u16", b"u32", b"u64"], &[], NIM_STOPS)
+        .either_case(true)
+        .with_kinds(NIM_KINDS);
+const NIM_DECIMALS: Suffixes = Suffixes::new(
+    &[b"i8", b"i16", b"i32", b"i64", b"u", b"u8", b"u16", b"u32", b"u64", b"f", b"f32", b"f64", b"d"],
+    &[b"f", b"f32", b"f64", b"d"],
+    NIM_STOPS,
+)
+.either_case(true)
+.with_kinds(NIM_DECIMAL_KINDS);
+#[rustfmt::skip]
+const NIM_KINDS: &[(&[u8], Kind)] = &[
+    (b"i8", whole(IntegerKind::Wraps(8))), (b"i16", whole(IntegerKind::Wraps(16))), (b"i32", WRAPS_32),
+    (b"u8", whole(IntegerKind::AtMost(8))), (b"u16", whole(IntegerKind::AtMost(16))), (b"u32", whole(IntegerKind::AtMost(32))),
+    (b"u", AT_MOST_64), (b"u64", AT_MOST_64),
+];
+#[rustfmt::skip]
+const NIM_DECIMAL_KINDS: &[(&[u8], Kind)] = &[
+    (b"i8", whole(IntegerKind::AtMost(7))), (b"i16", whole(IntegerKind::AtMost(15))), (b"i32", AT_MOST_31),
+    (b"u8", whole(IntegerKind::AtMost(8))), (b"u16", whole(IntegerKind::AtMost(16))), (b"u32", whole(IntegerKind::AtMost(32))),
+    (b"u", AT_MOST_64), (b"u64", AT_MOST_64),
+    (b"f", SINGLE), (b"f32", SINGLE), (b"f64", Kind::EXACT), (b"d", Kind::EXACT),
+];
+
 /// Suffixes of OCaml, whose names may have `'`.
 const OCAML_WORDS: Suffixes = Suffixes::new(&[b"l", b"L", b"n"], &[], &[Stop::new(b"", b"'", b"")]).with_kinds(&[
     (b"l", WRAPS_32),
@@ -239,6 +291,9 @@ const OCAML_WORDS: Suffixes = Suffixes::new(&[b"l", b"L", b"n"], &[], &[Stop::ne
     (b"n", WRAPS_64),
 ]);
 const OCAML_DECIMALS: Suffixes = OCAML_WORDS.with_kinds(&[(b"l", AT_MOST_31), (b"L", AT_MOST_63), (b"n", AT_MOST_63)]);
+
+/// What may not follow a decimal number of Perl: `1.2.3` is a string, and the point of `1.x` may be of the number or not.
+const PERL_STOPS: &[Stop] = &[Stop::new(b"", b".", b"0123456789"), Stop::new(b"", b".", &LETTERS)];
 
 /// The suffix of imaginary numbers of Python, in either case.
 const PYTHON_WORDS: Suffixes = words(&[b"j"], &[b"j"]).either_case(true);
@@ -344,6 +399,28 @@ languages! {
         "binary": prefixed(b'b', 2, JAVA.integer_leading_digit_separator(true)) => words(C_SHARP_INTEGERS, &[]).either_case(true), // accepts `0b_1`
     } => Tokens::new(&[], &[]);
 
+    /// D's integers and floats (D Language Specification, Lexical, Integer Literals and Floating Point Literals). A format cannot
+    /// accept `1u`, `1L`, `1f` and `1i`. Compilers also accept leading zeros in `07` and `01f`, which the specification does not.
+    D = {
+        "decimal": decimal(RUST
+            .required_fraction_digits(true) // rejects `1.` and `1.e5`, not `.5`
+            .no_integer_leading_zeros(true) // rejects `08`, not `08.5`
+            .exponent_leading_digit_separator(true) // accepts `1e_5`
+        ) => D_WORDS; AT_MOST_63,
+        "with a point at the end": decimal(RUST
+            .exponent_digit_separator_flags(false)
+            .no_integer_leading_zeros(true) // rejects `08`, not `08.`
+            .no_exponent_notation(true) // rejects `1.e5`
+        ); AT_MOST_63,
+        "hexadecimal": prefixed(b'x', 16, D_PREFIXED) => D_INTEGERS; AT_MOST_64,
+        "binary": prefixed(b'b', 2, D_PREFIXED) => D_INTEGERS; AT_MOST_64,
+        "hexadecimal float": binary_floats(b'x', 16, D_PREFIXED
+            .required_fraction_digits(true) // rejects `0x1.p3`, not `0x.8p3`
+            .exponent_leading_digit_separator(true) // accepts `0x1p_3`
+            .required_exponent_notation(true) // rejects `0x1.8`
+        ) => D_WORDS,
+    } => POINTS_BACK;
+
     /// Elixir's integers and floats (Syntax reference 1.14, Numbers). Elixir refuses numbers from 1.8e308 on, which are infinity here.
     ELIXIR = {
         "decimal": decimal(separated(b'_')
@@ -425,6 +502,17 @@ languages! {
     /// JSON's numbers (RFC 8259, 6. Numbers).
     JSON = { "decimal": signed(decimal(without_zeros(TOKENS).required_digits(true))) }; // rejects `.5`, `1.`, `1e` and `.`
 
+    /// JSON5's numbers (The JSON5 Data Interchange Format 1.0.0, 6. Numbers). As in JavaScript, they are doubles: take their values
+    /// as `f64`.
+    JSON5 = {
+        "decimal": signed(decimal(without_zeros(TOKENS)
+            .no_positive_mantissa_sign(false) // accepts `+1`
+            .no_special(false) // accepts `NaN` and `Infinity`
+            .case_sensitive_special(true) // rejects `nan`
+        )),
+        "hexadecimal": signed(prefixed(b'x', 16, TOKENS.no_positive_mantissa_sign(false))), // accepts `+0x1F`
+    }, Specials { nan: Some(b"NaN"), inf: Some(b"Infinity"), infinity: None };
+
     /// Julia's integers and floats (Manual 1.11, Integers and Floating-Point Numbers). `0.1f0`, but not `0.1`, is an `f32`.
     JULIA = {
         "decimal": decimal(JULIA) => JULIA_WORDS,
@@ -491,6 +579,17 @@ languages! {
         "binary, 0y": binary_floats(b'y', 2, NASM_PREFIXED); LAST_64,
     };
 
+    /// Nim's integers and floats, with the sign `-` (Nim Manual 1.6, Numeric literals). A format cannot accept the suffixes in
+    /// `1'i8`, `1i8` and `1.5f32`. A hexadecimal, octal or binary integer keeps its last 64 bits: `0xffffffffffffffff` is -1. Nim
+    /// also accepts the least integers, such as `-128i8`, which are too small here, and `0c17`, which the manual does not, but
+    /// refuses `-1u8`. Tokens with `'` are refused here, and so is `0b1f32`, whose digits are the bits of a float.
+    NIM = {
+        "decimal": signed(decimal(separated(b'_').required_digits(true))) => NIM_DECIMALS; AT_MOST_63, // rejects `.5`, `1.`, `1e` and `.`
+        "hexadecimal": signed(prefixed(b'x', 16, separated(b'_'))) => NIM_INTEGERS; LAST_64,
+        "octal": signed(prefixed(b'o', 8, separated(b'_').case_sensitive_base_prefix(true))) => NIM_INTEGERS; LAST_64, // rejects `0O17`
+        "binary": signed(prefixed(b'b', 2, separated(b'_'))) => NIM_INTEGERS; LAST_64,
+    } => POINTS_BACK;
+
     /// OCaml's integers and floats (Manual 5.2, 11.1 Lexical conventions). A format cannot accept `1._`, whose fraction has a
     /// separator alone, or `1l`, `1L` and `1n`. An integer has 63 bits, so `0x7fffffffffffffff` is -1.
     /// `4611686018427387904`, of which OCaml makes its least integer, -2^62, is too large.
@@ -506,6 +605,21 @@ languages! {
         "octal": prefixed(b'o', 8, RUST) => OCAML_WORDS; WRAPS_63,
         "binary": prefixed(b'b', 2, RUST) => OCAML_WORDS; WRAPS_63,
     } => Tokens::new(&[], &[]);
+
+    /// Perl's numeric literals (perldata 5.36, Scalar value constructors). Where Perl warns of a misplaced `_`, as in `1__0`, they
+    /// are refused. A format cannot accept `07_7` and `01.4p0` but reject `0_7` and `0.4p0`. In Perl, an integer from 2^64 on is a
+    /// float: take its value as an `f64`. A token is refused before a point that may be an operator, as in `1.x` and `0x1F.8`.
+    PERL = {
+        "decimal": decimal(without_zeros(separated(b'_'))) => Suffixes::new(&[], &[], PERL_STOPS), // rejects `01.5`
+        "octal": octal(separated(b'_')),
+        "hexadecimal": prefixed(b'x', 16, separated(b'_')),
+        "octal, 0o": prefixed(b'o', 8, separated(b'_')),
+        "binary": prefixed(b'b', 2, separated(b'_')),
+        "hexadecimal float": binary_floats(b'x', 16, separated(b'_').required_exponent_notation(true)), // rejects `0x1.8`
+        "octal float, 0o": binary_floats(b'o', 8, separated(b'_').required_exponent_notation(true)), // rejects `0o1.4`
+        "binary float": binary_floats(b'b', 2, separated(b'_').required_exponent_notation(true)), // rejects `0b1.1`
+        "octal float": zero_first(powers_of_two(8, separated(b'_').required_exponent_notation(true))), // rejects `01.4`
+    } => POINTS_BACK;
 
     /// PHP's integers and floats (Manual, 8.1 and later, Integers and Floating point numbers). In PHP, an integer from 2^63 on is
     /// a float.
@@ -573,6 +687,19 @@ languages! {
         "binary": prefixed(b'b', 2, RUST_PREFIXED) => RUST_PREFIXED_WORDS,
     } => POINTS_BACK;
 
+    /// Scala's integers and floats (Scala 3.3 Reference, Syntax). A format cannot accept `1L`, `1f` and `1d`. Values are those of
+    /// `Int` or, with `L`, of `Long`: `0xffffffff` is -1. `2147483648`, which is lawful only after the operator `-`, is too large.
+    SCALA = {
+        "decimal": decimal(JAVA
+            .required_fraction_digits(true) // rejects `1.`, not `.5`
+            .no_integer_leading_zeros(true) // rejects `01`, not `01.0`
+        ) => JAVA_DECIMALS; AT_MOST_31,
+        "hexadecimal": prefixed(b'x', 16, JAVA) => JAVA_INTEGERS; WRAPS_32,
+    } => Tokens::new(
+        const { &[Form::new("float, leading zeros", integers(10, JAVA)).with_suffixes(const { &JAVA_FLOATS })] },
+        &[],
+    ).gives_points_back(true);
+
     /// SQL's signed numeric literals (ISO/IEC 9075-2:2016, 5.3 `<literal>`). PostgreSQL reads `-0.0` as 0.
     SQL = { "decimal": numbers(b'e', b'.', NumberFormatBuilder::new().no_special(true)) }; // rejects `NaN` and `inf`
 
@@ -588,6 +715,18 @@ languages! {
             .required_exponent_notation(true) // rejects `0x1.8`
         )),
     } => POINTS_BACK;
+
+    /// Tcl's numbers as operands of `expr` (expr manual 8.6, Operands).
+    TCL = {
+        "decimal": decimal(TOKENS
+            .no_special(false) // accepts `Inf`
+            .no_integer_leading_zeros(true) // rejects `08`, not `08.5`
+        ),
+        "octal": octal(TOKENS),
+        "hexadecimal": prefixed(b'x', 16, TOKENS),
+        "octal, 0o": prefixed(b'o', 8, TOKENS),
+        "binary": prefixed(b'b', 2, TOKENS),
+    }, Specials { nan: None, inf: Some(b"Inf"), infinity: Some(b"Infinity") } => Tokens::new(&[], &[b"eq", b"ne", b"in", b"ni"]);
 
     /// TOML's integers and floats (TOML 1.0.0, Integer and Float).
     TOML = {
