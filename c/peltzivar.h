@@ -418,15 +418,14 @@ enum {
  * What the syntax forbids is not done, and what it requires is. `group` and `fraction_group` are how many digits a
  * group of the integer and the fraction has, unless the syntax has a size. With 0, there are groups only where it has
  * one. `without_base` leaves out the base prefix and the base suffix. `lowercase` writes digits in lowercase.
- * `min_digits` is how many integer digits there are at least, with zeros before the others. `keep_leading_zeros` keeps
- * those of a literal whose point does not move. `exponent_from` is the number of PELTZIVAR_STYLE_FROM. With `point`, a
- * float has a point with a digit behind it, also before an exponent. With `has_decimals`, a float is rounded to as many
- * digits behind the point as `decimals`, to the nearest, or to the even one if two are as near, and has no exponent
- * that neither the syntax nor the style requires. With `nearest`, a literal of another radix or base that cannot be
- * written exactly is written by the nearest double. */
+ * `min_digits` is how many integer digits there are at least, with zeros before the others. `exponent_from` is the
+ * number of PELTZIVAR_STYLE_FROM. With `point`, a float has a point with a digit behind it, also before an exponent.
+ * With `has_decimals`, a float is rounded to as many digits behind the point as `decimals`, to the nearest, or to the
+ * even one if two are as near, and has no exponent that neither the syntax nor the style requires. With `nearest`, a
+ * literal of another radix or base that cannot be written exactly is written by the nearest double. */
 typedef struct {
     uint8_t group, fraction_group;
-    bool without_base, lowercase, keep_leading_zeros;
+    bool without_base, lowercase;
     uint8_t min_digits;
     peltzivar_exponent_style exponent;
     uint32_t exponent_from;
@@ -444,7 +443,7 @@ typedef struct {
 
 /* Write an integer by the first form whose text all forms read as the same integer, also as a double that is exactly
  * this integer. Decimal forms are asked first, and then the others, each in their order. If there is none, the status
- * is that of the form that is asked first. */
+ * is that of the form that is asked first, but PELTZIVAR_WRITE_FRACTION gives way to another one. */
 PELTZIVAR_MUST_USE peltzivar_write_status peltzivar_forms_format_i64(const peltzivar_forms *forms, int64_t value,
     const peltzivar_style *style, char *text, size_t len, size_t *needed);
 PELTZIVAR_MUST_USE peltzivar_write_status peltzivar_forms_format_u64(const peltzivar_forms *forms, uint64_t value,
@@ -453,15 +452,15 @@ PELTZIVAR_MUST_USE peltzivar_write_status peltzivar_forms_format_i128(const pelt
     peltzivar_i128 value, const peltzivar_style *style, char *text, size_t len, size_t *needed);
 
 /* Writes a float by the first form whose text all forms read as the same bits, or with `has_decimals` as the rounded
- * number, asked in the order of peltzivar_forms_format_i64. If there is none, the status is that of the first form with
- * a point. NaN and infinity are the first of their spellings that the forms read as special values, or else have
- * PELTZIVAR_WRITE_SPECIAL. */
+ * number, asked in the order of peltzivar_forms_format_i64, all that have floats before those of integers alone. If
+ * there is none, the status is as there. NaN and infinity are the first of their spellings that the forms read as
+ * special values, or else have PELTZIVAR_WRITE_SPECIAL. */
 PELTZIVAR_MUST_USE peltzivar_write_status peltzivar_forms_format_f64(const peltzivar_forms *forms, double value,
     const peltzivar_style *style, char *text, size_t len, size_t *needed);
 
 /* Writes a literal, which may be of another list, by the first form whose text all forms read as the same number. Forms
- * of its mantissa radix are asked first, then decimal ones, and then the others. If there is none, the status is that
- * of the form that is asked first or, of a float, of the first with a point. */
+ * of its mantissa radix are asked first, then decimal ones, and then the others, and of a float, all that have floats
+ * before those of integers alone. If there is none, the status is as in peltzivar_forms_format_i64. */
 PELTZIVAR_MUST_USE peltzivar_write_status peltzivar_forms_format_literal(const peltzivar_forms *forms,
     const peltzivar_literal *literal, const peltzivar_style *style, char *text, size_t len, size_t *needed);
 

@@ -926,8 +926,8 @@ class _Reader(_peltzivar.Reader):
     def format_number(
         self, value: Union[SupportsIndex, SupportsFloat, Special], *, group: Optional[int] = None,
         fraction_group: Optional[int] = None, without_base: bool = False, lowercase: bool = False, min_digits: int = 0,
-        keep_leading_zeros: bool = False, exponent: Union[int, typing.Literal["never", "always"], None] = None,
-        point: bool = False, decimals: Optional[int] = None, nearest: bool = False
+        exponent: Union[int, typing.Literal["never", "always"], None] = None, point: bool = False,
+        decimals: Optional[int] = None, nearest: bool = False
     ) -> str:
         """Returns a number as a literal, or as NaN or infinity of several forms. Reading the text returns the same
         value.
@@ -945,17 +945,18 @@ class _Reader(_peltzivar.Reader):
         `fraction_group` (0 to 254) are the digits in a group of the integer, from the right, and of the fraction. 0 is
         no groups, and None those of the size of the syntax, if it has one. `without_base` leaves out the base prefix
         and suffix. `lowercase` writes digits in lowercase, and `min_digits` (0 to 255) at least so many integer digits.
-        `keep_leading_zeros` keeps those of a `Literal` whose point does not move. `exponent` is "never", for a point
-        that moves instead, "always", or a number n: an exponent that is at least n or at most -n is kept. With `point`,
-        a float has a point with a digit behind it. `decimals` (0 to 255) rounds to so many digits behind the point, as
-        `format(value, ".2f")` does: to the nearest, or to the even one if two are as near. In radix 10, it does so with
-        each number, a `Literal` by its `value`, and otherwise with floats alone. With `nearest`, a `Literal` of another
-        radix or base that cannot be written exactly is written by the nearest float.
+        `exponent` is "never", for a point that moves instead, "always", or a number n: an exponent that is at least n
+        or at most -n is kept. With `point`, a float has a point with a digit behind it. `decimals` (0 to 255) rounds to
+        so many digits behind the point, as `format(value, ".2f")` does: to the nearest, or to the even one if two are
+        as near. In radix 10, it does so with each number, a `Literal` by its `value`, and otherwise with floats alone.
+        With `nearest`, a `Literal` of another radix or base that cannot be written exactly is written by the nearest
+        float.
 
         Of several forms, as those of a Language, that is taken whose text all of them read as the same integer, or the
-        same float: one of the radix of a `Literal`, or else decimal, or else another. If there is none, the error is
-        that of the first or, of a float, of the first with a point. An int that no form of integers can have is written
-        as a float that is equal to it: `languages.JAVA.format_number(3000000000)` is 0xB2D05E00p0.
+        same float: one of the radix of a `Literal`, or else decimal, or else another, and of a float, one with floats
+        before those of integers alone. If there is none, the error is that of the first, but that the number is not
+        whole gives way to another one. An int that no form of integers can have is written as a float that is equal to
+        it: `languages.JAVA.format_number(3000000000)` is 0xB2D05E00p0.
 
         Raises ValueError for NaN and infinity without a spelling that is read as them, for a Fraction that no decimal
         number is equal to, for a sign `-` if no literal has one, for a number that is not whole if literals are
@@ -963,7 +964,7 @@ class _Reader(_peltzivar.Reader):
         of the syntax, which is 10 for a float and a Decimal, if the number is not whole or has more than 128 bits, and,
         of a float, for another exponent base.
         """
-        wishes = group, fraction_group, without_base, lowercase, min_digits, keep_leading_zeros, exponent, point
+        wishes = group, fraction_group, without_base, lowercase, min_digits, exponent, point
         return self._text_of(value, _style(*wishes, decimals, nearest))
 
     def format_column(self, numbers: Iterable[Any], *, fill: Optional[str] = None, **wishes: Any) -> List[str]:
@@ -1081,13 +1082,13 @@ def _texts_of(cells: Any) -> Tuple[Tuple[Any, ...], bytes, Any]:
 
 def _style(
     group: Any = None, fraction_group: Any = None, without_base: Any = False, lowercase: Any = False,
-    min_digits: Any = 0, keep_leading_zeros: Any = False, exponent: Any = None, point: Any = False,
+    min_digits: Any = 0, exponent: Any = None, point: Any = False,
     decimals: Any = None, nearest: Any = False
 ) -> Tuple[int, ...]:
     """Returns wishes as the members of a style."""
     sizes = ("group", group), ("fraction_group", fraction_group)
     groups = [0 if it is None else _number(name, it, 255, "a number from 0 to 254") or 255 for name, it in sizes]
-    flags = ("without_base", without_base), ("lowercase", lowercase), ("keep_leading_zeros", keep_leading_zeros)
+    flags = ("without_base", without_base), ("lowercase", lowercase)
     flags_of, least = [_typed(name, it, bool) for name, it in flags], _number("min_digits", min_digits)
     is_name = exponent is None or isinstance(exponent, str) and exponent in ("never", "always")
     wish = (None, "never", "always").index(exponent) if is_name else 3

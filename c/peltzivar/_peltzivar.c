@@ -70,7 +70,7 @@ IS(form) S(form, name) OF('>', form, syntax, syntax) B(form, integer_kind) B(for
 IS(tokens) ARRAY(tokens, forms, count, form) S(tokens, following) B(tokens, gives_points_back) }};
 IS(forms) ARRAY(forms, forms, count, form) OF('>', forms, specials, specials) OF('*', forms, tokens, tokens) }};
 IS(style) B(style, group) B(style, fraction_group) B(style, without_base) B(style, lowercase)
-    B(style, keep_leading_zeros) B(style, min_digits) B(style, exponent) M('4', style, exponent_from) B(style, point)
+    B(style, min_digits) B(style, exponent) M('4', style, exponent_from) B(style, point)
     B(style, has_decimals) B(style, decimals) B(style, nearest) }};
 IS(fields) M('8', fields, flags) B(fields, digit_separator) B(fields, base_prefix) B(fields, base_suffix)
     B(fields, mantissa_radix) B(fields, exponent_base) B(fields, exponent_radix) }};
@@ -512,7 +512,7 @@ static const struct {
 } WISHES[] = {{"decimals", 'd', AT(style, decimals)}, {"group", 'g', AT(style, group)},
     {"fraction_group", 'g', AT(style, fraction_group)}, {"without_base", 'b', AT(style, without_base)},
     {"lowercase", 'b', AT(style, lowercase)},
-    {"keep_leading_zeros", 'b', AT(style, keep_leading_zeros)}, {"min_digits", 'd', AT(style, min_digits)},
+    {"min_digits", 'd', AT(style, min_digits)},
     {"point", 'b', AT(style, point)}, {"nearest", 'b', AT(style, nearest)}};
 
 /* Finds a wish. Returns false for one that is left to Python. */

@@ -297,8 +297,8 @@ static void test_columns(void) {
 
 /* Numbers are written as literals, and a buffer that is too short has the beginning. */
 static void test_writing(void) {
-    static const peltzivar_style styles[] = {{3, 0, false, false, false, 0, 0, 0, false, false, 0, false, {0}}, {3, 0, true, false, false, 0, 0, 0, false, false, 0, false, {0}}}, bare = {0, 0, true, false, false, 0, 0, 0, false, false, 0, false, {0}};
-    static const peltzivar_style ones = {1, 1, false, false, false, 255, PELTZIVAR_STYLE_ALWAYS, 0, false, false, 0, false, {0}};
+    static const peltzivar_style styles[] = {{3, 0, false, false, 0, 0, 0, false, false, 0, false, {0}}, {3, 0, true, false, 0, 0, 0, false, false, 0, false, {0}}}, bare = {0, 0, true, false, 0, 0, 0, false, false, 0, false, {0}};
+    static const peltzivar_style ones = {1, 1, false, false, 255, PELTZIVAR_STYLE_ALWAYS, 0, false, false, 0, false, {0}};
     static const peltzivar_i128 least = {0, INT64_MIN}, wide = {1234567, 0};
     const peltzivar_syntax json = first_form("JSON"), english = first_form("CSV_EN"), c = first_form("C");
     char integer[PELTZIVAR_INTEGER_SIZE], real[PELTZIVAR_FLOAT_SIZE];
@@ -372,13 +372,12 @@ static bool syntax_of(const char *settings, peltzivar_syntax *syntax) {
 
 /* Returns the style of wishes. */
 static peltzivar_style style_of(const char *wishes) {
-    peltzivar_style style = {0, 0, false, false, false, 0, 0, 0, false, false, 0, false, {0}};
+    peltzivar_style style = {0, 0, false, false, 0, 0, 0, false, false, 0, false, {0}};
     const char *const group = strstr(wishes, "fraction_group="), *const least = strstr(wishes, "min_digits="), *const power = strstr(wishes, "exponent=");
     if (!strncmp(wishes, "group=", 6)) style.group = wishes[6] == '0' ? PELTZIVAR_NO_GROUPS : (uint8_t)(wishes[6] - '0');
     if (group) style.fraction_group = (uint8_t)(group[15] - '0');
     if (least) style.min_digits = (uint8_t)(least[11] - '0');
     style.without_base = strstr(wishes, "without_base=true") != NULL, style.lowercase = strstr(wishes, "lowercase=true") != NULL;
-    style.keep_leading_zeros = strstr(wishes, "keep_leading_zeros=true") != NULL;
     style.nearest = strstr(wishes, "nearest=true") != NULL, style.point = strstr(wishes, "point=true") != NULL;
     style.has_decimals = strstr(wishes, "decimals=") != NULL;
     if (style.has_decimals) style.decimals = (uint8_t)strtoul(strstr(wishes, "decimals=") + 9, NULL, 10);
@@ -396,11 +395,11 @@ static void test_styles(void) {
         const char *wanted;
         peltzivar_style style;
     } floats[] = {
-        {1234.005, "1234.01", {0, 0, false, false, false, 0, 0, 0, false, true, 2, false, {0}}},
-        {2.5, "2", {0, 0, false, false, false, 0, 0, 0, false, true, 0, false, {0}}},
-        {-0.004, "-0.00", {0, 0, false, false, false, 0, 0, 0, false, true, 2, false, {0}}},
-        {99999, "1.00e5", {0, 0, false, false, false, 0, PELTZIVAR_STYLE_ALWAYS, 0, false, true, 2, false, {0}}},
-        {1e16, "1.0e16", {0, 0, false, false, false, 0, 0, 0, true, false, 0, false, {0}}},
+        {1234.005, "1234.01", {0, 0, false, false, 0, 0, 0, false, true, 2, false, {0}}},
+        {2.5, "2", {0, 0, false, false, 0, 0, 0, false, true, 0, false, {0}}},
+        {-0.004, "-0.00", {0, 0, false, false, 0, 0, 0, false, true, 2, false, {0}}},
+        {99999, "1.00e5", {0, 0, false, false, 0, PELTZIVAR_STYLE_ALWAYS, 0, false, true, 2, false, {0}}},
+        {1e16, "1.0e16", {0, 0, false, false, 0, 0, 0, true, false, 0, false, {0}}},
     };
     FILE *const file = rows ? fopen(rows, "r") : NULL;
     peltzivar_syntax source, target;

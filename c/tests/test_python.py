@@ -730,7 +730,7 @@ LIMITS = {sign * (2**it + more) for it in (*BITS, 7, 31, 63, 127, 128) for more 
 # These are values of each argument of format_number.
 WISHES = {"group": (3, 0, 254), "fraction_group": (2, 0), "min_digits": (8, 255), "decimals": (0, 1, 255)}
 WISHES |= {"exponent": ("never", "always", 0, 3, 4, 300, 2**32 - 1)}
-WISHES |= {it: (True,) for it in ("without_base", "lowercase", "keep_leading_zeros", "point", "nearest")}
+WISHES |= {it: (True,) for it in ("without_base", "lowercase", "point", "nearest")}
 SYNTAX = Syntax.of(base_prefix="x", base_suffix="h", digit_separator="_", internal_digit_separator=True, exponent="^")
 # With a value in CHANGES, and with those in NEEDS, an object is another one than with those in FIRST alone.
 FIRST = {Forms: {"forms": {"a": SYNTAX}}, Syntax: {"format": SYNTAX.format}}
@@ -769,18 +769,18 @@ def outcome(call, *arguments):
         return call(*arguments)
 
 
-def written(wishes, zeros, number, exponent):
-    """Returns how a literal of SYNTAX is written: digits behind zeros, maybe with a fraction and an exponent."""
+def written(wishes, number, exponent):
+    """Returns how a literal of SYNTAX is written: digits, maybe with a fraction and an exponent."""
     style, places, size = wishes.get("exponent"), wishes.get("decimals"), wishes.get("group") or 999
     if places is not None:
         exact = Decimal(number) if number.isdigit() and exponent is None else float(f"{number}e{exponent or 0}")
-        zeros, number, exponent = "", f"{exact:.{places}f}", None
+        number, exponent = f"{exact:.{places}f}", None
     elif exponent is not None and (style == "never" or isinstance(style, int) and abs(exponent) < style):
-        zeros, number, exponent = "", f"{Decimal(f'{number}e{exponent}'):f}", None
+        number, exponent = f"{Decimal(f'{number}e{exponent}'):f}", None
     elif exponent is None and style == "always":
         exponent = 0
     integer, point, fraction = number.partition(".")
-    integer = (zeros * ("keep_leading_zeros" in wishes) + integer).rjust(wishes.get("min_digits", 0), "0")
+    integer = integer.rjust(wishes.get("min_digits", 0), "0")
     integer = re.sub(rf"(?<=\w)(?=(\w{{{size}}})+$)", "_", integer)
     fraction = "_".join(re.findall(rf"\w{{1,{wishes.get('fraction_group') or 999}}}", fraction))
     text = integer + point + fraction + ("" if exponent is None else f"^{exponent}")
@@ -853,20 +853,20 @@ class Lists(unittest.TestCase):
         if numpy:
             wholes += [numpy.int64(whole), numpy.uint64(whole)]
             reals += [numpy.float32(part), numpy.float64(part), numpy.longdouble(part)]
-        rows = [(hexadecimal, "", "ABCDEF12", None, [0xABCDEF12, SYNTAX.read(str(0xABCDEF12))], [])]
+        rows = [(hexadecimal, "ABCDEF12", None, [0xABCDEF12, SYNTAX.read(str(0xABCDEF12))], [])]
         for by in (SYNTAX, sized):
-            rows += [(by, "", str(whole), None, [*wholes, hexadecimal.read(f"{whole:x}")], []), (by, "", str(part), None, parts, reals)]
+            rows += [(by, str(whole), None, [*wholes, hexadecimal.read(f"{whole:x}")], []), (by, str(part), None, parts, reals)]
         for by, numbers in ((SYNTAX, "1234567 1234567.25 1.50 12.5^3 12.5^-4 12^280"), (sized, "1234567.12345"), (hexadecimal, "ABCDE AB.CDE")):
             for number, mark, power in (it.partition("^") for it in numbers.split()):
                 literals = [*map(by.read, (f"00{number}{mark}{power}", f"00{number}{mark}{power}".encode()))]
-                rows.append((by, "00", number, int(power) if mark else None, literals, []))
+                rows.append((by, number, int(power) if mark else None, literals, []))
         each = [{name: value} for name, values in WISHES.items() for value in values]
         pairs = [one | more for one, more in itertools.combinations_with_replacement(each, 2)]
         for wishes, (syntax, *literal, given, floats) in itertools.product(pairs, rows):
             sizes = {"group": syntax.integer_group_size, "fraction_group": syntax.fraction_group_size}
             own = {name: size for name, size in sizes.items() if size and wishes.get(name) != 0}
             # A list may drop the wish for an exponent, since a float is not 2^53 + 1.
-            is_float = "exponent" not in wishes or literal[1] != str(whole)
+            is_float = "exponent" not in wishes or literal[0] != str(whole)
             for by in (syntax, *[Forms({"": syntax})] * is_float):
                 # Only floats are rounded in radix 16, and only they have one digit before the point with an exponent.
                 if "decimals" not in wishes or syntax is not hexadecimal and "exponent" not in wishes:

@@ -120,17 +120,23 @@ fn is_worth(literal: &Literal, written: &Literal) -> bool {
         && (literal.is_float() || written.is_float() || literal.to_i128() == written.to_i128())
 }
 
+/// Returns whether the writer finds out what the value of a literal with an exponent is: the radix and the base are one, or powers
+/// of two, or the digits certainly have at most 128 bits.
+fn is_found_out(literal: &Literal, radix: u32, base: u32) -> bool {
+    let digits = literal.digits(Part::Integer).count() + literal.digits(Part::Fraction).count();
+    let bits = digits as f64 * f64::from(radix).log2();
+    base == radix || radix.is_power_of_two() && base.is_power_of_two() || bits < 128.0
+}
+
 /// Returns whether an error is why a literal of `source` cannot be written in `target`, and the first such one.
 fn is_reason(error: WriteError, literal: &Literal, exact: &Value, source: &Syntax, target: &Syntax) -> bool {
     let (from, to) = (source.format(), target.format());
     let has_exponent = !literal.exponent_character().is_empty();
-    // The radix is a power of the base, so that it can be found out what the value is.
-    let is_known = !has_exponent || (1..6).any(|power| from.exponent_base().checked_pow(power) == Some(from.radix()));
+    let is_known = !has_exponent || is_found_out(literal, from.radix(), from.exponent_base());
     let is_fraction = target.point().is_none() && !is_whole(exact);
+    let is_number = is_known && (is_fraction || is_whole(exact) && is_short(exact));
     match error {
-        WriteError::Radix => {
-            from.radix() != to.radix() && !(is_known && (is_fraction || is_whole(exact) && is_short(exact)))
-        }
+        WriteError::Radix => from.radix() != to.radix() && !is_number,
         WriteError::Negative => {
             let is_negative = literal.is_negative() || literal.to_f64().is_ok_and(f64::is_sign_negative);
             is_negative && target.conditions().has(Condition::NegativeSign)
@@ -138,7 +144,7 @@ fn is_reason(error: WriteError, literal: &Literal, exact: &Value, source: &Synta
         WriteError::TooLarge => literal.to_f64().is_err(),
         WriteError::Special => literal.to_f64().is_ok_and(f64::is_infinite),
         WriteError::Fraction => is_fraction,
-        WriteError::Exponent => has_exponent && from.exponent_base() != from.radix() && !(is_known && is_fraction),
+        WriteError::Exponent => has_exponent && from.exponent_base() != from.radix() && !is_number,
         _ => false,
     }
 }
@@ -200,7 +206,6 @@ fn style_of(wishes: &str) -> Style {
             ("min_digits", _) => style.min_digits(number.unwrap()),
             ("lowercase", "true") => style.lowercase(),
             ("without_base", "true") => style.without_base(),
-            ("keep_leading_zeros", "true") => style.keep_leading_zeros(),
             ("nearest", "true") => style.nearest(),
             ("point", "true") => style.point(),
             ("decimals", _) => style.decimals(number.unwrap()),
@@ -621,7 +626,7 @@ fn numbers_are_read_back_or_refused_in_any_syntax() {
             Style::PLAIN.without_base(),
             Style::PLAIN.group(size).fraction_group(5 - size),
             least.group(0).fraction_group(0).lowercase(),
-            least.keep_leading_zeros().group(size),
+            least.group(size),
             Style::PLAIN.exponent(ExponentStyle::Never).without_base(),
             least.exponent(ExponentStyle::Always).lowercase(),
             Style::PLAIN.exponent(ExponentStyle::From(size as u32)).fraction_group(size),

@@ -437,11 +437,6 @@ const LEAST: Style = Style {
     ..PLAIN
 };
 
-const KEPT: Style = Style {
-    keep_leading_zeros: true,
-    ..PLAIN
-};
-
 const GROUPS: Style = Style {
     group: Grouping::Of(3),
     fraction_group: Grouping::Of(3),
@@ -471,7 +466,7 @@ const FROM_3: Style = Style {
 
 // A text, a format, whether its literals can be floats, a style, and what is written.
 #[rattlefmt::skip]
-const WRITTEN: [(&str, u128, bool, Style, &[u8]); 46] = [
+const WRITTEN: [(&str, u128, bool, Style, &[u8]); 43] = [
     ("-12.50^2", NO_EXPONENT, true, PLAIN, b"-1250"),
     ("1.50", NO_EXPONENT, true, PLAIN, b"1.50"),
     ("1.0", BARE, false, PLAIN, b"1"),
@@ -500,10 +495,7 @@ const WRITTEN: [(&str, u128, bool, Style, &[u8]); 46] = [
     ("7", NO_ZEROS, true, LEAST, b"7"),
     ("7.5", NO_ZEROS, true, LEAST, b"7.5"),
     ("0x7", PREFIX, true, LEAST, b"0x007"),
-    ("007.5", BARE, true, KEPT, b"007.5"),
     ("007.5", BARE, true, PLAIN, b"7.5"),
-    ("007.5", NO_ZEROS, true, KEPT, b"7.5"),
-    ("007.5^1", NO_EXPONENT, true, KEPT, b"75"),
     ("1200", BARE, true, ALWAYS, b"1200^0"),
     ("1.5^3", BARE, true, ALWAYS, b"1.5^3"),
     ("1200", NO_EXPONENT, true, ALWAYS, b"1200"),

@@ -1,5 +1,6 @@
 -- What a list reads is the number that a form has written.
-use Rattle.lexical_writer.proofs.Common.{ℕ, ℤ, ◌≡◌, Bool, Grammar, Literal, None, Ok, Option, Some, Style, false, false≢true, inl, inr, is_some, not, raw, refl, subst, sym, true, ◌⊎◌}
+use Rattle.lexical_writer.proofs.Common.{ℕ, ℤ, ◌≡◌, Bool, Grammar, Literal, None, Ok, Option, Some, Style, false, false≢true, inl, inr, is_some, not, raw, refl}
+use Rattle.lexical_writer.proofs.Common.{subst, sym, true, ◌⊎◌}
 use Rattle.std.specs.Float.{Float, Format, binary64}
 use Rattle.lexical_literal.specs.Read.{Read, exact}
 use Rattle.lexical_value.proofs.KindLemmas.{exact_float}
@@ -51,11 +52,6 @@ rounded_real f x (Some n) g own read some kind word has y same real = (
   has,
   subst (λ z. IsReal f z read) (subst (λ w. y ≡ nearest f (raw w).byte own.literal) word (nearest_is f y own kind same)) real,
 )
-
--- Without decimals, it is read as itself.
-pub itself_real : (f : Format) (x : Float) (decimals : Option ℕ) (read : Read) → is_some decimals ≡ false → IsReal f x read → IsAmount f x decimals read
-itself_real f x None read none real = real
-itself_real f x (Some n) read none real = absurd (false≢true (sym none))
 
 -- If a literal of the exact kind is written for a number of the exact kind, it is this number in the style, unless an integer is written as a float.
 pub plain_number : (a : Read) (style : Style) (g : Grammar) (b : Read) → a.kind ≡ exact → b.kind ≡ exact → b.format ≡ g.word

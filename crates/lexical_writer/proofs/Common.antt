@@ -12,7 +12,7 @@ pub use Rattle.lexical_util.specs.Record.{Record, effective_exponent_base, effec
 pub use Rattle.lexical_number.specs.Float.{format_of, raised_down, raised_up}
 pub use Rattle.lexical_writer.specs.Digits.{at_least, begins_decimal, character, grouped, grouped_front, padded_values, separated, size_of, values_of}
 pub use Rattle.lexical_writer.specs.Layout.{HasNumber, IsLaidOut, first_error, given_fraction}
-pub use Rattle.lexical_writer.specs.Moved.{IsFactor, IsMoved, trimmed}
+pub use Rattle.lexical_writer.specs.Moved.{IsMoved, trimmed}
 pub use Rattle.lexical_writer.specs.declared.layout.Amount.{Amount}
 pub use Rattle.lexical_writer.specs.declared.layout.Layout.{Layout}
 pub use Rattle.lexical_writer.specs.declared.layout.Style.{Style}

@@ -5,6 +5,7 @@ mod LiteralLemmas
 mod MovedLemmas
 mod ConversionLemmas
 mod PlainLemmas
-mod WholeLemmas
+mod PrimeLemmas
+mod SizeLemmas
 mod FloatLemmas
 mod ChoiceLemmas

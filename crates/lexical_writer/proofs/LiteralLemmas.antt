@@ -30,7 +30,7 @@ use Rattle.lexical_literal.specs.declared.syntax.ConditionsError.{ConditionsErro
 use Rattle.std.specs.Option.{option_or}
 use Rattle.lexical_literal.specs.declared.syntax.Options.{Options}
 use Rattle.lexical_literal.proofs.RunLemmas.{rest_of_none}
-use Rattle.lexical_writer.specs.Layout.{kept_digits, pattern_of, refusal, sign_of, takes_zeros}
+use Rattle.lexical_writer.specs.Layout.{pattern_of, refusal, sign_of, takes_zeros}
 use Rattle.lexical_writer.specs.declared.layout.WriteError.TheVariants as errors
 use Rattle.lexical_writer.proofs.DigitLemmas.{character_value, decimal_first, grouped_digits, grouped_present, least_below, least_number, values_below}
 use Rattle.lexical_writer.proofs.DigitLemmas.{zero_first}
@@ -250,7 +250,7 @@ least_one r c style float amount none set =
     let radix = r.byte layout.mantissa_radix in
     let digits = digits_of radix (size_of radix amount.integer) in
     go _ set (has_zero r amount) (led_digits c false digits)
-    (max (if style.keep_leading_zeros then kept_digits radix amount.integer else 0) style.min_digits) (no_led_digits r c float digits none set)
+    style.min_digits (no_led_digits r c float digits none set)
   where
     go : (flag : Bool) → flag ≡ true → (zero : Bool) (led wish : ℕ) → led ≡ 0 → max (one_if zero) (max led (if false || not flag then wish else 0)) ≤ 1
     go true set true led wish is = omega (arith, is)
@@ -509,7 +509,7 @@ module _ (g : Grammar) (style : Style) (amount : Amount) (is : IsSyntax g)
   -- How many digits the style wants where there is no prefix.
   abbrev wish : ℕ
   wish = if takes_zeros r false (point || exponent)
-      then max (if style.keep_leading_zeros then kept_digits radix amount.integer else 0) style.min_digits else 0
+      then style.min_digits else 0
 
   zero_more : (prefixed : Bool) → prefixed ≡ false → has g.conditions conditions.LeadingZero ≡ true
       → length integer_digits < least_digits r g.conditions style prefixed (point || exponent) amount

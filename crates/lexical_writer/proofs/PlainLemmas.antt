@@ -1,13 +1,12 @@
 -- A number whose point has moved has the value of the literal.
-use Rattle.lexical_writer.proofs.Common.{ℕ, ℤ, zero, suc, ◌≡◌, ◌<◌, ◌≤◌, ◌+◌, ◌-◌, ◌*◌, ◌/◌, ◌%◌, ◌^◌, ◌==◌, ◌&&◌, ◌||◌, ◌⊎◌, inl, inr, nat_lt, Bool, true}
-use Rattle.lexical_writer.proofs.Common.{false, if◌then◌else◌, Option, None, unwrap_or, List, ◌++◌, length, take, drop, replicate, Result, Ok, Err, refl}
-use Rattle.lexical_writer.proofs.Common.{sym, ap, ◌∙◌, subst, arith, append-nil, mod-lt, one-le-pow, pow-suc, pow-zero, cases_lt, false≢true, nat_tests}
+use Rattle.lexical_writer.proofs.Common.{ℕ, ℤ, zero, suc, ◌≡◌, ◌<◌, ◌≤◌, ◌+◌, ◌-◌, ◌*◌, ◌/◌, ◌^◌, ◌==◌, ◌&&◌, ◌||◌, inl, inr, Bool, true}
+use Rattle.lexical_writer.proofs.Common.{false, if◌then◌else◌, Option, None, unwrap_or, List, ◌++◌, length, take, drop, replicate, refl}
+use Rattle.lexical_writer.proofs.Common.{sym, ap, ◌∙◌, subst, arith, append-nil, one-le-pow, pow-suc, pow-zero, cases_lt, eqb-true, false≢true}
 use Rattle.lexical_writer.proofs.Common.{number_after_append, number_digits_of, append_assoc, drop_all, length-append, digits_of, number_from_digits}
 use Rattle.lexical_writer.proofs.Common.{number_from_digits_after, Record, raw, effective_exponent_base, effective_exponent_radix, Literal, is_absent}
-use Rattle.lexical_writer.proofs.Common.{is_minus, IsSyntax, Parts, Grammar, number_after, digits_in, number, padded_values, size_of, values_of, Amount}
-use Rattle.lexical_writer.proofs.Common.{WriteError, Source}
-use Rattle.std.proofs.Math.Nat.{div-add-mod, mul-div_cancel}
-use Rattle.std.proofs.lemmas.Int.Digits.{number_after_ge}
+use Rattle.lexical_writer.proofs.Common.{is_minus, IsSyntax, Parts, Grammar, digits_in, number, size_of, values_of, Amount}
+use Rattle.lexical_writer.proofs.Common.{Source}
+use Rattle.std.proofs.Math.Nat.{mul-div_cancel}
 use Rattle.std.proofs.lemmas.List.{length-drop, length-replicate, take-append-drop, take_all}
 use Rattle.std.proofs.lemmas.List.Elements.{filter_map-append}
 use Rattle.lexical_util.specs.Layout as layout
@@ -18,12 +17,8 @@ use Rattle.lexical_number.specs.Numeral.{with_sign}
 use Rattle.lexical_value.specs.Value.{denominator, numerator, power, scale}
 use Rattle.lexical_writer.specs.Conversion.{SameFraction}
 use Rattle.lexical_writer.specs.Layout.{HasNumber, HasValue, given_fraction, given_power, number_of_size}
-use Rattle.lexical_writer.specs.Moved.{IsFactor, IsMoved, IsWhole, factors, has_zeros, is_past, move_of, moved_by, moved_fraction, moved_integer, too_far}
-use Rattle.lexical_writer.specs.Moved.{trimmed}
+use Rattle.lexical_writer.specs.Moved.{IsMoved, can_move, has_zeros, moved_fraction, moved_integer, places_of, trimmed}
 use Rattle.lexical_writer.specs.declared.layout.Power.{Power}
-use Rattle.lexical_writer.specs.declared.layout.WriteError.TheVariants as errors
-use Rattle.lexical_writer.specs.declared.moved.Move.{Move}
-use Rattle.lexical_writer.specs.declared.run.Padded.{Padded}
 use Rattle.lexical_writer.specs.declared.run.Source.TheVariants as sources
 use Rattle.lexical_writer.proofs.ConversionLemmas.{zero_scaled}
 use Rattle.lexical_writer.proofs.LiteralLemmas.{radixes}
@@ -41,109 +36,12 @@ zeros_after radix n (suc k) =
     turned : (a b c : ℕ) → a * b * c ≡ a * (c * b)
     turned a b c = omega arith
 
--- The product of more factors.
-pub one_factor : (base : ℕ) → base ^ 1 ≡ base
-one_factor base = pow-suc base 0 ∙ ap (λ p. p * base) (pow-zero base) ∙ omega arith
-
+-- A power of a power.
 pub pow_twice : (base k n : ℕ) → (base ^ k) ^ n ≡ base ^ (n * k)
 pow_twice base k zero = pow-zero (base ^ k) ∙ sym (ap (λ e. base ^ e) {x = 0 * k} {y = 0} (omega arith) ∙ pow-zero base)
 pow_twice base k (suc n) =
     pow-suc (base ^ k) n ∙ ap (λ p. p * base ^ k) (pow_twice base k n) ∙ sym (pow-add base (n * k) k)
     ∙ ap (λ e. base ^ e) {x = n * k + k} {y = suc n * k} (omega arith)
-
-pow_if : (base radix k rest : ℕ) (test : Bool) → test ≡ (base ^ k == radix) → (test ≡ false → (rest == 0) ≡ false → base ^ rest ≡ radix)
-    → ((if test then k else rest) == 0) ≡ false → base ^ (if test then k else rest) ≡ radix
-pow_if base radix k rest true is more some = grind (arith, nat_tests)
-pow_if base radix k rest false is more some = more refl some
-
-pub factor_power : (base radix : ℕ) → (factors base radix == 0) ≡ false → base ^ factors base radix ≡ radix
-factor_power base radix =
-    pow_if base radix 1 _ (base == radix) (ap (λ p. p == radix) (sym (one_factor base)))
-    (λ no. pow_if base radix 2 _ (base ^ 2 == radix) refl (λ no. pow_if base radix 3 _ (base ^ 3 == radix) refl
-    (λ no. pow_if base radix 4 _ (base ^ 4 == radix) refl (λ no. pow_if base radix 5 0 (base ^ 5 == radix) refl (λ no some. absurd (false≢true (sym some)))))))
-
-abbrev places : WriteError → Bool → Bool → ℕ → ℕ → ℕ → Result Move WriteError
-places far zeros left base e k =
-    if zeros || e == 0 then Ok (record { places = 0; factor = 1 }) else (if nat_lt (2 ^ 128 - 1) e then Err far else (if k == 0 then Err errors.Exponent
-    else (if nat_lt (2 ^ 64 - 1) (move_of left base e k).places then Err far else Ok (move_of left base e k))))
-
--- `IsRaised left base radix e move` holds if the power `e` of the base is that of the radix by which the point moves, and the factor that is left.
-abbrev IsRaised : Bool → ℕ → ℕ → ℕ → Move → Type 0
-IsRaised left base radix e move = base ^ e * (if left then move.factor else 1) ≡ radix ^ move.places * (if left then 1 else move.factor)
-
-in_parts : (e k : ℕ) → (e / k) * k + e % k ≡ e
-in_parts e k = let is = div-add-mod e k in omega (arith, is)
-
-raised_by : (past : Bool) (base k e : ℕ) → (past ≡ true → e % k < k) → (left : Bool) → past ≡ (left && nat_lt 0 (e % k))
-    → IsRaised left base (base ^ k) e (record {
-      places = if past then e / k + 1 else e / k;
-      factor = base ^ (if past then k - e % k else e % k);
-    })
-raised_by true base k e below true is =
-    let parts = in_parts e k in
-    let less = below refl in
-    sym (pow-add base e (k - e % k)) ∙ ap (λ n. base ^ n) {x = e + (k - e % k)} {y = (e / k + 1) * k} (next (e / k) k (e % k) e parts less)
-    ∙ sym (pow_twice base k (e / k + 1)) ∙ omega arith
-  where
-    next : (q k s e : ℕ) → q * k + s ≡ e → s < k → e + (k - s) ≡ (q + 1) * k
-    next q k s e is less = omega (arith, is, less)
-raised_by true base k e below false is = absurd (false≢true (sym is))
-raised_by false base k e below true is =
-    let parts = in_parts e k in
-    let none : e % k ≡ 0 = grind (arith, nat_tests) in
-    let one : base ^ (e % k) ≡ 1 = ap (λ n. base ^ n) none ∙ pow-zero base in
-    ap (λ f. base ^ e * f) one ∙ ap (λ n. base ^ n * 1) {x = e} {y = (e / k) * k} (omega (arith, parts, none))
-    ∙ ap (λ p. p * 1) (sym (pow_twice base k (e / k)))
-raised_by false base k e below false is =
-    let parts = in_parts e k in
-    ap (λ n. base ^ n * 1) (sym parts) ∙ ap (λ p. p * 1) (pow-add base ((e / k) * k) (e % k)) ∙ omega arith
-    ∙ ap (λ p. p * base ^ (e % k)) (sym (pow_twice base k (e / k)))
-
--- The power of the base is that of the radix by as many digits as the point moves, times or over what is left.
-moves : (far : WriteError) (zeros left : Bool) (base radix e k : ℕ) (move : Move) → ((k == 0) ≡ false → base ^ k ≡ radix)
-    → places far zeros left base e k ≡ Ok move
-    → ((zeros ≡ true) × (move ≡ record { places = 0; factor = 1 })) ⊎ IsRaised left base radix e move
-moves far true left base radix e k move whole is = inl (refl, grind arith)
-moves far false left base radix e k move whole is = inr (go (e == 0) refl)
-  where
-    go : (test : Bool) → e == 0 ≡ test → IsRaised left base radix e move
-    go true none =
-        let first : e ≡ 0 = grind (arith, nat_tests) in
-        let second : record { places = 0; factor = 1 } ≡ move = grind arith in
-        subst (IsRaised left base radix e) second (ap (λ e. base ^ e * (if left then 1 else 1)) first ∙ ap (λ p. p * (if left then 1 else 1))
-        (pow-zero base ∙ sym (pow-zero radix)))
-    go false some =
-        let factor : (k == 0) ≡ false = grind arith in
-        let count : move_of left base e k ≡ move = grind arith in
-        subst (IsRaised left base radix e) count (subst (λ radix. IsRaised left base radix e (move_of left base e k)) (whole factor)
-        (raised_by (is_past left e k) base k e (λ past. mod-lt e {m = k} (grind (arith, nat_tests))) left refl))
-
--- What is left is a factor of the radix.
-factor_of : (base k i : ℕ) → i ≤ k → IsFactor (base ^ i) (base ^ k)
-factor_of base k i within = (base ^ (k - i), ap (λ n. base ^ n) {x = k} {y = i + (k - i)} (omega (arith, within)) ∙ pow-add base i (k - i))
-
-left_within : (past : Bool) (k e : ℕ) → 0 < k → (if past then k - e % k else e % k) ≤ k
-left_within true k e some = omega arith
-left_within false k e some = let less = mod-lt e {m = k} some in omega (arith, less)
-
-factors_if : (far : WriteError) (none left : Bool) (base radix e k : ℕ) (move : Move) → ((k == 0) ≡ false → base ^ k ≡ radix)
-    → (if none then Ok (record { places = 0; factor = 1 }) else (if nat_lt (2 ^ 128 - 1) e then Err far else (if k == 0 then Err errors.Exponent
-    else (if nat_lt (2 ^ 64 - 1) (move_of left base e k).places then Err far else Ok (move_of left base e k))))) ≡ Ok move → IsFactor move.factor radix
-factors_if far true left base radix e k move whole is =
-    let it : record { places = 0; factor = 1 } ≡ move = grind arith in
-    subst (λ (m : Move). IsFactor m.factor radix) it (radix, omega arith)
-factors_if far false left base radix e k move whole is =
-    let some : (k == 0) ≡ false = grind arith in
-    let it : move_of left base e k ≡ move = grind arith in
-    subst (λ (m : Move). IsFactor m.factor radix) it (subst (IsFactor (move_of left base e k).factor) (whole some)
-    (factor_of base k _ (left_within (is_past left e k) k e (grind (arith, nat_tests)))))
-
-pub move_factor : (only : Bool) (r : Record) (parts : Parts) (move : Move) → moved_by only r parts ≡ Ok move
-    → IsFactor move.factor (r.byte layout.mantissa_radix)
-move_factor only r parts move by =
-    factors_if (too_far only parts) (has_zeros (r.byte layout.mantissa_radix) parts || number (effective_exponent_radix r) parts.exponent.now == 0)
-    (is_minus parts.exponent_sign.now) (effective_exponent_base r) (r.byte layout.mantissa_radix) (number (effective_exponent_radix r) parts.exponent.now)
-    (factors (effective_exponent_base r) (r.byte layout.mantissa_radix)) move (factor_power (effective_exponent_base r) (r.byte layout.mantissa_radix)) by
 
 -- The digits and the places of a point that has moved to the left.
 left_worth : (radix n : ℕ) (i f : List ℕ)
@@ -223,7 +121,7 @@ moved_worth false radix n i f =
     ∙ right_worth radix n i f
 
 -- Zeros that are left out do not change the value.
-cancelled : (a b k : ℕ) → 0 < k → a * k ≡ b * k → a ≡ b
+pub cancelled : (a b k : ℕ) → 0 < k → a * k ≡ b * k → a ≡ b
 cancelled a b k some is = sym (mul-div_cancel a some) ∙ ap (λ m. m / k) is ∙ mul-div_cancel b some
 
 plain_worth : (left : Bool) (radix n : ℕ) (i f : List ℕ) → 0 < radix
@@ -259,38 +157,13 @@ size_values radix (sources.Bytes bytes) two = refl
 size_values radix (sources.Number n) two = sym (number_digits_of radix n two)
 size_values radix (sources.Padded padded) two = refl
 
--- The number of digits between zeros is that of its pieces.
-pub padded_number : (radix : ℕ) (padded : Padded) → number_from_digits radix (padded_values radix padded)
-    ≡ number_after radix (number_after radix 0 padded.first.now) padded.second.now * radix ^ padded.after
-padded_number radix padded =
-    let first = digits_in radix padded.first.now in
-    let second = digits_in radix padded.second.now in
-    zeros_number radix padded.before (first ++ (second ++ replicate padded.after 0))
-    ∙ number_after_append radix 0 first (second ++ replicate padded.after 0)
-    ∙ number_after_append radix (number_from_digits radix first) second (replicate padded.after 0)
-    ∙ zeros_after radix (number_from_digits_after radix (number_from_digits radix first) second) padded.after
-
-pub pieces_least : (radix : ℕ) (padded : Padded) → 0 < radix
-    → (number_after radix 0 padded.first.now ≤ number_from_digits radix (padded_values radix padded))
-    × (number_after radix (number_after radix 0 padded.first.now) padded.second.now ≤ number_from_digits radix (padded_values radix padded))
-pieces_least radix padded some =
-    let whole = number_after radix (number_after radix 0 padded.first.now) padded.second.now in
-    let first : number_after radix 0 padded.first.now ≤ whole = number_after_ge radix _ (digits_in radix padded.second.now) some in
-    let more : whole ≤ number_from_digits radix (padded_values radix padded) =
-    subst (λ n. whole ≤ n) (sym (padded_number radix padded)) (at_least_once whole (radix ^ padded.after) (one-le-pow padded.after radix some)) in
-    (omega (arith, first, more), more)
-  where
-    at_least_once : (n k : ℕ) → 0 < k → n ≤ n * k
-    at_least_once n zero some = absurd (omega (arith, some))
-    at_least_once n (suc k) some = omega arith
-
 -- `IsWorth radix amount up down` holds if the digits of `amount` in `radix` represent `up` over `down`.
 abbrev pub IsWorth : ℕ → Amount → ℕ → ℕ → Type 0
 IsWorth radix amount up down = number_from_digits radix (values_of radix amount.integer ++ values_of radix (given_fraction amount)) * down
     ≡ up * radix ^ length (values_of radix (given_fraction amount))
 
 -- Digits that are all zeros represent 0.
-no_mantissa : (radix : ℕ) (i f : List ℕ) → (is_absent (trimmed i) && is_absent (trimmed f)) ≡ true → number_from_digits radix (i ++ f) ≡ 0
+pub no_mantissa : (radix : ℕ) (i f : List ℕ) → (is_absent (trimmed i) && is_absent (trimmed f)) ≡ true → number_from_digits radix (i ++ f) ≡ 0
 no_mantissa radix i f none =
     number_after_append radix 0 i f ∙ ap (λ m. number_from_digits_after radix m f) (zeros_are radix i (grind arith)) ∙ zeros_are radix f (grind arith)
   where
@@ -299,41 +172,24 @@ no_mantissa radix i f none =
         let is = trimmed_is digits in
         ap (number_from_digits radix) (is.1 ∙ ap (λ ds. ds ++ replicate is.0 0) (absent_is (trimmed digits) none)) ∙ zeros_after radix 0 is.0 ∙ omega arith
 
--- `IsWorthTimes radix amount factor up down` holds if the digits of `amount` in `radix`, times `factor`, represent `up` over `down`.
-abbrev pub IsWorthTimes : ℕ → Amount → ℕ → ℕ → ℕ → Type 0
-IsWorthTimes radix amount factor up down =
-    (number_from_digits radix (values_of radix amount.integer ++ values_of radix (given_fraction amount)) * factor) * down
-    ≡ up * radix ^ length (values_of radix (given_fraction amount))
-
-times_worth : (left : Bool) (written factor f whole b p rest : ℕ) → b * (if left then factor else 1) ≡ p * (if left then 1 else factor)
-    → written * (f * (if left then p else 1)) ≡ (whole * (if left then 1 else p)) * rest
-    → (written * factor) * (f * (if left then b else 1)) ≡ (whole * (if left then 1 else b)) * rest
-times_worth true written factor f whole b p rest raised worth =
-    first written factor f b ∙ ap (λ m. written * (f * m)) (raised ∙ one p) ∙ worth
+-- The power of the base is that of the radix by as many digits as the point moves, unless all digits are zeros.
+same_power : (zeros : Bool) (base radix e : ℕ) → (base == radix || (if zeros then 0 else e) == 0) ≡ true → zeros ≡ false
+    → base ^ e ≡ radix ^ (if zeros then 0 else e)
+same_power true base radix e can none = absurd (false≢true (sym none))
+same_power false base radix e can none = go (base == radix) refl
   where
-    one : (p : ℕ) → p * 1 ≡ p
-    one p = omega arith
-
-    first : (a b c d : ℕ) → (a * b) * (c * d) ≡ a * (c * (d * b))
-    first a b c d = omega arith
-times_worth false written factor f whole b p rest raised worth =
-    first written factor f ∙ ap (λ m. m * factor) worth ∙ second whole p rest factor ∙ ap (λ m. (whole * m) * rest) (sym raised ∙ one b)
-  where
-    one : (p : ℕ) → p * 1 ≡ p
-    one p = omega arith
-
-    first : (a b c : ℕ) → (a * b) * (c * 1) ≡ (a * (c * 1)) * b
-    first a b c = omega arith
-
-    second : (w p r k : ℕ) → ((w * p) * r) * k ≡ (w * (p * k)) * r
-    second w p r k = omega arith
+    go : (test : Bool) → (base == radix) ≡ test → base ^ e ≡ radix ^ e
+    go true same = ap (λ b. b ^ e) (eqb-true base radix same)
+    go false other =
+        let first : e ≡ 0 = eqb-true e 0 (ap (λ test. test || e == 0) (sym other) ∙ can) in
+        ap (λ e. base ^ e) first ∙ pow-zero base ∙ sym (ap (λ e. radix ^ e) first ∙ pow-zero radix)
 
 -- The digits of a number whose point has moved are worth the literal.
-pub moved_is_worth : (only : Bool) (r : Record) (parts : Parts) (amount : Amount) (move : Move) → moved_by only r parts ≡ Ok move
-    → IsMoved (r.byte layout.mantissa_radix) (is_minus parts.exponent_sign.now) move.places parts amount → 2 ≤ r.byte layout.mantissa_radix
-    → IsWorthTimes (r.byte layout.mantissa_radix) amount move.factor (numerator r.byte (literal_of parts)) (denominator r.byte (literal_of parts))
-moved_is_worth only r parts amount move by m two =
-    let n = move.places in
+moved_is_worth : (r : Record) (parts : Parts) (amount : Amount) → can_move r parts ≡ true
+    → IsMoved (r.byte layout.mantissa_radix) (is_minus parts.exponent_sign.now) (places_of r parts) parts amount → 2 ≤ r.byte layout.mantissa_radix
+    → IsWorth (r.byte layout.mantissa_radix) amount (numerator r.byte (literal_of parts)) (denominator r.byte (literal_of parts))
+moved_is_worth r parts amount can m two =
+    let n = places_of r parts in
     let radix = r.byte layout.mantissa_radix in
     let left = is_minus parts.exponent_sign.now in
     let base = effective_exponent_base r in
@@ -351,34 +207,32 @@ moved_is_worth only r parts amount move by m two =
     let up = if left then 1 else base ^ e in
     let down = if left then base ^ e else 1 in
     let worth = plain_worth left radix n i f (omega (arith, two)) in
-    let equal : (written * move.factor) * (radix ^ length f * down) ≡ (whole * up) * radix ^ length rest =
-    elim (moves (too_far only parts) (has_zeros radix parts) left base radix e (factors base radix) move (factor_power base radix) by) [
-      | inl none ↦
-          ap (λ w. w * (radix ^ length f * down)) (ap (λ (m : Move). written * m.factor) none.1 ∙ one written)
-          ∙ none_worth whole written (if left then 1 else radix ^ n) up (if left then radix ^ n else 1) down (radix ^ length f) (radix ^ length rest)
-          (no_mantissa radix i f none.0) worth (one_power left radix n (ap (λ (m : Move). m.places) none.1))
-      | inr power ↦ times_worth left written move.factor (radix ^ length f) whole (base ^ e) (radix ^ n) (radix ^ length rest) power worth
-    ] in
-    (λ j. (digits j * move.factor) * (radix ^ length f * down)) ∙ equal ∙ sym (λ j. (mantissa_is j * up) * radix ^ length (m.fraction j))
+    let equal : written * (radix ^ length f * down) ≡ (whole * up) * radix ^ length rest =
+    go (has_zeros radix parts) left n base radix e whole written (radix ^ length f) (radix ^ length rest)
+    (λ zeros. (ap (λ zeros. if zeros then 0 else e) zeros, no_mantissa radix i f zeros)) (same_power (has_zeros radix parts) base radix e can) worth in
+    (λ j. digits j * (radix ^ length f * down)) ∙ equal ∙ sym (λ j. (mantissa_is j * up) * radix ^ length (m.fraction j))
   where
-    one : (p : ℕ) → p * 1 ≡ p
-    one p = omega arith
-
-    one_power : (left : Bool) (radix n : ℕ) → n ≡ 0 → (if left then radix ^ n else 1) ≡ 1
-    one_power true radix n none = ap (λ n. radix ^ n) none ∙ pow-zero radix
-    one_power false radix n none = refl
+    empty : (v w t : ℕ) → 0 * w ≡ (0 * v) * t
+    empty v w t = omega arith
 
     regrouped : (a b c : ℕ) → a * (b * c) ≡ (a * b) * c
     regrouped a b c = omega arith
 
-    empty : (v w t : ℕ) → 0 * w ≡ (0 * v) * t
-    empty v w t = omega arith
+    nothing : (left : Bool) (a f n t : ℕ) → n ≡ 0 → a * (f * (if left then 1 else 1)) ≡ (n * (if left then 1 else 1)) * t → a * f ≡ 0
+    nothing true a f n t none is = ap (λ f. a * f) {x = f} {y = f * 1} (omega arith) ∙ is ∙ ap (λ n. (n * 1) * t) none ∙ omega arith
+    nothing false a f n t none is = ap (λ f. a * f) {x = f} {y = f * 1} (omega arith) ∙ is ∙ ap (λ n. (n * 1) * t) none ∙ omega arith
 
-    none_worth : (n a u v d w f t : ℕ) → n ≡ 0 → a * (f * d) ≡ (n * u) * t → d ≡ 1 → a * (f * w) ≡ (n * v) * t
-    none_worth n a u v d w f t none is one =
-        let zero_is : a * f ≡ 0 = ap (λ d. a * d) {x = f} {y = f * 1} (omega arith) ∙ ap (λ d. a * (f * d)) (sym one)
-        ∙ is ∙ ap (λ n. (n * u) * t) none ∙ omega arith in
-        regrouped a f w ∙ ap (λ m. m * w) zero_is ∙ empty v w t ∙ sym (ap (λ n. (n * v) * t) none)
+    go : (zeros left : Bool) (n base radix e whole written f t : ℕ) → (zeros ≡ true → (n ≡ 0) × (whole ≡ 0)) → (zeros ≡ false → base ^ e ≡ radix ^ n)
+        → written * (f * (if left then radix ^ n else 1)) ≡ (whole * (if left then 1 else radix ^ n)) * t
+        → written * (f * (if left then base ^ e else 1)) ≡ (whole * (if left then 1 else base ^ e)) * t
+    go false left n base radix e whole written f t none power worth =
+        subst (λ p. written * (f * (if left then p else 1)) ≡ (whole * (if left then 1 else p)) * t) (sym (power refl)) worth
+    go true left n base radix e whole written f t none power worth =
+        let one : radix ^ n ≡ 1 = ap (λ n. radix ^ n) (none refl).0 ∙ pow-zero radix in
+        let plain = subst (λ p. written * (f * (if left then p else 1)) ≡ (whole * (if left then 1 else p)) * t) one worth in
+        let none_left : written * f ≡ 0 = nothing left written f whole t (none refl).1 plain in
+        regrouped written f (if left then base ^ e else 1) ∙ ap (λ m. m * (if left then base ^ e else 1)) none_left
+        ∙ empty (if left then 1 else base ^ e) (if left then base ^ e else 1) t ∙ sym (ap (λ n. (n * (if left then 1 else base ^ e)) * t) (none refl).1)
 
 -- What has the digits of an amount without an exponent has its worth.
 pub same_worth : (g : Grammar) (amount : Amount) (up down : ℕ) → IsWorth ((raw g.word).byte layout.mantissa_radix) amount up down
@@ -415,53 +269,30 @@ same_worth g amount up down worth none two l has =
     crossed n u d t q is = first u t q ∙ ap (λ m. m * q) (sym is) ∙ second n d q
 
 -- What has the digits of a number whose point has moved has the value of the literal.
-pub same_moved : (only : Bool) (r : Record) (parts : Parts) (g : Grammar) (amount : Amount) (move : Move) → moved_by only r parts ≡ Ok move
-    → IsMoved (r.byte layout.mantissa_radix) (is_minus parts.exponent_sign.now) move.places parts amount → move.factor ≡ 1
+pub same_moved : (r : Record) (parts : Parts) (g : Grammar) (amount : Amount) → can_move r parts ≡ true
+    → IsMoved (r.byte layout.mantissa_radix) (is_minus parts.exponent_sign.now) (places_of r parts) parts amount
     → r.byte layout.mantissa_radix ≡ (raw g.word).byte layout.mantissa_radix → 2 ≤ (raw g.word).byte layout.mantissa_radix
     → (l : Literal) → HasNumber g amount l → SameFraction r (literal_of parts) (raw g.word) l
-same_moved only r parts g amount move by m whole same two l has =
-    let worth = moved_is_worth only r parts amount move by m (subst (λ radix. 2 ≤ radix) (sym same) two) in
-    let down = denominator r.byte (literal_of parts) in
-    let radix = r.byte layout.mantissa_radix in
-    let digits = number_from_digits radix (values_of radix amount.integer ++ values_of radix (given_fraction amount)) in
-    record {
-      sign = sym (has.sign ∙ m.negative);
-      fraction = same_worth g amount _ _ (subst (λ radix. IsWorth radix amount (numerator r.byte (literal_of parts)) down) same
-          (ap (λ n. n * down) (one digits) ∙ sym (ap (λ k. (digits * k) * down) whole) ∙ worth)) m.exponent two l has;
-    }
-  where
-    one : (p : ℕ) → p ≡ p * 1
-    one p = omega arith
+same_moved r parts g amount can m same two l has = record {
+  sign = sym (has.sign ∙ m.negative);
+  fraction = same_worth g amount _ _
+      (subst (λ radix. IsWorth radix amount (numerator r.byte (literal_of parts)) (denominator r.byte (literal_of parts))) same
+      (moved_is_worth r parts amount can m (subst (λ radix. 2 ≤ radix) (sym same) two))) m.exponent two l has;
+}
 
--- The whole number that a number is whose point has moved is the value of the literal.
-pub is_size : (only : Bool) (r : Record) (parts : Parts) (amount : Amount) (move : Move) (n : ℕ) → moved_by only r parts ≡ Ok move
-    → IsMoved (r.byte layout.mantissa_radix) (is_minus parts.exponent_sign.now) move.places parts amount → 2 ≤ r.byte layout.mantissa_radix
-    → IsWhole (r.byte layout.mantissa_radix) move.factor amount n → n * denominator r.byte (literal_of parts) ≡ numerator r.byte (literal_of parts)
-is_size only r parts amount move n by m two whole =
-    let radix = r.byte layout.mantissa_radix in
-    let down = denominator r.byte (literal_of parts) in
-    let scale = radix ^ length (values_of radix (given_fraction amount)) in
-    cancelled _ _ scale (one-le-pow (length (values_of radix (given_fraction amount))) radix (omega (arith, two)))
-    (turned n down scale ∙ sym (ap (λ m. m * down) whole) ∙ moved_is_worth only r parts amount move by m two)
-  where
-    turned : (a b c : ℕ) → (a * b) * c ≡ (a * c) * b
-    turned a b c = omega arith
-
--- What has the digits of the whole number that it is has the value of the literal.
-pub same_number : (only : Bool) (r : Record) (parts : Parts) (g : Grammar) (amount : Amount) (move : Move) (n : ℕ) → moved_by only r parts ≡ Ok move
-    → IsMoved (r.byte layout.mantissa_radix) (is_minus parts.exponent_sign.now) move.places parts amount → 2 ≤ r.byte layout.mantissa_radix
-    → 2 ≤ (raw g.word).byte layout.mantissa_radix → IsWhole (r.byte layout.mantissa_radix) move.factor amount n → (l : Literal)
-    → HasNumber g (number_of_size amount.negative n) l → SameFraction r (literal_of parts) (raw g.word) l
-same_number only r parts g amount move n by m two_r two_s whole l has =
-    let other = (raw g.word).byte layout.mantissa_radix in
+-- What has the digits of the whole number that a literal is has its value.
+pub same_number : (r : Record) (parts : Parts) (g : Grammar) (n : ℕ) → n * denominator r.byte (literal_of parts) ≡ numerator r.byte (literal_of parts)
+    → 2 ≤ (raw g.word).byte layout.mantissa_radix
+    → (l : Literal) → HasNumber g (number_of_size (is_minus parts.sign.now) n) l → SameFraction r (literal_of parts) (raw g.word) l
+same_number r parts g n is two l has =
+    let radix = (raw g.word).byte layout.mantissa_radix in
     let up = numerator r.byte (literal_of parts) in
     let down = denominator r.byte (literal_of parts) in
-    let worth = is_size only r parts amount move n by m two_r whole in
     record {
-      sign = sym (has.sign ∙ m.negative);
-      fraction = same_worth g (number_of_size amount.negative n) up down
-          (ap (λ n. n * down) (ap (number_from_digits other) (append-nil (digits_of other n)) ∙ number_digits_of other n two_s) ∙ worth
-          ∙ one up ∙ sym (ap (λ p. up * p) (pow-zero other))) refl two_s l has;
+      sign = sym has.sign;
+      fraction = same_worth g (number_of_size (is_minus parts.sign.now) n) up down
+          (ap (λ n. n * down) (ap (number_from_digits radix) (append-nil (digits_of radix n)) ∙ number_digits_of radix n two) ∙ is
+          ∙ one up ∙ sym (ap (λ p. up * p) (pow-zero radix))) refl two l has;
     }
   where
     one : (p : ℕ) → p ≡ p * 1

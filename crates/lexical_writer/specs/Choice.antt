@@ -1,11 +1,12 @@
 -- Which form of a list writes a number, and how the text is read back.
-use Rattle.std.specs.Prelude.{ℕ, ◌≡◌, ◌==◌, ◌&&◌, ◌||◌, ◌⊎◌, if◌then◌else◌, Bool, true, false, is_some, List, Ok, Option, Some, None, ℤ}
+use Rattle.std.specs.Prelude.{ℕ, ◌≡◌, ◌+◌, ◌==◌, ◌&&◌, ◌||◌, ◌⊎◌, not, if◌then◌else◌, Bool, true, false, is_some, List, Ok, Option, Some, None, ℤ}
 use Rattle.std.specs.Float.{Float, Format, binary64}
 use lib.Ieee.Exact.{HasValue as HasFraction}
 use Rattle.lexical_util.specs.Layout as layout
 use Rattle.lexical_util.specs.Record.{bytes_of, raw}
 use Rattle.lexical_forms.specs.FormList.{FormList}
 use Rattle.lexical_forms.specs.Forms.{HasKind, IsFirst}
+use Rattle.lexical_literal.specs.Notation.{lacks_options}
 use Rattle.lexical_literal.specs.Read.{exact}
 use Rattle.lexical_literal.specs.Literal.{Literal, is_float}
 use Rattle.lexical_literal.specs.Read.{Read}
@@ -18,12 +19,24 @@ use Rattle.lexical_writer.specs.Layout.{HasValue}
 use Rattle.lexical_writer.specs.Rounded.{IsRounded, decimals_in}
 use Rattle.lexical_writer.specs.declared.layout.ExponentStyle.TheVariants as exponents
 use Rattle.lexical_writer.specs.declared.layout.Style.{Style}
+use Rattle.lexical_writer.specs.declared.layout.WriteError.{WriteError}
+use Rattle.lexical_writer.specs.declared.layout.WriteError.TheVariants as errors
 
--- `turn radix g` is in which turn a form with the syntax `g` is asked to write a number of a radix: first the forms of this radix, then
--- the decimal ones, and then the others.
-abbrev pub turn : ℕ → Grammar → ℕ
-turn radix g =
-    if (raw g.word).byte layout.mantissa_radix == radix then 0 else (if (raw g.word).byte layout.mantissa_radix == 10 then 1 else 2)
+-- `turn radix integer g` is in which turn a form with the syntax `g` is asked to write an integer or, if `integer` is false, a float of a
+-- radix: first the forms of this radix, then the decimal ones, and then the others. All forms with floats write a float before those of
+-- integers alone.
+abbrev pub turn : ℕ → Bool → Grammar → ℕ
+turn radix integer g =
+    let late = if integer || not (lacks_options g.options) then 0 else 3 in
+    if (raw g.word).byte layout.mantissa_radix == radix then late
+    else (if (raw g.word).byte layout.mantissa_radix == 10 then late + 1 else late + 2)
+
+-- `first_reason first error` is the error of a list, where `first` is that of the forms before a form with `error`, if there are any: the
+-- first one, but `Fraction` gives way to another one.
+abbrev pub first_reason : Option WriteError → WriteError → Option WriteError
+first_reason None error = Some error
+first_reason (Some errors.Fraction) error = Some error
+first_reason (Some first) error = Some first
 
 -- `has_float read` is true if `read` has a decimal point or an exponent, and is worth a float.
 abbrev pub has_float : Read → Bool
@@ -81,9 +94,11 @@ abbrev pub IsInStyle : Read → Style → Read → Type 0
 IsInStyle a style b = IsSameNumber style.nearest a b ⊎ ((style.nearest ≡ true) × (is_some style.decimals ≡ true) × (g : Grammar) × (l : Literal)
     × IsWrittenNumber a style g l × IsReal binary64 (nearest binary64 (bytes_of g.word) l) b)
 
--- `IsStyleOf integer style it` holds if `it` is `style` or, for an integer, `style` without the wish for an exponent.
+-- `IsStyleOf integer style it` holds if `it` is `style` or, for an integer, `style` without the wish for an exponent, and for a float,
+-- without decimals.
 abbrev pub IsStyleOf : Bool → Style → Style → Type 0
-IsStyleOf integer style it = (it ≡ style) ⊎ ((integer ≡ true) × (it ≡ record style { exponent = exponents.AsNumber }))
+IsStyleOf integer style it = (it ≡ style) ⊎ (((integer ≡ true) × (it ≡ record style { exponent = exponents.AsNumber }))
+    ⊎ ((integer ≡ false) × (it ≡ record style { decimals = None })))
 
 -- `IsReadBack list text P` holds if `text` is a literal of some form of the list, and if `P` holds of the literal that it is in the
 -- first such form, with the kind of this form.

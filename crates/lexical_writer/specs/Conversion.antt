@@ -17,7 +17,7 @@ use Rattle.lexical_number.specs.Number.{number}
 use Rattle.lexical_value.specs.Float.{nearest}
 use Rattle.lexical_value.specs.Value.{denominator, numerator}
 use Rattle.lexical_writer.specs.Layout.{IsLaidOut, allows_exponent, laid_out, literal_of as written, needs_exponent, number_of_size, plain_style}
-use Rattle.lexical_writer.specs.Moved.{IsMoved, IsTimes, moved_by}
+use Rattle.lexical_writer.specs.Moved.{IsMoved, IsSize, can_move, places_of, too_far}
 use Rattle.lexical_writer.specs.declared.layout.Amount.{Amount}
 use Rattle.lexical_writer.specs.declared.layout.ExponentStyle.{ExponentStyle}
 use Rattle.lexical_writer.specs.declared.layout.ExponentStyle.TheVariants as exponents
@@ -93,9 +93,9 @@ is_unwanted exponents.Never size = true
 is_unwanted (exponents.From least) size = nat_lt size least
 is_unwanted _ size = false
 
--- `is_wish r parts g style` is true if `parts` has an exponent that is unwanted, and literals of `g` need none.
+-- `is_wish r parts g style` is true if `parts` has an exponent that is unwanted, literals of `g` need none, and the point can move.
 abbrev pub is_wish : Record → Parts → Grammar → Style → Bool
-is_wish r parts g style = (has_power parts && not (needs_exponent g))
+is_wish r parts g style = (has_power parts && not (needs_exponent g) && can_move r parts)
     && is_unwanted style.exponent (number (effective_exponent_radix r) parts.exponent.now)
 
 -- `IsKept r parts g style result` holds if `result` is what is written for `parts`, or why it cannot be written, where the point stays.
@@ -120,44 +120,27 @@ abbrev pub or_limit : Bool → WriteError → WriteError → WriteError
 or_limit whole limit errors.Fraction = if whole then errors.Fraction else limit
 or_limit whole limit _ = limit
 
--- `odd_error whole size` is why a number is not written that is `size` as a whole number, where no literal has its exponent.
-abbrev pub odd_error : Bool → Result ℕ WriteError → WriteError
-odd_error whole (Ok n) = errors.Exponent
-odd_error whole (Err error) = or_limit whole errors.Exponent error
-
--- `IsOdd g radix factor amount result` holds if `result` is why `amount` times `factor` is not written in `radix`, where no literal has
--- the exponent.
-abbrev pub IsOdd : Grammar → ℕ → ℕ → Amount → Result Layout WriteError → Type 0
-IsOdd g radix factor amount result = (size : Result ℕ WriteError) × IsTimes radix factor amount size
-    × (result ≡ Err (odd_error (lacks_options g.options) size))
-
 -- `IsPlain r parts g style result` holds if `result` is what is written for `parts`, or why it is not, where the point moves.
 abbrev pub IsPlain : Record → Parts → Grammar → Style → Result Layout WriteError → Type 0
-IsPlain r parts g style result = MatchResult (moved_by (lacks_options g.options) r parts)
-    (λ move. (amount : Amount) × IsMoved (r.byte layout.mantissa_radix) (is_minus parts.exponent_sign.now) move.places parts amount
-    × ((move.factor == 1) ≡ true → IsShort g style amount result)
-    × ((move.factor == 1) ≡ false → IsOdd g (r.byte layout.mantissa_radix) move.factor amount result))
-    (λ error. result ≡ Err error)
+IsPlain r parts g style result =
+    (nat_lt (2 ^ 64 - 1) (places_of r parts) ≡ true → result ≡ Err (or_limit (lacks_options g.options) errors.Long (too_far parts)))
+    × (nat_lt (2 ^ 64 - 1) (places_of r parts) ≡ false → (amount : Amount)
+    × IsMoved (r.byte layout.mantissa_radix) (is_minus parts.exponent_sign.now) (places_of r parts) parts amount × IsShort g style amount result)
 
--- `IsNumber g style negative size result` holds if `result` is what is written for the number `size`, or why it is not written.
-abbrev pub IsNumber : Grammar → Style → Bool → Result ℕ WriteError → Result Layout WriteError → Type 0
-IsNumber g style negative size (Ok layout) = (n : ℕ) × (size ≡ Ok n) × (written layout ≡ laid_out g style (number_of_size negative n))
-IsNumber g style negative size (Err error) = (other : WriteError) × (size ≡ Err other) × (error ≡ or_limit (lacks_options g.options) errors.Radix other)
-
--- `IsInRadix r parts g style result` holds if `result` is what is written for the number that `parts` represents, or why it is not,
--- where the radixes differ.
-abbrev pub IsInRadix : Record → Parts → Grammar → Style → Result Layout WriteError → Type 0
-IsInRadix r parts g style result = MatchResult (moved_by (lacks_options g.options) r parts)
-    (λ move. (amount : Amount) × IsMoved (r.byte layout.mantissa_radix) (is_minus parts.exponent_sign.now) move.places parts amount
-    × (size : Result ℕ WriteError) × IsTimes (r.byte layout.mantissa_radix) move.factor amount size × IsNumber g style amount.negative size result)
-    (λ error. result ≡ Err (or_limit (lacks_options g.options) errors.Radix error))
+-- `IsByValue limit r parts g style result` holds if `result` is what is written for the whole number that `parts` represent, or why it is
+-- not: `limit`, unless only whole numbers can be written, and `parts` are none.
+abbrev pub IsByValue : WriteError → Record → Parts → Grammar → Style → Result Layout WriteError → Type 0
+IsByValue limit r parts g style result = (size : Result ℕ WriteError) × IsSize r parts size × MatchResult size
+    (λ n. IsLaidOut g style (number_of_size (is_minus parts.sign.now) n) result) (λ error. result ≡ Err (or_limit (lacks_options g.options) limit error))
 
 -- `IsConverted r parts g style result` holds if `result` is what is written for `parts`, or why it is not. Where the point is to move,
 -- it stays if it cannot.
 pub record IsConverted (r : Record) (parts : Parts) (g : Grammar) (style : Style) (result : Result Layout WriteError) : Type 0 where
   pub refused : is_refused parts g ≡ true → result ≡ Err errors.Negative
-  pub number : is_refused parts g ≡ false → is_same_radix r g ≡ false → IsInRadix r parts g style result
-  pub moved : is_refused parts g ≡ false → is_same_radix r g ≡ true → is_kept r parts g ≡ false → IsPlain r parts g style result
+  pub number : is_refused parts g ≡ false → is_same_radix r g ≡ false → IsByValue errors.Radix r parts g style result
+  pub moved : is_refused parts g ≡ false → is_same_radix r g ≡ true → is_kept r parts g ≡ false → can_move r parts ≡ true → IsPlain r parts g style result
+  pub value : is_refused parts g ≡ false → is_same_radix r g ≡ true → is_kept r parts g ≡ false → can_move r parts ≡ false
+      → IsByValue errors.Exponent r parts g style result
   pub kept : is_refused parts g ≡ false → is_same_radix r g ≡ true → is_kept r parts g ≡ true → is_wish r parts g style ≡ false
       → IsKept r parts g style result
   pub wished : is_refused parts g ≡ false → is_same_radix r g ≡ true → is_kept r parts g ≡ true → is_wish r parts g style ≡ true

@@ -11,7 +11,7 @@ use Rattle.lexical_literal.specs.declared.syntax.Condition.TheVariants as condit
 use Rattle.lexical_literal.specs.declared.syntax.Conditions.{Conditions}
 use Rattle.lexical_literal.specs.declared.syntax.Grammar.{Grammar}
 use Rattle.lexical_literal.specs.declared.syntax.Options.{Options}
-use Rattle.lexical_number.specs.Number.{digits_in, number, places}
+use Rattle.lexical_number.specs.Number.{digits_in, number}
 use Rattle.lexical_number.specs.Numeral.{with_sign}
 use Rattle.lexical_value.specs.Value.{denominator, numerator}
 use Rattle.lexical_writer.specs.Digits.{at_least, begins_decimal, grouped, no_groups, only_if, run_text, size_of, values_of}
@@ -111,7 +111,6 @@ plain_style = record {
   suffix = true;
   lowercase = false;
   min_digits = 0;
-  keep_leading_zeros = false;
   exponent = exponents.AsNumber;
   decimals = None;
   point = false;
@@ -146,11 +145,6 @@ has_zero r amount =
     let radix = r.byte layout.mantissa_radix in
     r.flag layout.required_integer_digits || (is_present (values_of radix amount.integer) || is_absent (values_of radix (given_fraction amount)))
 
--- `kept_digits radix source` is the number of digits of `source`, or 0 if it is not bytes, so that it has no zeros to be kept.
-abbrev pub kept_digits : ℕ → Source → ℕ
-kept_digits radix (sources.Bytes bytes) = places radix bytes.now
-kept_digits radix _ = 0
-
 -- `one_if condition` is 1 if `condition` is true, and 0 otherwise.
 abbrev pub one_if : Bool → ℕ
 one_if condition = if condition then 1 else 0
@@ -174,9 +168,8 @@ led_digits c prefix digits = if lacks_zero c prefix digits then length digits + 
 abbrev pub least_digits : Record → Conditions → Style → Bool → Bool → Amount → ℕ
 least_digits r c style prefix float amount =
     let radix = r.byte layout.mantissa_radix in
-    let kept = if style.keep_leading_zeros then kept_digits radix amount.integer else 0 in
     max (one_if (has_zero r amount)) (max (led_digits c prefix (digits_of radix (size_of radix amount.integer)))
-    (if takes_zeros r prefix float then max kept style.min_digits else 0))
+    (if takes_zeros r prefix float then style.min_digits else 0))
 
 -- `integer_text r c style prefix float amount` is the integer that is written, behind a base prefix or not, of a float or not.
 abbrev pub integer_text : Record → Conditions → Style → Bool → Bool → Amount → List ℕ

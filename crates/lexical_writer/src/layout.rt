@@ -9,7 +9,7 @@ ghost use Rattle.lexical_literal.specs.Notation.{notation_of};
 ghost use Rattle.lexical_literal.specs.Syntax.{IsSyntax};
 ghost use Rattle.lexical_writer.specs.Digits.{no_groups, only_if, run_digits, run_text, size_of, values_of};
 ghost use Rattle.lexical_writer.specs.Layout.{HasNumber, IsLaidOut, allows_exponent, base_byte, exponent_text, first_error, fraction_pattern, fraction_text};
-ghost use Rattle.lexical_writer.specs.Layout.{given_fraction, given_power, has_exponent, has_point, has_zero, integer_pattern, integer_text, kept_digits};
+ghost use Rattle.lexical_writer.specs.Layout.{given_fraction, given_power, has_exponent, has_point, has_zero, integer_pattern, integer_text};
 ghost use Rattle.lexical_writer.specs.Layout.{least_digits, led_digits, literal_of, needs_exponent, number_of_size, one_if, refusal, sign_of, wants_exponent};
 ghost use Rattle.lexical_writer.specs.Buffer.{IsTaken};
 
@@ -72,8 +72,6 @@ pub struct Style {
     pub lowercase: bool,
     /// How many digits the integer has at least. Zeros are added where the format allows leading zeros.
     pub min_digits: u8,
-    /// Whether the integer of a literal keeps its leading zeros, if its point does not move and the format allows them.
-    pub keep_leading_zeros: bool,
     /// Whether there is an exponent.
     pub exponent: ExponentStyle,
     /// How many digits the fraction of a float has, to which it is rounded. For `None`, as many as its value needs.
@@ -94,7 +92,6 @@ impl Style {
         suffix: true,
         lowercase: false,
         min_digits: 0,
-        keep_leading_zeros: false,
         exponent: ExponentStyle::AsNumber,
         decimals: None,
         point: false,
@@ -236,17 +233,6 @@ const fn one_if(condition: bool) -> u128
     ensures { result ≡ one_if condition }
 {
     condition as u128
-}
-
-// Returns the number of digits of a source, or 0 if it is not bytes, so that it has no zeros to be kept.
-#[inline]
-fn kept_digits(source: Source, radix: u32) -> usize
-    ensures { result ≡ kept_digits radix source.entry }
-{
-    match source {
-        Source::Bytes(bytes) => count(bytes, radix),
-        Source::Number(_) | Source::Padded(_) => 0,
-    }
 }
 
 // Returns the digits of a source without the zeros that they begin with.
@@ -511,12 +497,7 @@ impl<'a> Amount<'a> {
         if forbidden && !prefix {
             return zero;
         }
-        let kept = if style.keep_leading_zeros {
-            kept_digits(self.integer, radix)
-        } else {
-            0
-        };
-        zero.max((kept as u128).max(style.min_digits as u128))
+        zero.max(style.min_digits as u128)
     }
 
     // Returns the fraction digits, if there are any.

@@ -8,15 +8,15 @@ ghost use Rattle.lexical_literal.specs.Notation.{has, lacks_options, notation_of
 ghost use Rattle.lexical_literal.specs.Parts.{literal_of};
 ghost use Rattle.lexical_literal.specs.Syntax.{IsSyntax};
 ghost use Rattle.lexical_number.specs.Numeral.{size_of as numeral_size};
-ghost use Rattle.lexical_writer.specs.Conversion.{IsConverted, IsInRadix, IsKept, IsNumber, IsPlain, IsShort, IsWritten, SameFraction};
+ghost use Rattle.lexical_writer.specs.Conversion.{IsByValue, IsConverted, IsKept, IsPlain, IsShort, IsWritten, SameFraction, or_limit, source_of};
 ghost use Rattle.lexical_writer.specs.Conversion.{amount_of, fraction_of, has_power, is_kept, is_refused, is_same_radix, is_unwanted, is_wish, power_of};
-ghost use Rattle.lexical_writer.specs.Conversion.{odd_error, or_limit, source_of};
-ghost use Rattle.lexical_writer.specs.Layout.{HasNumber, IsLaidOut, literal_of as written, number_of_size};
+ghost use Rattle.lexical_writer.specs.Layout.{HasNumber, IsLaidOut, literal_of as written};
+ghost use Rattle.lexical_writer.specs.Moved.{can_move};
 
 use crate::layout::{
     Amount, ExponentStyle, Layout, Power, Style, WriteError, allows_exponent, needs_exponent,
 };
-use crate::moved::{exponent_of, moved, moved_by};
+use crate::moved::{can_move, exponent_of, places_of, too_far, whole_size, without_exponent};
 use crate::run::Source;
 use lexical_literal::literal::{Literal, Parts};
 use lexical_literal::syntax::{Condition, Syntax};
@@ -58,16 +58,19 @@ pub(crate) fn convert<'a>(
     if is_refused(parts, syntax) {
         Err(WriteError::Negative)
     } else if !is_same_radix(format, syntax) {
-        change_radix(format, parts, syntax, style)
-    } else if !is_kept(format, parts, syntax) {
-        move_point(format, parts, syntax, style)
-    } else if is_wish(format, parts, syntax, style) {
+        by_value(format, parts, WriteError::Radix, syntax, style)
+    } else if is_kept(format, parts, syntax) {
+        if !is_wish(format, parts, syntax, style) {
+            return keep(format, parts, syntax, style);
+        }
         match move_point(format, parts, syntax, style) {
             Ok(layout) => Ok(layout),
             Err(_) => keep(format, parts, syntax, style),
         }
+    } else if can_move(format, parts) {
+        move_point(format, parts, syntax, style)
     } else {
-        keep(format, parts, syntax, style)
+        by_value(format, parts, WriteError::Exponent, syntax, style)
     }
 }
 
@@ -109,6 +112,7 @@ fn is_wish(format: NumberFormat, parts: &Parts, syntax: &Syntax, style: Style) -
 {
     has_power(parts)
         && !needs_exponent(syntax)
+        && can_move(format, parts)
         && is_unwanted(style.exponent, &exponent_of(format, parts))
 }
 
@@ -167,18 +171,18 @@ fn move_point<'a>(
     requires sign { is_refused parts.now syntax.now ≡ false }
     requires radix { is_same_radix (raw format) syntax.now ≡ true }
     requires lawful { Lawful format }
+    requires can { can_move (raw format) parts.now ≡ true }
     ensures literal { IfOk result (λ layout. Reads (notation_of syntax.now) (written layout) (text_of (written layout))) }
     ensures value { IfOk result (λ layout.
         SameFraction (raw format) (literal_of parts.now) (raw syntax.now.word) (written layout)) }
     ensures parts { IsPlain (raw format) parts.now syntax.now style result }
 {
-    let (radix, whole) = (format.mantissa_radix(), is_whole(syntax));
-    let by = moved_by(format, parts, whole)?;
-    let amount = moved(parts, radix, by.places);
-    if by.factor == 1 {
-        shorten(&amount, syntax, style)
-    } else {
-        Err(odd_error(whole, amount.times(radix, by.factor)))
+    match places_of(format, parts) {
+        Some(places) => {
+            let amount = without_exponent(parts, format.mantissa_radix(), places);
+            shorten(&amount, syntax, style)
+        }
+        None => Err(or_limit(is_whole(syntax), WriteError::Long, too_far(parts))),
     }
 }
 
@@ -198,10 +202,12 @@ fn shorten<'a>(amount: &Amount<'a>, syntax: &Syntax, style: Style) -> Result<Lay
     }
 }
 
-// Returns how the number of a literal is written in another radix, or why it cannot be.
-fn change_radix<'a>(
+// Returns how the whole number that a literal represents is written, or why it is not: `limit`, unless literals are integers, and it is
+// not whole.
+fn by_value<'a>(
     format: NumberFormat,
     parts: &Parts<'a>,
+    limit: WriteError,
     syntax: &Syntax,
     style: Style,
 ) -> Result<Layout<'a>, WriteError>
@@ -210,39 +216,11 @@ fn change_radix<'a>(
     ensures literal { IfOk result (λ layout. Reads (notation_of syntax.now) (written layout) (text_of (written layout))) }
     ensures value { IfOk result (λ layout.
         SameFraction (raw format) (literal_of parts.now) (raw syntax.now.word) (written layout)) }
-    ensures parts { IsInRadix (raw format) parts.now syntax.now style result }
+    ensures parts { IsByValue limit (raw format) parts.now syntax.now style result }
 {
-    let whole = is_whole(syntax);
-    let by = match moved_by(format, parts, whole) {
-        Ok(by) => by,
-        Err(error) => return Err(or_limit(whole, WriteError::Radix, error)),
-    };
-    let radix = format.mantissa_radix();
-    let amount = moved(parts, radix, by.places);
-    write_number(
-        amount.negative,
-        amount.times(radix, by.factor),
-        syntax,
-        style,
-    )
-}
-
-// Returns how a number is written that is `size` as a whole number, or why it is not.
-pub(crate) fn write_number<'a>(
-    negative: bool,
-    size: Result<u128, WriteError>,
-    syntax: &Syntax,
-    style: Style,
-) -> Result<Layout<'a>, WriteError>
-    requires sign { (negative && has syntax.now.conditions Condition.NegativeSign) ≡ false }
-    ensures literal { IfOk result (λ layout. Reads (notation_of syntax.now) (written layout) (text_of (written layout))) }
-    ensures number { IfOk result (λ layout. IfOk size (λ n. HasNumber syntax.now (number_of_size negative n) (written layout))) }
-    ensures parts { IsNumber syntax.now style negative size result }
-    ensures lawful { IfOk result (λ layout. IsSyntax syntax.now) }
-{
-    match size {
-        Ok(size) => lay_out(&Amount::of_size(negative, size), syntax, style),
-        Err(error) => Err(or_limit(is_whole(syntax), WriteError::Radix, error)),
+    match whole_size(format, parts) {
+        Ok(size) => lay_out(&Amount::of_size(is_minus(parts.sign), size), syntax, style),
+        Err(error) => Err(or_limit(is_whole(syntax), limit, error)),
     }
 }
 
@@ -253,16 +231,6 @@ const fn or_limit(whole: bool, limit: WriteError, error: WriteError) -> WriteErr
     match error {
         WriteError::Fraction if whole => WriteError::Fraction,
         _ => limit,
-    }
-}
-
-// Returns why a number is not written that is `size` as a whole number, where no literal has its exponent.
-const fn odd_error(whole: bool, size: Result<u128, WriteError>) -> WriteError
-    ensures { result ≡ odd_error whole size }
-{
-    match size {
-        Ok(_) => WriteError::Exponent,
-        Err(error) => or_limit(whole, WriteError::Exponent, error),
     }
 }
 

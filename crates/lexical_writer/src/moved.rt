@@ -1,16 +1,17 @@
 //! The point of a number moves, so that the number needs no exponent.
 
-ghost use Rattle.std.specs.Prelude.{◌≡◌, ◌<◌, ◌≤◌, ◌*◌, ◌^◌, ◌-◌, ◌∷◌, false, length, take, drop, true};
+ghost use Rattle.std.specs.Prelude.{if◌then◌else◌, ◌≡◌, ◌<◌, ◌≤◌, ◌+◌, ◌*◌, ◌^◌, ◌-◌, ◌∷◌, ◌==◌, ◌&&◌, ◌||◌, ◌⊎◌};
+ghost use Rattle.std.specs.Prelude.{ℕ, List, IfSome, None, drop, false, is_some, take, true};
 ghost use Rattle.std.specs.Int.Digits.{number_from_digits};
 ghost use Rattle.std.specs.Option.{SomeIff};
 ghost use Rattle.lexical_util.specs.Record.{effective_exponent_radix, raw};
-ghost use Rattle.lexical_util.specs.Rules.{IsRadix};
+ghost use Rattle.lexical_util.specs.Rules.{Lawful};
 ghost use Rattle.lexical_literal.specs.Literal.{is_absent, is_minus};
+ghost use Rattle.lexical_number.specs.Float.{is_power_of_two};
 ghost use Rattle.lexical_number.specs.Number.{number_after, digits_in, number};
 ghost use Rattle.lexical_number.specs.Numeral.{size_of as numeral_size};
-ghost use Rattle.lexical_writer.specs.Digits.{padded_values, size_of, values_of};
-ghost use Rattle.lexical_writer.specs.Layout.{given_fraction};
-ghost use Rattle.lexical_writer.specs.Moved.{IsFactor, IsMoved, IsTimes, factors, moved_by, moved_fraction, moved_integer, too_far, trimmed};
+ghost use Rattle.lexical_writer.specs.Digits.{padded_values};
+ghost use Rattle.lexical_writer.specs.Moved.{IsMoved, IsOver, IsQuotient, IsSize, can_move, moved_fraction, moved_integer, places_of, too_far, trimmed};
 
 use crate::layout::{Amount, WriteError};
 use crate::literal::is_minus;
@@ -18,11 +19,12 @@ use crate::run::{Padded, Source};
 use lexical_base::digit::char_to_digit;
 use lexical_literal::literal::Parts;
 use lexical_number::numeral::{Magnitude, Numeral};
+use lexical_number::scaling::bits_of;
 use lexical_number::small::count;
 use lexical_util::format::NumberFormat;
 
 // Returns bytes up to a place among their digits, and the others. Before the place are at most `places` digits.
-fn cut<'a>(bytes: &'a [u8], radix: u32, places: usize) -> (&'a [u8], &'a [u8])
+fn at_place<'a>(bytes: &'a [u8], radix: u32, places: usize) -> (&'a [u8], &'a [u8])
     ensures front { digits_in radix result.0.now ≡ take places (digits_in radix bytes.entry.now) }
     ensures rest { digits_in radix result.1.now ≡ drop places (digits_in radix bytes.entry.now) }
 {
@@ -51,40 +53,61 @@ fn without_last_zeros<'a>(bytes: &'a [u8], radix: u32) -> &'a [u8]
     &[]
 }
 
-// Returns the number that the digits among bytes represent behind those of `front`, or `None` if it has more than 128 bits.
-#[tactic(auto, using(lexical_number::proofs::DigitLemmas::too_large))]
-fn size_after(front: u128, bytes: &[u8], radix: u32) -> Option<u128>
-    ensures { SomeIff result (number_after radix front bytes.now ≤ 2 ^ 128 - 1) (number_after radix front bytes.now) }
+// A number over a divisor: how often the divisor goes into it, or `None` if that has more than 128 bits, and what is left.
+#[derive(Debug, Clone, Copy)]
+pub(crate) struct Quotient {
+    pub(crate) size: Option<u128>,
+    pub(crate) rest: u32,
+}
+
+// Returns a number with one digit more, or `None` if it has more than 128 bits.
+#[inline(always)]
+fn longer(number: Option<u128>, digit: u32, radix: u32) -> Option<u128>
+    requires { 0 < radix }
+    ensures { (n : ℕ) → SomeIff number (n ≤ 2 ^ 128 - 1) n → SomeIff result (n * radix + digit ≤ 2 ^ 128 - 1) (n * radix + digit) }
 {
-    let mut size = front;
+    let Some(number) = number else {
+        return None;
+    };
+    let Some(shifted) = number.checked_mul(radix as u128) else {
+        return None;
+    };
+    shifted.checked_add(digit as u128)
+}
+
+// Returns a number with the digits among bytes behind its own, over the same divisor.
+fn divided_on(number: Quotient, bytes: &[u8], radix: u32, divisor: u32) -> Quotient
+    requires radix { (0 < radix) × (radix ≤ 36) }
+    requires divisor { (0 < divisor) × (divisor ≤ 36) × (number.rest < divisor) }
+    ensures rest { result.rest < divisor }
+    ensures number { (n : ℕ) → IsQuotient n divisor number → IsQuotient (number_after radix n bytes.now) divisor result }
+{
+    let mut size = number.size;
+    let mut rest = number.rest;
     let mut index = 0;
     while index < bytes.len() {
         if let Some(digit) = char_to_digit(bytes[index], radix) {
-            let Some(shifted) = size.checked_mul(radix as u128) else {
-                return None;
-            };
-            let Some(longer) = shifted.checked_add(digit as u128) else {
-                return None;
-            };
-            size = longer;
+            let part = rest * radix + digit;
+            size = longer(size, part / divisor, radix);
+            rest = part % divisor;
         }
         index += 1;
     }
-    Some(size)
+    Quotient { size, rest }
 }
 
-// Returns a number with as many zeros behind its digits as `places`, or `None` if it has more than 128 bits.
-pub(crate) fn shifted(number: u128, radix: u32, places: usize) -> Option<u128>
-    requires { 0 < radix }
-    ensures { SomeIff result (number * radix ^ places ≤ 2 ^ 128 - 1) (number * radix ^ places) }
+// Returns a number times a power of `base`, or `None` if it has more than 128 bits.
+fn shifted(number: u128, base: u32, power: u128) -> Option<u128>
+    requires { 0 < base }
+    ensures { SomeIff result (number * base ^ power ≤ 2 ^ 128 - 1) (number * base ^ power) }
 {
     if number == 0 {
         return Some(0);
     }
     let mut size = number;
-    let mut left = places;
+    let mut left = power;
     while left > 0 {
-        let Some(longer) = size.checked_mul(radix as u128) else {
+        let Some(longer) = size.checked_mul(base as u128) else {
             return None;
         };
         size = longer;
@@ -93,39 +116,32 @@ pub(crate) fn shifted(number: u128, radix: u32, places: usize) -> Option<u128>
     Some(size)
 }
 
-impl Source<'_> {
-    // Returns the number that the digits represent, or `None` if it has more than 128 bits.
-    pub(crate) fn size(&self, radix: u32) -> Option<u128>
-        requires { 0 < radix }
-        ensures { SomeIff result (size_of radix self.now ≤ 2 ^ 128 - 1) (size_of radix self.now) }
-    {
-        match self {
-            Source::Bytes(bytes) => size_after(0, bytes, radix),
-            Source::Number(number) => Some(*number),
-            Source::Padded(padded) => padded.size(radix),
-        }
+// Returns a number over a power of `base`, or `None` if it is not whole.
+fn divided(number: u128, base: u32, power: u128) -> Option<u128>
+    requires { 0 < base }
+    ensures some { IfSome result (λ n. n * base ^ power ≡ number) }
+    ensures none { result ≡ None → (n : ℕ) → n * base ^ power ≡ number → ⊥ }
+{
+    if number == 0 {
+        return Some(0);
     }
+    let mut size = number;
+    let mut left = power;
+    while left > 0 {
+        if size % base as u128 != 0 {
+            return None;
+        }
+        size /= base as u128;
+        left -= 1;
+    }
+    Some(size)
 }
 
 impl<'a> Padded<'a> {
-    // Returns the number that the digits represent, or `None` if it has more than 128 bits.
-    fn size(&self, radix: u32) -> Option<u128>
-        requires { 0 < radix }
-        ensures { SomeIff result (number_from_digits radix (padded_values radix self.now) ≤ 2 ^ 128 - 1)
-            (number_from_digits radix (padded_values radix self.now)) }
-    {
-        let Some(front) = size_after(0, self.first, radix) else {
-            return None;
-        };
-        let Some(whole) = size_after(front, self.second, radix) else {
-            return None;
-        };
-        shifted(whole, radix, self.after)
-    }
-
     // Returns the digits without the zeros that they end with.
     fn trimmed(&self, radix: u32) -> Padded<'a>
-        ensures { padded_values radix result ≡ trimmed (padded_values radix self.now) }
+        ensures digits { padded_values radix result ≡ trimmed (padded_values radix self.now) }
+        ensures after { result.after ≡ 0 }
     {
         let second = without_last_zeros(self.second, radix);
         if count(second, radix) > 0 {
@@ -160,7 +176,7 @@ fn moved_left<'a>(
         ≡ moved_fraction true places (digits_in radix integer.entry.now) (digits_in radix fraction.entry.now) }
 {
     let digits = count(integer, radix);
-    let (rest, passed) = cut(integer, radix, digits.saturating_sub(places));
+    let (rest, passed) = at_place(integer, radix, digits.saturating_sub(places));
     let integer = Padded {
         before: 1,
         first: rest,
@@ -188,7 +204,7 @@ fn moved_right<'a>(
     ensures fraction { padded_values radix result.1
         ≡ moved_fraction false places (digits_in radix integer.entry.now) (digits_in radix fraction.entry.now) }
 {
-    let (passed, rest) = cut(fraction, radix, places);
+    let (passed, rest) = at_place(fraction, radix, places);
     let integer = Padded {
         before: 1,
         first: integer,
@@ -199,7 +215,7 @@ fn moved_right<'a>(
 }
 
 // Returns the number of parts whose point moves by as many digits as `places`, in place of the exponent.
-pub(crate) fn moved<'a>(parts: &Parts<'a>, radix: u32, places: usize) -> Amount<'a>
+pub(crate) fn without_exponent<'a>(parts: &Parts<'a>, radix: u32, places: usize) -> Amount<'a>
     ensures { IsMoved radix (is_minus parts.now.exponent_sign.now) places parts.now result }
 {
     let (integer, fraction) = if is_minus(parts.exponent_sign) {
@@ -220,25 +236,6 @@ pub(crate) fn moved<'a>(parts: &Parts<'a>, radix: u32, places: usize) -> Amount<
     }
 }
 
-// Returns the number of factors whose product is the radix, or 0.
-fn factors(base: u32, radix: u32) -> u128
-    ensures { result ≡ factors base radix }
-{
-    if base == radix {
-        1
-    } else if base.checked_pow(2) == Some(radix) {
-        2
-    } else if base.checked_pow(3) == Some(radix) {
-        3
-    } else if base.checked_pow(4) == Some(radix) {
-        4
-    } else if base.checked_pow(5) == Some(radix) {
-        5
-    } else {
-        0
-    }
-}
-
 // Returns whether all digits among bytes are zeros.
 fn is_zero(bytes: &[u8], radix: u32) -> bool
     ensures { result ≡ is_absent (trimmed (digits_in radix bytes.now)) }
@@ -246,14 +243,14 @@ fn is_zero(bytes: &[u8], radix: u32) -> bool
     count(without_last_zeros(bytes, radix), radix) == 0
 }
 
-// Returns the error of a point that moves by more digits than a text has. Only whole numbers can be written if `whole` is true.
-const fn too_far(whole: bool, parts: &Parts) -> WriteError
-    ensures { result ≡ too_far whole parts.now }
+// Returns the error of a number whose exponent has more than 64 bits.
+pub(crate) const fn too_far(parts: &Parts) -> WriteError
+    ensures { result ≡ too_far parts.now }
 {
-    if whole && is_minus(parts.exponent_sign) {
+    if is_minus(parts.exponent_sign) {
         WriteError::Fraction
     } else {
-        WriteError::Long
+        WriteError::Radix
     }
 }
 
@@ -268,86 +265,198 @@ pub(crate) fn exponent_of<'a>(format: NumberFormat, parts: &Parts<'a>) -> Numera
     }
 }
 
-// How the point of a number moves in place of the exponent.
-#[derive(Debug, Clone, Copy)]
-pub(crate) struct Move {
-    // By how many digits the point moves.
-    pub(crate) places: usize,
-    // By what the number is multiplied then. It is 1 if the point moves by whole digits in place of the exponent.
-    pub(crate) factor: u32,
-}
-
-// Returns how the point moves. Only whole numbers can be written if `whole` is true.
-pub(crate) fn moved_by(format: NumberFormat, parts: &Parts, whole: bool) -> Result<Move, WriteError>
-    ensures { result ≡ moved_by whole (raw format) parts.now }
+// Returns by how many digits the point of a literal moves in place of an exponent whose base is the radix, or `None` for too many.
+pub(crate) fn places_of(format: NumberFormat, parts: &Parts) -> Option<usize>
+    ensures { SomeIff result (places_of (raw format) parts.now ≤ 2 ^ 64 - 1) (places_of (raw format) parts.now) }
 {
     let radix = format.mantissa_radix();
-    let exponent = exponent_of(format, parts).as_u128();
-    if is_zero(parts.integer, radix) && is_zero(parts.fraction, radix) || exponent == Some(0) {
-        return Ok(Move {
-            places: 0,
-            factor: 1,
-        });
+    if is_zero(parts.integer, radix) && is_zero(parts.fraction, radix) {
+        return Some(0);
     }
-    let Some(exponent) = exponent else {
-        return Err(too_far(whole, parts));
+    let Some(places) = exponent_of(format, parts).as_u64() else {
+        return None;
     };
-    let base = format.exponent_base();
-    let factors = factors(base, radix);
-    if factors == 0 {
-        return Err(WriteError::Exponent);
-    }
-    let (digits, rest) = (exponent / factors, exponent % factors);
-    let (places, power) = if is_minus(parts.exponent_sign) && rest > 0 {
-        (digits + 1, factors - rest)
-    } else {
-        (digits, rest)
-    };
-    if places > usize::MAX as u128 {
-        return Err(too_far(whole, parts));
-    }
-    Ok(Move {
-        places: places as usize,
-        factor: base.pow(power as u32),
-    })
+    Some(places as usize)
 }
 
-impl Amount<'_> {
-    // Returns a number without an exponent times a factor, as a whole number. It is `Fraction` if it is not whole, and `Radix`
-    // if it has more than 128 bits.
-    pub(crate) fn times(&self, radix: u32, factor: u32) -> Result<u128, WriteError>
-        requires radix { IsRadix radix }
-        requires factor { IsFactor factor radix }
-        requires trimmed { trimmed (values_of radix (given_fraction self.now)) ≡ values_of radix (given_fraction self.now) }
-        ensures { IsTimes radix factor self.now result }
-    {
-        let fraction = self.fraction();
-        if fraction.count(radix) > 1 {
-            return Err(WriteError::Fraction);
-        }
-        let product = last_digit(fraction, radix) * factor as u128;
-        if product % radix as u128 != 0 {
-            return Err(WriteError::Fraction);
-        }
-        let Some(size) = self.integer.size(radix) else {
-            return Err(WriteError::Radix);
-        };
-        let Some(whole) = size.checked_mul(factor as u128) else {
-            return Err(WriteError::Radix);
-        };
-        match whole.checked_add(product / radix as u128) {
-            Some(sum) => Ok(sum),
-            None => Err(WriteError::Radix),
-        }
-    }
-}
-
-// Returns the digit of a source that has at most one, or 0 if it has none.
-fn last_digit(source: Source, radix: u32) -> u128
-    requires radix { IsRadix radix }
-    requires one { length (values_of radix source) ≤ 1 }
-    ensures digit { result ≡ number_from_digits radix (values_of radix source.entry) }
-    ensures small { result < radix }
+// Returns whether the point of a literal can move in place of its exponent.
+pub(crate) fn can_move(format: NumberFormat, parts: &Parts) -> bool
+    ensures { result ≡ can_move (raw format) parts.now }
 {
-    source.size(radix).unwrap_or(0)
+    format.exponent_base() == format.mantissa_radix() || places_of(format, parts) == Some(0)
+}
+
+impl Padded<'_> {
+    // Returns the number that the digits represent, over a divisor.
+    fn over(&self, radix: u32, divisor: u32) -> Quotient
+        requires radix { (0 < radix) × (radix ≤ 36) }
+        requires divisor { (0 < divisor) × (divisor ≤ 36) }
+        requires after { self.now.after ≡ 0 }
+        ensures { IsQuotient (number_from_digits radix (padded_values radix self.now)) divisor result }
+    {
+        let none = Quotient {
+            size: Some(0),
+            rest: 0,
+        };
+        divided_on(
+            divided_on(none, self.first, radix, divisor),
+            self.second,
+            radix,
+            divisor,
+        )
+    }
+}
+
+// Returns the number that digits represent, of which the last is not 0, times a power of `unit`, over another power of `unit`. The radix is
+// the power of `unit` with the exponent `bits`.
+fn scaled(
+    digits: &Padded,
+    radix: u32,
+    unit: u32,
+    bits: u128,
+    up: u128,
+    down: u128,
+) -> Result<u128, WriteError>
+    requires unit { 2 ≤ unit }
+    requires bits { (0 < bits) × (bits ≤ 5) }
+    requires radix { (2 ≤ radix) × (radix ≤ 36) × (radix ≡ unit ^ bits) }
+    requires after { digits.now.after ≡ 0 }
+    requires trimmed { (all : List ℕ) × (padded_values radix digits.now ≡ trimmed all) × (is_absent (trimmed all) ≡ false) }
+    ensures { IsOver (number_from_digits radix (padded_values radix digits.now) * unit ^ up) (unit ^ down) result }
+{
+    // The unit divides the last digit, and so the number, less often than it divides the radix.
+    let less = down.saturating_sub(up);
+    if less >= bits {
+        return Err(WriteError::Fraction);
+    }
+    let Quotient { size, rest } = digits.over(radix, unit.pow(less as u32));
+    if rest > 0 {
+        return Err(WriteError::Fraction);
+    }
+    let Some(size) = size else {
+        return Err(WriteError::Radix);
+    };
+    shifted(size, unit, up.saturating_sub(down)).ok_or(WriteError::Radix)
+}
+
+// Returns a number, and of which powers of it the radix and the base are, or `None` if they differ, and are not both powers of two. The base
+// does not count if `alone` is true.
+#[tactic(auto, using(crate::proofs::PrimeLemmas::once))]
+fn unit_of(radix: u32, base: u32, alone: bool) -> Option<(u32, u128, u128)>
+    requires { 2 ≤ radix }
+    ensures unit { IfSome result (λ it. (2 ≤ it.0) × (0 < it.1) × (it.1 ≤ 5) × (it.2 ≤ 5)) }
+    ensures radix { IfSome result (λ it. radix ≡ it.0 ^ it.1) }
+    ensures base { IfSome result (λ it. (base ≡ it.0 ^ it.2) ⊎ (alone ≡ true)) }
+    ensures some { is_some result ≡ ((base == radix || alone) || (is_power_of_two radix && is_power_of_two base)) }
+{
+    if base == radix || alone {
+        return Some((radix, 1, 1));
+    }
+    match (bits_of(radix), bits_of(base)) {
+        (Some(bits), Some(base_bits)) => Some((2, bits as u128, base_bits as u128)),
+        _ => None,
+    }
+}
+
+// Returns a number without the factors `prime`, and how many it has.
+fn without_factors(number: u32, prime: u32) -> (u32, u32)
+    requires { (0 < number) × (number ≤ 36) × (2 ≤ prime) }
+    ensures number { number ≡ result.0 * prime ^ result.1 }
+    ensures rest { (k : ℕ) → result.0 ≡ k * prime → ⊥ }
+    ensures few { result.1 ≤ 36 }
+{
+    let mut rest = number;
+    let mut factors = 0;
+    while rest % prime == 0 {
+        rest /= prime;
+        factors += 1;
+    }
+    (rest, factors)
+}
+
+// Returns a number times a power of `base`, over powers of `radix` and `base`, which no number from 2 on below `prime` divides. What divides
+// it goes first, and what multiplies it last, so that no step has more bits than the number or the result.
+fn reduced(
+    number: u128,
+    prime: u32,
+    radix: u32,
+    base: u32,
+    places: u128,
+    up: u128,
+    down: u128,
+) -> Result<u128, WriteError>
+    requires prime { (2 ≤ prime) × (prime ≤ 37) }
+    requires radix { (0 < radix) × (radix ≤ 36) }
+    requires base { (0 < base) × (base ≤ 36) }
+    requires none { (q : ℕ) → 2 ≤ q → q < prime → (k : ℕ) → (radix ≡ k * q → ⊥) × (base ≡ k * q → ⊥) }
+    requires powers { (places ≤ 2 ^ 64) × (up ≤ 2 ^ 64) × (down ≤ 2 ^ 64) }
+    ensures { IsOver (number * base ^ up) (radix ^ places * base ^ down) result }
+{
+    if prime > 36 {
+        return Ok(number);
+    }
+    let (radix_left, in_radix) = without_factors(radix, prime);
+    let (base_left, in_base) = without_factors(base, prime);
+    let above = up * in_base as u128;
+    let below = places * in_radix as u128 + down * in_base as u128;
+    let Some(left) = divided(number, prime, below.saturating_sub(above)) else {
+        return Err(WriteError::Fraction);
+    };
+    match reduced(left, prime + 1, radix_left, base_left, places, up, down) {
+        Ok(size) => shifted(size, prime, above.saturating_sub(below)).ok_or(WriteError::Radix),
+        Err(error) => Err(error),
+    }
+}
+
+// Returns the exponents of the power by which a number is multiplied, and of that by which it is divided.
+fn sides(parts: &Parts, size: usize) -> (u128, u128)
+    ensures up { result.0 ≡ (if is_minus parts.now.exponent_sign.now then 0 else size) }
+    ensures down { result.1 ≡ (if is_minus parts.now.exponent_sign.now then size else 0) }
+{
+    if is_minus(parts.exponent_sign) {
+        (0, size as u128)
+    } else {
+        (size as u128, 0)
+    }
+}
+
+// Returns the whole number that a literal represents, apart from its sign. It is `Fraction` if it is not whole, and `Radix` if it has more
+// than 128 bits, or is not found out.
+pub(crate) fn whole_size(format: NumberFormat, parts: &Parts) -> Result<u128, WriteError>
+    requires { Lawful format }
+    ensures { IsSize (raw format) parts.now result }
+{
+    let (radix, base) = (format.mantissa_radix(), format.exponent_base());
+    let Some(size) = places_of(format, parts) else {
+        return Err(too_far(parts));
+    };
+    let all = Padded {
+        before: 0,
+        first: parts.integer,
+        second: parts.fraction,
+        after: 0,
+    };
+    let places = count(parts.fraction, radix) as u128;
+    // Most literals of another radix are integers, which take fewer steps.
+    if parts.exponent.is_empty() && places == 0 {
+        return all.over(radix, 1).size.ok_or(WriteError::Radix);
+    }
+    let digits = all.trimmed(radix);
+    let kept = digits.count(radix);
+    if kept == 0 {
+        return Ok(0);
+    }
+    let zeros = all.count(radix) - kept;
+    let (up, down) = sides(parts, size);
+    match unit_of(radix, base, size == 0) {
+        Some((unit, bits, base_bits)) => {
+            let above = zeros * bits + up * base_bits;
+            let below = places * bits + down * base_bits;
+            scaled(&digits, radix, unit, bits, above, below)
+        }
+        None => match all.over(radix, 1).size {
+            Some(number) => reduced(number, 2, radix, base, places, up, down),
+            None => Err(WriteError::Radix),
+        },
+    }
 }

@@ -42,7 +42,6 @@ pub struct Style {
     fraction_group: u8,
     without_base: u8,
     lowercase: u8,
-    keep_leading_zeros: u8,
     min_digits: u8,
     exponent: u8,
     exponent_from: u32,
@@ -69,7 +68,7 @@ impl Style {
         let mut style = literal::Style::PLAIN.min_digits(self.min_digits);
         (style.group, style.fraction_group) = (group(self.group), group(self.fraction_group));
         (style.prefix, style.suffix) = (self.without_base == 0, self.without_base == 0);
-        (style.lowercase, style.keep_leading_zeros) = (self.lowercase != 0, self.keep_leading_zeros != 0);
+        style.lowercase = self.lowercase != 0;
         (style.point, style.nearest) = (self.point != 0, self.nearest != 0);
         style.decimals = (self.has_decimals != 0).then_some(self.decimals);
         let exponent = match self.exponent {

@@ -48,7 +48,7 @@ use choice::choose;
 #[doc(hidden)]
 pub use choice::{Real, Whole, Writable};
 use float_digits::FloatDigits;
-use literal::write_number;
+use layout::Amount;
 use near::float_instead;
 pub use written::Written;
 use written::{lay_out, FloatText, Text};
@@ -101,13 +101,6 @@ impl Style {
     #[must_use]
     pub const fn min_digits(mut self, count: u8) -> Style {
         self.min_digits = count;
-        self
-    }
-
-    /// Keeps the leading zeros of the integer of a literal, where the format allows them and the point does not move.
-    #[must_use]
-    pub const fn keep_leading_zeros(mut self) -> Style {
-        self.keep_leading_zeros = true;
         self
     }
 
@@ -265,9 +258,10 @@ impl Syntax {
     /// Separators and leading zeros are left out, and groups are those of `style`. Where the format requires digits or an
     /// exponent that the literal does not have, `0` and `e0` are added. Trailing zeros are kept, and so is the sign of `-0`.
     /// Where no exponent is allowed, the point moves in its place, and trailing zeros of the fraction are left out: `1.2e3`
-    /// is `1200`. So they are in a syntax of integers alone, in which `1.0` is `1`. In another radix, a whole number of up to
-    /// 128 bits is written: `0xFF` is `255`, and with [`Style::nearest`] any number, by its `f64`. If the value by the [kind][Literal::kind] of the literal is another number, that is
-    /// written: of Java's `0xffffffff`, it is `-1`.
+    /// is `1200`. So they are in a syntax of integers alone, in which `1.0` is `1`. In another radix, and where the point
+    /// cannot move, a whole number of up to 128 bits is written: `0xFF` is `255`, and with [`Style::nearest`] any number, by
+    /// its `f64`. If the value by the [kind][Literal::kind] of the literal is another number, that is written: of Java's
+    /// `0xffffffff`, it is `-1`.
     ///
     /// ```
     /// use peltzivar::literal::{Style, Syntax};
@@ -328,20 +322,21 @@ impl<'a> Forms<'a> {
     ///
     /// # Errors
     ///
-    /// If no form is taken, returns the error of the form that was asked first: [`WriteError::ReadBack`] if its text is read
-    /// as another number, and [`WriteError::TooLarge`] if it is too large for its kind. [`WriteError::Buffer`] is that of a
-    /// text of more than 4,096 bytes, which is not read back.
+    /// If no form is taken, returns the error of the form that was asked first, but [`WriteError::Fraction`] gives way to
+    /// another one. It is [`WriteError::ReadBack`] if the text is read as another number, [`WriteError::TooLarge`] if it is too
+    /// large for its kind, and [`WriteError::Buffer`] for a text of more than 4,096 bytes, which is not read back.
     pub fn format_integer<T: WriteInteger>(&self, value: T, style: Style) -> Result<Written<'static>, WriteError> {
         let (negative, size) = value.sign_and_size();
         let (syntax, style) = self.syntax_for(&Whole { value }, style)?;
-        let layout = write_number(negative, Ok(size), &syntax, style)?;
+        let layout = literal::lay_out(&Amount::of_size(negative, size), &syntax, style)?;
         Ok(Written { text: Text::Number(layout) })
     }
 
     /// Returns the value of a float as a number of one of these forms, or as one of the spellings of NaN and infinity.
     /// [Reading][Self::read] the text returns the same bits, but for a NaN.
     ///
-    /// Forms are asked as by [`format_integer`][Self::format_integer].
+    /// Forms are asked as by [`format_integer`][Self::format_integer], but all that have floats before those of integers alone.
+    /// A float is rounded in the radix of the form that is asked first, and forms of other radixes do not write it.
     ///
     /// ```
     /// use peltzivar::literal::{Language, Style, WriteError};
@@ -353,8 +348,7 @@ impl<'a> Forms<'a> {
     ///
     /// # Errors
     ///
-    /// As [`format_integer`][Self::format_integer], but of the first form with a point, and [`WriteError::Special`] for NaN
-    /// and infinity without a spelling.
+    /// As [`format_integer`][Self::format_integer], and [`WriteError::Special`] for NaN and infinity without a spelling.
     pub fn format_float<T: WriteFloat>(&self, value: T, style: Style) -> Result<Written<'a>, WriteError> {
         match self.syntax_for(&Real { value }, style) {
             Ok((syntax, style)) => syntax.format_float(value, style),
@@ -385,7 +379,7 @@ impl<'a> Forms<'a> {
     ///
     /// # Errors
     ///
-    /// As [`format_integer`][Self::format_integer], or as [`format_float`][Self::format_float] if the literal is a float.
+    /// As [`format_integer`][Self::format_integer].
     pub fn format_literal<'b>(&self, literal: &Literal<'b>, style: Style) -> Result<Written<'b>, WriteError> {
         match literal.other_value() {
             None => self.syntax_for(literal, style).and_then(|(syntax, style)| syntax.format_literal(literal, style)),

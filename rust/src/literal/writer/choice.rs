@@ -14,8 +14,8 @@ use crate::literal::value::number::numeral::Magnitude;
 use crate::literal::writer::checked::is_integer;
 use crate::literal::writer::float::format_float;
 use crate::literal::writer::float_digits::FloatDigits;
-use crate::literal::writer::layout::{ExponentStyle, Style, WriteError};
-use crate::literal::writer::literal::write_number;
+use crate::literal::writer::layout::{Amount, ExponentStyle, Style, WriteError};
+use crate::literal::writer::literal::lay_out;
 use crate::literal::writer::near::format_near;
 
 /// A number that a list of forms is asked to write.
@@ -25,6 +25,9 @@ pub trait Writable {
 
     /// Returns whether the number is an integer.
     fn is_integer(&self) -> bool;
+
+    /// Returns whether a float is rounded in a style.
+    fn is_rounded(&self, style: Style) -> bool;
 
     /// Returns whether a literal of the exact kind is the number if it is written for it.
     fn is_plain(&self, literal: &Literal) -> bool;
@@ -58,16 +61,21 @@ impl<T: Integer> Writable for Whole<T> {
         true
     }
 
+    fn is_rounded(&self, _: Style) -> bool {
+        false
+    }
+
     fn is_plain(&self, literal: &Literal) -> bool {
         !has_float(literal)
     }
 
     fn write(&self, syntax: &Syntax, style: Style, buffer: &mut [u8]) -> Result<usize, WriteError> {
         let (negative, size) = self.value.sign_and_size();
+        // A list asks each form, so a refusal is to take few steps.
         if negative && syntax.conditions().has(Condition::NegativeSign) {
             return Err(WriteError::Negative);
         }
-        Ok(write_number(negative, Ok(size), syntax, style)?.write(buffer))
+        Ok(lay_out(&Amount::of_size(negative, size), syntax, style)?.write(buffer))
     }
 
     fn is_read_as(&self, _: Style, _: &Literal, literal: &Literal) -> bool {
@@ -90,6 +98,10 @@ impl<F: Float> Writable for Real<F> {
 
     fn is_integer(&self) -> bool {
         false
+    }
+
+    fn is_rounded(&self, style: Style) -> bool {
+        style.decimals.is_some()
     }
 
     fn is_plain(&self, _: &Literal) -> bool {
@@ -144,6 +156,10 @@ impl Writable for Literal<'_> {
 
     fn is_integer(&self) -> bool {
         !self.is_float()
+    }
+
+    fn is_rounded(&self, _: Style) -> bool {
+        false
     }
 
     fn is_plain(&self, literal: &Literal) -> bool {
@@ -223,13 +239,14 @@ const fn is_exact(kind: Kind) -> bool {
 
 /// Writes a number by the first form whose text the list reads as this number, to the beginning of a buffer, and returns the
 /// index of the form, the length of the text, and the style in which it is written. Forms of the number's radix are asked first,
-/// then decimal ones, and then the others, each in the order of the list. Where an exponent would make an integer another number,
-/// the wish for one is dropped.
+/// then decimal ones, and then the others, each in the order of the list, and all forms with floats write a float before those of
+/// integers alone. Where an exponent would make an integer another number, the wish for one is dropped. A float is rounded in the radix
+/// of the form that is asked first.
 ///
 /// # Errors
 ///
-/// If there is no such form, returns the error of the form that is asked first, or of the first that has floats, if the number is no
-/// integer: [`WriteError::ReadBack`] if its text is read as another number, [`WriteError::TooLarge`] if it is too large for its kind,
+/// If there is no such form, returns the error of the form that is asked first, but [`WriteError::Fraction`] gives way to another one.
+/// It is [`WriteError::ReadBack`] if the text is read as another number, [`WriteError::TooLarge`] if it is too large for its kind,
 /// and [`WriteError::Buffer`] if it does not fit the buffer.
 pub fn choose<N: Writable + ?Sized>(
     forms: &Forms,
@@ -237,47 +254,84 @@ pub fn choose<N: Writable + ?Sized>(
     style: Style,
     buffer: &mut [u8],
 ) -> Result<(usize, usize, Style), WriteError> {
-    let mut first = None;
-    let mut float = None;
-    for wanted in 0..3 {
+    let rounded = number.is_rounded(style);
+    let (mut error, mut first, mut floats) = (None, None, false);
+    for wanted in 0..if number.is_integer() { 3 } else { 6 } {
         for (index, form) in forms.as_slice().iter().enumerate() {
-            if turn(number.radix(), &form.syntax()) != wanted {
+            let syntax = form.syntax();
+            if turn(number.radix(), number.is_integer(), &syntax) != wanted {
                 continue;
             }
-            match write_in(forms, index, number, style, buffer) {
-                Ok((length, style)) => return Ok((index, length, style)),
-                Err(error) => {
-                    first = first.or(Some(error));
-                    if !number.is_integer() && form.syntax().options().is_some() {
-                        float = float.or(Some(error));
-                    }
+            // A number is rounded in one radix alone and, if there are forms with floats, by these alone.
+            if rounded {
+                let radix = syntax.format().view().mantissa_radix();
+                if first.unwrap_or(radix) != radix {
+                    continue;
                 }
+                first = Some(radix);
+                floats |= syntax.options().is_some();
+            }
+            let whole = floats && syntax.options().is_none();
+            match write_in(forms, index, whole, number, style, buffer) {
+                Ok((length, style)) => return Ok((index, length, style)),
+                Err(other) => error = first_reason(error, other),
             }
         }
     }
-    Err(float.or(first).unwrap_or(WriteError::ReadBack))
+    Err(error.unwrap_or(WriteError::ReadBack))
 }
 
-// Returns in which turn a form with a syntax is asked to write a number of a radix.
-fn turn(radix: u32, syntax: &Syntax) -> u8 {
-    let own = syntax.format().view().mantissa_radix();
-    if own == radix {
-        0
-    } else if own == 10 {
-        1
-    } else {
-        2
+// Returns the first of the reasons why forms do not write a number. `Fraction` gives way to another one.
+const fn first_reason(first: Option<WriteError>, error: WriteError) -> Option<WriteError> {
+    match first {
+        None | Some(WriteError::Fraction) => Some(error),
+        Some(other) => Some(other),
     }
 }
 
-// Writes a number by one form, and returns the length of the text and the style in which it is written, or why it is not used.
+// Returns in which turn a form with a syntax is asked to write an integer, or another number, of a radix.
+fn turn(radix: u32, integer: bool, syntax: &Syntax) -> u8 {
+    let own = syntax.format().view().mantissa_radix();
+    let late = delay(integer, syntax);
+    if own == radix {
+        late
+    } else if own == 10 {
+        late + 1
+    } else {
+        late + 2
+    }
+}
+
+// Returns 3 for a form of integers alone and a float, which all forms with floats write before, and 0 for others.
+#[inline(always)]
+fn delay(integer: bool, syntax: &Syntax) -> u8 {
+    if integer || syntax.options().is_some() {
+        0
+    } else {
+        3
+    }
+}
+
+// Returns the style in which a form writes, where a number is rounded or not. If `whole` is true, the form does not round.
+const fn style_in(whole: bool, rounded: bool, style: Style) -> Style {
+    if whole && rounded && !matches!(style.decimals, Some(0)) {
+        Style { decimals: None, ..style }
+    } else {
+        style
+    }
+}
+
+// Writes a number by one form, which does not round if `whole` is true, and returns the length of the text and the style in which it is
+// written, or why it is not used.
 fn write_in<N: Writable + ?Sized>(
     forms: &Forms,
     index: usize,
+    whole: bool,
     number: &N,
     style: Style,
     buffer: &mut [u8],
 ) -> Result<(usize, Style), WriteError> {
+    let style = style_in(whole, number.is_rounded(style), style);
     let error = match write_by(forms, index, number, style, buffer) {
         Ok(length) => return Ok((length, style)),
         Err(error) => error,

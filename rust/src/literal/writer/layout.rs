@@ -63,8 +63,6 @@ pub struct Style {
     pub lowercase: bool,
     /// How many digits the integer has at least. Zeros are added where the format allows leading zeros.
     pub min_digits: u8,
-    /// Whether the integer of a literal keeps its leading zeros, if its point does not move and the format allows them.
-    pub keep_leading_zeros: bool,
     /// Whether there is an exponent.
     pub exponent: ExponentStyle,
     /// How many digits the fraction of a float has, to which it is rounded. For `None`, as many as its value needs.
@@ -85,7 +83,6 @@ impl Style {
         suffix: true,
         lowercase: false,
         min_digits: 0,
-        keep_leading_zeros: false,
         exponent: ExponentStyle::AsNumber,
         decimals: None,
         point: false,
@@ -208,15 +205,6 @@ const fn base_byte(condition: bool, byte: u8) -> Option<u8> {
 // Returns 1 if `condition` is true, and 0 otherwise.
 const fn one_if(condition: bool) -> u128 {
     condition as u128
-}
-
-// Returns the number of digits of a source, or 0 if it is not bytes, so that it has no zeros to be kept.
-#[inline]
-fn kept_digits(source: Source, radix: u32) -> usize {
-    match source {
-        Source::Bytes(bytes) => count(bytes, radix),
-        Source::Number(_) | Source::Padded(_) => 0,
-    }
 }
 
 // Returns the digits of a source without the zeros that they begin with.
@@ -398,8 +386,7 @@ impl<'a> Amount<'a> {
         if forbidden && !prefix {
             return zero;
         }
-        let kept = if style.keep_leading_zeros { kept_digits(self.integer, radix) } else { 0 };
-        zero.max((kept as u128).max(style.min_digits as u128))
+        zero.max(style.min_digits as u128)
     }
 
     // Returns the fraction digits, if there are any.

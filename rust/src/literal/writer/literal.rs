@@ -8,7 +8,7 @@ use crate::literal::value::number::numeral::{Magnitude, Numeral};
 use crate::literal::writer::layout::{
     allows_exponent, needs_exponent, Amount, ExponentStyle, Layout, Power, Style, WriteError,
 };
-use crate::literal::writer::moved::{exponent_of, moved, moved_by};
+use crate::literal::writer::moved::{can_move, exponent_of, places_of, too_far, whole_size, without_exponent};
 use crate::literal::writer::run::Source;
 use crate::word::FormatView;
 
@@ -31,16 +31,19 @@ pub(crate) fn convert<'a>(
     if is_refused(parts, syntax) {
         Err(WriteError::Negative)
     } else if !is_same_radix(format, syntax) {
-        change_radix(format, parts, syntax, style)
-    } else if !is_kept(format, parts, syntax) {
-        move_point(format, parts, syntax, style)
-    } else if is_wish(format, parts, syntax, style) {
+        by_value(format, parts, WriteError::Radix, syntax, style)
+    } else if is_kept(format, parts, syntax) {
+        if !is_wish(format, parts, syntax, style) {
+            return keep(format, parts, syntax, style);
+        }
         match move_point(format, parts, syntax, style) {
             Ok(layout) => Ok(layout),
             Err(_) => keep(format, parts, syntax, style),
         }
+    } else if can_move(format, parts) {
+        move_point(format, parts, syntax, style)
     } else {
-        keep(format, parts, syntax, style)
+        by_value(format, parts, WriteError::Exponent, syntax, style)
     }
 }
 
@@ -70,7 +73,10 @@ fn is_kept(format: FormatView, parts: &Parts, syntax: &Syntax) -> bool {
 
 // Returns whether the point of a literal of `format` is to move in place of its exponent.
 fn is_wish(format: FormatView, parts: &Parts, syntax: &Syntax, style: Style) -> bool {
-    has_power(parts) && !needs_exponent(syntax) && is_unwanted(style.exponent, &exponent_of(format, parts))
+    has_power(parts)
+        && !needs_exponent(syntax)
+        && can_move(format, parts)
+        && is_unwanted(style.exponent, &exponent_of(format, parts))
 }
 
 // Returns whether the point is to move in place of an exponent.
@@ -101,13 +107,12 @@ fn move_point<'a>(
     syntax: &Syntax,
     style: Style,
 ) -> Result<Layout<'a>, WriteError> {
-    let (radix, whole) = (format.mantissa_radix(), is_whole(syntax));
-    let by = moved_by(format, parts, whole)?;
-    let amount = moved(parts, radix, by.places);
-    if by.factor == 1 {
-        shorten(&amount, syntax, style)
-    } else {
-        Err(odd_error(whole, amount.times(radix, by.factor)))
+    match places_of(format, parts) {
+        Some(places) => {
+            let amount = without_exponent(parts, format.mantissa_radix(), places);
+            shorten(&amount, syntax, style)
+        }
+        None => Err(or_limit(is_whole(syntax), WriteError::Long, too_far(parts))),
     }
 }
 
@@ -120,33 +125,18 @@ fn shorten<'a>(amount: &Amount<'a>, syntax: &Syntax, style: Style) -> Result<Lay
     }
 }
 
-// Returns how the number of a literal is written in another radix, or why it cannot be.
-fn change_radix<'a>(
+// Returns how the whole number that a literal represents is written, or why it is not: `limit`, unless literals are integers, and it is
+// not whole.
+fn by_value<'a>(
     format: FormatView,
     parts: &Parts<'a>,
+    limit: WriteError,
     syntax: &Syntax,
     style: Style,
 ) -> Result<Layout<'a>, WriteError> {
-    let whole = is_whole(syntax);
-    let by = match moved_by(format, parts, whole) {
-        Ok(by) => by,
-        Err(error) => return Err(or_limit(whole, WriteError::Radix, error)),
-    };
-    let radix = format.mantissa_radix();
-    let amount = moved(parts, radix, by.places);
-    write_number(amount.negative, amount.times(radix, by.factor), syntax, style)
-}
-
-// Returns how a number is written that is `size` as a whole number, or why it is not.
-pub(crate) fn write_number<'a>(
-    negative: bool,
-    size: Result<u128, WriteError>,
-    syntax: &Syntax,
-    style: Style,
-) -> Result<Layout<'a>, WriteError> {
-    match size {
-        Ok(size) => lay_out(&Amount::of_size(negative, size), syntax, style),
-        Err(error) => Err(or_limit(is_whole(syntax), WriteError::Radix, error)),
+    match whole_size(format, parts) {
+        Ok(size) => lay_out(&Amount::of_size(is_minus(parts.sign), size), syntax, style),
+        Err(error) => Err(or_limit(is_whole(syntax), limit, error)),
     }
 }
 
@@ -155,14 +145,6 @@ const fn or_limit(whole: bool, limit: WriteError, error: WriteError) -> WriteErr
     match error {
         WriteError::Fraction if whole => WriteError::Fraction,
         _ => limit,
-    }
-}
-
-// Returns why a number is not written that is `size` as a whole number, where no literal has its exponent.
-const fn odd_error(whole: bool, size: Result<u128, WriteError>) -> WriteError {
-    match size {
-        Ok(_) => WriteError::Exponent,
-        Err(error) => or_limit(whole, WriteError::Exponent, error),
     }
 }
 

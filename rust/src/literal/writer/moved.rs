@@ -5,6 +5,7 @@
 use crate::digit::char_to_digit;
 use crate::literal::literal::Parts;
 use crate::literal::value::number::numeral::{Magnitude, Numeral};
+use crate::literal::value::number::scaling::bits_of;
 use crate::literal::value::number::small::count;
 use crate::literal::writer::layout::{Amount, WriteError};
 use crate::literal::writer::literal::is_minus;
@@ -12,7 +13,7 @@ use crate::literal::writer::run::{Padded, Source};
 use crate::word::FormatView;
 
 // Returns bytes up to a place among their digits, and the others. Before the place are at most `places` digits.
-fn cut<'a>(bytes: &'a [u8], radix: u32, places: usize) -> (&'a [u8], &'a [u8]) {
+fn at_place<'a>(bytes: &'a [u8], radix: u32, places: usize) -> (&'a [u8], &'a [u8]) {
     let mut index = 0;
     let mut left = places;
     while left > 0 && index < bytes.len() {
@@ -36,34 +37,50 @@ fn without_last_zeros<'a>(bytes: &'a [u8], radix: u32) -> &'a [u8] {
     &[]
 }
 
-// Returns the number that the digits among bytes represent behind those of `front`, or `None` if it has more than 128 bits.
-fn size_after(front: u128, bytes: &[u8], radix: u32) -> Option<u128> {
-    let mut size = front;
+// A number over a divisor: how often the divisor goes into it, or `None` if that has more than 128 bits, and what is left.
+#[derive(Debug, Clone, Copy)]
+pub(crate) struct Quotient {
+    pub(crate) size: Option<u128>,
+    pub(crate) rest: u32,
+}
+
+// Returns a number with one digit more, or `None` if it has more than 128 bits.
+#[inline(always)]
+fn longer(number: Option<u128>, digit: u32, radix: u32) -> Option<u128> {
+    let Some(number) = number else {
+        return None;
+    };
+    let Some(shifted) = number.checked_mul(radix as u128) else {
+        return None;
+    };
+    shifted.checked_add(digit as u128)
+}
+
+// Returns a number with the digits among bytes behind its own, over the same divisor.
+fn divided_on(number: Quotient, bytes: &[u8], radix: u32, divisor: u32) -> Quotient {
+    let mut size = number.size;
+    let mut rest = number.rest;
     let mut index = 0;
     while index < bytes.len() {
         if let Some(digit) = char_to_digit(bytes[index], radix) {
-            let Some(shifted) = size.checked_mul(radix as u128) else {
-                return None;
-            };
-            let Some(longer) = shifted.checked_add(digit as u128) else {
-                return None;
-            };
-            size = longer;
+            let part = rest * radix + digit;
+            size = longer(size, part / divisor, radix);
+            rest = part % divisor;
         }
         index += 1;
     }
-    Some(size)
+    Quotient { size, rest }
 }
 
-// Returns a number with as many zeros behind its digits as `places`, or `None` if it has more than 128 bits.
-pub(crate) fn shifted(number: u128, radix: u32, places: usize) -> Option<u128> {
+// Returns a number times a power of `base`, or `None` if it has more than 128 bits.
+fn shifted(number: u128, base: u32, power: u128) -> Option<u128> {
     if number == 0 {
         return Some(0);
     }
     let mut size = number;
-    let mut left = places;
+    let mut left = power;
     while left > 0 {
-        let Some(longer) = size.checked_mul(radix as u128) else {
+        let Some(longer) = size.checked_mul(base as u128) else {
             return None;
         };
         size = longer;
@@ -72,29 +89,24 @@ pub(crate) fn shifted(number: u128, radix: u32, places: usize) -> Option<u128> {
     Some(size)
 }
 
-impl Source<'_> {
-    // Returns the number that the digits represent, or `None` if it has more than 128 bits.
-    pub(crate) fn size(&self, radix: u32) -> Option<u128> {
-        match self {
-            Source::Bytes(bytes) => size_after(0, bytes, radix),
-            Source::Number(number) => Some(*number),
-            Source::Padded(padded) => padded.size(radix),
-        }
+// Returns a number over a power of `base`, or `None` if it is not whole.
+fn divided(number: u128, base: u32, power: u128) -> Option<u128> {
+    if number == 0 {
+        return Some(0);
     }
+    let mut size = number;
+    let mut left = power;
+    while left > 0 {
+        if size % base as u128 != 0 {
+            return None;
+        }
+        size /= base as u128;
+        left -= 1;
+    }
+    Some(size)
 }
 
 impl<'a> Padded<'a> {
-    // Returns the number that the digits represent, or `None` if it has more than 128 bits.
-    fn size(&self, radix: u32) -> Option<u128> {
-        let Some(front) = size_after(0, self.first, radix) else {
-            return None;
-        };
-        let Some(whole) = size_after(front, self.second, radix) else {
-            return None;
-        };
-        shifted(whole, radix, self.after)
-    }
-
     // Returns the digits without the zeros that they end with.
     fn trimmed(&self, radix: u32) -> Padded<'a> {
         let second = without_last_zeros(self.second, radix);
@@ -110,7 +122,7 @@ impl<'a> Padded<'a> {
 // Returns the digits before and behind a point that moves to the left.
 fn moved_left<'a>(integer: &'a [u8], fraction: &'a [u8], radix: u32, places: usize) -> (Padded<'a>, Padded<'a>) {
     let digits = count(integer, radix);
-    let (rest, passed) = cut(integer, radix, digits.saturating_sub(places));
+    let (rest, passed) = at_place(integer, radix, digits.saturating_sub(places));
     let integer = Padded { before: 1, first: rest, second: &[], after: 0 };
     let fraction = Padded { before: places.saturating_sub(digits), first: passed, second: fraction, after: 0 };
     (integer, fraction)
@@ -118,14 +130,14 @@ fn moved_left<'a>(integer: &'a [u8], fraction: &'a [u8], radix: u32, places: usi
 
 // Returns the digits before and behind a point that moves to the right.
 fn moved_right<'a>(integer: &'a [u8], fraction: &'a [u8], radix: u32, places: usize) -> (Padded<'a>, Padded<'a>) {
-    let (passed, rest) = cut(fraction, radix, places);
+    let (passed, rest) = at_place(fraction, radix, places);
     let integer =
         Padded { before: 1, first: integer, second: passed, after: places.saturating_sub(count(fraction, radix)) };
     (integer, Padded::of(rest))
 }
 
 // Returns the number of parts whose point moves by as many digits as `places`, in place of the exponent.
-pub(crate) fn moved<'a>(parts: &Parts<'a>, radix: u32, places: usize) -> Amount<'a> {
+pub(crate) fn without_exponent<'a>(parts: &Parts<'a>, radix: u32, places: usize) -> Amount<'a> {
     let (integer, fraction) = if is_minus(parts.exponent_sign) {
         moved_left(parts.integer, parts.fraction, radix, places)
     } else {
@@ -140,34 +152,17 @@ pub(crate) fn moved<'a>(parts: &Parts<'a>, radix: u32, places: usize) -> Amount<
     }
 }
 
-// Returns the number of factors whose product is the radix, or 0.
-fn factors(base: u32, radix: u32) -> u128 {
-    if base == radix {
-        1
-    } else if base.checked_pow(2) == Some(radix) {
-        2
-    } else if base.checked_pow(3) == Some(radix) {
-        3
-    } else if base.checked_pow(4) == Some(radix) {
-        4
-    } else if base.checked_pow(5) == Some(radix) {
-        5
-    } else {
-        0
-    }
-}
-
 // Returns whether all digits among bytes are zeros.
 fn is_zero(bytes: &[u8], radix: u32) -> bool {
     count(without_last_zeros(bytes, radix), radix) == 0
 }
 
-// Returns the error of a point that moves by more digits than a text has. Only whole numbers can be written if `whole` is true.
-const fn too_far(whole: bool, parts: &Parts) -> WriteError {
-    if whole && is_minus(parts.exponent_sign) {
+// Returns the error of a number whose exponent has more than 64 bits.
+pub(crate) const fn too_far(parts: &Parts) -> WriteError {
+    if is_minus(parts.exponent_sign) {
         WriteError::Fraction
     } else {
-        WriteError::Long
+        WriteError::Radix
     }
 }
 
@@ -176,65 +171,137 @@ pub(crate) fn exponent_of<'a>(format: FormatView, parts: &Parts<'a>) -> Numeral<
     Numeral { negative: false, magnitude: Magnitude::Digits(parts.exponent, format.exponent_radix()) }
 }
 
-// How the point of a number moves in place of the exponent.
-#[derive(Debug, Clone, Copy)]
-pub(crate) struct Move {
-    // By how many digits the point moves.
-    pub(crate) places: usize,
-    // By what the number is multiplied then. It is 1 if the point moves by whole digits in place of the exponent.
-    pub(crate) factor: u32,
-}
-
-// Returns how the point moves. Only whole numbers can be written if `whole` is true.
-pub(crate) fn moved_by(format: FormatView, parts: &Parts, whole: bool) -> Result<Move, WriteError> {
+// Returns by how many digits the point of a literal moves in place of an exponent whose base is the radix, or `None` for too many.
+pub(crate) fn places_of(format: FormatView, parts: &Parts) -> Option<usize> {
     let radix = format.mantissa_radix();
-    let exponent = exponent_of(format, parts).as_u128();
-    if is_zero(parts.integer, radix) && is_zero(parts.fraction, radix) || exponent == Some(0) {
-        return Ok(Move { places: 0, factor: 1 });
+    if is_zero(parts.integer, radix) && is_zero(parts.fraction, radix) {
+        return Some(0);
     }
-    let Some(exponent) = exponent else {
-        return Err(too_far(whole, parts));
+    let Some(places) = exponent_of(format, parts).as_u64() else {
+        return None;
     };
-    let base = format.exponent_base();
-    let factors = factors(base, radix);
-    if factors == 0 {
-        return Err(WriteError::Exponent);
-    }
-    let (digits, rest) = (exponent / factors, exponent % factors);
-    let (places, power) =
-        if is_minus(parts.exponent_sign) && rest > 0 { (digits + 1, factors - rest) } else { (digits, rest) };
-    if places > usize::MAX as u128 {
-        return Err(too_far(whole, parts));
-    }
-    Ok(Move { places: places as usize, factor: base.pow(power as u32) })
+    Some(places as usize)
 }
 
-impl Amount<'_> {
-    // Returns a number without an exponent times a factor, as a whole number. It is `Fraction` if it is not whole, and `Radix`
-    // if it has more than 128 bits.
-    pub(crate) fn times(&self, radix: u32, factor: u32) -> Result<u128, WriteError> {
-        let fraction = self.fraction();
-        if fraction.count(radix) > 1 {
-            return Err(WriteError::Fraction);
+// Returns whether the point of a literal can move in place of its exponent.
+pub(crate) fn can_move(format: FormatView, parts: &Parts) -> bool {
+    format.exponent_base() == format.mantissa_radix() || places_of(format, parts) == Some(0)
+}
+
+impl Padded<'_> {
+    // Returns the number that the digits represent, over a divisor.
+    fn over(&self, radix: u32, divisor: u32) -> Quotient {
+        let none = Quotient { size: Some(0), rest: 0 };
+        divided_on(divided_on(none, self.first, radix, divisor), self.second, radix, divisor)
+    }
+}
+
+// Returns the number that digits represent, of which the last is not 0, times a power of `unit`, over another power of `unit`. The radix is
+// the power of `unit` with the exponent `bits`.
+fn scaled(digits: &Padded, radix: u32, unit: u32, bits: u128, up: u128, down: u128) -> Result<u128, WriteError> {
+    // The unit divides the last digit, and so the number, less often than it divides the radix.
+    let less = down.saturating_sub(up);
+    if less >= bits {
+        return Err(WriteError::Fraction);
+    }
+    let Quotient { size, rest } = digits.over(radix, unit.pow(less as u32));
+    if rest > 0 {
+        return Err(WriteError::Fraction);
+    }
+    let Some(size) = size else {
+        return Err(WriteError::Radix);
+    };
+    shifted(size, unit, up.saturating_sub(down)).ok_or(WriteError::Radix)
+}
+
+// Returns a number, and of which powers of it the radix and the base are, or `None` if they differ, and are not both powers of two. The base
+// does not count if `alone` is true.
+fn unit_of(radix: u32, base: u32, alone: bool) -> Option<(u32, u128, u128)> {
+    if base == radix || alone {
+        return Some((radix, 1, 1));
+    }
+    match (bits_of(radix), bits_of(base)) {
+        (Some(bits), Some(base_bits)) => Some((2, bits as u128, base_bits as u128)),
+        _ => None,
+    }
+}
+
+// Returns a number without the factors `prime`, and how many it has.
+fn without_factors(number: u32, prime: u32) -> (u32, u32) {
+    let mut rest = number;
+    let mut factors = 0;
+    while rest % prime == 0 {
+        rest /= prime;
+        factors += 1;
+    }
+    (rest, factors)
+}
+
+// Returns a number times a power of `base`, over powers of `radix` and `base`, which no number from 2 on below `prime` divides. What divides
+// it goes first, and what multiplies it last, so that no step has more bits than the number or the result.
+fn reduced(
+    number: u128,
+    prime: u32,
+    radix: u32,
+    base: u32,
+    places: u128,
+    up: u128,
+    down: u128,
+) -> Result<u128, WriteError> {
+    if prime > 36 {
+        return Ok(number);
+    }
+    let (radix_left, in_radix) = without_factors(radix, prime);
+    let (base_left, in_base) = without_factors(base, prime);
+    let above = up * in_base as u128;
+    let below = places * in_radix as u128 + down * in_base as u128;
+    let Some(left) = divided(number, prime, below.saturating_sub(above)) else {
+        return Err(WriteError::Fraction);
+    };
+    match reduced(left, prime + 1, radix_left, base_left, places, up, down) {
+        Ok(size) => shifted(size, prime, above.saturating_sub(below)).ok_or(WriteError::Radix),
+        Err(error) => Err(error),
+    }
+}
+
+// Returns the exponents of the power by which a number is multiplied, and of that by which it is divided.
+fn sides(parts: &Parts, size: usize) -> (u128, u128) {
+    if is_minus(parts.exponent_sign) {
+        (0, size as u128)
+    } else {
+        (size as u128, 0)
+    }
+}
+
+// Returns the whole number that a literal represents, apart from its sign. It is `Fraction` if it is not whole, and `Radix` if it has more
+// than 128 bits, or is not found out.
+pub(crate) fn whole_size(format: FormatView, parts: &Parts) -> Result<u128, WriteError> {
+    let (radix, base) = (format.mantissa_radix(), format.exponent_base());
+    let Some(size) = places_of(format, parts) else {
+        return Err(too_far(parts));
+    };
+    let all = Padded { before: 0, first: parts.integer, second: parts.fraction, after: 0 };
+    let places = count(parts.fraction, radix) as u128;
+    // Most literals of another radix are integers, which take fewer steps.
+    if parts.exponent.is_empty() && places == 0 {
+        return all.over(radix, 1).size.ok_or(WriteError::Radix);
+    }
+    let digits = all.trimmed(radix);
+    let kept = digits.count(radix);
+    if kept == 0 {
+        return Ok(0);
+    }
+    let zeros = all.count(radix) - kept;
+    let (up, down) = sides(parts, size);
+    match unit_of(radix, base, size == 0) {
+        Some((unit, bits, base_bits)) => {
+            let above = zeros * bits + up * base_bits;
+            let below = places * bits + down * base_bits;
+            scaled(&digits, radix, unit, bits, above, below)
         }
-        let product = last_digit(fraction, radix) * factor as u128;
-        if product % radix as u128 != 0 {
-            return Err(WriteError::Fraction);
-        }
-        let Some(size) = self.integer.size(radix) else {
-            return Err(WriteError::Radix);
-        };
-        let Some(whole) = size.checked_mul(factor as u128) else {
-            return Err(WriteError::Radix);
-        };
-        match whole.checked_add(product / radix as u128) {
-            Some(sum) => Ok(sum),
+        None => match all.over(radix, 1).size {
+            Some(number) => reduced(number, 2, radix, base, places, up, down),
             None => Err(WriteError::Radix),
-        }
+        },
     }
-}
-
-// Returns the digit of a source that has at most one, or 0 if it has none.
-fn last_digit(source: Source, radix: u32) -> u128 {
-    source.size(radix).unwrap_or(0)
 }

@@ -1,87 +1,42 @@
 -- What is written of a literal whose point moves has its value.
-use Rattle.lexical_writer.proofs.Common.{is_minus, ℕ, ◌≡◌, ◌==◌, true, false, Result, Ok, Err, IfOk, ap, subst, sym, ◌∙◌, false≢true, Record, raw}
-use Rattle.lexical_writer.proofs.Common.{lacks_options, IsSyntax, Parts, Grammar, Amount, Layout, Style, WriteError}
-use Rattle.std.proofs.lemmas.Bool.{eqb-true}
-use Rattle.std.specs.Result.{MatchResult}
+use Rattle.lexical_writer.proofs.Common.{Err, WriteError, ap, false≢true, is_minus, subst, sym, ◌∙◌, raw, eqb-true}
+use Rattle.std.proofs.lemmas.Result.{IfOk-weaker}
 use Rattle.lexical_util.specs.Layout as layout
-use Rattle.lexical_util.specs.Rules.{IsRadix}
 use Rattle.lexical_util.specs.declared.format_flags.Part.TheVariants as part
-use Rattle.lexical_literal.specs.Parts.{literal_of}
-use Rattle.lexical_writer.specs.Conversion.{IsOdd, IsPlain, IsShort, SameFraction, is_same_radix, odd_error}
-use Rattle.lexical_writer.specs.Layout.{HasNumber, literal_of as written}
-use Rattle.lexical_writer.specs.Moved.{IsFactor, IsMoved, IsTimes, moved_by}
-use Rattle.lexical_writer.specs.declared.moved.Move.{Move}
+use Rattle.lexical_writer.specs.Conversion.{or_limit}
+use Rattle.lexical_writer.specs.Layout.{literal_of as written}
+use Rattle.lexical_writer.specs.Moved.{IsMoved}
+use Rattle.lexical_writer.specs.declared.layout.WriteError.TheVariants as errors
 use Rattle.lexical_writer.proofs.LiteralLemmas.{radixes}
-use Rattle.lexical_writer.proofs.PlainLemmas.{move_factor, same_moved}
-use Rattle.lexical_writer.proofs.WholeLemmas.{moved_trimmed}
+use Rattle.lexical_writer.proofs.PlainLemmas.{same_moved}
+use Rattle.lexical_writer.proofs.SizeLemmas.{far, near}
 use Rattle.lexical_writer.proofs.literal.move_point.Goals as goal
 
-same : (r : Record) (parts : Parts) (g : Grammar) (style : Style) (amount : Amount) (move : Move) → moved_by (lacks_options g.options) r parts ≡ Ok move
-    → IsMoved (r.byte layout.mantissa_radix) (is_minus parts.exponent_sign.now) move.places parts amount → move.factor ≡ 1
-    → is_same_radix r g ≡ true → (result : Result Layout WriteError)
-    → IfOk result (λ layout. HasNumber g amount (written layout)) → IsSyntax g
-    → IfOk result (λ layout. SameFraction r (literal_of parts) (raw g.word) (written layout))
-same r parts g style amount move by moved whole radix (Ok layout) has lawful =
-    same_moved (lacks_options g.options) r parts g amount move by moved whole (eqb-true _ _ radix) (radixes g.word lawful.lawful part.Integer).0
-    (written layout) has
-same r parts g style amount move by moved whole radix (Err error) has lawful = tt
+pub returns-in-Some-clause-value : goal.returns-in-Some-clause-value
+returns-in-Some-clause-value c =
+    let r = raw c.args.format in
+    let parts = c.args.parts.now in
+    let left = is_minus parts.exponent_sign.now in
+    let moved = subst (λ n. IsMoved (r.byte layout.mantissa_radix) left n parts c.without_exponent-amount.result) c.in-Some.ensures.1
+    (subst (λ radix. IsMoved radix left c.in-Some.places parts c.without_exponent-amount.result) c.mantissa_radix.ensures.value
+    c.without_exponent-amount.ensures) in
+    IfOk-weaker _ _ _ (λ layout. same_moved r parts c.args.syntax.now c.without_exponent-amount.result c.requires.can moved
+    (eqb-true _ _ c.requires.radix) (radixes c.args.syntax.now.word c.shorten.ensures.lawful.lawful part.Integer).0 (written layout)) c.shorten.ensures.number
 
-pub times-requires-clause-radix : goal.times-requires-clause-radix
-times-requires-clause-radix c = subst IsRadix (sym c.mantissa_radix-radix.ensures.value) (radixes c.args.format c.requires.lawful part.Integer)
+pub returns-in-Some-clause-parts : goal.returns-in-Some-clause-parts
+returns-in-Some-clause-parts c =
+    let r = raw c.args.format in
+    let parts = c.args.parts.now in
+    let left = is_minus parts.exponent_sign.now in
+    let moved = subst (λ n. IsMoved (r.byte layout.mantissa_radix) left n parts c.without_exponent-amount.result) c.in-Some.ensures.1
+    (subst (λ radix. IsMoved radix left c.in-Some.places parts c.without_exponent-amount.result) c.mantissa_radix.ensures.value
+    c.without_exponent-amount.ensures) in (
+      (λ more. absurd (false≢true (sym (near _ c.in-Some.ensures.0) ∙ more))),
+      (λ less. (c.without_exponent-amount.result, moved, c.shorten.ensures.parts)),
+    )
 
-pub times-requires-clause-factor : goal.times-requires-clause-factor
-times-requires-clause-factor c =
-    subst (IsFactor c.in_ok-by.by.factor) (sym c.mantissa_radix-radix.ensures.value)
-    (move_factor c.is_whole-whole.result (raw c.args.format) c.args.parts.now c.in_ok-by.by (sym c.moved_by.ensures ∙ c.in_ok-by.was))
-
-pub times-requires-clause-trimmed : goal.times-requires-clause-trimmed
-times-requires-clause-trimmed c =
-    moved_trimmed c.mantissa_radix-radix.result (is_minus c.args.parts.now.exponent_sign.now) c.in_ok-by.by.places c.args.parts.now c.moved-amount.result
-    c.moved-amount.ensures
-
-pub returns-then-by-eq1-clause-value : goal.returns-then-by-eq1-clause-value
-returns-then-by-eq1-clause-value c =
-    let places = ap (λ whole. moved_by whole (raw c.args.format) c.args.parts.now) (sym c.is_whole-whole.ensures) in
-    same (raw c.args.format) c.args.parts.now c.args.syntax.now c.args.style c.moved-amount.result c.in_ok-by.by
-    (places ∙ sym c.moved_by.ensures ∙ c.in_ok-by.was)
-    (subst (λ radix. IsMoved radix (is_minus c.args.parts.now.exponent_sign.now) c.in_ok-by.by.places c.args.parts.now c.moved-amount.result)
-    c.mantissa_radix-radix.ensures.value c.moved-amount.ensures) c.if-by-eq1.true c.requires.radix c.shorten.result c.shorten.ensures.number
-    c.shorten.ensures.lawful
-
-plain : (r : Record) (parts : Parts) (g : Grammar) (style : Style) (move : Move) (amount : Amount) (result : Result Layout WriteError)
-    → moved_by (lacks_options g.options) r parts ≡ Ok move
-    → IsMoved (r.byte layout.mantissa_radix) (is_minus parts.exponent_sign.now) move.places parts amount
-    → ((move.factor == 1) ≡ true → IsShort g style amount result)
-    → ((move.factor == 1) ≡ false → IsOdd g (r.byte layout.mantissa_radix) move.factor amount result) → IsPlain r parts g style result
-plain r parts g style move amount result by moved short odd =
-    subst (λ found. MatchResult found (λ move. (amount : Amount)
-    × IsMoved (r.byte layout.mantissa_radix) (is_minus parts.exponent_sign.now) move.places parts amount
-    × ((move.factor == 1) ≡ true → IsShort g style amount result)
-    × ((move.factor == 1) ≡ false → IsOdd g (r.byte layout.mantissa_radix) move.factor amount result)) (λ error. result ≡ Err error))
-    (sym by) (amount, moved, short, odd)
-
-not_one : (n : ℕ) → n ≡ 1 → (n == 1) ≡ false → ⊥
-not_one n one other = false≢true (sym other ∙ ap (λ n. n == 1) one)
-
-pub returns-then-by-eq1-clause-parts : goal.returns-then-by-eq1-clause-parts
-returns-then-by-eq1-clause-parts c =
-    let places = ap (λ whole. moved_by whole (raw c.args.format) c.args.parts.now) (sym c.is_whole-whole.ensures) in
-    plain (raw c.args.format) c.args.parts.now c.args.syntax.now c.args.style c.in_ok-by.by c.moved-amount.result c.shorten.result
-    (places ∙ sym c.moved_by.ensures ∙ c.in_ok-by.was)
-    (subst (λ radix. IsMoved radix (is_minus c.args.parts.now.exponent_sign.now) c.in_ok-by.by.places c.args.parts.now c.moved-amount.result)
-    c.mantissa_radix-radix.ensures.value c.moved-amount.ensures) (λ yes. c.shorten.ensures.parts)
-    (λ other. absurd (not_one c.in_ok-by.by.factor c.if-by-eq1.true other))
-
-pub returns-else-by-eq1-clause-parts : goal.returns-else-by-eq1-clause-parts
-returns-else-by-eq1-clause-parts c =
-    let places = ap (λ whole. moved_by whole (raw c.args.format) c.args.parts.now) (sym c.is_whole-whole.ensures) in
-    let value = c.mantissa_radix-radix.ensures.value in
-    plain (raw c.args.format) c.args.parts.now c.args.syntax.now c.args.style c.in_ok-by.by c.moved-amount.result (Err c.odd_error.result)
-    (places ∙ sym c.moved_by.ensures ∙ c.in_ok-by.was)
-    (subst (λ radix. IsMoved radix (is_minus c.args.parts.now.exponent_sign.now) c.in_ok-by.by.places c.args.parts.now c.moved-amount.result)
-    value c.moved-amount.ensures) (λ yes. absurd (c.if-by-eq1.false (eqb-true _ _ yes)))
-    (λ other. (
-      c.times.result,
-      subst (λ radix. IsTimes radix c.in_ok-by.by.factor c.moved-amount.result c.times.result) value c.times.ensures,
-      ap (λ (e : WriteError). Err e) (c.odd_error.ensures ∙ ap (λ whole. odd_error whole c.times.result) c.is_whole-whole.ensures),
-    ))
+pub returns-in-None-clause-parts : goal.returns-in-None-clause-parts
+returns-in-None-clause-parts c = (
+  (λ more. ap (λ (e : WriteError). Err e) (c.or_limit.ensures ∙ (λ i. or_limit (c.is_whole.ensures i) errors.Long (c.too_far.ensures i)))),
+  (λ less. absurd (false≢true (sym less ∙ far _ c.in-None.ensures))),
+)

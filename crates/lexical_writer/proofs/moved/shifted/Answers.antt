@@ -1,5 +1,6 @@
 -- One more zero is behind the digits.
 use Rattle.lexical_writer.proofs.Common.{ℕ, zero, suc, ◌≡◌, ◌<◌, ◌≤◌, ◌-◌, ◌*◌, ◌^◌, ap, subst, sym, ◌∙◌, arith, one-le-pow, pow-suc, pow-zero}
+use Rattle.std.proofs.Math.Nat.{le-mul_of_pos_right}
 use Rattle.lexical_writer.proofs.moved.shifted.Goals as goal
 
 step : (size radix left : ℕ) → 0 < left → size * radix ^ left ≡ (size * radix) * radix ^ (left - 1)
@@ -11,15 +12,11 @@ step size radix (suc left) some =
     turned : (a b c : ℕ) → a * (c * b) ≡ (a * b) * c
     turned a b c = omega arith
 
-at_least_once : (n k : ℕ) → 0 < k → n ≤ n * k
-at_least_once n zero some = absurd (omega (arith, some))
-at_least_once n (suc k) some = omega arith
-
 pub returns-in_default : goal.returns-in_default
 returns-in_default c fits =
     let l = c.loop-left in
-    let whole = sym (step l.size c.args.radix l.left c.loop-left-test.true) ∙ l.invariant.value in
-    let more = at_least_once (l.size * c.args.radix) (c.args.radix ^ (l.left - 1)) (one-le-pow (l.left - 1) c.args.radix c.requires) in
+    let whole = sym (step l.size c.args.base l.left c.loop-left-test.true) ∙ l.invariant.value in
+    let more = le-mul_of_pos_right (l.size * c.args.base) (one-le-pow (l.left - 1) c.args.base c.requires) in
     let large = c.in_default.ensures in
     absurd (large (omega (arith, fits, whole, more)))
 
@@ -29,7 +26,7 @@ loop-left-preserved c =
     let fits = c.in-Some.ensures in
     record {
       small = omega (arith, fits.0, fits.1);
-      value = ap (λ n. n * c.args.radix ^ (l.left - 1)) fits.1 ∙ sym (step l.size c.args.radix l.left c.loop-left-test.true) ∙ l.invariant.value;
+      value = ap (λ n. n * c.args.base ^ (l.left - 1)) fits.1 ∙ sym (step l.size c.args.base l.left c.loop-left-test.true) ∙ l.invariant.value;
     }
 
 alone : (n k : ℕ) → k ≡ 1 → n ≡ n * k
@@ -38,7 +35,7 @@ alone n k one = sym (ap (λ k. n * k) one ∙ omega arith)
 pub returns : goal.returns
 returns c =
     let l = c.loop-left in
-    let value : l.size ≡ c.args.number * c.args.radix ^ c.args.places =
-    alone l.size (c.args.radix ^ l.left) (ap (λ k. c.args.radix ^ k) {x = l.left} {y = 0} (omega (arith, c.loop-left-test.false)) ∙ pow-zero c.args.radix)
+    let value : l.size ≡ c.args.number * c.args.base ^ c.args.power =
+    alone l.size (c.args.base ^ l.left) (ap (λ k. c.args.base ^ k) {x = l.left} {y = 0} (omega (arith, c.loop-left-test.false)) ∙ pow-zero c.args.base)
     ∙ l.invariant.value in
     (subst (λ n. n ≤ 2 ^ 128 - 1) value l.invariant.small, value)

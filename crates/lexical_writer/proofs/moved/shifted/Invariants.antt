@@ -5,7 +5,7 @@ use Rattle.lexical_writer.proofs.moved.shifted.Given as goal
 abbrev pub invariant-loop-left : goal.invariant-loop-left
 invariant-loop-left l = record {
   small : l.size ≤ 2 ^ 128 - 1;
-  value : l.size * l.radix ^ l.left ≡ l.number * l.radix ^ l.places;
+  value : l.size * l.base ^ l.left ≡ l.number * l.base ^ l.power;
 }
 
 abbrev pub decreases-loop-left : goal.decreases-loop-left

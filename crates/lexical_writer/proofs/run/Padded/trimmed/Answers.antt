@@ -4,8 +4,8 @@ use Rattle.lexical_writer.proofs.MovedLemmas.{first_left, none_from, second_left
 use Rattle.lexical_writer.proofs.run.Padded.trimmed.Goals as goal
 use Rattle.lexical_writer.proofs.run.Padded.trimmed.Goals.{then-some, else-some}
 
-pub returns-then-count-gt0 : goal.returns-then-count-gt0
-returns-then-count-gt0 c =
+pub returns-then-count-gt0-clause-digits : goal.returns-then-count-gt0-clause-digits
+returns-then-count-gt0-clause-digits c =
     let padded = c.args.self.now in
     let second = digits_in c.args.radix padded.second.now in
     let is = c.without_last_zeros-second.ensures in
@@ -15,8 +15,8 @@ returns-then-count-gt0 c =
     ∙ sym (second_left (replicate padded.before 0) (digits_in c.args.radix padded.first.now) second (replicate padded.after 0)
     (trimmed_zeros padded.after) (sym (ap is_absent is) ∙ some))
 
-pub returns : goal.returns
-returns c =
+pub returns-clause-digits : goal.returns-clause-digits
+returns-clause-digits c =
     let padded = c.args.self.now in
     let radix = c.args.radix in
     let before : List ℕ = replicate padded.before 0 in

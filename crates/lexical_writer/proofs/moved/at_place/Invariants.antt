@@ -1,5 +1,5 @@
 use Rattle.lexical_writer.proofs.Common.{length, take, drop, ◌-◌, ◌++◌, ◌≡◌, ◌≤◌, digits_in}
-use Rattle.lexical_writer.proofs.moved.cut.Given as goal
+use Rattle.lexical_writer.proofs.moved.at_place.Given as goal
 
 -- The digits that have been passed, and as many of the others as are left, are those before the place.
 abbrev pub invariant-loop-left : goal.invariant-loop-left
