@@ -4,9 +4,15 @@ use Rattle.lexical_writer.proofs.Common.{true, false, ap, ◌∙◌, arith, sym,
 use Rattle.lexical_writer.proofs.Common.{Ok, Err, IfOk, nat_tests, number_after_append, append_assoc, length-append, one-le-pow, number_from_digits}
 use Rattle.lexical_writer.proofs.Common.{number_from_digits_after, cons_option, digit_of, Record, raw, effective_exponent_base, effective_exponent_radix}
 use Rattle.lexical_writer.proofs.Common.{Literal, is_minus, Grammar, format_of, raised_down, raised_up, digits_in, number, size_of, values_of, Amount}
+use Rattle.std.proofs.Common.{is_some, not, refl, subst, unwrap_or}
+use Rattle.std.proofs.lemmas.Bool.{false≢true}
+use Rattle.lexical_literal.specs.Notation.{lacks_options}
+use Rattle.std.proofs.Math.Nat.{pow-zero}
 use Rattle.std.proofs.lemmas.List.{take-append-drop}
+use Rattle.lexical_literal.specs.Literal.{is_present}
 use Rattle.std.proofs.lemmas.List.Elements.{filter_map-append}
-use lib.Ieee.{Format, emax, low, prec, round}
+use lib.Ieee.{Float, Format, down, emax, fin, inf, low, nan, prec, round, up}
+use native.Mathlib.Nat.{eq_of_mul-eq-mul_right, mul_right_comm}
 use lib.Ieee.Exact.{HasValue, round_exact}
 use lib.Ieee.Scale.{round_same}
 use lib.Pow.{pow-add, shl_lt}
@@ -16,11 +22,13 @@ use Rattle.lexical_literal.specs.Read.{exponent, mantissa}
 use Rattle.lexical_number.specs.Leading.{IsCutTo}
 use Rattle.lexical_value.specs.Float.{is_binary, is_decimal, nearest}
 use Rattle.lexical_value.specs.Value.{denominator, numerator, power, scale}
-use Rattle.lexical_writer.specs.Layout.{HasNumber, IsLaidOut, given_fraction, given_power, laid_out, literal_of}
+use Rattle.lexical_writer.specs.Amount.{IsTextOf, least_places, power_if, wished_places}
+use Rattle.lexical_writer.specs.Layout.{HasNumber, IsLaidOut, given_fraction, given_power, laid_out, literal_of, no_power}
+use Rattle.lexical_writer.specs.declared.layout.Power.{Power}
 use Rattle.lexical_writer.specs.declared.layout.Layout.{Layout}
 use Rattle.lexical_writer.specs.declared.layout.Style.{Style}
 use Rattle.lexical_writer.specs.declared.layout.WriteError.{WriteError}
-use Rattle.lexical_writer.specs.Rounded.{HasDecimals, rounded}
+use Rattle.lexical_writer.specs.Rounded.{HasDecimals, IsRounded, decimals_in, rounded}
 use Rattle.lexical_writer.proofs.ConversionLemmas.{zero_scaled}
 use Rattle.lexical_writer.proofs.DigitLemmas.{zeros_number}
 use Rattle.lexical_writer.proofs.PlainLemmas.{pow_twice, size_values, zeros_after}
@@ -69,6 +77,20 @@ all_digits radix k bytes all =
     let second = fewer radix (drop k bytes) in
     omega (arith, all, digits, whole, first, second)
 
+-- And up to an index.
+pub first_digits : (radix k : ℕ) (bytes : List ℕ) → length (digits_in radix bytes) ≡ length bytes
+    → length (digits_in radix (take k bytes)) ≡ length (take k bytes)
+first_digits radix k bytes all =
+    let digits = sym (ap length (cut_digits radix k bytes)) ∙ length-append (digits_in radix (take k bytes)) (digits_in radix (drop k bytes)) in
+    let whole = sym (ap length (take-append-drop k bytes)) ∙ length-append (take k bytes) (drop k bytes) in
+    let first = fewer radix (take k bytes) in
+    let second = fewer radix (drop k bytes) in
+    omega (arith, all, digits, whole, first, second)
+
+pub present : (digits : List ℕ) → 0 < length digits → is_present digits ≡ true
+present [] some = absurd (omega (arith, some))
+present (digit ∷ digits) some = refl
+
 -- `HasParts r l n places negative e` holds if the mantissa of `l` is `n` over the radix to the power of `places`, and its exponent is `e`.
 record HasParts (r : Record) (l : Literal) (n places : ℕ) (negative : Bool) (e : ℕ) : Type 0 where
   factor : ℕ
@@ -109,67 +131,19 @@ has_parts g amount n places e negative digits count up down two l has =
       down = (λ j. raised_down (has.exponent_sign j) b (has.exponent j)) ∙ down;
     }
 
--- What has the digits of an amount has its value.
-pub same_worth : (g : Grammar) (amount : Amount) (n places e : ℕ) (negative : Bool)
-    → number_from_digits ((raw g.word).byte layout.mantissa_radix)
-    (values_of ((raw g.word).byte layout.mantissa_radix) amount.integer ++ values_of ((raw g.word).byte layout.mantissa_radix) (given_fraction amount)) ≡ n
-    → length (values_of ((raw g.word).byte layout.mantissa_radix) (given_fraction amount)) ≡ places
-    → raised_up (given_power amount).negative (effective_exponent_base (raw g.word))
-    (size_of (effective_exponent_radix (raw g.word)) (given_power amount).source)
-    ≡ raised_up negative (effective_exponent_base (raw g.word)) e
-    → raised_down (given_power amount).negative (effective_exponent_base (raw g.word))
-    (size_of (effective_exponent_radix (raw g.word)) (given_power amount).source)
-    ≡ raised_down negative (effective_exponent_base (raw g.word)) e
-    → 2 ≤ (raw g.word).byte layout.mantissa_radix → (l : Literal) → HasNumber g amount l
-    → (n * raised_up negative (effective_exponent_base (raw g.word)) e) * denominator (raw g.word).byte l
-    ≡ numerator (raw g.word).byte l * ((raw g.word).byte layout.mantissa_radix ^ places * raised_down negative (effective_exponent_base (raw g.word)) e)
-same_worth g amount n places e negative digits count up down two l has =
-    let p = has_parts g amount n places e negative digits count up down two l has in
-    let unit = (raw g.word).byte layout.mantissa_radix ^ places in
-    let b = effective_exponent_base (raw g.word) in
-    (λ j. (n * raised_up negative b e) * (p.scale j * p.down j)) ∙ crossed n unit p.factor (raised_up negative b e) (raised_down negative b e)
-    ∙ sym (λ j. (p.mantissa j * p.up j) * (unit * raised_down negative b e))
-  where
-    crossed : (m s q u d : ℕ) → (m * u) * ((s * q) * d) ≡ ((m * q) * u) * (s * d)
-    crossed m s q u d = omega arith
-
--- What has the digits of a number that is rounded is rounded.
-pub same_rounded : (g : Grammar) (amount : Amount) (n places e : ℕ) (negative : Bool)
-    → number_from_digits ((raw g.word).byte layout.mantissa_radix)
-    (values_of ((raw g.word).byte layout.mantissa_radix) amount.integer ++ values_of ((raw g.word).byte layout.mantissa_radix) (given_fraction amount)) ≡ n
-    → length (values_of ((raw g.word).byte layout.mantissa_radix) (given_fraction amount)) ≡ places
-    → raised_up (given_power amount).negative (effective_exponent_base (raw g.word))
-    (size_of (effective_exponent_radix (raw g.word)) (given_power amount).source)
-    ≡ raised_up negative (effective_exponent_base (raw g.word)) e
-    → raised_down (given_power amount).negative (effective_exponent_base (raw g.word))
-    (size_of (effective_exponent_radix (raw g.word)) (given_power amount).source)
-    ≡ raised_down negative (effective_exponent_base (raw g.word)) e
-    → 2 ≤ (raw g.word).byte layout.mantissa_radix → (l : Literal) → HasNumber g amount l
-    → (num den : ℕ) → n ≡ rounded (num * (raw g.word).byte layout.mantissa_radix ^ places * raised_down negative (effective_exponent_base (raw g.word)) e)
-    (den * raised_up negative (effective_exponent_base (raw g.word)) e)
-    → HasDecimals (raw g.word) l places num den
-same_rounded g amount n places e negative digits count up down two l has num den is =
-    let p = has_parts g amount n places e negative digits count up down two l has in
-    let unit = (raw g.word).byte layout.mantissa_radix ^ places in
-    ap (λ m. m * unit) p.mantissa ∙ turned n p.factor unit ∙ ap (λ m. m * (unit * p.factor)) is
-    ∙ sym (λ j. rounded (num * unit * p.down j) (den * p.up j) * p.scale j)
-  where
-    turned : (n q u : ℕ) → n * q * u ≡ n * (u * q)
-    turned n q u = omega arith
-
 pub twos : (i j : ℕ) → i ≤ j → 2 ^ i ≤ 2 ^ j
 twos i j less = pow-le-pow_right (omega arith) less
 
 -- A number of few bits times a power of two, over another one, is a float.
-pub exact : (double : Bool) (s : Bool) (n up down : ℕ) → n < 2 ^ prec (format_of double) → prec (format_of double) + up ≤ suc (emax (format_of double))
+pub exact : (double : Bool) (s : Bool) (n bits up down : ℕ) → n < 2 ^ prec (format_of double) → n < 2 ^ bits → bits + up ≤ suc (emax (format_of double))
     → down ≤ low (format_of double)
     → HasValue (round (format_of double) s (n * 2 ^ up) (2 ^ down)) s (n * 2 ^ up) (2 ^ down)
-exact double s n up down small few fits =
+exact double s n bits up down small short few fits =
     let f = format_of double in
     let j = up + low f - down in
     let fine : n * 2 ^ j < 2 ^ (low f + suc (emax f)) =
-    let below = shl_lt (prec f) j small in
-    let more = twos (prec f + j) (low f + suc (emax f)) (omega (arith, few)) in
+    let below = shl_lt bits j short in
+    let more = twos (bits + j) (low f + suc (emax f)) (omega (arith, few)) in
     omega (arith, below, more) in
     let same : n * 2 ^ up * 2 ^ low f ≡ n * 2 ^ j * 2 ^ down =
     assoc n (2 ^ up) (2 ^ low f) ∙ ap (λ p. n * p) (sym (pow-add 2 up (low f)) ∙ ap (λ k. 2 ^ k) {x = up + low f} {y = j + down} (omega (arith, fits))
@@ -218,9 +192,13 @@ halved num den q more cut = elim (eq-zero-or-pos (q % 2)) [
 some_product : (m n : ℕ) → 0 < m → 0 < n → 0 < m * n
 some_product m n some more = grind arith
 
--- Radixes in which floats are written are not 0.
-pub some_radixes : (r : Record) → (is_decimal r.byte || is_binary r.byte) ≡ true → (0 < r.byte layout.mantissa_radix) × (0 < effective_exponent_base r)
+-- Radixes in which floats are written are at least 2, and their bases are not 0.
+some_radixes : (r : Record) → (is_decimal r.byte || is_binary r.byte) ≡ true → (2 ≤ r.byte layout.mantissa_radix) × (0 < effective_exponent_base r)
 some_radixes r is = grind (arith, nat_tests)
+
+-- The base of radix 10 is 10.
+pub base_ten : (r : Record) → (is_decimal r.byte || is_binary r.byte) ≡ true → r.byte layout.mantissa_radix ≡ 10 → effective_exponent_base r ≡ 10
+base_ten r is ten = grind (arith, nat_tests, is, ten)
 
 pub some_down : (negative : Bool) (b e : ℕ) → 0 < b → 0 < raised_down negative b e
 some_down true b e some = one-le-pow e b some
@@ -229,58 +207,107 @@ some_down false b e some = omega arith
 some_denominator : (r : Record) (l : Literal) → (is_decimal r.byte || is_binary r.byte) ≡ true → 0 < denominator r.byte l
 some_denominator r l is =
     let radixes = some_radixes r is in
-    some_product (scale r.byte l) _ (one-le-pow _ _ radixes.0) (some (is_minus l.exponent_sign))
+    some_product (scale r.byte l) _ (one-le-pow _ _ (let two = radixes.0 in omega (arith, two))) (some (is_minus l.exponent_sign))
   where
     some : (b : Bool) → 0 < (if b then power r.byte l else 1)
     some true = one-le-pow _ _ (some_radixes r is).1
     some false = omega arith
 
--- Powers of two numbers are powers of one of which both are powers.
-raised : (x rb bb k e s : ℕ) (none : Bool) → s ≡ k * rb + (if none then 0 else e * bb) → x ^ s ≡ (x ^ rb) ^ k * (if none then 1 else (x ^ bb) ^ e)
-raised x rb bb k e s true is =
-    ap (λ k. x ^ k) {x = s} {y = k * rb} (omega (arith, is)) ∙ sym (pow_twice x rb k) ∙ omega arith
-raised x rb bb k e s false is = ap (λ k. x ^ k) is ∙ pow-add x (k * rb) (e * bb) ∙ (λ i. sym (pow_twice x rb k) i * sym (pow_twice x bb e) i)
+-- The power of an exponent that is shown, or of none.
+powers_of : (base radix e : ℕ) (shown negative : Bool) (power : Option Power) → power ≡ power_if shown negative e → (shown ≡ false → e ≡ 0)
+    → (raised_up (unwrap_or power no_power).negative base (size_of radix (unwrap_or power no_power).source) ≡ raised_up negative base e)
+    × (raised_down (unwrap_or power no_power).negative base (size_of radix (unwrap_or power no_power).source) ≡ raised_down negative base e)
+powers_of base radix e true negative power is hidden =
+    (ap (λ p. raised_up (unwrap_or p no_power).negative base (size_of radix (unwrap_or p no_power).source)) is,
+    ap (λ p. raised_down (unwrap_or p no_power).negative base (size_of radix (unwrap_or p no_power).source)) is)
+powers_of base radix e false true power is hidden =
+    (ap (λ p. raised_up (unwrap_or p no_power).negative base (size_of radix (unwrap_or p no_power).source)) is ∙ pow-zero base,
+    ap (λ p. raised_down (unwrap_or p no_power).negative base (size_of radix (unwrap_or p no_power).source)) is
+    ∙ sym (ap (λ e. base ^ e) (hidden refl) ∙ pow-zero base))
+powers_of base radix e false false power is hidden =
+    (ap (λ p. raised_up (unwrap_or p no_power).negative base (size_of radix (unwrap_or p no_power).source)) is
+    ∙ sym (ap (λ e. base ^ e) (hidden refl)),
+    ap (λ p. raised_down (unwrap_or p no_power).negative base (size_of radix (unwrap_or p no_power).source)) is)
 
-lowered : (x rb bb k e s : ℕ) (some : Bool) → s ≡ k * rb + (if some then e * bb else 0) → x ^ s ≡ (x ^ rb) ^ k * (if some then (x ^ bb) ^ e else 1)
-lowered x rb bb k e s true is = raised x rb bb k e s false is
-lowered x rb bb k e s false is = raised x rb bb k e s true is
+-- The parts of a literal that is written for an amount.
+parts_of : (g : Grammar) (style : Style) (negative : Bool) (num den : ℕ) (l : Literal) → 2 ≤ (raw g.word).byte layout.mantissa_radix
+    → (it : IsTextOf g style negative num den l) → HasParts (raw g.word) l it.is.units it.is.places it.is.negative it.is.e
+parts_of g style negative num den l two it =
+    let r = raw g.word in
+    let powers = powers_of (effective_exponent_base r) (effective_exponent_radix r) it.is.e it.is.shown it.is.negative it.amount.exponent it.is.power
+    it.is.hidden in
+    has_parts g it.amount it.is.units it.is.places it.is.e it.is.negative it.is.number it.is.count powers.0 powers.1 two l it.number
 
--- A fraction of powers of one number.
-pub same_scales : (f : Format) (x rb bb r b n after places e up down : ℕ) (negative : Bool) → x ^ rb ≡ r → x ^ bb ≡ b
-    → up ≡ after * rb + (if negative then 0 else e * bb) → down ≡ places * rb + (if negative then e * bb else 0)
-    → round f false (n * x ^ up) (x ^ down * 1) ≡ round f false (n * r ^ after * raised_up negative b e) (r ^ places * raised_down negative b e)
-same_scales f x rb bb r b n after places e up down negative radix base above below =
-    let num : n * x ^ up ≡ n * (x ^ rb) ^ after * raised_up negative (x ^ bb) e =
-    ap (λ p. n * p) (raised x rb bb after e up negative above) ∙ regrouped n ((x ^ rb) ^ after) (raised_up negative (x ^ bb) e) in
-    let den : x ^ down * 1 ≡ (x ^ rb) ^ places * raised_down negative (x ^ bb) e = once (x ^ down) ∙ lowered x rb bb places e down negative below in
-    (λ i. round f false (num i) (den i))
-    ∙ (λ i. round f false (n * radix i ^ after * raised_up negative (base i) e) (radix i ^ places * raised_down negative (base i) e))
+-- A literal that is written for a fraction that is not rounded is read as the float nearest to it.
+pub amount_nearest : (f : Format) (g : Grammar) (style : Style) (negative : Bool) (num den : ℕ) (l : Literal)
+    → (is_decimal (raw g.word).byte || is_binary (raw g.word).byte) ≡ true → 0 < den
+    → style.decimals ≡ None → IsTextOf g style negative num den l → round f negative num den ≡ nearest f (raw g.word).byte l
+amount_nearest f g style negative num den l supported some plain it =
+    let r = raw g.word in
+    let p = parts_of g style negative num den l (some_radixes r supported).0 it in
+    let b = effective_exponent_base r in
+    let s = it.is.negative in
+    let e = it.is.e in
+    let exact : it.is.units * (den * raised_up s b e) ≡ num * r.byte layout.mantissa_radix ^ it.is.places * raised_down s b e = it.is.form.0.exact plain in
+    let above : numerator r.byte l ≡ it.is.units * p.factor * raised_up s b e = (λ i. p.mantissa i * p.up i) in
+    let below : denominator r.byte l ≡ r.byte layout.mantissa_radix ^ it.is.places * p.factor * raised_down s b e = (λ i. p.scale i * p.down i) in
+    round_same f negative num den (numerator r.byte l) (denominator r.byte l) some (some_denominator r l supported)
+    (ap (λ n. num * n) below ∙ left num (r.byte layout.mantissa_radix ^ it.is.places) p.factor (raised_down s b e) ∙ ap (λ n. n * p.factor) (sym exact)
+    ∙ right it.is.units den (raised_up s b e) p.factor ∙ ap (λ n. n * den) (sym above))
+    ∙ ap (λ sign. round f sign (numerator r.byte l) (denominator r.byte l)) (sym (it.number.sign ∙ it.sign))
   where
-    regrouped : (a b c : ℕ) → a * (b * c) ≡ a * b * c
-    regrouped a b c = omega arith
+    left : (n p q d : ℕ) → n * (p * q * d) ≡ n * p * d * q
+    left n p q d = omega arith
 
-    once : (a : ℕ) → a * 1 ≡ a
-    once a = omega arith
+    right : (n d u q : ℕ) → n * (d * u) * q ≡ n * q * u * d
+    right n d u q = omega arith
 
--- A literal that is worth a fraction is read as the float nearest to it.
-pub same_nearest : (f : Format) (r : Record) (l : Literal) (sign negative : Bool) (num places e : ℕ) → (is_decimal r.byte || is_binary r.byte) ≡ true
-    → is_minus l.sign ≡ sign
-    → num * denominator r.byte l ≡ numerator r.byte l * (r.byte layout.mantissa_radix ^ places * raised_down negative (effective_exponent_base r) e)
-    → round f sign num (r.byte layout.mantissa_radix ^ places * raised_down negative (effective_exponent_base r) e) ≡ nearest f r.byte l
-same_nearest f r l sign negative num places e is minus same =
-    let radixes = some_radixes r is in
-    let den = r.byte layout.mantissa_radix ^ places * raised_down negative (effective_exponent_base r) e in
-    round_same f sign num den (numerator r.byte l) (denominator r.byte l)
-    (some_product _ _ (one-le-pow _ _ radixes.0) (some_down negative (effective_exponent_base r) e radixes.1)) (some_denominator r l is) same
-    ∙ ap (λ sign. round f sign (numerator r.byte l) (denominator r.byte l)) (sym minus)
+-- The value of a float is that of each fraction that is equal to it.
+pub rescaled : (x : Float) (s : Bool) (w l num den : ℕ) → 0 < l → num * l ≡ w * den → HasValue x s w l → HasValue x s num den
+rescaled nan s w l num den p h v = v
+rescaled (inf t) s w l num den p h v = v
+rescaled (fin t m e) s w l num den p h v =
+    (v.0, eq_of_mul-eq-mul_right l p (m * up e * den) (num * down e) (mul_right_comm (m * up e) den l ∙ ap (λ x. x * den) v.1
+    ∙ mul_right_comm w (down e) den ∙ ap (λ x. x * down e) (sym h) ∙ mul_right_comm num l (down e)))
+
+-- The number of decimals is that of the style.
+pub decimals_are : (g : Grammar) (style : Style) (shown : Bool) (n : ℕ) → style.decimals ≡ Some n → least_places g style shown ≡ decimals_in g n
+decimals_are g style shown n wished = ap (λ o. if lacks_options g.options then 0 else wished_places o (style.point || not shown)) wished
+
+-- A literal that is written for a fraction that is rounded is rounded.
+pub amount_rounded : (g : Grammar) (style : Style) (negative : Bool) (num den n : ℕ) (l : Literal) (x : Float)
+    → (is_decimal (raw g.word).byte || is_binary (raw g.word).byte) ≡ true → 0 < den → style.decimals ≡ Some n → HasValue x negative num den
+    → IsTextOf g style negative num den l → IsRounded x (raw g.word) l (decimals_in g n)
+amount_rounded g style negative num den n l x supported some wished value it =
+    let r = raw g.word in
+    let p = parts_of g style negative num den l (some_radixes r supported).0 it in
+    let unit = r.byte layout.mantissa_radix ^ it.is.places in
+    let places : it.is.places ≡ decimals_in g n = elim it.is.form.0.last [
+      | inl is ↦ is ∙ decimals_are g style it.is.shown n wished
+      | inr other ↦ absurd (false≢true (sym (ap is_some other.0) ∙ ap is_some wished))
+    ] in
+    let rounded_to : HasDecimals r l it.is.places num den =
+    ap (λ m. m * unit) p.mantissa ∙ turned it.is.units p.factor unit ∙ ap (λ m. m * (unit * p.factor)) (it.is.form.0.rounded (ap is_some wished))
+    ∙ sym (λ j. rounded (num * unit * p.down j) (den * p.up j) * p.scale j) in
+    record {
+      num = num;
+      den = den;
+      some = some;
+      value = subst (λ sign. HasValue x sign num den) (sym (it.number.sign ∙ it.sign)) value;
+      decimals = subst (λ k. HasDecimals r l k num den) places rounded_to;
+    }
+  where
+    turned : (n q u : ℕ) → n * q * u ≡ n * (u * q)
+    turned n q u = omega arith
 
 -- What follows from what holds of a result that is `Ok`.
 pub if_ok : {A E : Type 0} (P Q : A → Type 0) (result : Result A E) → ((x : A) → P x → Q x) → IfOk result P → IfOk result Q
 if_ok P Q (Ok x) follows holds = follows x holds
 if_ok P Q (Err error) follows holds = holds
 
--- What follows from what a layout is.
-pub if_laid : (g : Grammar) (style : Style) (amount : Amount) (P : Layout → Type 0) (result : Result Layout WriteError) → IsLaidOut g style amount result
-    → ((layout : Layout) → literal_of layout ≡ laid_out g style amount → P layout) → IfOk result P
-if_laid g style amount P (Ok layout) is follows = follows layout is.1
-if_laid g style amount P (Err error) is follows = tt
+-- What follows from what a layout is, and from the number that it has.
+pub if_numbered : (g : Grammar) (style : Style) (amount : Amount) (P : Layout → Type 0) (result : Result Layout WriteError)
+    → IsLaidOut g style amount result → IfOk result (λ layout. HasNumber g amount (literal_of layout))
+    → ((layout : Layout) → literal_of layout ≡ laid_out g style amount → HasNumber g amount (literal_of layout) → P layout) → IfOk result P
+if_numbered g style amount P (Ok layout) is has follows = follows layout is.1 has
+if_numbered g style amount P (Err error) is has follows = tt

@@ -9,3 +9,8 @@ mod PrimeLemmas
 mod SizeLemmas
 mod FloatLemmas
 mod ChoiceLemmas
+mod RoundedLemmas
+mod AmountLemmas
+mod ShortLemmas
+mod DecimalLemmas
+mod BinaryLemmas

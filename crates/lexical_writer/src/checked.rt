@@ -1,20 +1,16 @@
 //! Digits are read as a float again, and compared with it.
 
-ghost use Rattle.std.specs.Prelude.{◌≡◌, ◌+◌, ◌*◌, ◌^◌, ◌||◌, ℕ, true, false, IfSome, IsTrue};
+ghost use Rattle.std.specs.Prelude.{◌≡◌, ◌+◌, ◌*◌, ◌^◌, ◌≤◌, ℕ, true, false};
 ghost use Rattle.std.specs.Float.Ieee.{round};
-ghost use Rattle.lexical_util.specs.Layout as layout;
-ghost use Rattle.lexical_util.specs.Record.{bytes_of, effective_exponent_base, raw};
 ghost use Rattle.lexical_number.specs.Float.{format_of, raised_down, raised_up};
-ghost use Rattle.lexical_value.specs.Float.{is_binary, is_decimal};
 ghost use lib.Ieee.{emax, low, prec};
 ghost use lib.Ieee.Exact.{HasValue};
 
-use crate::form::Form;
 use lexical_number::decimal::digits_to_float;
 use lexical_number::float::Float;
 use lexical_number::leading::Leading;
-use lexical_number::scaling::{bits_of, raised_bits};
-use lexical_util::format::NumberFormat;
+use lexical_number::scaling::raised_bits;
+use lexical_number::shortest::Decimal;
 use lexical_value::float::signed;
 
 // Returns the float nearest to a number times a power of two, over another one.
@@ -30,29 +26,6 @@ fn nearest_binary<F: Float>(number: u64, up: u64, down: u64) -> F
     F::from_magnitude(bits)
 }
 
-// Returns the float nearest to the digits of a number in a form, or `None` if no literal of `format` has a float.
-#[inline(always)]
-fn nearest_to<F: Float>(number: u64, form: Form, format: NumberFormat) -> Option<F>
-    ensures supported { IfSome result (λ _. IsTrue (is_decimal (bytes_of format) || is_binary (bytes_of format))) }
-    ensures value { IfSome result (λ near. F.value near ≡ round (format_of F.DOUBLE) false
-        (number * (raw format).byte layout.mantissa_radix ^ form.after * raised_up form.negative (effective_exponent_base (raw format)) form.exponent)
-        ((raw format).byte layout.mantissa_radix ^ form.places * raised_down form.negative (effective_exponent_base (raw format)) form.exponent)) }
-{
-    let (radix, base) = (format.mantissa_radix(), format.exponent_base());
-    if radix == 10 && base == 10 {
-        let (up, down) = form.scales(1, 1);
-        return Some(digits_to_float(number, down, false, up));
-    }
-    let Some(radix_bits) = bits_of(radix) else {
-        return None;
-    };
-    let Some(base_bits) = bits_of(base) else {
-        return None;
-    };
-    let (up, down) = form.scales(radix_bits as u64, base_bits as u64);
-    Some(nearest_binary(number, up, down))
-}
-
 // Returns whether a float has this size and this sign.
 #[inline(always)]
 fn is_same<F: Float>(size: F, negative: bool, value: F) -> bool
@@ -65,23 +38,13 @@ fn is_same<F: Float>(size: F, negative: bool, value: F) -> bool
     }
 }
 
-// Returns whether the digits of a number in a form are read as a float.
+// Returns whether a decimal number is read as a float.
 #[inline(always)]
-pub(crate) fn is_read<F: Float>(
-    value: F,
-    negative: bool,
-    number: u64,
-    form: Form,
-    format: NumberFormat,
-) -> bool
-    ensures supported { result ≡ true → IsTrue (is_decimal (bytes_of format) || is_binary (bytes_of format)) }
-    ensures value { result ≡ true → F.value value ≡ round (format_of F.DOUBLE) negative
-        (number * (raw format).byte layout.mantissa_radix ^ form.after * raised_up form.negative (effective_exponent_base (raw format)) form.exponent)
-        ((raw format).byte layout.mantissa_radix ^ form.places * raised_down form.negative (effective_exponent_base (raw format)) form.exponent) }
+pub(crate) fn is_nearest<F: Float>(value: F, negative: bool, decimal: Decimal) -> bool
+    ensures { result ≡ true → F.value value ≡ round (format_of F.DOUBLE) negative
+        (decimal.digits * raised_up decimal.negative 10 decimal.exponent) (raised_down decimal.negative 10 decimal.exponent) }
 {
-    let Some(size) = nearest_to::<F>(number, form, format) else {
-        return false;
-    };
+    let size = digits_to_float(decimal.digits, 0, decimal.negative, decimal.exponent);
     is_same(size, negative, value)
 }
 
@@ -93,26 +56,28 @@ pub(crate) struct Exact {
     pub(crate) down: u64,
 }
 
-// Returns the number up to which all numbers are floats, the exponent of the power of two that the least float is one over, and that
-// of the power of two that the largest float has.
+// Returns the number up to which all numbers are floats, the exponent of the power of two that the least float is one over, and that of
+// the least power of two that is above all floats.
 const fn limits_of(double: bool) -> (u64, u64, u64)
     ensures limit { result.0 ≡ 2 ^ prec (format_of double) }
     ensures least { result.1 ≡ low (format_of double) }
-    ensures most { prec (format_of double) + result.2 ≡ emax (format_of double) + 1 }
+    ensures most { (result.2 ≡ emax (format_of double) + 1) × (64 ≤ result.2) }
 {
     if double {
-        (1 << 53, 1074, 971)
+        (1 << 53, 1074, 1024)
     } else {
-        (1 << 24, 149, 104)
+        (1 << 24, 149, 128)
     }
 }
 
 // Returns whether a number times a power of two, over another one, is a float, without rounding.
 pub(crate) fn is_exact<F: Float>(value: F, negative: bool, exact: Exact) -> bool
-    ensures { result ≡ true → HasValue (F.value value) negative (exact.number * 2 ^ exact.up) (2 ^ exact.down) }
+    ensures value { result ≡ true → HasValue (F.value value) negative (exact.number * 2 ^ exact.up) (2 ^ exact.down) }
+    ensures near { result ≡ true → F.value value ≡ round (format_of F.DOUBLE) negative (exact.number * 2 ^ exact.up) (2 ^ exact.down) }
 {
     let (limit, least, most) = limits_of(F::DOUBLE);
-    if exact.number >= limit || exact.up > most || exact.down > least {
+    let bits = 64 - exact.number.leading_zeros() as u64 % 65;
+    if exact.number >= limit || exact.up > most - bits || exact.down > least {
         return false;
     }
     let size: F = nearest_binary(exact.number, exact.up, exact.down);

@@ -1,13 +1,17 @@
 //! How the digits of a float are written.
 
-ghost use Rattle.std.specs.Prelude.{◌≡◌, ◌+◌, ◌*◌, ◌^◌, ◌<◌, ◌≤◌, ◌++◌, ℕ, if◌then◌else◌, false, is_some, length, nat_lt, unwrap_or};
-ghost use Rattle.std.specs.Int.Digits.{number_from_digits};
+ghost use Rattle.std.specs.Prelude.{◌≡◌, ◌+◌, ◌*◌, ◌%◌, ◌^◌, ◌<◌, ◌≤◌, ◌++◌, ◌⊎◌, ℕ, if◌then◌else◌, false, true, is_some, length, length as count, None};
+ghost use Rattle.std.specs.Prelude.{nat_lt, unwrap_or};
+ghost use Rattle.std.specs.Int.Digits.{digits_of, number_from_digits};
 ghost use Rattle.std.specs.Float.Ieee.{hid, ones};
+ghost use Rattle.lexical_util.specs.Layout as layout;
+ghost use Rattle.lexical_util.specs.Record.{effective_exponent_base, raw};
+ghost use Rattle.lexical_literal.specs.Literal.{is_present};
 ghost use Rattle.lexical_number.specs.Float.{format_of, raised_down, raised_up};
 ghost use Rattle.lexical_number.specs.Number.{number, places as digit_count};
-ghost use Rattle.lexical_writer.specs.Digits.{size_of, values_of};
-ghost use Rattle.lexical_writer.specs.Amount.{is_shown, is_wanted, least_places, power_if};
-ghost use Rattle.lexical_writer.specs.Layout.{given_fraction, given_power, no_power};
+ghost use Rattle.lexical_writer.specs.Digits.{values_of};
+ghost use Rattle.lexical_writer.specs.Amount.{HasShape, is_shown, is_wanted, least_places, power_if};
+ghost use Rattle.lexical_writer.specs.Layout.{given_fraction};
 ghost use Rattle.lexical_writer.specs.declared.run.Source.TheVariants as sources;
 
 use crate::float_digits::split;
@@ -19,35 +23,15 @@ use lexical_number::shortest::{Decimal, shortest};
 // How the digits of a number are written: with zeros behind them, with a point before the last of all these digits, and with an
 // exponent, if it is shown.
 #[derive(Debug, Clone, Copy)]
-pub(crate) struct Form {
+pub(crate) struct Shape {
     pub(crate) after: usize,
     pub(crate) places: usize,
     // Whether the sign of the exponent is `-`.
     pub(crate) negative: bool,
     pub(crate) exponent: u64,
     pub(crate) shown: bool,
-    ghost limits: { (after < 4096) × (places < 4096) × (exponent < 4096) },
+    ghost limit: { places < 4096 },
     ghost hidden: { shown ≡ false → exponent ≡ 0 },
-}
-
-impl Form {
-    // Returns the exponents above and below the line of a fraction, of a number of which the radix and the base are powers with
-    // these exponents.
-    #[inline(always)]
-    pub(crate) const fn scales(self, radix: u64, base: u64) -> (u64, u64)
-        requires { (radix ≤ 5) × (base ≤ 5) }
-        ensures up { result.0 ≡ self.after * radix + (if self.negative then 0 else self.exponent * base) }
-        ensures down { result.1 ≡ self.places * radix + (if self.negative then self.exponent * base else 0) }
-        ensures limits { (result.0 < 2 ^ 20) × (result.1 < 2 ^ 20) }
-    {
-        let (up, down) = (self.after as u64 * radix, self.places as u64 * radix);
-        let exponent = self.exponent * base;
-        if self.negative {
-            (up, down + exponent)
-        } else {
-            (up + exponent, down)
-        }
-    }
 }
 
 // Returns a fraction, if it has digits, of which there are as many as `places`.
@@ -62,11 +46,7 @@ const fn fraction_in<'a>(places: usize, fraction: Source<'a>) -> Option<Source<'
 
 // Returns the exponent of a form, if it is shown.
 #[inline(always)]
-const fn power_in(form: Form) -> Option<Power<'static>>
-    ensures up { (radix base : ℕ) → raised_up (unwrap_or result no_power).negative base (size_of radix (unwrap_or result no_power).source)
-        ≡ raised_up form.negative base form.exponent }
-    ensures down { (radix base : ℕ) → raised_down (unwrap_or result no_power).negative base (size_of radix (unwrap_or result no_power).source)
-        ≡ raised_down form.negative base form.exponent }
+const fn power_in(form: Shape) -> Option<Power<'static>>
     ensures power { result ≡ power_if form.shown form.negative form.exponent }
 {
     if !form.shown {
@@ -80,18 +60,16 @@ const fn power_in(form: Form) -> Option<Power<'static>>
 
 // Returns digits in a form, as a number that is to be written.
 #[inline(always)]
-pub(crate) fn amount_in<'a>(negative: bool, digits: &'a [u8], form: Form) -> Amount<'a>
+pub(crate) fn amount_in<'a>(negative: bool, digits: &'a [u8], form: Shape) -> Amount<'a>
     ensures sign { result.negative ≡ negative }
     ensures number { (radix : ℕ) → 2 ≤ radix → digit_count radix digits.entry.now ≡ length digits.entry.now
         → number_from_digits radix (values_of radix result.integer ++ values_of radix (given_fraction result))
         ≡ number radix digits.entry.now * radix ^ form.after }
     ensures places { (radix : ℕ) → digit_count radix digits.entry.now ≡ length digits.entry.now
         → length (values_of radix (given_fraction result)) ≡ form.places }
-    ensures up { (radix base : ℕ) → raised_up (given_power result).negative base (size_of radix (given_power result).source)
-        ≡ raised_up form.negative base form.exponent }
-    ensures down { (radix base : ℕ) → raised_down (given_power result).negative base (size_of radix (given_power result).source)
-        ≡ raised_down form.negative base form.exponent }
     ensures some { is_some result.fraction ≡ nat_lt 0 form.places }
+    ensures integer { (radix : ℕ) → 2 ≤ radix → digit_count radix digits.entry.now ≡ length digits.entry.now
+        → is_present (values_of radix result.integer) ≡ true }
     ensures power { result.exponent ≡ power_if form.shown form.negative form.exponent }
 {
     let (integer, fraction) = split(digits, form.after, form.places);
@@ -152,23 +130,42 @@ pub(crate) fn decimal_of(double: bool, size: u64) -> Decimal
     shortest(double, size)
 }
 
+// Returns the exponents of ten above and below the line of a decimal number.
+#[inline(always)]
+const fn tens_of(decimal: Decimal) -> (usize, usize)
+    requires { decimal.exponent ≤ 340 }
+    ensures limit { (result.0 ≤ 340) × (result.1 ≤ 340) }
+    ensures one { (result.0 ≡ 0) ⊎ (result.1 ≡ 0) }
+    ensures none { decimal.exponent ≡ 0 → (result.0 ≡ 0) × (result.1 ≡ 0) }
+    ensures up { raised_up decimal.negative 10 decimal.exponent ≡ 10 ^ result.0 }
+    ensures down { raised_down decimal.negative 10 decimal.exponent ≡ 10 ^ result.1 }
+{
+    if decimal.negative {
+        (0, decimal.exponent as usize)
+    } else {
+        (decimal.exponent as usize, 0)
+    }
+}
+
 // Returns the form of a decimal number of so many digits, times ten to an exponent.
 #[inline(always)]
-pub(crate) fn decimal_form(length: usize, decimal: Decimal, syntax: &Syntax, style: Style) -> Form
-    requires { (length ≤ 64) × (decimal.exponent ≤ 340) }
+pub(crate) fn decimal_form(length: usize, decimal: Decimal, syntax: &Syntax, style: Style) -> Shape
+    requires length { length ≡ count (digits_of 10 decimal.digits) }
+    requires limits { (length ≤ 64) × (decimal.exponent ≤ 340) }
+    requires last { ((decimal.digits ≡ 0) × (decimal.exponent ≡ 0)) ⊎ (0 < decimal.digits % 10) }
+    requires radix { ((raw syntax.now.word).byte layout.mantissa_radix ≡ 10) × (effective_exponent_base (raw syntax.now.word) ≡ 10) }
+    requires plain { style.decimals ≡ None }
+    ensures { HasShape syntax.now style (decimal.digits * raised_up decimal.negative 10 decimal.exponent)
+        (raised_down decimal.negative 10 decimal.exponent) result.shown result.negative result.exponent result.places
+        (decimal.digits * 10 ^ result.after) }
 {
-    let power = decimal.exponent as usize;
-    let (up, down) = if decimal.negative {
-        (0, power)
-    } else {
-        (power, 0)
-    };
+    let (up, down) = tens_of(decimal);
     let last = length.saturating_sub(1);
     let (negative, exponent) = (up + last < down, (up + last).abs_diff(down) as u64);
     let far = exponent > if negative { 4 } else { 15 };
     if is_shown(syntax, style, exponent, far, false) {
         let places = last.max(least_places(syntax, style, true));
-        return Form {
+        return Shape {
             after: places - last,
             places,
             negative,
@@ -177,7 +174,7 @@ pub(crate) fn decimal_form(length: usize, decimal: Decimal, syntax: &Syntax, sty
         };
     }
     let places = down.max(least_places(syntax, style, false));
-    Form {
+    Shape {
         after: up + places - down,
         places,
         negative: false,

@@ -11,28 +11,13 @@ use crate::literal::writer::run::Source;
 // How the digits of a number are written: with zeros behind them, with a point before the last of all these digits, and with an
 // exponent, if it is shown.
 #[derive(Debug, Clone, Copy)]
-pub(crate) struct Form {
+pub(crate) struct Shape {
     pub(crate) after: usize,
     pub(crate) places: usize,
     // Whether the sign of the exponent is `-`.
     pub(crate) negative: bool,
     pub(crate) exponent: u64,
     pub(crate) shown: bool,
-}
-
-impl Form {
-    // Returns the exponents above and below the line of a fraction, of a number of which the radix and the base are powers with
-    // these exponents.
-    #[inline(always)]
-    pub(crate) const fn scales(self, radix: u64, base: u64) -> (u64, u64) {
-        let (up, down) = (self.after as u64 * radix, self.places as u64 * radix);
-        let exponent = self.exponent * base;
-        if self.negative {
-            (up, down + exponent)
-        } else {
-            (up + exponent, down)
-        }
-    }
 }
 
 // Returns a fraction, if it has digits, of which there are as many as `places`.
@@ -47,7 +32,7 @@ const fn fraction_in<'a>(places: usize, fraction: Source<'a>) -> Option<Source<'
 
 // Returns the exponent of a form, if it is shown.
 #[inline(always)]
-const fn power_in(form: Form) -> Option<Power<'static>> {
+const fn power_in(form: Shape) -> Option<Power<'static>> {
     if !form.shown {
         return None;
     }
@@ -56,7 +41,7 @@ const fn power_in(form: Form) -> Option<Power<'static>> {
 
 // Returns digits in a form, as a number that is to be written.
 #[inline(always)]
-pub(crate) fn amount_in<'a>(negative: bool, digits: &'a [u8], form: Form) -> Amount<'a> {
+pub(crate) fn amount_in<'a>(negative: bool, digits: &'a [u8], form: Shape) -> Amount<'a> {
     let (integer, fraction) = split(digits, form.after, form.places);
     Amount { negative, integer, fraction: fraction_in(form.places, fraction), exponent: power_in(form) }
 }
@@ -98,18 +83,27 @@ pub(crate) fn decimal_of(double: bool, size: u64) -> Decimal {
     shortest(double, size)
 }
 
+// Returns the exponents of ten above and below the line of a decimal number.
+#[inline(always)]
+const fn tens_of(decimal: Decimal) -> (usize, usize) {
+    if decimal.negative {
+        (0, decimal.exponent as usize)
+    } else {
+        (decimal.exponent as usize, 0)
+    }
+}
+
 // Returns the form of a decimal number of so many digits, times ten to an exponent.
 #[inline(always)]
-pub(crate) fn decimal_form(length: usize, decimal: Decimal, syntax: &Syntax, style: Style) -> Form {
-    let power = decimal.exponent as usize;
-    let (up, down) = if decimal.negative { (0, power) } else { (power, 0) };
+pub(crate) fn decimal_form(length: usize, decimal: Decimal, syntax: &Syntax, style: Style) -> Shape {
+    let (up, down) = tens_of(decimal);
     let last = length.saturating_sub(1);
     let (negative, exponent) = (up + last < down, (up + last).abs_diff(down) as u64);
     let far = exponent > if negative { 4 } else { 15 };
     if is_shown(syntax, style, exponent, far, false) {
         let places = last.max(least_places(syntax, style, true));
-        return Form { after: places - last, places, negative, exponent, shown: true };
+        return Shape { after: places - last, places, negative, exponent, shown: true };
     }
     let places = down.max(least_places(syntax, style, false));
-    Form { after: up + places - down, places, negative: false, exponent: 0, shown: false }
+    Shape { after: up + places - down, places, negative: false, exponent: 0, shown: false }
 }
