@@ -170,12 +170,13 @@ REPLACED += [
     # A syntax that is not lawful can have any radix.
     ("lexical_number/src/small.rt", "MOST[radix as usize] as usize", "if radix <= 36 { MOST[radix as usize] as usize } else { 0 }"),
     # Programs have one copy of these.
-    ("lexical_forms/src/list.rt", "syntax.begin(false, text, false);\n                if begun.is_whole(syntax, text) {\n                    return Some", "syntax.begin_any(text, false);\n                if begun.is_whole(syntax, text) {\n                    return Some"),
+    ("lexical_forms/src/list.rt", "syntax.begin(false, text, false)", "syntax.begin_small(text, false)"),
     ("lexical_literal/src/stop.rt", "self.begin(false, text, false)", "self.begin_any(text, false)"),
     ("lexical_literal/src/stop.rt", "self.begin(false, text, true)", "self.begin_any(text, true)"),
     ("token.rt", "it.syntax.begin(false, text, true)", "it.syntax.begin_small(text, true)"),
     ("token.rt", "it.syntax.begin(false, front, true)", "it.syntax.begin_small(front, true)"),
     # The library for C has one copy of these.
+    ("lexical_forms/src/list.rt", "#[inline(always)]\n    pub(crate) const fn find", "#[cfg_attr(not(peltzivar_small), inline(always))]\n    pub(crate) const fn find"),
     ("reasons.rt", "#[inline(always)]\n#[tactic(auto, unfolding(lexical_flags::specs::Roles::Disjoint))]\nconst fn clash(", "#[cfg_attr(not(peltzivar_small), inline(always))]\nconst fn clash("),
     ("reasons.rt", "#[inline(always)]\nconst fn reason_for(", "#[cfg_attr(not(peltzivar_small), inline(always))]\nconst fn reason_for("),
     ("lexical_literal/src/stop.rt", "stop.step(syntax, text, last)", "stop.step_any(syntax, text, last)"),
@@ -191,7 +192,6 @@ REPLACED += [
     ("lexical_value/src/scaled.rt", "#[inline(always)]\nfn settled", "#[cfg_attr(not(peltzivar_small), inline(always))]\nfn settled"),
     ("lexical_value/src/kind.rt", "fewer(kind, &numeral)", "fewer(kind, &{ numeral })"),
     ("lexical_value/src/kind.rt", "#[inline(always)]\npub(crate) const fn keeps", "#[cfg_attr(not(peltzivar_small), inline(always))]\npub(crate) const fn keeps"),
-    ("lexical_forms/src/exclude.rt", "#[inline(always)]\nconst fn plays_no_role", "#[cfg_attr(not(peltzivar_small), inline(always))]\nconst fn plays_no_role"),
     # Calls for constants.
     ("lexical_value/src/integer.rt", "pub fn own_numeral", "pub(crate) const fn own_numeral"),
     ("lexical_value/src/integer.rt", "pub fn integer_numeral", "pub(crate) const fn integer_numeral"),

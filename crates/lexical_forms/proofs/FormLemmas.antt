@@ -1,15 +1,17 @@
 -- Several forms: what has been found in the first of them, and what one form more adds.
-use Rattle.lexical_forms.proofs.Common.{ℕ, ◌≡◌, ◌*◌, inl, inr, nat_lt, Bool, true, false, ◌<◌, ◌≤◌, ◌+◌, List, Ok, Option, Some, None, All, IsSomeAnd, []}
-use Rattle.lexical_forms.proofs.Common.{◌∷◌, take, get_or, IfSome, IsNone, refl, sym, subst, ap, arith, nat_tests, cases_lt, false≢true, take_all, All-more}
-use Rattle.lexical_forms.proofs.Common.{slice_get-get_or, Literal, Reads, Notation, notation_of, common_steps, if◌then◌else◌, length, slice_get}
+use Rattle.lexical_forms.proofs.Common.{ℕ, ◌≡◌, ◌*◌, inl, inr, Bool, true, false, ◌<◌, ◌≤◌, ◌+◌, List, Ok, Option, Some, None, All, IsSomeAnd, []}
+use Rattle.lexical_forms.proofs.Common.{◌∷◌, take, get_or, IsNone, refl, sym, subst, ap, arith, nat_tests, cases_lt, false≢true, take_all, All-more}
+use Rattle.lexical_forms.proofs.Common.{◌∙◌, length-take-le, slice_get-get_or, Literal, Reads, Notation, notation_of, common_steps, if◌then◌else◌, length, slice_get}
 use Rattle.lexical_forms.proofs.Common.{IsFurthestForm, sign_size, IsCountedFront, IsStopped, IsRefusal, Refusal, FormList, NoForm, ReadsForm, is_stray, reach}
 use Rattle.lexical_forms.proofs.Common.{IsValidUpTo, NoFront, ReadsFront, Read, Found, Stopped, Form}
-use Rattle.lexical_forms.specs.Additions.Forms.{GoesTo, IsFoundForm, IsFoundFrontForm, IsNoBetter, bound, further, further_on, greater, longer}
+use Rattle.lexical_forms.specs.Additions.Forms.{AreBelow, GoesTo, IsBehind, IsFoundForm, IsFoundFrontForm, IsLed, IsNoBetter, IsRefusedAt, Leads, greater, limit, longer}
 use Rattle.lexical_forms.specs.Forms.{HasFront, HasKind, IsErrorOfForm, IsFirst, IsFormError, IsGreatest, IsReadByForms, Reaches}
 use Rattle.std.specs.Option.{ForSome}
 use Rattle.std.proofs.Math.Nat.{le_antisymm}
+use Rattle.std.proofs.lemmas.List.{get_or-take}
 use Rattle.std.proofs.lemmas.Option.{slice_get_within}
 use Rattle.lexical_forms.specs.declared.list.FormError.{FormError}
+use Rattle.lexical_forms.specs.declared.list.Furthest.{Furthest}
 use Rattle.lexical_forms.specs.declared.list.Number.TheVariants as numbers
 use Rattle.lexical_literal.proofs.OneCauseLemmas.{one_refusal}
 
@@ -33,9 +35,6 @@ all_at P forms i g at all =
     let here = slice_get-get_or forms i g inside in
     let same : get_or forms i g ≡ g = cc in subst P same (all i g inside)
 
-pub inside_at : (P : Form → Type 0) (forms : List Form) (i : ℕ) → IsSomeAnd (slice_get forms i) P → i < length forms
-inside_at P forms i holds = let here = some_of P (slice_get forms i) holds in slice_get_within forms i here.0 here.1
-
 here_at : (P : Form → Type 0) (forms : List Form) (i : ℕ) (d : Form) → IsSomeAnd (slice_get forms i) P → P (get_or forms i d)
 here_at P forms i d holds = grind (arith, common_steps, some_of, slice_get-get_or, slice_get_within)
 
@@ -50,22 +49,34 @@ one_size m text a b is other = let longer = λ (below : b < a). other.no_longer 
 pub one_front : (m : Notation) (text : List ℕ) (l k : Literal) (a b : ℕ) → ReadsFront m l text a → ReadsFront m k text b → a ≤ b
 one_front m text l k a b is other = let longer = λ (below : b < a). other.no_longer a below is.within l is.reads in grind arith
 
-module _ (g : Form) (text : List ℕ) where
-  reach_within : (error : Refusal) → reach error ≤ 2 * error.valid_up_to + 1
-  reach_within error = grind arith
+module _ (text : List ℕ) (g : Form) where
+  reach_within : (error : Refusal) → (2 * error.valid_up_to ≤ reach error) × (reach error ≤ 2 * error.valid_up_to + 1)
+  reach_within error = go (is_stray error) where
+    go : (b : Bool) → (2 * error.valid_up_to ≤ 2 * error.valid_up_to + (if b then 0 else 1))
+        × (2 * error.valid_up_to + (if b then 0 else 1) ≤ 2 * error.valid_up_to + 1)
+    go true = (omega arith, omega arith)
+    go false = (omega arith, omega arith)
 
   -- The reach of a form that goes up to `size`, or less far.
   pub reach_up_to : (size : ℕ) → ((other : ℕ) → GoesTo text g other → other ≤ size) → (n : ℕ) → Reaches text g n → n ≤ 2 * size + 1
-  reach_up_to size up n is = omega (arith, up is.0.valid_up_to is.1.valid_up_to, reach_within is.0, is.2)
+  reach_up_to size up n is = let most = reach_within is.0 in omega (arith, up is.0.valid_up_to is.1.valid_up_to, most.1, is.2)
 
-  pub reach_below : (size : ℕ) → ((other : ℕ) → GoesTo text g other → other < size) → (n : ℕ) → Reaches text g n → n < 2 * size
-  reach_below size up n is = omega (arith, up is.0.valid_up_to is.1.valid_up_to, reach_within is.0, is.2)
+  -- The reach of a form that stops at `stop`.
+  module _ (stop : Stopped) (is : IsRefusedAt text stop g) where
+    size_of : (error : Refusal) → IsRefusal (notation_of g.syntax) text error → error.valid_up_to ≡ stop.size
+    size_of error refusal = le_antisymm (one_size (notation_of g.syntax) text error.valid_up_to stop.size refusal.valid_up_to is.0.valid)
+        (one_size (notation_of g.syntax) text stop.size error.valid_up_to is.0.valid refusal.valid_up_to)
 
-  -- Its reach is that of its error.
-  pub reach_of : (error : Refusal) (size : ℕ) (b : Bool) → IsRefusal (notation_of g.syntax) text error → IsValidUpTo (notation_of g.syntax) text size
-      → is_stray error ≡ b
-      → (n : ℕ) → Reaches text g n → n ≡ 2 * size + (if b then 0 else 1)
-  reach_of error size b is valid byte n other = grind (arith, one_refusal)
+    pub reach_least : (n : ℕ) → Reaches text g n → 2 * stop.size ≤ n
+    reach_least n reaches = let least = reach_within reaches.0 in omega (arith, size_of reaches.0 reaches.1, least.0, reaches.2)
+
+    pub reach_most : (n : ℕ) → Reaches text g n → n ≤ 2 * stop.size + 1
+    reach_most n reaches = let most = reach_within reaches.0 in omega (arith, size_of reaches.0 reaches.1, most.1, reaches.2)
+
+    pub reach_is : (b : Bool) → ((error : Refusal) → IsRefusal (notation_of g.syntax) text error → is_stray error ≡ b)
+        → (n : ℕ) → Reaches text g n → n ≡ 2 * stop.size + (if b then 0 else 1)
+    reach_is b stray n reaches = sym reaches.2 ∙ ap (λ (b : Bool). 2 * reaches.0.valid_up_to + (if b then 0 else 1)) (stray reaches.0 reaches.1)
+        ∙ ap (λ k. 2 * k + (if b then 0 else 1)) (size_of reaches.0 reaches.1)
 
 -- `Measure X` has what is compared: values with a size. It tells which sizes and values a form has, and whether it has none.
 pub record Measure (X : Type 0) : Type 1 where
@@ -134,46 +145,6 @@ fronts text = record {
   none = λ g a none is. none a is.1.within is.0 is.1.reads;
 }
 
--- How far each form goes that goes beyond the first byte behind the sign.
-abbrev pub beyond : List ℕ → Measure Stopped
-beyond text = record {
-  size = λ stop. stop.size;
-  IsSize = λ g n. GoesTo text g n × (sign_size text + 1 < n);
-  IsValue = λ g stop. IsStopped (notation_of g.syntax) text stop × (sign_size text + 1 < stop.size);
-  IsNot = λ g. (n : ℕ) → GoesTo text g n → n ≤ sign_size text + 1;
-  one = λ g a b is other. one_size (notation_of g.syntax) text a b is.0 other.0;
-  sized = λ g stop is. (is.0.valid, is.1);
-  none = λ g a none is. let near = none a is.0 in omega (arith, near, is.1);
-}
-
--- One form more, which stops at `stop`.
-pub beyond_more : (text : List ℕ) (forms : List Form) (i : ℕ) (d : Form) → i < length forms
-    → (furthest : Option (ℕ × Stopped)) → IsBest (beyond text) forms i furthest → (stop : Stopped) → IsStopped (notation_of (get_or forms i d).syntax) text stop
-    → IsBest (beyond text) forms (i + 1) (further_on (sign_size text) furthest i stop)
-beyond_more text forms i d inside furthest old stop is = go (nat_lt (sign_size text + 1) stop.size) refl where
-  go : (b : Bool) → nat_lt (sign_size text + 1) stop.size ≡ b → IsBest (beyond text) forms (i + 1) (if b then further furthest i stop else furthest)
-  go true far = best_more (beyond text) forms i d inside stop (is, grind (arith, nat_tests)) furthest old
-  go false near = best_stays (beyond text) forms i d inside
-      (λ n goes. let most = one_size (notation_of (get_or forms i d).syntax) text n stop.size goes is.valid in grind (arith, nat_tests)) furthest old
-
--- The best goes beyond that byte.
-pub best_far : (text : List ℕ) (forms : List Form) (i : ℕ) (furthest : Option (ℕ × Stopped)) → IsBest (beyond text) forms i furthest
-    → IfSome furthest (λ best. sign_size text + 1 < best.1.size)
-best_far text forms i None is = tt
-best_far text forms i (Some best) is =
-    let here = some_of (λ g. IsStopped (notation_of g.syntax) text best.1 × (sign_size text + 1 < best.1.size)) (slice_get forms best.0) is.here in here.2.1
-
--- One form more, which goes no further.
-pub beyond_kept : (text : List ℕ) (forms : List Form) (i : ℕ) (d : Form) → i < length forms
-    → (furthest : Option (ℕ × Stopped)) → IsBest (beyond text) forms i furthest
-    → ((n : ℕ) → GoesTo text (get_or forms i d) n → n ≤ bound (sign_size text) furthest) → IsBest (beyond text) forms (i + 1) furthest
-beyond_kept text forms i d inside None old near = best_stays (beyond text) forms i d inside near None old
-beyond_kept text forms i d inside (Some best) old near = record {
-  here = old.here;
-  before = old.before;
-  others = All-more (λ g. (n : ℕ) → GoesTo text g n × (sign_size text + 1 < n) → n ≤ best.1.size) forms i d inside old.others (λ n is. near n is.0);
-}
-
 -- One form more, with its longest front, or none.
 pub fronts_more : (text : List ℕ) (forms : List Form) (i : ℕ) (d : Form) → i < length forms
     → (longest : Option (ℕ × Found)) → IsBest (fronts text) forms i longest → (found : Option Found)
@@ -184,7 +155,7 @@ fronts_more text forms i d inside longest old (Some found) has none = best_more 
 
 -- The first form that reads the text.
 pub found_is : (forms : List Form) (text : List ℕ) (i : ℕ) (d : Form) (read : Read) → i < length forms
-    → ReadsForm text read (get_or forms i d) → NoForm (take i forms) text → IsFoundForm forms text (Some (i, read))
+    → ReadsForm text read (get_or forms i d) → NoForm (take i forms) text → IsFoundForm forms text (Ok (i, read))
 found_is forms text i d read inside is before = grind (arith, slice_get-get_or)
 
 -- A literal of another kind is the same literal.
@@ -196,15 +167,11 @@ first_of forms text i read own format same is = record {
   before = is.before;
 }
 
-kind_at : (forms : List Form) (i : ℕ) (d : Form) (own : Read) → i < length forms → own.kind ≡ (get_or forms i d).kind → HasKind forms i own
-kind_at forms i d own inside kind = grind (arith, slice_get-get_or)
-
 -- The number that has been found, with the kind of its form.
-pub number_is : (list : FormList) (text : List ℕ) (i : ℕ) (d : Form) (read own : Read) → i < length list.forms → IsFoundForm list.forms text (Some (i, read))
-    → own.format ≡ read.format → own.literal ≡ read.literal → own.kind ≡ (get_or list.forms i d).kind
-    → IsReadByForms list text (Ok (numbers.Literal own i))
-number_is list text i d read own inside is format same kind = record {
-  found = (first_of list.forms text i read own format same is.found, kind_at list.forms i d own inside kind);
+pub number_is : (list : FormList) (text : List ℕ) (i : ℕ) (read own : Read) → IsFirst list.forms text i read → own.format ≡ read.format
+    → own.literal ≡ read.literal → HasKind list.forms i own → IsReadByForms list text (Ok (numbers.Literal own i))
+number_is list text i read own is format same kind = record {
+  found = (first_of list.forms text i read own format same is, kind);
   no_literal = λ err. absurd (false≢true err);
   no_special = λ err. absurd (false≢true err);
   error = tt;
@@ -219,29 +186,6 @@ module _ (forms : List Form) (text : List ℕ) (i : ℕ) (end : length forms ≤
     none_of (form ∷ forms) some all = all 0 form some
   furthest_is some (Some best) is = (greatest (goes text) forms i end best.0 best.1 is, is.here)
 
-  -- A form that goes beyond that byte goes furthest of all, if it does of those that go beyond it.
-  beyond_is : (best : ℕ × Stopped) → IsBest (beyond text) forms i (Some best) → IsFurthestForm forms text (Some best)
-  beyond_is best is =
-      let here = some_of (λ g. IsStopped (notation_of g.syntax) text best.1 × (sign_size text + 1 < best.1.size)) (slice_get forms best.0) is.here in
-      let all = greatest (beyond text) forms i end best.0 best.1 is in (
-        record {
-          here = subst (λ o. IsSomeAnd o (λ g. GoesTo text g best.1.size)) (sym here.1) here.2.0.valid;
-          before = λ k e below n goes. elim (cases_lt (sign_size text + 1) n) [
-            | inl far ↦ all.before k e below n (goes, far)
-            | inr near ↦ omega (arith, near, here.2.1)
-          ];
-          others = λ k e below n goes. elim (cases_lt (sign_size text + 1) n) [
-            | inl far ↦ all.others k e below n (goes, far)
-            | inr near ↦ omega (arith, near, here.2.1)
-          ];
-        },
-        subst (λ o. IsSomeAnd o (λ g. IsStopped (notation_of g.syntax) text best.1)) (sym here.1) here.2.0,
-      )
-
-  pub beyond_if : (furthest : Option (ℕ × Stopped)) → IsBest (beyond text) forms i furthest → IfSome furthest (λ best. IsFurthestForm forms text (Some best))
-  beyond_if None is = tt
-  beyond_if (Some best) is = beyond_is best is
-
   pub longest_is : (form : ℕ) (found : Found) → IsBest (fronts text) forms i (Some (form, found)) → IsFoundFrontForm forms text (Ok (form, found))
   longest_is form found is =
       record { longest = greatest (fronts text) forms i end form found is; found = is.here; none = λ err. absurd (false≢true err); error = tt }
@@ -249,101 +193,178 @@ module _ (forms : List Form) (text : List ℕ) (i : ℕ) (end : length forms ≤
   pub all_tried : (P : Form → Type 0) → All P (take i forms) → All P forms
   all_tried P all = subst (All P) (take_all i forms end) all
 
--- The forms that go up to `size`, of which `first` is the first.
-module _ (forms : List Form) (text : List ℕ) (first size : ℕ) (furthest : IsGreatest (GoesTo text) forms first size) where
-  -- `IsAtMost most g` holds if no error of the form `g` has a greater reach than `most`.
-  abbrev pub IsAtMost : ℕ → Form → Type 0
-  IsAtMost most g = (n : ℕ) → Reaches text g n → n ≤ most
+-- What holds of some form follows from what implies it.
+pub each : {X : Type 0} (P Q : X → Type 0) (o : Option X) → ((x : X) → P x → Q x) → IsSomeAnd o P → IsSomeAnd o Q
+each P Q (Some x) follows holds = follows x holds
+each P Q None follows holds = holds
 
-  module _ (most : ℕ) (low : 2 * size ≤ most) where
-    pub none_before : All (IsAtMost most) (take first forms)
-    none_before k d below n reaches =
-        let less = reach_below (get_or (take first forms) k d) text size (furthest.before k d below) n reaches in omega (arith, less, low)
+pub limit_within : (best : Furthest) → (2 * best.stop.size ≤ limit best) × (limit best ≤ 2 * best.stop.size + 1)
+limit_within best = go best.settled where
+  go : (b : Bool) → (2 * best.stop.size ≤ 2 * best.stop.size + (if b then 1 else 0))
+      × (2 * best.stop.size + (if b then 1 else 0) ≤ 2 * best.stop.size + 1)
+  go true = (omega arith, omega arith)
+  go false = (omega arith, omega arith)
 
-    pub one_more : (form : ℕ) → IsSomeAnd (slice_get forms form) (IsAtMost most) → All (IsAtMost most) (take form forms)
-        → All (IsAtMost most) (take (form + 1) forms)
-    one_more form is before = let here = some_of (IsAtMost most) (slice_get forms form) is in
-        All-more (IsAtMost most) forms form here.0 (slice_get_within forms form here.0 here.1) before (here_at (IsAtMost most) forms form here.0 is)
+-- The first form does not read the text.
+pub first_none : (forms : List Form) (text : List ℕ) (stop : Stopped) → IsSomeAnd (slice_get forms 0) (IsRefusedAt text stop) → NoForm (take 1 forms) text
+first_none [] text stop here k d below = absurd here
+first_none (form ∷ forms) text stop here ℕ.zero d below = here.1
+first_none (form ∷ forms) text stop here (ℕ.suc k) d below = absurd (omega (arith, below))
 
-    -- A form that does not go up to `size`.
-    pub elsewhere : (form : ℕ) → IsSomeAnd (slice_get forms form) (λ g. GoesTo text g size → ⊥) → All (IsAtMost most) (take form forms)
-        → All (IsAtMost most) (take (form + 1) forms)
-    elsewhere form apart = one_more form (go (slice_get forms form) refl apart) where
-      go : (o : Option Form) → slice_get forms form ≡ o → IsSomeAnd o (λ g. GoesTo text g size → ⊥) → IsSomeAnd o (IsAtMost most)
-      go None at apart = apart
-      go (Some g) at apart = λ n reaches.
-          let up = all_at (λ g. (other : ℕ) → GoesTo text g other → other ≤ size) forms form g at furthest.others in
-          let less = reach_below g text size (λ k goes. elim (cases_lt k size) [
-            | inl below ↦ below
-            | inr past ↦ absurd (apart (subst (λ k. GoesTo text g k) (le_antisymm (up k goes) past) goes))
-          ]) n reaches in
-          omega (arith, less, low)
+module _ (forms : List Form) (text : List ℕ) where
+  both_below : (a b c most : ℕ) → AreBelow forms text a b most → AreBelow forms text b c most → AreBelow forms text a c most
+  both_below a b c most one two k d low high n reaches = elim (cases_lt k b) [
+    | inl below ↦ one k d low below n reaches
+    | inr past ↦ two k d past high n reaches
+  ]
 
-    -- A form whose errors are no better.
-    pub settled : (form : ℕ) → IsSomeAnd (slice_get forms form) (λ g. IsNoBetter (notation_of g.syntax) text size) → All (IsAtMost most) (take form forms)
-        → All (IsAtMost most) (take (form + 1) forms)
-    settled form is = one_more form (go (slice_get forms form) is) where
-      go : (o : Option Form) → IsSomeAnd o (λ g. IsNoBetter (notation_of g.syntax) text size) → IsSomeAnd o (IsAtMost most)
-      go None is = is
-      go (Some g) is = λ n reaches. let less = is reaches.0 reaches.1 in omega (arith, less, low, reaches.2)
+  one_below : (i most : ℕ) → IsSomeAnd (slice_get forms i) (λ g. (n : ℕ) → Reaches text g n → n < most) → AreBelow forms text i (i + 1) most
+  one_below i most is k d low high n reaches =
+      let same : k ≡ i = omega (arith, low, high) in
+      here_at (λ g. (n : ℕ) → Reaches text g n → n < most) forms i d is n (subst (λ k. Reaches text (get_or forms k d) n) same reaches)
 
-  -- The error of a form that goes up to `size`.
-  module _ (form : ℕ) (error : FormError) (same : error.form ≡ form) (is : IsSomeAnd (slice_get forms error.form) (IsErrorOfForm text error))
-      (valid : IsSomeAnd (slice_get forms form) (λ g. GoesTo text g size)) where
-    reach_is : (b : Bool) → is_stray error.error.refusal ≡ b → reach error.error.refusal ≡ 2 * size + (if b then 0 else 1)
-    reach_is b byte = let here = some_of (IsErrorOfForm text error) (slice_get forms error.form) is in
-        let goes = subst (λ k. IsSomeAnd (slice_get forms k) (λ g. GoesTo text g size)) (sym same) valid in
-        reach_of here.0 text error.error.refusal size b here.2.refusal (subst (λ o. IsSomeAnd o (λ g. GoesTo text g size)) here.1 goes) byte _
-        (error.error.refusal, here.2.refusal, refl)
+  weaker : (a b most more : ℕ) → most ≤ more → AreBelow forms text a b most → AreBelow forms text a b more
+  weaker a b most more less below k d low high n reaches = let is = below k d low high n reaches in omega (arith, is, less)
 
-    pub reach_byte : is_stray error.error.refusal ≡ true → reach error.error.refusal ≡ 2 * size
-    reach_byte byte = let all = reach_is true byte in omega (arith, all)
+  -- The form with the index `i` leads, if those before it have lower reaches.
+  pub leads : (i : ℕ) (stop : Stopped) (settled : Bool) → IsSomeAnd (slice_get forms i) (IsRefusedAt text stop)
+      → IsSomeAnd (slice_get forms i) (λ g. (n : ℕ) → Reaches text g n → 2 * stop.size + (if settled then 1 else 0) ≤ n)
+      → AreBelow forms text 0 i (2 * stop.size + (if settled then 1 else 0))
+      → Leads forms text (i + 1) (record { form = i; stop = stop; settled = settled })
+  leads i stop settled here low before =
+      record { here = here; low = low; before = before; behind = λ k d past below n reaches. absurd (omega (arith, past, below)) }
 
-    pub no_less : 2 * size ≤ reach error.error.refusal
-    no_less = go (is_stray error.error.refusal) (reach_is (is_stray error.error.refusal) refl) where
-      go : (b : Bool) → reach error.error.refusal ≡ 2 * size + (if b then 0 else 1) → 2 * size ≤ reach error.error.refusal
-      go true same = omega (arith, same)
-      go false same = omega (arith, same)
+  pub leads_first : (i : ℕ) (stop : Stopped) → IsSomeAnd (slice_get forms i) (IsRefusedAt text stop) → AreBelow forms text 0 i (2 * stop.size)
+      → Leads forms text (i + 1) (record { form = i; stop = stop; settled = false })
+  leads_first i stop here before = leads i stop false here
+      (each (IsRefusedAt text stop) (λ g. (n : ℕ) → Reaches text g n → 2 * stop.size + 0 ≤ n) (slice_get forms i)
+      (λ g is n reaches. let least = reach_least text g stop is n reaches in omega (arith, least)) here)
+      (weaker 0 i (2 * stop.size) (2 * stop.size + 0) (omega arith) before)
 
-    -- The form itself.
-    pub own_reach : All (IsAtMost (reach error.error.refusal)) (take form forms) → All (IsAtMost (reach error.error.refusal)) (take (form + 1) forms)
-    own_reach = one_more (reach error.error.refusal) no_less form
-        (go (slice_get forms form) (subst (λ k. IsSomeAnd (slice_get forms k) (IsErrorOfForm text error)) same is)) where
-          go : (o : Option Form) → IsSomeAnd o (IsErrorOfForm text error) → IsSomeAnd o (IsAtMost (reach error.error.refusal))
-          go None is = is
-          go (Some g) is = λ n reaches.
-              let one = ap reach (one_refusal (notation_of g.syntax) text reaches.0 error.error.refusal reaches.1 is.refusal) in omega (arith, one, reaches.2)
-
-    error_from : All (λ g. (n : ℕ) → Reaches text g n → n < reach error.error.refusal) (take form forms)
-        → All (λ g. (n : ℕ) → Reaches text g n → n ≤ reach error.error.refusal) forms → IsFormError forms text error
-    error_from before others = record {
-      furthest = record {
-        here = let here = some_of (IsErrorOfForm text error) (slice_get forms error.form) is in
-            subst (λ o. IsSomeAnd o (λ g. Reaches text g (reach error.error.refusal))) (sym here.1) (error.error.refusal, here.2.refusal, refl);
-        before = subst (λ k. All (λ g. (n : ℕ) → Reaches text g n → n < reach error.error.refusal) (take k forms)) (sym same) before;
-        others = others;
-      };
-      refusal = is;
+  module _ (i : ℕ) (best : Furthest) (old : Leads forms text i best) where
+    -- One form more has no greater reach.
+    pub kept : IsSomeAnd (slice_get forms i) (λ g. (n : ℕ) → Reaches text g n → n ≤ limit best) → Leads forms text (i + 1) best
+    kept most = record {
+      here = old.here;
+      low = old.low;
+      before = old.before;
+      behind = both_below (best.form + 1) i (i + 1) (limit best + 1) old.behind (one_below i (limit best + 1)
+          (each (λ g. (n : ℕ) → Reaches text g n → n ≤ limit best) (λ g. (n : ℕ) → Reaches text g n → n < limit best + 1) (slice_get forms i)
+          (λ g is n reaches. let most = is n reaches in omega (arith, most)) most));
     }
 
-    pub other_error : is_stray error.error.refusal ≡ false → All (IsAtMost (2 * size)) (take form forms) → IsFormError forms text error
-    other_error right before = let size_is = reach_is false right in error_from
-        (λ k d below n reaches. let less = before k d below n reaches in omega (arith, less, size_is))
-        (λ k d below n reaches. let less = reach_up_to (get_or forms k d) text size (furthest.others k d below) n reaches in omega (arith, less, size_is))
+    -- Its cause is not stray.
+    pub settle : IsSomeAnd (slice_get forms best.form) (λ g. (n : ℕ) → Reaches text g n → 2 * best.stop.size + 1 ≤ n) → limit best ≤ 2 * best.stop.size + 1
+        → Leads forms text i (record best { settled = true })
+    settle low less = record {
+      here = old.here;
+      low = low;
+      before = weaker 0 best.form (limit best) (2 * best.stop.size + 1) less old.before;
+      behind = weaker (best.form + 1) i (limit best + 1) (2 * best.stop.size + 1 + 1) (omega (arith, less)) old.behind;
+    }
 
-    pub first_error : form ≡ first → All (IsAtMost (reach error.error.refusal)) forms → IsFormError forms text error
-    first_error is_first others = error_from
-        (subst (λ k. All (λ g. (n : ℕ) → Reaches text g n → n < reach error.error.refusal) (take k forms)) (sym is_first)
-        (λ k d below n reaches. let less = reach_below (get_or (take first forms) k d) text size (furthest.before k d below) n reaches in
-        omega (arith, less, no_less)))
-        others
+    -- All forms so far have lower reaches.
+    pub all_below : (most : ℕ) → limit best < most → IsSomeAnd (slice_get forms best.form) (λ g. (n : ℕ) → Reaches text g n → n < most)
+        → AreBelow forms text 0 i most
+    all_below most less own = both_below 0 best.form i most (weaker 0 best.form (limit best) most (omega (arith, less)) old.before)
+        (both_below best.form (best.form + 1) i most (one_below best.form most own)
+        (weaker (best.form + 1) i (limit best + 1) most (omega (arith, less)) old.behind))
 
-    -- Its cause is a wrong byte, or it lacks a required prefix.
-    pub wrong_byte : (most : ℕ) → 2 * size ≤ most → is_stray error.error.refusal ≡ true → All (IsAtMost most) (take form forms)
-        → All (IsAtMost most) (take (form + 1) forms)
-    wrong_byte most low byte = one_more most low form
-        (go (slice_get forms form) (subst (λ k. IsSomeAnd (slice_get forms k) (IsErrorOfForm text error)) same is) valid) where
-          go : (o : Option Form) → IsSomeAnd o (IsErrorOfForm text error) → IsSomeAnd o (λ g. GoesTo text g size) → IsSomeAnd o (IsAtMost most)
-          go None is valid = is
-          go (Some g) is valid = λ n reaches. let same = reach_of g text error.error.refusal size true is.refusal valid byte n reaches
-              in omega (arith, same, low)
+    -- One form more is left out.
+    pub left_out : IsSomeAnd (slice_get forms i) (λ g. IsNoBetter (notation_of g.syntax) text best.stop.size) → Leads forms text (i + 1) best
+    left_out is = kept (each (λ g. IsNoBetter (notation_of g.syntax) text best.stop.size) (λ g. (n : ℕ) → Reaches text g n → n ≤ limit best)
+        (slice_get forms i) (λ g is n reaches. let most = is reaches.0 reaches.1 in omega (arith, most, reaches.2)) is)
+
+  -- One form more stops at `stop`.
+  module _ (i : ℕ) (best : Furthest) (old : Leads forms text i best) (stop : Stopped) (here : IsSomeAnd (slice_get forms i) (IsRefusedAt text stop)) where
+    pub no_further : 2 * stop.size + 1 ≤ limit best → Leads forms text (i + 1) best
+    no_further less = kept i best old (each (IsRefusedAt text stop) (λ g. (n : ℕ) → Reaches text g n → n ≤ limit best) (slice_get forms i)
+        (λ g is n reaches. let most = reach_most text g stop is n reaches in omega (arith, most, less)) here)
+
+    pub goes_further : best.stop.size < stop.size → Leads forms text (i + 1) (record { form = i; stop = stop; settled = false })
+    goes_further far = leads_first i stop here (all_below i best old (2 * stop.size) (let most = (limit_within best).1 in omega (arith, most, far))
+        (each (IsRefusedAt text best.stop) (λ g. (n : ℕ) → Reaches text g n → n < 2 * stop.size) (slice_get forms best.form)
+        (λ g is n reaches. let most = reach_most text g best.stop is n reaches in omega (arith, most, far)) old.here))
+
+    -- The causes are not stray, or stray.
+    pub settles : stop.size ≤ best.stop.size
+        → IsSomeAnd (slice_get forms best.form) (λ g. (n : ℕ) → Reaches text g n → n ≡ 2 * best.stop.size + 1)
+        → Leads forms text (i + 1) (record best { settled = true })
+    settles near own = kept i (record best { settled = true }) (settle i best old
+        (each (λ g. (n : ℕ) → Reaches text g n → n ≡ 2 * best.stop.size + 1) (λ g. (n : ℕ) → Reaches text g n → 2 * best.stop.size + 1 ≤ n)
+        (slice_get forms best.form) (λ g is n reaches. let same = is n reaches in omega (arith, same)) own) (limit_within best).1)
+        (each (IsRefusedAt text stop) (λ g. (n : ℕ) → Reaches text g n → n ≤ 2 * best.stop.size + 1) (slice_get forms i)
+        (λ g is n reaches. let most = reach_most text g stop is n reaches in omega (arith, most, near)) here)
+
+    pub stays : stop.size ≤ best.stop.size → IsSomeAnd (slice_get forms i) (λ g. (n : ℕ) → Reaches text g n → n ≡ 2 * stop.size + 0)
+        → Leads forms text (i + 1) best
+    stays near other = kept i best old
+        (each (λ g. (n : ℕ) → Reaches text g n → n ≡ 2 * stop.size + 0) (λ g. (n : ℕ) → Reaches text g n → n ≤ limit best) (slice_get forms i)
+        (λ g is n reaches. let same = is n reaches in let least = (limit_within best).0 in omega (arith, same, least, near)) other)
+
+    pub takes : best.stop.size ≤ stop.size → best.settled ≡ false
+        → IsSomeAnd (slice_get forms best.form) (λ g. (n : ℕ) → Reaches text g n → n ≡ 2 * best.stop.size + 0)
+        → IsSomeAnd (slice_get forms i) (λ g. (n : ℕ) → Reaches text g n → n ≡ 2 * stop.size + 1)
+        → Leads forms text (i + 1) (record { form = i; stop = stop; settled = true })
+    takes far unsettled own other = leads i stop true here
+        (each (λ g. (n : ℕ) → Reaches text g n → n ≡ 2 * stop.size + 1) (λ g. (n : ℕ) → Reaches text g n → 2 * stop.size + 1 ≤ n) (slice_get forms i)
+        (λ g is n reaches. let same = is n reaches in omega (arith, same)) other)
+        (all_below i best old (2 * stop.size + 1)
+        (let same : limit best ≡ 2 * best.stop.size + 0 = ap (λ (b : Bool). 2 * best.stop.size + (if b then 1 else 0)) unsettled in omega (arith, same, far))
+        (each (λ g. (n : ℕ) → Reaches text g n → n ≡ 2 * best.stop.size + 0) (λ g. (n : ℕ) → Reaches text g n → n < 2 * stop.size + 1)
+        (slice_get forms best.form) (λ g is n reaches. let same = is n reaches in omega (arith, same, far)) own))
+
+  pub leads_all : (i : ℕ) → length forms ≤ i → (best : Furthest) → Leads forms text i best → Leads forms text (length forms) best
+  leads_all i end best is = record {
+    here = is.here;
+    low = is.low;
+    before = is.before;
+    behind = λ k d low high. is.behind k d low (omega (arith, high, end));
+  }
+
+  pub led_out : (i : ℕ) (furthest : Option Furthest) → IsLed forms text i furthest
+      → IsSomeAnd (slice_get forms i) (λ g. IsBehind (notation_of g.syntax) text furthest) → IsLed forms text (i + 1) furthest
+  led_out i None old is = λ k d below n goes. elim (cases_lt k i) [
+    | inl before ↦ old k d before n goes
+    | inr past ↦ (let same : k ≡ i = omega (arith, below, past) in
+        here_at (λ g. (n : ℕ) → GoesTo text g n → n ≤ sign_size text + 1) forms i d is n (subst (λ k. GoesTo text (get_or forms k d) n) same goes))
+  ]
+  led_out i (Some best) old is = left_out i best old is
+
+  -- The error of the form that leads all forms.
+  pub error_is : (best : Furthest) → Leads forms text (length forms) best → (error : FormError) → error.form ≡ best.form
+      → IsSomeAnd (slice_get forms best.form) (IsErrorOfForm text error) → IsFormError forms text error
+  error_is best is error same own = record {
+    furthest = record {
+      here = subst (λ k. IsSomeAnd (slice_get forms k) (λ g. Reaches text g reached)) (sym same)
+          (each (IsErrorOfForm text error) (λ g. Reaches text g reached) (slice_get forms best.form)
+          (λ g is. (error.error.refusal, is.refusal, refl)) own);
+      before = subst (λ k. All (λ g. (n : ℕ) → Reaches text g n → n < reached) (take k forms)) (sym same)
+          (λ k d below n reaches.
+          let within = inside_of (IsErrorOfForm text error) forms best.form own in
+          let size = length-take-le best.form forms (omega (arith, within)) in
+          let inside : k < best.form = omega (arith, below, size) in
+          let less = is.before k d (omega arith) inside n (subst (λ g. Reaches text g n) (get_or-take best.form forms k d inside) reaches) in
+          omega (arith, less, least));
+      others = λ k d below. elim (cases_lt k best.form) [
+        | inl before ↦ (λ n reaches. let less = is.before k d (omega arith) before n reaches in omega (arith, less, least))
+        | inr past ↦ (elim (cases_lt best.form k) [
+          | inl behind ↦ (λ n reaches. let less = is.behind k d (omega (arith, behind)) below n reaches in omega (arith, less, least))
+          | inr here ↦ (λ n reaches. let most = one_below best.form (reached + 1)
+              (each (IsErrorOfForm text error) (λ g. (n : ℕ) → Reaches text g n → n < reached + 1) (slice_get forms best.form)
+              (λ g is n reaches. let one = ap reach (one_refusal (notation_of g.syntax) text reaches.0 error.error.refusal reaches.1 is.refusal) in
+              omega (arith, one, reaches.2)) own) k d past (omega (arith, here)) n reaches in omega (arith, most))
+        ])
+      ];
+    };
+    refusal = subst (λ k. IsSomeAnd (slice_get forms k) (IsErrorOfForm text error)) (sym same) own;
+  } where
+    reached : ℕ
+    reached = reach error.error.refusal
+
+    least : limit best ≤ reached
+    least = go (slice_get forms best.form) own is.low where
+      go : (o : Option Form) → IsSomeAnd o (IsErrorOfForm text error) → IsSomeAnd o (λ g. (n : ℕ) → Reaches text g n → limit best ≤ n)
+          → limit best ≤ reached
+      go (Some form) own low = low reached (error.error.refusal, own.refusal, refl)
+      go None own low = absurd own

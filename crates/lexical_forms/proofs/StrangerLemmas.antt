@@ -1,10 +1,16 @@
 -- A stranger: a byte that plays no role behind the base prefix, and its other case neither.
-use Rattle.lexical_forms.proofs.Common.{ℕ, ◌≡◌, ◌+◌, ◌*◌, ◌<◌, ◌≤◌, inl, inr, true, false, Bool, None, Some, List, [], ◌∷◌, ◌++◌, take, get_or, ap, refl, sym}
+use Rattle.lexical_forms.proofs.Common.{ℕ, ◌≡◌, ◌+◌, ◌*◌, ◌<◌, ◌≤◌, inl, inr, true, false, Bool, Some, List, [], ◌∷◌, ◌++◌, take, get_or, ap, refl, sym}
 use Rattle.lexical_forms.proofs.Common.{subst, ◌∙◌, arith, AllByRecursion, cases_lt, false≢true, nat_tests, length-take-le, slice_get-get_or, ByteSet, Flag}
 use Rattle.lexical_forms.proofs.Common.{raw, signs, Role, Part, Literal, Reads, is_none_or_one, is_none_or_prefix, text_of, Notation, notation_of}
 use Rattle.lexical_forms.proofs.Common.{set_of_role, Grammar, sign_size, bare, with_rules, is_byte, reach, IsFront, IsValidUpTo, NoLiteral, AllIn, run_byte}
-use Rattle.lexical_forms.proofs.Common.{ReadErrorKind, Refusal, role_at, is_stray, ◌||◌}
-use Rattle.lexical_forms.specs.Additions.Forms.{IsNoBetter, IsSpare, IsStranger, PlaysNoRole}
+use Rattle.lexical_forms.proofs.Common.{ReadErrorKind, Refusal, is_stray, ◌||◌}
+use Rattle.lexical_base.specs.Digits.{byte_value, digit_characters, uppercase}
+use Rattle.lexical_util.specs.Layout as layout
+use Rattle.lexical_util.specs.Unfoldable.{cased}
+use Rattle.lexical_literal.specs.Notation.{radix_of}
+use Rattle.std.proofs.Common.{position, unwrap_or}
+use Rattle.lexical_forms.proofs.Common.{◌==◌, nat_lt}
+use Rattle.lexical_forms.specs.Additions.Forms.{AreFalse, IsNoBetter, IsSpare, IsStranger, PlaysNoRole}
 use Rattle.lexical_literal.specs.Cause.{IsCause}
 use Rattle.lexical_literal.specs.Notation.{has}
 use Rattle.lexical_literal.specs.declared.syntax.Condition.TheVariants as conditions
@@ -215,41 +221,59 @@ silent_is m text size inside own other error is =
           (subst (λ next. IsCause m (take size text) next error.kind (raw error.mask).flag) here cause) in
           no_more error.valid_up_to size (is_byte error.kind) (has error.conditions conditions.BasePrefix) byte (sym same)
 
--- `AreFalse d s p e f g` holds if the tests of all roles but the prefix are false.
-record AreFalse (d s p e f g : Bool) : Type 0 where
-  digit : d ≡ false
-  separator : s ≡ false
-  point : p ≡ false
-  exponent : e ≡ false
-  suffix : f ≡ false
-  sign : g ≡ false
+other_case-twice : (b : ℕ) → other_case (other_case b) ≡ b
+other_case-twice b = grind (arith, nat_tests)
 
-only_prefix : (d s p e f g x : Bool) → (if d then Some roles.Digit else (if s then Some roles.Separator else (if p then Some roles.Point
-    else (if e then Some roles.Exponent else (if f then Some roles.Suffix else (if g then Some roles.Sign else (if x then Some roles.Prefix else None)))))))
-    ≡ Some roles.Prefix → AreFalse d s p e f g
-only_prefix true s p e f g x is = grind arith
-only_prefix false true p e f g x is = grind arith
-only_prefix false false true e f g x is = grind arith
-only_prefix false false false true f g x is = grind arith
-only_prefix false false false false true g x is = grind arith
-only_prefix false false false false false true x is = grind arith
-only_prefix false false false false false false x is = record { digit = refl; separator = refl; point = refl; exponent = refl; suffix = refl; sign = refl }
+uppercase-other_case : (b : ℕ) → uppercase (other_case b) ≡ uppercase b
+uppercase-other_case b = grind (arith, nat_tests)
 
--- A byte that is the base prefix behind the beginning of the integer, and not a digit of an exponent, is spare.
+byte_value-other_case : (b : ℕ) → byte_value (other_case b) ≡ byte_value b
+unfolding byte_value
+byte_value-other_case b = ap (λ k. unwrap_or (position (λ character. character == k) digit_characters) 255) (uppercase-other_case b)
+
+not_cased : (counts : Bool) (own c : ℕ) → (c ≡ own → ⊥) → (c ≡ other_case own → ⊥) → cased counts own c ≡ false
+unfolding cased
+not_cased counts own c one other = grind (arith, nat_tests)
+
+-- A byte that is not `own`, nor its other case, does not play the role of `own`, and its other case neither.
+pub cased_apart : (counts : Bool) (own b : ℕ) → (own ≡ b → ⊥) → (own ≡ other_case b → ⊥) → AreFalse (cased counts own) b
+cased_apart counts own b one other = (
+  not_cased counts own b (λ is. one (sym is)) (λ is. other (sym (other_case-twice own) ∙ ap other_case (sym is))),
+  not_cased counts own (other_case b) (λ is. other (sym is))
+      (λ is. one (sym (sym (other_case-twice b) ∙ ap other_case is ∙ other_case-twice own))),
+)
+
+-- A byte is spare if the tests of all roles but the prefix are false of it, and silent if that of the prefix is, too.
 module _ (g : Grammar) (b : ℕ) where
   abbrev m : Notation
   m = notation_of g
 
-  pub spare_prefix : role_at m parts.Integer b ≡ Some roles.Prefix → m.digit parts.Exponent b ≡ false → IsSpare m b
-  spare_prefix first digit r other =
-      of r other (only_prefix (m.digit parts.Integer b) (m.separator b) (m.point b) (m.exponent_character b) (m.suffix b) (signs b) (m.prefix b) first) where
-        of : (r : Role) → (r ≡ roles.Prefix → ⊥) → AreFalse (m.digit parts.Integer b) (m.separator b) (m.point b) (m.exponent_character b) (m.suffix b)
-            (signs b)
-            → set_of_role m r b ≡ false
-        of roles.Digit other none = let none = none.digit in grind arith
-        of roles.Separator other none = none.separator
-        of roles.Point other none = none.point
-        of roles.Exponent other none = none.exponent
-        of roles.Suffix other none = none.suffix
-        of roles.Sign other none = none.sign
-        of roles.Prefix other none = absurd (other refl)
+  spare_of : (c : ℕ) → m.digit parts.Integer c ≡ false → m.digit parts.Exponent c ≡ false → signs c ≡ false
+      → cased true ((raw g.word).byte layout.digit_separator) c ≡ false → m.suffix c ≡ false → m.point c ≡ false → m.exponent_character c ≡ false
+      → IsSpare m c
+  spare_of c integer exponent sign separator suffix point character roles.Digit other = grind arith
+  spare_of c integer exponent sign separator suffix point character roles.Separator other = grind arith
+  spare_of c integer exponent sign separator suffix point character roles.Point other = point
+  spare_of c integer exponent sign separator suffix point character roles.Exponent other = character
+  spare_of c integer exponent sign separator suffix point character roles.Suffix other = suffix
+  spare_of c integer exponent sign separator suffix point character roles.Sign other = sign
+  spare_of c integer exponent sign separator suffix point character roles.Prefix other = absurd (other refl)
+
+  pub stranger_of : m.digit parts.Integer b ≡ false → m.digit parts.Exponent b ≡ false → (b ≡ 43 → ⊥) → (b ≡ 45 → ⊥)
+      → AreFalse (cased true ((raw g.word).byte layout.digit_separator)) b → AreFalse m.suffix b → AreFalse m.point b → AreFalse m.exponent_character b
+      → IsStranger m b
+  stranger_of integer exponent plus minus separator suffix point character = (
+    spare_of b integer exponent (grind (arith, nat_tests)) separator.0 suffix.0 point.0 character.0,
+    spare_of (other_case b) (ap (λ v. nat_lt v (radix_of (raw g.word) parts.Integer)) (byte_value-other_case b) ∙ integer)
+        (ap (λ v. nat_lt v (radix_of (raw g.word) parts.Exponent)) (byte_value-other_case b) ∙ exponent) (grind (arith, nat_tests))
+        separator.1 suffix.1 point.1 character.1,
+  )
+
+  pub silent_of : (c : ℕ) → (c ≡ 48 → ⊥) → IsSpare m c → m.prefix c ≡ false → PlaysNoRole m c
+  silent_of c zero spare prefix = record { not_zero = zero; none = of } where
+    of : (r : Role) → set_of_role m r c ≡ false
+    of roles.Prefix = prefix
+    of r = spare r (λ same. cc)
+
+  pub not_zero : 57 < b → other_case b ≡ 48 → ⊥
+  not_zero above is = absurd (grind (arith, nat_tests))

@@ -1,16 +1,16 @@
 //! What excludes that a text is a literal of a form: its first bytes, or a byte that plays no role in the form.
 
-ghost use Rattle.std.specs.Prelude.{ℕ, ◌≡◌, ◌+◌, ◌<◌, ◌≤◌, IfSome, IsTrue, get_or, length};
-ghost use Rattle.lexical_forms.specs.Additions.Forms.{IsNoBetter, IsSpare, IsStranger, PlaysNoRole, bound, sign_size};
+ghost use Rattle.std.specs.Prelude.{ℕ, ◌≡◌, ◌+◌, ◌<◌, ◌≤◌, Bool, IsTrue, get_or, length};
+ghost use Rattle.lexical_forms.specs.Additions.Forms.{AreFalse, IsNoBetter, IsStranger, PlaysNoRole, sign_size};
 ghost use Rattle.lexical_literal.specs.Front.{IsValidUpTo, NoLiteral};
-ghost use Rattle.lexical_util.specs.Roles.{other_case};
-ghost use Rattle.lexical_literal.specs.Notation.{notation_of};
+ghost use Rattle.lexical_util.specs.Record.{Record};
+ghost use Rattle.lexical_util.specs.Roles.{cased, other_case};
+ghost use Rattle.lexical_literal.specs.Notation.{exponent_character_of, notation_of, point_of};
 
 use lexical_literal::cause::other_case;
-use lexical_literal::step::{is_digit, role_at};
-use lexical_literal::stop::Stopped;
-use lexical_literal::syntax::{Condition, Grammar};
-use lexical_util::format::{Part, Role};
+use lexical_literal::step::is_digit;
+use lexical_literal::syntax::{Condition, Grammar, Options};
+use lexical_util::format::{Part, base_prefix, base_suffix, digit_separator};
 
 // Returns whether the first bytes behind the sign, which has this length, exclude that `text` is a literal: there is not the prefix
 // that is required, or the second plays no role. Then no literal begins with both.
@@ -24,29 +24,8 @@ pub(crate) const fn excludes(grammar: Grammar, text: &[u8], sign: usize) -> bool
     if grammar.conditions.has(Condition::BasePrefix) {
         !(is_long && text[sign] == b'0' && grammar.view().is_base_prefix(text[sign + 1]))
     } else {
-        is_long && plays_no_role(grammar, text[sign + 1])
+        is_long && is_silent(grammar, text[sign + 1])
     }
-}
-
-// Returns whether a form need not be asked whether `text` is a literal of it: its first bytes exclude that, or the byte where the
-// furthest form stops is a stranger. Then it goes no further.
-#[inline(always)]
-pub(crate) const fn is_behind(
-    grammar: Grammar,
-    text: &[u8],
-    sign: usize,
-    furthest: Option<(usize, Stopped)>,
-) -> bool
-    requires sign { sign ≡ sign_size text.now }
-    requires far { IfSome furthest (λ best. sign + 1 < best.1.size) }
-    ensures none { IsTrue result → NoLiteral (notation_of grammar) text.now }
-    ensures near { IsTrue result → (n : ℕ) → IsValidUpTo (notation_of grammar) text.now n → n ≤ bound sign furthest }
-{
-    excludes(grammar, text, sign)
-        || match furthest {
-            None => false,
-            Some((_, stop)) => is_stranger_at(grammar, text, stop.size),
-        }
 }
 
 // Returns whether `text` is not a literal of a form, and no error of it goes further than one up to `size` whose cause is a wrong byte: the
@@ -69,9 +48,17 @@ const fn is_silent_at(grammar: Grammar, text: &[u8], index: usize) -> bool
     ensures own { IsTrue result → PlaysNoRole (notation_of grammar) (get_or text.now index 0) }
     ensures other { IsTrue result → PlaysNoRole (notation_of grammar) (other_case (get_or text.now index 0)) }
 {
-    index < text.len()
-        && plays_no_role(grammar, text[index])
-        && plays_no_role(grammar, other_case(text[index]))
+    index < text.len() && is_silent(grammar, text[index])
+}
+
+// Returns whether `byte` plays no role, and its other case neither. Bytes up to `9` are said to play one: most are digits, and a prefix
+// begins with a zero.
+#[inline(always)]
+const fn is_silent(grammar: Grammar, byte: u8) -> bool
+    ensures own { IsTrue result → PlaysNoRole (notation_of grammar) byte }
+    ensures other { IsTrue result → PlaysNoRole (notation_of grammar) (other_case byte) }
+{
+    byte > b'9' && is_stranger(grammar, byte) && is_apart(base_prefix(grammar.word), byte)
 }
 
 // Returns whether the byte at `index` is a stranger, if there is one.
@@ -84,33 +71,37 @@ const fn is_stranger_at(grammar: Grammar, text: &[u8], index: usize) -> bool
 }
 
 // Returns whether `byte` plays no role behind the base prefix, and its other case neither.
+#[inline(always)]
 const fn is_stranger(grammar: Grammar, byte: u8) -> bool
     ensures { IsTrue result → IsStranger (notation_of grammar) byte }
 {
-    is_spare(grammar, byte) && is_spare(grammar, other_case(byte))
-}
-
-// Returns whether `byte` plays no role, or is only the base prefix.
-#[inline(always)]
-const fn is_spare(grammar: Grammar, byte: u8) -> bool
-    ensures { IsTrue result → IsSpare (notation_of grammar) byte }
-{
-    !is_digit(grammar, Part::Exponent, byte)
-        && match role_at(grammar, Part::Integer, byte) {
-            None => true,
-            Some(Role::Prefix) => true,
-            _ => false,
-        }
-}
-
-// Returns whether `byte` plays no role. Bytes up to `9` are said to play one: most are digits, and a prefix begins with a zero.
-#[inline(always)]
-const fn plays_no_role(grammar: Grammar, byte: u8) -> bool
-    ensures { IsTrue result → PlaysNoRole (notation_of grammar) byte }
-{
-    byte > b'9'
-        && matches!(role_at(grammar, Part::Integer, byte), None)
+    !is_digit(grammar, Part::Integer, byte)
         && !is_digit(grammar, Part::Exponent, byte)
+        && byte != b'+'
+        && byte != b'-'
+        && is_apart(digit_separator(grammar.word), byte)
+        && is_apart(base_suffix(grammar.word), byte)
+        && is_no_mark(grammar.options, byte)
+}
+
+// Returns whether `byte` is neither the exponent character nor the decimal point, and its other case neither.
+#[inline(always)]
+const fn is_no_mark(options: Option<Options>, byte: u8) -> bool
+    ensures point { IsTrue result → AreFalse (point_of options) byte }
+    ensures exponent { IsTrue result → (r : Record) → AreFalse (exponent_character_of r options) byte }
+{
+    match options {
+        None => true,
+        Some(options) => is_apart(options.exponent, byte) && is_apart(options.point, byte),
+    }
+}
+
+// Returns whether `byte` is not `own`, and its other case neither.
+#[inline(always)]
+const fn is_apart(own: u8, byte: u8) -> bool
+    ensures { IsTrue result → (counts : Bool) → AreFalse (cased counts own) byte }
+{
+    own != byte && own != other_case(byte)
 }
 
 // Returns the length of the sign with which `text` begins.

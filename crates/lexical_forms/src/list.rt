@@ -1,20 +1,20 @@
 //! Numbers that have several forms, such as `10`, `0x1F` and `0b1`.
 
-ghost use Rattle.std.specs.Prelude.{◌≡◌, ◌<◌, ◌≤◌, IfSome, IsSomeAnd, None, Some, SomeIff, false, length, slice_get};
-ghost use Rattle.lexical_forms.specs.Additions.Forms.{IsFoundForm, IsFoundFrontForm, IsFurthestForm, further, further_on, longer, sign_size};
-ghost use Rattle.lexical_literal.specs.Additions.Stop.{IsStopped};
-ghost use Rattle.lexical_forms.specs.Forms.{HasKind, IsErrorOfForm, IsFormError, IsFrontByForms, IsReadByForms, NoForm, special_by};
+ghost use Rattle.std.specs.Prelude.{ℕ, ◌≡◌, ◌<◌, ◌≤◌, ◌+◌, ◌*◌, IfSome, IsSomeAnd, IsTrue, None, Some, SomeIff, false, if◌then◌else◌, length, slice_get};
+ghost use Rattle.lexical_forms.specs.Additions.Forms.{IsBehind, IsFoundForm, IsFoundFrontForm, IsLed, IsRefusedAt, Leads, longer, sign_size};
+ghost use Rattle.lexical_forms.specs.Forms.{HasKind, IsFormError, IsFrontByForms, IsReadByForms, NoForm, Reaches, special_by};
+ghost use Rattle.lexical_literal.specs.Front.{NoLiteral};
 ghost use Rattle.lexical_literal.specs.Read.{exact};
 ghost use Rattle.lexical_literal.specs.Notation.{notation_of};
 
-use crate::exclude::{excludes, is_behind, is_settled, sign_size};
+use crate::exclude::{excludes, is_settled, sign_size};
 use crate::specials::{Special, Specials};
 use crate::suffix::Suffixes;
 use lexical_literal::cause::ReadError;
 use lexical_literal::kind::Kind;
 use lexical_literal::literal::Literal;
 use lexical_literal::stop::{Found, Stopped};
-use lexical_literal::syntax::Syntax;
+use lexical_literal::syntax::{Grammar, Syntax};
 use std::marker::Model;
 
 /// A form of numbers: its name, such as `hexadecimal`, its syntax, the suffixes of its tokens, and its kind.
@@ -206,6 +206,15 @@ pub enum Number<'a> {
     Special(Special),
 }
 
+// The form whose error is that of a text, of those that have been asked, and where it stops. If `settled` is true, its cause is known not
+// to be stray: it is neither a wrong byte nor that a required prefix is not there.
+#[derive(Clone, Copy)]
+pub(crate) struct Furthest {
+    pub(crate) form: usize,
+    pub(crate) stop: Stopped,
+    pub(crate) settled: bool,
+}
+
 /// Why a text is not a number of any form: the error of the form that goes furthest in the text. Of several, it is the
 /// first whose cause is not a wrong byte and that does not lack a required prefix, or the first if there is none.
 ///
@@ -322,32 +331,29 @@ impl<'a> Forms<'a> {
     pub fn read<'t>(&self, text: &'t [u8]) -> Result<Number<'t>, FormError>
         ensures { IsReadByForms self.now text.now result }
     {
-        let sign = sign_size(text);
-        let mut furthest = None;
-        let mut form = 0;
-        while form < self.forms.len() {
-            let it = &self.forms[form];
-            let syntax = &it.syntax;
-            if !is_behind(syntax.grammar(), text, sign, furthest) {
-                let begun = syntax.begin(false, text, false);
-                if begun.is_whole(syntax, text) {
-                    let literal = syntax
-                        .literal(text, begun.counts, begun.sums)
-                        .with_kind(it.kind);
-                    return Ok(Number::Literal { literal, form });
-                }
-                let stop = match begun.lengths(syntax, text) {
-                    Ok(counts) => {
-                        let literal = syntax.summed(text, counts).with_kind(it.kind);
-                        return Ok(Number::Literal { literal, form });
-                    }
-                    Err(stop) => stop,
-                };
-                furthest = further_on(sign, furthest, form, stop);
+        self.read_behind(text, None)
+    }
+
+    // Returns what `read` returns, where the first form stops at `stop`, if it has been asked.
+    #[inline(never)]
+    pub(crate) fn read_behind<'t>(
+        &self,
+        text: &'t [u8],
+        stop: Option<Stopped>,
+    ) -> Result<Number<'t>, FormError>
+        requires { IfSome stop (λ stop. IsSomeAnd (slice_get self.now.forms 0) (IsRefusedAt text.now stop)) }
+        ensures { IsReadByForms self.now text.now result }
+    {
+        match self.find(text, stop) {
+            Ok((form, found)) => {
+                let literal = self.of_form(form, found);
+                Ok(Number::Literal { literal, form })
             }
-            form += 1;
+            Err(furthest) => match self.special(text) {
+                Some(special) => Ok(Number::Special(special)),
+                None => Err(self.error_at(text, furthest)),
+            },
         }
-        self.without_literal(text, furthest)
     }
 
     /// Returns the longest literal of any form that `text` begins with, of the first form if several have it, and the rest
@@ -382,27 +388,6 @@ impl<'a> Forms<'a> {
         literal.with_kind(self.as_slice()[form].kind)
     }
 
-    // Returns the special value that `text` is, which is no literal, or why it is none. The form that goes furthest is known if it
-    // goes beyond the first byte behind the sign.
-    #[inline(never)]
-    fn without_literal<'t>(
-        &self,
-        text: &'t [u8],
-        furthest: Option<(usize, Stopped)>,
-    ) -> Result<Number<'t>, FormError>
-        requires furthest { IfSome furthest (λ best. IsFurthestForm self.now.forms text.now (Some best)) }
-        requires none { NoForm self.now.forms text.now }
-        ensures { IsReadByForms self.now text.now result }
-    {
-        match self.special(text) {
-            Some(special) => Ok(Number::Special(special)),
-            None => match furthest {
-                None => Err(self.refuse(text, self.furthest(text))),
-                Some(best) => Err(self.refuse(text, Some(best))),
-            },
-        }
-    }
-
     // Returns the special value that `text` is, if it is one.
     pub(crate) fn special(&self, text: &[u8]) -> Option<Special>
         ensures { result ≡ special_by self.now text.now }
@@ -410,40 +395,142 @@ impl<'a> Forms<'a> {
         self.specials.read(&self.forms[0].syntax, text)
     }
 
-    // Returns the index of the first form of which `text` is a literal, and the literal.
-    pub(crate) fn find<'t>(&self, text: &'t [u8]) -> Option<(usize, Literal<'t>)>
+    // Returns the index of the first form of which `text` is a literal, and the literal, or the form whose error is that of the list.
+    // The first form stops at `stop`, if it has been asked. Each form is asked once, but if it has not been asked and no form goes beyond
+    // the first byte behind the sign, all are asked again.
+    #[inline(always)]
+    pub(crate) fn find<'t>(
+        &self,
+        text: &'t [u8],
+        stop: Option<Stopped>,
+    ) -> Result<(usize, Literal<'t>), Furthest>
+        requires { IfSome stop (λ stop. IsSomeAnd (slice_get self.now.forms 0) (IsRefusedAt text.now stop)) }
         ensures { IsFoundForm self.now.forms text.now result }
     {
+        let sign = sign_size(text);
+        let mut furthest = None;
         let mut form = 0;
+        if let Some(stop) = stop {
+            furthest = Some(Furthest {
+                form: 0,
+                stop,
+                settled: false,
+            });
+            form = 1;
+        }
         while form < self.forms.len() {
             let syntax = &self.forms[form].syntax;
-            if !excludes(syntax.grammar(), text, sign_size(text)) {
+            if !is_behind(syntax.grammar(), text, sign, furthest) {
                 let begun = syntax.begin(false, text, false);
                 if begun.is_whole(syntax, text) {
-                    return Some((form, syntax.literal(text, begun.counts, begun.sums)));
+                    return Ok((form, syntax.literal(text, begun.counts, begun.sums)));
                 }
-                let stop = begun.stop(syntax, text);
-                if let Some(counts) = stop.lengths(syntax, text) {
-                    return Some((form, syntax.summed(text, counts)));
+                match begun.lengths(syntax, text) {
+                    Ok(counts) => return Ok((form, syntax.summed(text, counts))),
+                    Err(stop) => furthest = self.further_on(text, sign, furthest, form, stop),
                 }
             }
             form += 1;
         }
-        None
+        match furthest {
+            Some(best) => Err(best),
+            None => Err(self.furthest(text)),
+        }
     }
 
-    // Returns the form that goes furthest in `text`, the first of equals, and where it stops.
-    pub(crate) fn furthest(&self, text: &[u8]) -> Option<(usize, Stopped)>
-        ensures { IsFurthestForm self.now.forms text.now result }
+    // Returns the form whose error is that of the list, where `text` is no literal.
+    #[cold]
+    #[inline(never)]
+    fn furthest(&self, text: &[u8]) -> Furthest
+        requires { NoForm self.now.forms text.now }
+        ensures { Leads self.now.forms text.now (length self.now.forms) result }
     {
-        let mut furthest = None;
-        let mut form = 0;
+        let first = self.forms[0].syntax.stop(text);
+        let mut furthest = Furthest {
+            form: 0,
+            stop: first,
+            settled: false,
+        };
+        let mut form = 1;
         while form < self.forms.len() {
-            let stop = self.forms[form].syntax.stop(text);
-            furthest = further(furthest, form, stop);
+            let syntax = &self.forms[form].syntax;
+            if !is_settled(syntax.grammar(), text, furthest.stop.size) {
+                let stop = syntax.stop(text);
+                furthest = self.further(text, furthest, form, stop);
+            }
             form += 1;
         }
         furthest
+    }
+
+    // Returns which of two forms has the error of the list, or `None` if there is but one, which does not go beyond the first byte behind a
+    // sign of this length.
+    #[inline(always)]
+    fn further_on(
+        &self,
+        text: &[u8],
+        sign: usize,
+        furthest: Option<Furthest>,
+        form: usize,
+        stop: Stopped,
+    ) -> Option<Furthest>
+        requires sign { sign ≡ sign_size text.now }
+        requires furthest { IsLed self.now.forms text.now form furthest }
+        requires refused { IsSomeAnd (slice_get self.now.forms form) (IsRefusedAt text.now stop) }
+        ensures { IsLed self.now.forms text.now (form + 1) result }
+    {
+        match furthest {
+            Some(best) => Some(self.further(text, best, form, stop)),
+            None if stop.size > sign + 1 => Some(Furthest {
+                form,
+                stop,
+                settled: false,
+            }),
+            None => None,
+        }
+    }
+
+    // Returns which of two forms has the error of the list: the one that goes further. Of equals, it is the first unless its cause is
+    // stray and that of the second is not.
+    #[inline(never)]
+    fn further(&self, text: &[u8], best: Furthest, form: usize, stop: Stopped) -> Furthest
+        requires best { Leads self.now.forms text.now form best }
+        requires refused { IsSomeAnd (slice_get self.now.forms form) (IsRefusedAt text.now stop) }
+        ensures { Leads self.now.forms text.now (form + 1) result }
+    {
+        let other = Furthest {
+            form,
+            stop,
+            settled: false,
+        };
+        if stop.size < best.stop.size {
+            best
+        } else if best.stop.size < stop.size {
+            other
+        } else if best.settled {
+            best
+        } else if !self.is_stray(text, best) {
+            Furthest {
+                settled: true,
+                ..best
+            }
+        } else if self.is_stray(text, other) {
+            best
+        } else {
+            Furthest {
+                settled: true,
+                ..other
+            }
+        }
+    }
+
+    // Returns whether the cause is stray where a form stops: it is a wrong byte, or a required prefix is not there.
+    fn is_stray(&self, text: &[u8], it: Furthest) -> bool
+        requires { IsSomeAnd (slice_get self.now.forms it.form) (IsRefusedAt text.now it.stop) }
+        ensures { IsSomeAnd (slice_get self.now.forms it.form) (λ g. (n : ℕ) → Reaches text.now g n
+            → n ≡ 2 * it.stop.size + (if result then 0 else 1)) }
+    {
+        it.stop.is_stray(&self.as_slice()[it.form].syntax, text)
     }
 
     // Returns the longest front of `text` that is a literal of a form, with the index of the form, the first of equals, or
@@ -451,62 +538,26 @@ impl<'a> Forms<'a> {
     fn find_front(&self, text: &[u8]) -> Result<(usize, Found), FormError>
         ensures { IsFoundFrontForm self.now.forms text.now result }
     {
-        let mut furthest = None;
         let mut longest = None;
         let mut form = 0;
         while form < self.forms.len() {
-            let (stop, found) = self.forms[form].syntax.front(text);
-            furthest = further(furthest, form, stop);
+            let (_, found) = self.forms[form].syntax.front(text);
             longest = longer(longest, form, found);
             form += 1;
         }
         match longest {
             Some((form, found)) => Ok((form, found)),
-            None => Err(self.refuse(text, furthest)),
+            None => Err(self.error_at(text, self.furthest(text))),
         }
     }
 
-    // Returns why `text` is not a literal of the form that goes furthest, or, if the cause is a wrong byte or a required prefix is
-    // not there, of the first that goes as far and has another cause.
-    #[cold]
-    pub(crate) fn refuse(&self, text: &[u8], furthest: Option<(usize, Stopped)>) -> FormError
-        requires furthest { IsFurthestForm self.now.forms text.now furthest }
-        requires none { NoForm self.now.forms text.now }
+    // Returns why `text` is not a literal of the form that goes furthest.
+    #[inline(always)]
+    pub(crate) fn error_at(&self, text: &[u8], furthest: Furthest) -> FormError
+        requires { Leads self.now.forms text.now (length self.now.forms) furthest }
         ensures { IsFormError self.now.forms text.now result }
     {
-        let Some((first, stop)) = furthest else {
-            unreachable!()
-        };
-        let error = self.error_at(text, first, stop);
-        let forms = self.as_slice();
-        let mut form = first + 1;
-        while form < forms.len() {
-            let syntax = &forms[form].syntax;
-            if !is_settled(syntax.grammar(), text, stop.size) {
-                if let Some(reached) = syntax.stop_at(text, stop.size) {
-                    if !error.error.is_stray() {
-                        return error;
-                    }
-                    let other = self.error_at(text, form, reached);
-                    if !other.error.is_stray() {
-                        return other;
-                    }
-                }
-            }
-            form += 1;
-        }
-        error
-    }
-
-    // Returns why `text` is not a literal of the form with the index `form`, which stops at `stop`.
-    #[inline(always)]
-    fn error_at(&self, text: &[u8], form: usize, stop: Stopped) -> FormError
-        requires inside { form < length self.now.forms }
-        requires stopped { IsSomeAnd (slice_get self.now.forms form) (λ form. IsStopped (notation_of form.syntax) text.now stop) }
-        requires none { NoForm self.now.forms text.now }
-        ensures index { result.form ≡ form }
-        ensures error { IsSomeAnd (slice_get self.now.forms result.form) (IsErrorOfForm text.now result) }
-    {
+        let Furthest { form, stop, .. } = furthest;
         let it = &self.as_slice()[form];
         let Err(error) = stop.refuse::<()>(&it.syntax, text) else {
             unreachable!()
@@ -535,35 +586,16 @@ const fn longer(
     }
 }
 
-// Returns which of two forms goes further, the first of equals.
+// Returns whether a form need not be asked: its first bytes exclude that `text` is a literal, or no error of it goes further than the
+// furthest form, unless its cause is a wrong byte.
 #[inline(always)]
-pub(crate) const fn further(
-    furthest: Option<(usize, Stopped)>,
-    form: usize,
-    stop: Stopped,
-) -> Option<(usize, Stopped)>
-    ensures { result ≡ further furthest form stop }
+const fn is_behind(grammar: Grammar, text: &[u8], sign: usize, furthest: Option<Furthest>) -> bool
+    requires { sign ≡ sign_size text.now }
+    ensures none { IsTrue result → NoLiteral (notation_of grammar) text.now }
+    ensures near { IsTrue result → IsBehind (notation_of grammar) text.now furthest }
 {
     match furthest {
-        Some((_, best)) if best.size >= stop.size => furthest,
-        _ => Some((form, stop)),
-    }
-}
-
-// Returns which of two forms goes further, without one that does not go beyond the first byte behind a sign of this length.
-#[inline(always)]
-const fn further_on(
-    sign: usize,
-    furthest: Option<(usize, Stopped)>,
-    form: usize,
-    stop: Stopped,
-) -> Option<(usize, Stopped)>
-    requires { sign ≤ 1 }
-    ensures { result ≡ further_on sign furthest form stop }
-{
-    if stop.size > sign + 1 {
-        further(furthest, form, stop)
-    } else {
-        furthest
+        None => excludes(grammar, text, sign),
+        Some(best) => is_settled(grammar, text, best.stop.size),
     }
 }

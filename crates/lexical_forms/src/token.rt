@@ -2,7 +2,7 @@
 
 ghost use Rattle.std.specs.Prelude.{◌≡◌, ◌<◌, ◌≤◌, ◌+◌, ◌-◌, ◌==◌, ◌&&◌, ℕ, All, IsNone, IsSomeAnd, IsTrue, Some, drop, false, length, slice_get, take, true};
 ghost use Rattle.std.specs.Option.{ForSome};
-ghost use Rattle.lexical_forms.specs.Additions.Forms.{IsFurthestForm, PlaysNoRole, sign_size};
+ghost use Rattle.lexical_forms.specs.Additions.Forms.{IsFurthestForm, PlaysNoRole, further, sign_size};
 ghost use Rattle.lexical_literal.specs.Additions.Stop.{HasBegun, IsCountedFront, IsMeasured, IsStopped};
 ghost use Rattle.lexical_literal.specs.Additions.Literal.{AreSums, cut};
 ghost use Rattle.lexical_literal.specs.Additions.Step.{cuts_of};
@@ -18,7 +18,7 @@ ghost use Rattle.lexical_forms.specs.Token.{is_shorter};
 ghost use Rattle.lexical_util.specs.Record.{raw};
 
 use crate::exclude::sign_size;
-use crate::list::{Form, FormError, Forms, Tokens, further};
+use crate::list::{Form, FormError, Forms, Tokens};
 use crate::suffix::{
     byte_before, has_word_byte, is_followed, is_stopped, is_word_byte, kind_with, suffix_size,
     suffix_words, word_size,
@@ -312,9 +312,9 @@ impl<'a> Forms<'a> {
         let (_, rest) = text.split_at(stop.size);
         let end = stop.size + word_size(rest);
         let (word, _) = text.split_at(end);
-        match self.find(word) {
-            None => TokenError::Literal(self.refuse(word, self.furthest(word))),
-            Some(_) => TokenError::NotAToken { end },
+        match self.find(word, None) {
+            Err(furthest) => TokenError::Literal(self.error_at(word, furthest)),
+            Ok(_) => TokenError::NotAToken { end },
         }
     }
 }
@@ -647,6 +647,21 @@ fn scan(forms: &[Form], back: bool, needs: bool, text: &[u8]) -> Scanned
         form += 1;
     }
     Scanned { furthest, best }
+}
+
+// Returns which of two forms goes further, the first of equals.
+#[inline(always)]
+const fn further(
+    furthest: Option<(usize, Stopped)>,
+    form: usize,
+    stop: Stopped,
+) -> Option<(usize, Stopped)>
+    ensures { result ≡ further furthest form stop }
+{
+    match furthest {
+        Some((_, best)) if best.size >= stop.size => furthest,
+        _ => Some((form, stop)),
+    }
 }
 
 // Returns the longer of two candidates, the first of equals.

@@ -173,14 +173,6 @@ impl ReadError {
         self.explain().code
     }
 
-    // Returns whether the cause is a wrong byte, or a required prefix is not there.
-    #[doc(hidden)]
-    pub const fn is_stray(&self) -> bool
-        ensures { result ≡ is_stray self.now.refusal }
-    {
-        self.spot.is_stray()
-    }
-
     // Returns all answers. It finds the cause once.
     pub(crate) const fn explain(&self) -> Refusal
         ensures { result ≡ self.now.refusal }
@@ -238,7 +230,7 @@ impl Spot {
 
     // Returns whether the cause is a wrong byte, or a required prefix is not there. It takes less time than all answers.
     #[inline(always)]
-    const fn is_stray(self) -> bool
+    pub(crate) const fn is_stray(self) -> bool
         ensures { result ≡ is_stray (refusal_of (notation_of (grammar_at self)) self) }
     {
         self.is_byte() || self.is_unmet(Condition::BasePrefix)

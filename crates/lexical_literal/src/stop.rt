@@ -2,20 +2,21 @@
 
 ghost use Rattle.std.specs.Prelude.{◌≡◌, ◌+◌, ◌++◌, ◌∷◌, ◌<◌, ◌≤◌, ◌^◌, Bool, IfSome, Some, IsErrAnd, IsNone, IsTrue, None, ℕ, List, [], false, get_or, true};
 ghost use Rattle.std.specs.Prelude.{length, slice_get, take, IfErr, IfOk, IsErr};
-ghost use Rattle.lexical_literal.specs.Additions.Explained.{tail_byte};
+ghost use Rattle.lexical_literal.specs.Additions.Explained.{grammar_at, refusal_of, tail_byte};
 ghost use Rattle.lexical_literal.specs.Additions.Stop.{HasBegun, HasFound, IsFronted, IsLongest, IsMeasured, IsStopped, IsUnderway};
 ghost use Rattle.lexical_literal.specs.Additions.Scan.{HasSizes, IsDecimal, IsReady, IsUsual};
 ghost use Rattle.lexical_literal.specs.Additions.Literal.{IsSummed};
 ghost use Rattle.lexical_literal.specs.Additions.GroupSize.{goes, steps_of};
 ghost use Rattle.lexical_util.specs.Record.{raw};
 ghost use Rattle.lexical_literal.specs.Additions.Step.{HasLengths, count, cuts_of, part_of, role_at};
-ghost use Rattle.lexical_literal.specs.Cause.{IsRefusal, tail_of, tail_size};
-ghost use Rattle.lexical_literal.specs.Front.{IsValidUpTo, NoLiteral};
+ghost use Rattle.lexical_literal.specs.Cause.{IsRefusal, is_stray, tail_of, tail_size};
+ghost use Rattle.lexical_literal.specs.Front.{NoLiteral};
 ghost use Rattle.lexical_literal.specs.Literal.{Literal, Reads};
 ghost use Rattle.lexical_literal.specs.Notation.{notation_of};
+ghost use Rattle.lexical_literal.specs.declared.cause.Refusal.{Refusal};
 ghost use Rattle.lexical_literal.specs.declared.group_size.Group.{Group};
 
-use crate::cause::ReadError;
+use crate::cause::{ReadError, Spot};
 use crate::group_size::{FIRST, Group, group_after, group_allows, grow, has_sizes};
 use crate::literal::Sums;
 use crate::scan::{is_decimal, scan};
@@ -221,6 +222,15 @@ impl Stopped {
         is_complete(grammar, self.read) && group_allows(grammar, group, None)
     }
 
+    // Returns whether the cause is a wrong byte, or a required prefix is not there.
+    pub fn is_stray(self, syntax: &Syntax, text: &[u8]) -> bool
+        requires stopped { IsStopped (notation_of syntax.now) text.now self }
+        requires refused { NoLiteral (notation_of syntax.now) text.now }
+        ensures { (error : Refusal) → IsRefusal (notation_of syntax.now) text.now error → is_stray error ≡ result }
+    {
+        self.spot(syntax, text).is_stray()
+    }
+
     // Returns why `text` is not a literal, as the result of the caller, which takes less
     // time than to copy an error.
     #[cold]
@@ -229,12 +239,23 @@ impl Stopped {
         requires refused { NoLiteral (notation_of syntax.now) text.now }
         ensures { IsErrAnd result (λ error. IsRefusal (notation_of syntax.now) text.now error.refusal) }
     {
+        let spot = self.spot(syntax, text);
+        Err(ReadError { spot })
+    }
+
+    // Returns where reading `text` stopped.
+    #[inline(always)]
+    fn spot(self, syntax: &Syntax, text: &[u8]) -> Spot
+        requires stopped { IsStopped (notation_of syntax.now) text.now self }
+        requires refused { NoLiteral (notation_of syntax.now) text.now }
+        ensures refusal { IsRefusal (notation_of syntax.now) text.now (refusal_of (notation_of (grammar_at result)) result) }
+        ensures size { result.size ≡ self.size }
+    {
         let byte = byte_at(text, self.size);
         let front = front_of(text, self.size);
         let tail = tail_at(text, self.size, byte);
         let separated = self.group(syntax, text).separated;
-        let spot = spot(syntax.grammar(), front, self.read, byte, tail, separated);
-        Err(ReadError { spot })
+        spot(syntax.grammar(), front, self.read, byte, tail, separated)
     }
 }
 
@@ -277,16 +298,6 @@ impl Syntax {
         ensures { IsStopped (notation_of self.now) text.now result }
     {
         self.begin(false, text, false).stop(self, text)
-    }
-
-    // Returns where reading `text` stops if that is behind `size` bytes.
-    pub fn stop_at(&self, text: &[u8], size: usize) -> Option<Stopped>
-        ensures some { IfSome result (IsStopped (notation_of self.now) text.now) }
-        ensures size { IfSome result (λ stop. stop.size ≡ size) }
-        ensures none { IsNone result → IsValidUpTo (notation_of self.now) text.now size → ⊥ }
-    {
-        let stop = self.stop(text);
-        if stop.size == size { Some(stop) } else { None }
     }
 
     // Returns where reading `text` stops, and the longest front that is a literal, if there is one.

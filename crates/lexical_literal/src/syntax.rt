@@ -210,7 +210,7 @@ pub enum ConditionsErrorKind {
 #[derive(Debug, Clone, Copy, PartialEq, Eq, Hash)]
 pub struct Grammar {
     pub word: u128,
-    pub(crate) options: Option<Options>,
+    pub options: Option<Options>,
     pub conditions: Conditions,
 }
 

@@ -134,11 +134,6 @@ impl ReadError {
         self.explain().code
     }
 
-    // Returns whether the cause is a wrong byte, or a required prefix is not there.
-    pub(crate) const fn is_stray(&self) -> bool {
-        self.spot.is_stray()
-    }
-
     // Returns all answers. It finds the cause once.
     pub(crate) const fn explain(&self) -> Refusal {
         self.spot.refusal()
@@ -190,7 +185,7 @@ impl Spot {
 
     // Returns whether the cause is a wrong byte, or a required prefix is not there. It takes less time than all answers.
     #[inline(always)]
-    const fn is_stray(self) -> bool {
+    pub(crate) const fn is_stray(self) -> bool {
         self.is_byte() || self.is_unmet(Condition::BasePrefix)
     }
 

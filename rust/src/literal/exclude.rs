@@ -3,10 +3,9 @@
 //! What excludes that a text is a literal of a form: its first bytes, or a byte that plays no role in the form.
 
 use crate::literal::cause::other_case;
-use crate::literal::step::{is_digit, role_at};
-use crate::literal::stop::Stopped;
-use crate::literal::syntax::{Condition, Grammar};
-use crate::word::{Part, Role};
+use crate::literal::step::is_digit;
+use crate::literal::syntax::{Condition, Grammar, Options};
+use crate::word::{base_prefix, base_suffix, digit_separator, Part};
 
 // Returns whether the first bytes behind the sign, which has this length, exclude that `text` is a literal: there is not the prefix
 // that is required, or the second plays no role. Then no literal begins with both.
@@ -16,19 +15,8 @@ pub(crate) const fn excludes(grammar: Grammar, text: &[u8], sign: usize) -> bool
     if grammar.conditions.has(Condition::BasePrefix) {
         !(is_long && text[sign] == b'0' && grammar.view().is_base_prefix(text[sign + 1]))
     } else {
-        is_long && plays_no_role(grammar, text[sign + 1])
+        is_long && is_silent(grammar, text[sign + 1])
     }
-}
-
-// Returns whether a form need not be asked whether `text` is a literal of it: its first bytes exclude that, or the byte where the
-// furthest form stops is a stranger. Then it goes no further.
-#[inline(always)]
-pub(crate) const fn is_behind(grammar: Grammar, text: &[u8], sign: usize, furthest: Option<(usize, Stopped)>) -> bool {
-    excludes(grammar, text, sign)
-        || match furthest {
-            None => false,
-            Some((_, stop)) => is_stranger_at(grammar, text, stop.size),
-        }
 }
 
 // Returns whether `text` is not a literal of a form, and no error of it goes further than one up to `size` whose cause is a wrong byte: the
@@ -44,7 +32,14 @@ pub(crate) const fn is_settled(grammar: Grammar, text: &[u8], size: usize) -> bo
 
 // Returns whether the byte at `index`, if there is one, plays no role, and its other case neither.
 const fn is_silent_at(grammar: Grammar, text: &[u8], index: usize) -> bool {
-    index < text.len() && plays_no_role(grammar, text[index]) && plays_no_role(grammar, other_case(text[index]))
+    index < text.len() && is_silent(grammar, text[index])
+}
+
+// Returns whether `byte` plays no role, and its other case neither. Bytes up to `9` are said to play one: most are digits, and a prefix
+// begins with a zero.
+#[inline(always)]
+const fn is_silent(grammar: Grammar, byte: u8) -> bool {
+    byte > b'9' && is_stranger(grammar, byte) && is_apart(base_prefix(grammar.word), byte)
 }
 
 // Returns whether the byte at `index` is a stranger, if there is one.
@@ -54,25 +49,30 @@ const fn is_stranger_at(grammar: Grammar, text: &[u8], index: usize) -> bool {
 }
 
 // Returns whether `byte` plays no role behind the base prefix, and its other case neither.
-const fn is_stranger(grammar: Grammar, byte: u8) -> bool {
-    is_spare(grammar, byte) && is_spare(grammar, other_case(byte))
-}
-
-// Returns whether `byte` plays no role, or is only the base prefix.
 #[inline(always)]
-const fn is_spare(grammar: Grammar, byte: u8) -> bool {
-    !is_digit(grammar, Part::Exponent, byte)
-        && match role_at(grammar, Part::Integer, byte) {
-            None => true,
-            Some(Role::Prefix) => true,
-            _ => false,
-        }
+const fn is_stranger(grammar: Grammar, byte: u8) -> bool {
+    !is_digit(grammar, Part::Integer, byte)
+        && !is_digit(grammar, Part::Exponent, byte)
+        && byte != b'+'
+        && byte != b'-'
+        && is_apart(digit_separator(grammar.word), byte)
+        && is_apart(base_suffix(grammar.word), byte)
+        && is_no_mark(grammar.options, byte)
 }
 
-// Returns whether `byte` plays no role. Bytes up to `9` are said to play one: most are digits, and a prefix begins with a zero.
-#[cfg_attr(not(peltzivar_small), inline(always))]
-const fn plays_no_role(grammar: Grammar, byte: u8) -> bool {
-    byte > b'9' && matches!(role_at(grammar, Part::Integer, byte), None) && !is_digit(grammar, Part::Exponent, byte)
+// Returns whether `byte` is neither the exponent character nor the decimal point, and its other case neither.
+#[inline(always)]
+const fn is_no_mark(options: Option<Options>, byte: u8) -> bool {
+    match options {
+        None => true,
+        Some(options) => is_apart(options.exponent, byte) && is_apart(options.point, byte),
+    }
+}
+
+// Returns whether `byte` is not `own`, and its other case neither.
+#[inline(always)]
+const fn is_apart(own: u8, byte: u8) -> bool {
+    own != byte && own != other_case(byte)
 }
 
 // Returns the length of the sign with which `text` begins.

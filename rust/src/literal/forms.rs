@@ -2,13 +2,13 @@
 
 use core::{fmt, ops, ops::Range, slice};
 
-use crate::literal::exclude::is_settled;
+use crate::literal::list::Furthest;
 use crate::literal::stop::Stopped;
 use crate::literal::token::has_letter_behind_zero;
 use crate::literal::value::Decimal;
 use crate::literal::{
-    Form, FormError, Forms, FromLiteral, Literal, Number, ParseError, ReadError, ReadErrorKind, Special, Specials,
-    Syntax,
+    Form, FormError, Forms, FromLiteral, Kind, Literal, Number, ParseError, ReadError, ReadErrorKind, Special,
+    Specials, Syntax, ValueError,
 };
 
 impl<'a> Forms<'a> {
@@ -42,6 +42,7 @@ impl<'a> Forms<'a> {
     /// If `text` is neither a literal nor a special value, returns why it is not a literal.
     pub fn read<'t>(&self, text: &'t (impl AsRef<[u8]> + ?Sized)) -> Result<Number<'t>, FormError> {
         let text = text.as_ref();
+        let mut stop = None;
         if self.asks_first(text) {
             let Form { syntax, kind, .. } = self.as_slice()[0];
             if syntax.is_decimal() {
@@ -50,9 +51,12 @@ impl<'a> Forms<'a> {
                     let literal = syntax.literal(text, begun.counts, begun.sums).with_kind(kind);
                     return Ok(Number::Literal { literal, form: 0 });
                 }
+                if begun.exact || begun.at.is_refused(&syntax, text) {
+                    stop = Some(begun.at);
+                }
             }
         }
-        self.read_bytes(text)
+        self.read_behind(text, stop)
     }
 
     // Returns whether the first form is asked before all, whose literal is the number. Texts such as `0x1F` are most often none.
@@ -79,35 +83,44 @@ impl<'a> Forms<'a> {
     /// If `text` is not a number, or if its value is not one of the type, returns why.
     pub fn parse<T: FromLiteral>(&self, text: impl AsRef<[u8]>) -> Result<T, ParseError> {
         let text = text.as_ref();
+        let mut stop = None;
         if self.asks_first(text) {
             let Form { syntax, kind, .. } = self.as_slice()[0];
             match syntax.parse_decimal(kind, text) {
                 Decimal::Value(value) => return Ok(value),
-                Decimal::Stopped(stop) if self.is_first(text, stop) => return self.refuse_first(text, stop),
-                _ => {}
+                Decimal::Stopped(at) => stop = Some(at),
+                Decimal::Unknown => {}
             }
         }
-        self.parse_generally(text)
+        self.parse_behind(text, stop)
     }
 
-    // Returns whether the error of the first form, which stops at `stop`, is that of the list: no other form has a better one,
-    // and `text` is no special value.
-    fn is_first(&self, text: &[u8], stop: Stopped) -> bool {
-        let is_behind = |it: &Form| is_settled(it.syntax.as_grammar(), text, stop.size);
-        self.as_slice()[1..].iter().all(is_behind) && self.special(text).is_none()
-    }
-
-    // Returns the error of the first form, which stops at `stop`.
-    #[cold]
-    fn refuse_first<T>(&self, text: &[u8], stop: Stopped) -> Result<T, ParseError> {
-        let Form { name, syntax, .. } = self.as_slice()[0];
-        stop.refuse(&syntax, text).map_err(|error| ParseError::Read(FormError { form: 0, name, error }))
-    }
-
-    // Returns what `parse` returns for any text.
+    // Returns what `parse` returns, where the first form stops at `stop`, if it has been asked.
     #[inline(never)]
-    fn parse_generally<T: FromLiteral>(&self, text: &[u8]) -> Result<T, ParseError> {
-        self.read_bytes(text)?.value().map_err(|error| error.of_size(text.len()).into())
+    fn parse_behind<T: FromLiteral>(&self, text: &[u8], stop: Option<Stopped>) -> Result<T, ParseError> {
+        let (error, kind) = match self.find(text, stop) {
+            Ok((form, literal)) => {
+                let kind = self.as_slice()[form].kind;
+                match T::from_literal(literal.with_kind(kind)) {
+                    Ok(value) => return Ok(value),
+                    Err(error) => (error, kind),
+                }
+            }
+            Err(furthest) => match self.special(text) {
+                None => return self.refuse(text, furthest),
+                Some(special) => match T::from_special(special) {
+                    Ok(value) => return Ok(value),
+                    Err(error) => (error, Kind::EXACT),
+                },
+            },
+        };
+        Err(ParseError::Value(ValueError::of::<T>(error, text.len(), kind)))
+    }
+
+    // Returns the error of the form that goes furthest.
+    #[cold]
+    fn refuse<T>(&self, text: &[u8], furthest: Furthest) -> Result<T, ParseError> {
+        Err(ParseError::Read(self.error_at(text, furthest)))
     }
 
     /// Returns the value of the longest literal of any form that `text` begins with, and the rest of `text`, as

@@ -3,13 +3,13 @@
 //! Numbers that have several forms, such as `10`, `0x1F` and `0b1`.
 
 use crate::literal::cause::ReadError;
-use crate::literal::exclude::{excludes, is_behind, is_settled, sign_size};
+use crate::literal::exclude::{excludes, is_settled, sign_size};
 use crate::literal::kind::Kind;
 use crate::literal::literal::Literal;
 use crate::literal::specials::{Special, Specials};
 use crate::literal::stop::{Found, Stopped};
 use crate::literal::suffix::Suffixes;
-use crate::literal::syntax::Syntax;
+use crate::literal::syntax::{Grammar, Syntax};
 
 /// A form of numbers: its name, such as `hexadecimal`, its syntax, the suffixes of its tokens, and its kind.
 #[derive(Debug, Clone, Copy, PartialEq, Eq, Hash)]
@@ -136,6 +136,15 @@ pub enum Number<'a> {
     Special(Special),
 }
 
+// The form whose error is that of a text, of those that have been asked, and where it stops. If `settled` is true, its cause is known not
+// to be stray: it is neither a wrong byte nor that a required prefix is not there.
+#[derive(Clone, Copy)]
+pub(crate) struct Furthest {
+    pub(crate) form: usize,
+    pub(crate) stop: Stopped,
+    pub(crate) settled: bool,
+}
+
 /// Why a text is not a number of any form: the error of the form that goes furthest in the text. Of several, it is the
 /// first whose cause is not a wrong byte and that does not lack a required prefix, or the first if there is none.
 ///
@@ -216,30 +225,22 @@ impl<'a> Forms<'a> {
     /// cause is not a wrong byte and that does not lack a required prefix, or the first if there is none. So `0b12` has the
     /// error of the binary form.
     pub const fn read_bytes<'t>(&self, text: &'t [u8]) -> Result<Number<'t>, FormError> {
-        let sign = sign_size(text);
-        let mut furthest = None;
-        let mut form = 0;
-        while form < self.forms.len() {
-            let it = &self.forms[form];
-            let syntax = &it.syntax;
-            if !is_behind(syntax.as_grammar(), text, sign, furthest) {
-                let begun = syntax.begin(false, text, false);
-                if begun.is_whole(syntax, text) {
-                    let literal = syntax.literal(text, begun.counts, begun.sums).with_kind(it.kind);
-                    return Ok(Number::Literal { literal, form });
-                }
-                let stop = match begun.lengths(syntax, text) {
-                    Ok(counts) => {
-                        let literal = syntax.summed(text, counts).with_kind(it.kind);
-                        return Ok(Number::Literal { literal, form });
-                    }
-                    Err(stop) => stop,
-                };
-                furthest = further_on(sign, furthest, form, stop);
+        self.read_behind(text, None)
+    }
+
+    // Returns what `read` returns, where the first form stops at `stop`, if it has been asked.
+    #[inline(never)]
+    pub(crate) const fn read_behind<'t>(&self, text: &'t [u8], stop: Option<Stopped>) -> Result<Number<'t>, FormError> {
+        match self.find(text, stop) {
+            Ok((form, found)) => {
+                let literal = self.of_form(form, found);
+                Ok(Number::Literal { literal, form })
             }
-            form += 1;
+            Err(furthest) => match self.special(text) {
+                Some(special) => Ok(Number::Special(special)),
+                None => Err(self.error_at(text, furthest)),
+            },
         }
-        self.without_literal(text, furthest)
     }
 
     /// Returns the longest literal of any form that `text` begins with, of the first form if several have it, and the rest
@@ -267,107 +268,128 @@ impl<'a> Forms<'a> {
         literal.with_kind(self.as_slice()[form].kind)
     }
 
-    // Returns the special value that `text` is, which is no literal, or why it is none. The form that goes furthest is known if it
-    // goes beyond the first byte behind the sign.
-    #[inline(never)]
-    const fn without_literal<'t>(
-        &self,
-        text: &'t [u8],
-        furthest: Option<(usize, Stopped)>,
-    ) -> Result<Number<'t>, FormError> {
-        match self.special(text) {
-            Some(special) => Ok(Number::Special(special)),
-            None => match furthest {
-                None => Err(self.refuse(text, self.furthest(text))),
-                Some(best) => Err(self.refuse(text, Some(best))),
-            },
-        }
-    }
-
     // Returns the special value that `text` is, if it is one.
     pub(crate) const fn special(&self, text: &[u8]) -> Option<Special> {
         self.specials.read_bytes(&self.forms[0].syntax, text)
     }
 
-    // Returns the index of the first form of which `text` is a literal, and the literal.
-    pub(crate) const fn find<'t>(&self, text: &'t [u8]) -> Option<(usize, Literal<'t>)> {
+    // Returns the index of the first form of which `text` is a literal, and the literal, or the form whose error is that of the list.
+    // The first form stops at `stop`, if it has been asked. Each form is asked once, but if it has not been asked and no form goes beyond
+    // the first byte behind the sign, all are asked again.
+    #[cfg_attr(not(peltzivar_small), inline(always))]
+    pub(crate) const fn find<'t>(
+        &self,
+        text: &'t [u8],
+        stop: Option<Stopped>,
+    ) -> Result<(usize, Literal<'t>), Furthest> {
+        let sign = sign_size(text);
+        let mut furthest = None;
         let mut form = 0;
+        if let Some(stop) = stop {
+            furthest = Some(Furthest { form: 0, stop, settled: false });
+            form = 1;
+        }
         while form < self.forms.len() {
             let syntax = &self.forms[form].syntax;
-            if !excludes(syntax.as_grammar(), text, sign_size(text)) {
-                let begun = syntax.begin_any(text, false);
+            if !is_behind(syntax.as_grammar(), text, sign, furthest) {
+                let begun = syntax.begin_small(text, false);
                 if begun.is_whole(syntax, text) {
-                    return Some((form, syntax.literal(text, begun.counts, begun.sums)));
+                    return Ok((form, syntax.literal(text, begun.counts, begun.sums)));
                 }
-                let stop = begun.stop(syntax, text);
-                if let Some(counts) = stop.lengths(syntax, text) {
-                    return Some((form, syntax.summed(text, counts)));
+                match begun.lengths(syntax, text) {
+                    Ok(counts) => return Ok((form, syntax.summed(text, counts))),
+                    Err(stop) => furthest = self.further_on(text, sign, furthest, form, stop),
                 }
             }
             form += 1;
         }
-        None
+        match furthest {
+            Some(best) => Err(best),
+            None => Err(self.furthest(text)),
+        }
     }
 
-    // Returns the form that goes furthest in `text`, the first of equals, and where it stops.
-    pub(crate) const fn furthest(&self, text: &[u8]) -> Option<(usize, Stopped)> {
-        let mut furthest = None;
-        let mut form = 0;
+    // Returns the form whose error is that of the list, where `text` is no literal.
+    #[cold]
+    #[inline(never)]
+    const fn furthest(&self, text: &[u8]) -> Furthest {
+        let first = self.forms[0].syntax.stop(text);
+        let mut furthest = Furthest { form: 0, stop: first, settled: false };
+        let mut form = 1;
         while form < self.forms.len() {
-            let stop = self.forms[form].syntax.stop(text);
-            furthest = further(furthest, form, stop);
+            let syntax = &self.forms[form].syntax;
+            if !is_settled(syntax.as_grammar(), text, furthest.stop.size) {
+                let stop = syntax.stop(text);
+                furthest = self.further(text, furthest, form, stop);
+            }
             form += 1;
         }
         furthest
     }
 
+    // Returns which of two forms has the error of the list, or `None` if there is but one, which does not go beyond the first byte behind a
+    // sign of this length.
+    #[inline(always)]
+    const fn further_on(
+        &self,
+        text: &[u8],
+        sign: usize,
+        furthest: Option<Furthest>,
+        form: usize,
+        stop: Stopped,
+    ) -> Option<Furthest> {
+        match furthest {
+            Some(best) => Some(self.further(text, best, form, stop)),
+            None if stop.size > sign + 1 => Some(Furthest { form, stop, settled: false }),
+            None => None,
+        }
+    }
+
+    // Returns which of two forms has the error of the list: the one that goes further. Of equals, it is the first unless its cause is
+    // stray and that of the second is not.
+    #[inline(never)]
+    const fn further(&self, text: &[u8], best: Furthest, form: usize, stop: Stopped) -> Furthest {
+        let other = Furthest { form, stop, settled: false };
+        if stop.size < best.stop.size {
+            best
+        } else if best.stop.size < stop.size {
+            other
+        } else if best.settled {
+            best
+        } else if !self.is_stray(text, best) {
+            Furthest { settled: true, ..best }
+        } else if self.is_stray(text, other) {
+            best
+        } else {
+            Furthest { settled: true, ..other }
+        }
+    }
+
+    // Returns whether the cause is stray where a form stops: it is a wrong byte, or a required prefix is not there.
+    const fn is_stray(&self, text: &[u8], it: Furthest) -> bool {
+        it.stop.is_stray(&self.as_slice()[it.form].syntax, text)
+    }
+
     // Returns the longest front of `text` that is a literal of a form, with the index of the form, the first of equals, or
     // why there is none.
     const fn find_front(&self, text: &[u8]) -> Result<(usize, Found), FormError> {
-        let mut furthest = None;
         let mut longest = None;
         let mut form = 0;
         while form < self.forms.len() {
-            let (stop, found) = self.forms[form].syntax.front(text);
-            furthest = further(furthest, form, stop);
+            let (_, found) = self.forms[form].syntax.front(text);
             longest = longer(longest, form, found);
             form += 1;
         }
         match longest {
             Some((form, found)) => Ok((form, found)),
-            None => Err(self.refuse(text, furthest)),
+            None => Err(self.error_at(text, self.furthest(text))),
         }
     }
 
-    // Returns why `text` is not a literal of the form that goes furthest, or, if the cause is a wrong byte or a required prefix is
-    // not there, of the first that goes as far and has another cause.
-    #[cold]
-    pub(crate) const fn refuse(&self, text: &[u8], furthest: Option<(usize, Stopped)>) -> FormError {
-        let Some((first, stop)) = furthest else { unreachable!() };
-        let error = self.error_at(text, first, stop);
-        let forms = self.as_slice();
-        let mut form = first + 1;
-        while form < forms.len() {
-            let syntax = &forms[form].syntax;
-            if !is_settled(syntax.as_grammar(), text, stop.size) {
-                if let Some(reached) = syntax.stop_at(text, stop.size) {
-                    if !error.error.is_stray() {
-                        return error;
-                    }
-                    let other = self.error_at(text, form, reached);
-                    if !other.error.is_stray() {
-                        return other;
-                    }
-                }
-            }
-            form += 1;
-        }
-        error
-    }
-
-    // Returns why `text` is not a literal of the form with the index `form`, which stops at `stop`.
+    // Returns why `text` is not a literal of the form that goes furthest.
     #[inline(always)]
-    const fn error_at(&self, text: &[u8], form: usize, stop: Stopped) -> FormError {
+    pub(crate) const fn error_at(&self, text: &[u8], furthest: Furthest) -> FormError {
+        let Furthest { form, stop, .. } = furthest;
         let it = &self.as_slice()[form];
         let Err(error) = stop.refuse::<()>(&it.syntax, text) else { unreachable!() };
         FormError { form, name: it.name, error }
@@ -384,30 +406,12 @@ const fn longer(longest: Option<(usize, Found)>, form: usize, found: Option<Foun
     }
 }
 
-// Returns which of two forms goes further, the first of equals.
+// Returns whether a form need not be asked: its first bytes exclude that `text` is a literal, or no error of it goes further than the
+// furthest form, unless its cause is a wrong byte.
 #[inline(always)]
-pub(crate) const fn further(
-    furthest: Option<(usize, Stopped)>,
-    form: usize,
-    stop: Stopped,
-) -> Option<(usize, Stopped)> {
+const fn is_behind(grammar: Grammar, text: &[u8], sign: usize, furthest: Option<Furthest>) -> bool {
     match furthest {
-        Some((_, best)) if best.size >= stop.size => furthest,
-        _ => Some((form, stop)),
-    }
-}
-
-// Returns which of two forms goes further, without one that does not go beyond the first byte behind a sign of this length.
-#[inline(always)]
-const fn further_on(
-    sign: usize,
-    furthest: Option<(usize, Stopped)>,
-    form: usize,
-    stop: Stopped,
-) -> Option<(usize, Stopped)> {
-    if stop.size > sign + 1 {
-        further(furthest, form, stop)
-    } else {
-        furthest
+        None => excludes(grammar, text, sign),
+        Some(best) => is_settled(grammar, text, best.stop.size),
     }
 }

@@ -2,7 +2,7 @@
 
 //! Where reading a text stops, and whether that is a literal: what has begun, and what has stopped.
 
-use crate::literal::cause::ReadError;
+use crate::literal::cause::{ReadError, Spot};
 use crate::literal::group_size::{group_after, group_allows, grow, has_sizes, Group, FIRST};
 use crate::literal::literal::Sums;
 use crate::literal::scan::{is_decimal, scan};
@@ -156,16 +156,27 @@ impl Stopped {
         is_complete(grammar, self.read) && group_allows(grammar, group, None)
     }
 
+    // Returns whether the cause is a wrong byte, or a required prefix is not there.
+    pub(crate) const fn is_stray(self, syntax: &Syntax, text: &[u8]) -> bool {
+        self.spot(syntax, text).is_stray()
+    }
+
     // Returns why `text` is not a literal, as the result of the caller, which takes less
     // time than to copy an error.
     #[cold]
     pub(crate) const fn refuse<T>(self, syntax: &Syntax, text: &[u8]) -> Result<T, ReadError> {
+        let spot = self.spot(syntax, text);
+        Err(ReadError { spot })
+    }
+
+    // Returns where reading `text` stopped.
+    #[inline(always)]
+    const fn spot(self, syntax: &Syntax, text: &[u8]) -> Spot {
         let byte = byte_at(text, self.size);
         let front = front_of(text, self.size);
         let tail = tail_at(text, self.size, byte);
         let separated = self.group(syntax, text).separated;
-        let spot = spot(syntax.as_grammar(), front, self.read, byte, tail, separated);
-        Err(ReadError { spot })
+        spot(syntax.as_grammar(), front, self.read, byte, tail, separated)
     }
 }
 
@@ -197,16 +208,6 @@ impl Syntax {
     #[cold]
     pub(crate) const fn stop(&self, text: &[u8]) -> Stopped {
         self.begin_any(text, false).stop(self, text)
-    }
-
-    // Returns where reading `text` stops if that is behind `size` bytes.
-    pub(crate) const fn stop_at(&self, text: &[u8], size: usize) -> Option<Stopped> {
-        let stop = self.stop(text);
-        if stop.size == size {
-            Some(stop)
-        } else {
-            None
-        }
     }
 
     // Returns where reading `text` stops, and the longest front that is a literal, if there is one.

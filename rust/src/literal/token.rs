@@ -3,7 +3,7 @@
 //! Tokens: numbers in the middle of a text, each with its suffix.
 
 use crate::literal::exclude::sign_size;
-use crate::literal::list::{further, Form, FormError, Forms, Tokens};
+use crate::literal::list::{Form, FormError, Forms, Tokens};
 use crate::literal::literal::Literal;
 use crate::literal::step::{is_digit, is_point, role_at};
 use crate::literal::stop::{byte_at, Begun, Found, Stopped};
@@ -257,9 +257,9 @@ impl<'a> Forms<'a> {
         let (_, rest) = text.split_at(stop.size);
         let end = stop.size + word_size(rest);
         let (word, _) = text.split_at(end);
-        match self.find(word) {
-            None => TokenError::Literal(self.refuse(word, self.furthest(word))),
-            Some(_) => TokenError::NotAToken { end },
+        match self.find(word, None) {
+            Err(furthest) => TokenError::Literal(self.error_at(word, furthest)),
+            Ok(_) => TokenError::NotAToken { end },
         }
     }
 }
@@ -509,6 +509,15 @@ const fn scan(forms: &[Form], back: bool, needs: bool, text: &[u8]) -> Scanned {
         form += 1;
     }
     Scanned { furthest, best }
+}
+
+// Returns which of two forms goes further, the first of equals.
+#[inline(always)]
+const fn further(furthest: Option<(usize, Stopped)>, form: usize, stop: Stopped) -> Option<(usize, Stopped)> {
+    match furthest {
+        Some((_, best)) if best.size >= stop.size => furthest,
+        _ => Some((form, stop)),
+    }
 }
 
 // Returns the longer of two candidates, the first of equals.

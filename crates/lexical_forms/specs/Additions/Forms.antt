@@ -1,17 +1,19 @@
 -- What one pass over several forms finds.
-use Rattle.std.specs.Prelude.{ℕ, ◌≡◌, ◌+◌, ◌*◌, ◌≤◌, [], ◌∷◌, false, if◌then◌else◌, nat_lt, IfErr, IfOk, IfSome, IsErr, IsNone, IsSomeAnd, List, Option}
-use Rattle.std.specs.Prelude.{Some, None, Result, All, slice_get}
+use Rattle.std.specs.Prelude.{ℕ, ◌≡◌, ◌+◌, ◌*◌, ◌<◌, ◌≤◌, [], ◌∷◌, false, if◌then◌else◌, nat_lt, IfErr, IfOk, IsErr, IsSomeAnd, List, Option, get_or}
+use Rattle.std.specs.Prelude.{Some, None, Result, All, length, slice_get}
+use Rattle.lexical_util.specs.Ascii.{ByteSet}
 use Rattle.lexical_util.specs.Roles.{other_case, signs}
 use Rattle.lexical_util.specs.declared.feature_format.roles.Role.{Role}
 use Rattle.lexical_util.specs.declared.feature_format.roles.Role.TheVariants as roles
 use Rattle.lexical_literal.specs.Additions.Stop.{IsCountedFront, IsStopped}
 use Rattle.lexical_literal.specs.Cause.{IsRefusal}
-use Rattle.lexical_forms.specs.Forms.{HasFront, IsFirst, IsFormError, IsGreatest, NoForm, reach}
-use Rattle.lexical_literal.specs.Front.{IsValidUpTo, NoFront}
+use Rattle.lexical_forms.specs.Forms.{HasFront, IsFirst, IsFormError, IsGreatest, NoForm, Reaches, reach}
+use Rattle.lexical_literal.specs.Front.{IsValidUpTo, NoFront, NoLiteral}
 use Rattle.lexical_literal.specs.Read.{Read}
 use Rattle.lexical_literal.specs.Notation.{Notation, notation_of, set_of_role}
 use Rattle.lexical_literal.specs.declared.cause.Refusal.{Refusal}
 use Rattle.lexical_forms.specs.declared.list.FormError.{FormError}
+use Rattle.lexical_forms.specs.declared.list.Furthest.{Furthest}
 use Rattle.lexical_literal.specs.declared.stop.Found.{Found}
 use Rattle.lexical_literal.specs.declared.stop.Stopped.{Stopped}
 use Rattle.lexical_forms.specs.declared.list.Form.{Form}
@@ -30,21 +32,10 @@ greater size (Some best) form found = if nat_lt (size best.1) (size found) then 
 abbrev pub further : Option (ℕ × Stopped) → ℕ → Stopped → Option (ℕ × Stopped)
 further furthest form stop = greater (λ (stop : Stopped). stop.size) furthest form stop
 
--- `further_on sign furthest form stop` is the same, but `furthest` where `stop` is not beyond the first byte behind a sign with the
--- length `sign`.
-abbrev pub further_on : ℕ → Option (ℕ × Stopped) → ℕ → Stopped → Option (ℕ × Stopped)
-further_on sign furthest form stop = if nat_lt (sign + 1) stop.size then further furthest form stop else furthest
-
 -- `longer longest form found` is the front `longest`, or that of the form with the index `form` if it has a longer one.
 abbrev pub longer : Option (ℕ × Found) → ℕ → Option Found → Option (ℕ × Found)
 longer longest form None = longest
 longer longest form (Some found) = greater (λ (found : Found). found.size) longest form found
-
--- `IsFoundForm forms text result` holds if `result` has the first form of which `text` is a literal and the literal, or if it is
--- `None` and `text` is a literal of no form.
-pub record IsFoundForm (forms : List Form) (text : List ℕ) (result : Option (ℕ × Read)) : Type 0 where
-  pub found : IfSome result (λ found. IsFirst forms text found.0 found.1)
-  pub none : IsNone result → NoForm forms text
 
 -- `PlaysNoRole m byte` holds if `byte` plays no role, and is not the zero of a prefix.
 pub record PlaysNoRole (m : Notation) (byte : ℕ) : Type 0 where
@@ -55,6 +46,10 @@ pub record PlaysNoRole (m : Notation) (byte : ℕ) : Type 0 where
 abbrev pub IsSpare : Notation → ℕ → Type 0
 IsSpare m byte = (role : Role) → (role ≡ roles.Prefix → ⊥) → set_of_role m role byte ≡ false
 
+-- `AreFalse test byte` holds if `test` is false of `byte` and of its other case.
+abbrev pub AreFalse : ByteSet → ℕ → Type 0
+AreFalse test byte = (test byte ≡ false) × (test (other_case byte) ≡ false)
+
 -- `IsStranger m byte` holds if `byte` plays no role behind the base prefix, and its other case neither.
 abbrev pub IsStranger : Notation → ℕ → Type 0
 IsStranger m byte = IsSpare m byte × IsSpare m (other_case byte)
@@ -63,10 +58,48 @@ IsStranger m byte = IsSpare m byte × IsSpare m (other_case byte)
 abbrev pub IsNoBetter : Notation → List ℕ → ℕ → Type 0
 IsNoBetter m text size = (error : Refusal) → IsRefusal m text error → reach error ≤ 2 * size
 
--- `bound sign furthest` is the number of bytes up to which `furthest` goes, or up to the first byte behind a sign with the length `sign`.
-abbrev pub bound : ℕ → Option (ℕ × Stopped) → ℕ
-bound sign None = sign + 1
-bound sign (Some best) = best.1.size
+-- `GoesTo text g size` holds if some literal of the form `g` begins with the first `size` bytes of `text`, and none with more.
+abbrev pub GoesTo : List ℕ → Form → ℕ → Type 0
+GoesTo text g size = IsValidUpTo (notation_of g.syntax) text size
+
+-- `IsBehind m text furthest` holds if no error of `text` has a greater reach than one that goes as far as `furthest` and whose cause is a
+-- wrong byte, or if `text` is right up to the first byte behind the sign at most, where `furthest` is `None`.
+abbrev pub IsBehind : Notation → List ℕ → Option Furthest → Type 0
+IsBehind m text None = (n : ℕ) → IsValidUpTo m text n → n ≤ sign_size text + 1
+IsBehind m text (Some best) = IsNoBetter m text best.stop.size
+
+-- `IsRefusedAt text stop g` holds if `text` is not a literal of the form `g`, and reading it stops at `stop`.
+abbrev pub IsRefusedAt : List ℕ → Stopped → Form → Type 0
+IsRefusedAt text stop g = IsStopped (notation_of g.syntax) text stop × NoLiteral (notation_of g.syntax) text
+
+-- `AreBelow forms text start end most` holds if each error of `text` in the forms with indexes from `start` to `end` has a reach below `most`.
+abbrev pub AreBelow : List Form → List ℕ → ℕ → ℕ → ℕ → Type 0
+AreBelow forms text start end most = (k : ℕ) (d : Form) → start ≤ k → k < end → (n : ℕ) → Reaches text (get_or forms k d) n → n < most
+
+-- `limit best` is the least reach of the error of `best`: twice the number of bytes that are right, and 1 more if its cause is known to be settled.
+abbrev pub limit : Furthest → ℕ
+limit best = 2 * best.stop.size + (if best.settled then 1 else 0)
+
+-- `Leads forms text asked best` holds if the error of `best` has at least the reach `limit best`, those of the forms before it less, and those of the
+-- forms behind it, of the first `asked` forms, no more.
+pub record Leads (forms : List Form) (text : List ℕ) (asked : ℕ) (best : Furthest) : Type 0 where
+  pub here : IsSomeAnd (slice_get forms best.form) (IsRefusedAt text best.stop)
+  pub low : IsSomeAnd (slice_get forms best.form) (λ g. (n : ℕ) → Reaches text g n → limit best ≤ n)
+  pub before : AreBelow forms text 0 best.form (limit best)
+  pub behind : AreBelow forms text (best.form + 1) asked (limit best + 1)
+
+-- `IsLed forms text asked furthest` holds if `furthest` leads the first `asked` forms, or if it is `None`, and none of them goes beyond the first byte
+-- behind the sign.
+abbrev pub IsLed : List Form → List ℕ → ℕ → Option Furthest → Type 0
+IsLed forms text asked None = (k : ℕ) (d : Form) → k < asked → (n : ℕ) → GoesTo text (get_or forms k d) n → n ≤ sign_size text + 1
+IsLed forms text asked (Some best) = Leads forms text asked best
+
+-- `IsFoundForm forms text result` holds if `result` has the first form of which `text` is a literal and the literal, or if `text` is a literal
+-- of no form, and `result` leads them.
+pub record IsFoundForm (forms : List Form) (text : List ℕ) (result : Result (ℕ × Read) Furthest) : Type 0 where
+  pub found : IfOk result (λ found. IsFirst forms text found.0 found.1)
+  pub none : IsErr result → NoForm forms text
+  pub furthest : IfErr result (Leads forms text (length forms))
 
 -- `IsFoundFrontForm forms text result` holds if `result` has the longest front of `text` that is a literal of a form, of the
 -- first form of equals, and the lengths of its parts, or the error of a text for which there is no such front.
@@ -75,10 +108,6 @@ pub record IsFoundFrontForm (forms : List Form) (text : List ℕ) (result : Resu
   pub found : IfOk result (λ found. IsSomeAnd (slice_get forms found.0) (λ g. IsCountedFront (notation_of g.syntax) text found.1))
   pub none : IsErr result → All (λ g. NoFront (notation_of g.syntax) text) forms
   pub error : IfErr result (IsFormError forms text)
-
--- `GoesTo text g size` holds if some literal of the form `g` begins with the first `size` bytes of `text`, and none with more.
-abbrev pub GoesTo : List ℕ → Form → ℕ → Type 0
-GoesTo text g size = IsValidUpTo (notation_of g.syntax) text size
 
 -- `IsFurthestForm forms text furthest` holds if `furthest` has the index of the form that goes furthest in `text`, the first of
 -- equals, and where it stops.

@@ -54,13 +54,8 @@ impl Target {
 }
 
 impl ValueError {
-    /// Returns the same error of a number of `size` bytes.
-    pub(crate) const fn of_size(self, size: usize) -> ValueError {
-        ValueError { size, ..self }
-    }
-
     /// Returns the error of a literal of `size` bytes of a kind.
-    pub(super) const fn of<T: FromLiteral>(kind: ValueErrorKind, size: usize, of: Kind) -> ValueError {
+    pub(crate) const fn of<T: FromLiteral>(kind: ValueErrorKind, size: usize, of: Kind) -> ValueError {
         let bits = match of.integers() {
             IntegerKind::AtMost(bits) | IntegerKind::Wraps(bits) => bits,
             _ => 0,

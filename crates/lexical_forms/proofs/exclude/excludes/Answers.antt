@@ -27,9 +27,9 @@ returns-after-text-sign-eq48-clause-near c = λ is n valid. near_prefix (notatio
 
 pub returns-then-is_long-2-clause-none : goal.returns-then-is_long-2-clause-none
 returns-then-is_long-2-clause-none c = λ is. no_role_excludes (notation_of c.args.grammar) c.args.text.now (c.args.sign + 1)
-    c.if-is_long-2.true (c.plays_no_role.ensures is)
+    c.if-is_long-2.true (c.is_silent.ensures.own is)
 
 pub returns-then-is_long-2-clause-near : goal.returns-then-is_long-2-clause-near
 returns-then-is_long-2-clause-near c = λ is n valid.
-    let near = near_no_role (notation_of c.args.grammar) c.args.text.now n valid (c.args.sign + 1) (c.plays_no_role.ensures is) in
+    let near = near_no_role (notation_of c.args.grammar) c.args.text.now n valid (c.args.sign + 1) (c.is_silent.ensures.own is) in
     let sign = c.requires in omega (arith, near, sign)

@@ -4,8 +4,8 @@ use Rattle.lexical_forms.specs.Suffix.{word_size}
 use Rattle.lexical_forms.proofs.TokenLemmas.{some_form}
 use Rattle.lexical_forms.proofs.list.Forms.fail.Goals as goal
 
-pub returns-in-Some-find : goal.returns-in-Some-find
-returns-in-Some-find c =
+pub returns-in-Ok : goal.returns-in-Ok
+returns-in-Ok c =
     let furthest = subst (IsFurthestForm c.args.self.now.forms c.args.text.now) c.in-Some.is c.requires.furthest in
     let stop = c.in-Some.stop.size in (
       c.requires.refused,
@@ -15,6 +15,6 @@ returns-in-Some-find c =
         furthest = furthest.0;
         end = ap (λ n. stop + n) (c.word_size.ensures.size ∙ ap word_size c.split_at.ensures.back);
       },
-      λ none. some_form c.args.self.now.forms c.split_at-2.result.0.now c.in-Some-find.field-0.0 c.in-Some-find.field-0.1 c.in-Some-find.ensures.found
+      λ none. some_form c.args.self.now.forms c.split_at-2.result.0.now c.in-Ok.field-0.0 c.in-Ok.field-0.1 c.in-Ok.ensures.found
           (subst (NoForm c.args.self.now.forms) (sym c.split_at-2.ensures.front) none),
     )

@@ -1,41 +1,105 @@
--- The first form that reads the text.
-use Rattle.lexical_forms.proofs.Common.{◌≡◌, IsNone, None, Option, Some, refl, subst, All-more, notation_of, Grammar, NoLiteral}
-use Rattle.lexical_forms.proofs.FormLemmas.{all_tried, found_is}
+-- The first form that reads the text, or the form whose error is that of the list.
+use Rattle.lexical_forms.proofs.Common.{ℕ, ◌≡◌, ◌+◌, IfSome, IsSomeAnd, None, Option, length-take-le, take, refl, sym, subst, arith, slice_get, All-more, notation_of}
+use Rattle.lexical_forms.proofs.Common.{FormList, Grammar, NoForm, NoLiteral, Stopped}
+use Rattle.lexical_forms.specs.Additions.Forms.{IsBehind, IsLed, IsRefusedAt}
+use Rattle.lexical_forms.specs.declared.list.Furthest.{Furthest}
+use Rattle.lexical_forms.proofs.FormLemmas.{all_tried, at_index, first_none, found_is, leads_all, leads_first, led_out}
 use Rattle.lexical_literal.proofs.PieceLemmas.{measured_cut, whole_read}
 use Rattle.lexical_forms.proofs.list.Forms.find.Goals as goal
-use Rattle.lexical_forms.proofs.list.Forms.find.Goals.{then-not-excludes+else-is_whole+in_default, else-not-excludes}
+use Rattle.lexical_forms.proofs.list.Forms.find.Goals.{in-Some, in_default, then-not-is_behind+else-is_whole+in-Err, else-not-is_behind}
+
+pub loop-form-init : goal.loop-form-init
+loop-form-init c =
+    let text = c.args.text.now in
+    elim c.match-stop.branch [
+      | in-Some w ↦
+          let here = subst (λ (l : FormList). IsSomeAnd (slice_get l.forms 0) (IsRefusedAt text w.in-Some.stop)) (sym c.self.view_is)
+          (subst (λ (o : Option Stopped). IfSome o (λ stop. IsSomeAnd (slice_get c.args.self.now.forms 0) (IsRefusedAt text stop))) w.in-Some.is c.requires) in
+          begun c.match-stop.form 1 c.match-stop.furthest _ w.form-is w.furthest-is (first_none c.self.inside.forms.now text w.in-Some.stop here)
+          (leads_first c.self.inside.forms.now text 0 w.in-Some.stop here (λ k d low below. absurd (omega (arith, below))))
+      | in_default w ↦ begun c.match-stop.form 0 c.match-stop.furthest None w.form-is w.furthest-is
+          (λ k d below. absurd (omega (arith, below, length-take-le 0 c.self.inside.forms.now (omega arith)))) (λ k d below. absurd (omega (arith, below)))
+    ] where
+      begun : (i j : ℕ) (furthest other : Option Furthest) → i ≡ j → furthest ≡ other → NoForm (take j c.self.inside.forms.now) c.args.text.now
+          → IsLed c.self.inside.forms.now c.args.text.now j other
+          → NoForm (take i c.self.inside.forms.now) c.args.text.now × IsLed c.self.inside.forms.now c.args.text.now i furthest
+      begun i j furthest other same is none led = (
+        subst (λ i. NoForm (take i c.self.inside.forms.now) c.args.text.now) (sym same) none,
+        subst (λ i. IsLed c.self.inside.forms.now c.args.text.now i furthest) (sym same)
+            (subst (IsLed c.self.inside.forms.now c.args.text.now j) (sym is) led),
+      )
 
 pub literal-requires-clause-cut : goal.literal-requires-clause-cut
 literal-requires-clause-cut c = measured_cut _ c.args.text.now c.begin-begun.result.counts
     (c.is_whole.ensures.measured c.if-is_whole.true)
 
 pub summed-requires : goal.summed-requires
-summed-requires c = measured_cut _ c.args.text.now c.in-Some.counts c.in-Some.ensures.some
+summed-requires c = measured_cut _ c.args.text.now c.in-Ok.counts c.in-Ok.ensures.some
 
 pub returns-then-is_whole : goal.returns-then-is_whole
 returns-then-is_whole c = rw (← c.self.view_is) (found_is c.self.inside.forms.now c.args.text.now c.loop-form.form c.index-self-form.result c.literal.result
     c.loop-form-test.true (whole_read _ c.args.text.now c.begin-begun.result.counts (c.is_whole.ensures.measured c.if-is_whole.true) c.literal.result
-    c.literal.ensures) c.loop-form.invariant)
+    c.literal.ensures) c.loop-form.invariant.0)
 
-pub returns-in-Some : goal.returns-in-Some
-returns-in-Some c = rw (← c.self.view_is) (found_is c.self.inside.forms.now c.args.text.now c.loop-form.form c.index-self-form.result c.summed.result
-    c.loop-form-test.true (whole_read _ c.args.text.now c.in-Some.counts c.in-Some.ensures.some c.summed.result c.summed.ensures)
-    c.loop-form.invariant)
+pub returns-in-Ok : goal.returns-in-Ok
+returns-in-Ok c = rw (← c.self.view_is) (found_is c.self.inside.forms.now c.args.text.now c.loop-form.form c.index-self-form.result c.summed.result
+    c.loop-form-test.true (whole_read _ c.args.text.now c.in-Ok.counts c.in-Ok.ensures.some c.summed.result c.summed.ensures)
+    c.loop-form.invariant.0)
+
+pub further_on-furthest-requires-clause-refused : goal.further_on-furthest-requires-clause-refused
+further_on-furthest-requires-clause-refused c =
+    let forms = c.self.inside.forms.now in
+    let text = c.args.text.now in
+    let i = c.loop-form.form in
+    subst (λ (l : FormList). IsSomeAnd (slice_get l.forms i) (IsRefusedAt text c.in-Err.stop)) c.self.view_is
+    (at_index (IsRefusedAt text c.in-Err.stop) forms forms c.index-self-form.result i refl c.loop-form-test.true
+    (c.in-Err.ensures.stop, c.in-Err.ensures.none refl))
 
 pub loop-form-preserved : goal.loop-form-preserved
-loop-form-preserved c = All-more (λ g. NoLiteral (notation_of g.syntax) c.args.text.now) c.self.inside.forms.now c.loop-form.form
-    c.index-self-form.result c.loop-form-test.true c.loop-form.invariant (elim c.if-not-excludes.branch [
-      | then-not-excludes+else-is_whole+in_default w ↦ w.lengths.ensures.none (none_else _ w.in_default.not-Some)
-      | else-not-excludes w ↦ subst (λ (g : Grammar). NoLiteral (notation_of g) c.args.text.now) c.grammar.ensures.value
-          (c.excludes.ensures.none w.if-not-excludes.false)
-    ]) where
-      none_else : {X : Type 0} (o : Option X) → ((x : X) → o ≡ Some x → ⊥) → IsNone o
-      none_else None not = refl
-      none_else (Some x) not = absurd (not x refl)
+loop-form-preserved c =
+    let forms = c.self.inside.forms.now in
+    let text = c.args.text.now in
+    let i = c.loop-form.form in
+    let d = c.index-self-form.result in
+    let inside = c.loop-form-test.true in
+    let furthest = c.loop-form.furthest in
+    elim c.if-not-is_behind.branch [
+      | then-not-is_behind+else-is_whole+in-Err w ↦ (
+        All-more (λ g. NoLiteral (notation_of g.syntax) text) forms i d inside c.loop-form.invariant.0 (w.in-Err.ensures.none refl),
+        subst (IsLed forms text (i + 1)) (sym w.furthest-is)
+            (subst (λ (l : FormList). IsLed l.forms text (i + 1) w.further_on-furthest.result) (sym c.self.view_is) w.further_on-furthest.ensures),
+      )
+      | else-not-is_behind w ↦ (
+        All-more (λ g. NoLiteral (notation_of g.syntax) text) forms i d inside c.loop-form.invariant.0
+            (subst (λ (g : Grammar). NoLiteral (notation_of g) text) c.grammar.ensures.value (c.is_behind.ensures.none w.if-not-is_behind.false)),
+        subst (IsLed forms text (i + 1)) (sym w.furthest-is) (led_out forms text i furthest c.loop-form.invariant.1
+            (at_index (λ g. IsBehind (notation_of g.syntax) text furthest) forms forms d i refl inside
+            (subst (λ (g : Grammar). IsBehind (notation_of g) text furthest) c.grammar.ensures.value
+            (c.is_behind.ensures.near w.if-not-is_behind.false)))),
+      )
+    ]
 
-pub returns : goal.returns
-returns c = record {
+pub furthest-requires : goal.furthest-requires
+furthest-requires c = subst (λ (l : FormList). NoForm l.forms c.args.text.now) c.self.view_is
+    (all_tried c.self.inside.forms.now c.args.text.now c.loop-form.form c.loop-form-test.false
+    (λ g. NoLiteral (notation_of g.syntax) c.args.text.now) c.loop-form.invariant.0)
+
+pub returns-in-Some-furthest : goal.returns-in-Some-furthest
+returns-in-Some-furthest c =
+    let forms = c.self.inside.forms.now in
+    let text = c.args.text.now in
+    let i = c.loop-form.form in
+    rw (← c.self.view_is) (record {
+      found = tt;
+      none = λ _. all_tried forms text i c.loop-form-test.false (λ g. NoLiteral (notation_of g.syntax) text) c.loop-form.invariant.0;
+      furthest = leads_all forms text i c.loop-form-test.false _ (subst (IsLed forms text i) c.in-Some-furthest.is c.loop-form.invariant.1);
+    })
+
+pub returns-in-None : goal.returns-in-None
+returns-in-None c = record {
   found = tt;
-  none = λ _. rw (← c.self.view_is) (all_tried c.self.inside.forms.now c.args.text.now c.loop-form.form
-      c.loop-form-test.false (λ g. NoLiteral (notation_of g.syntax) c.args.text.now) c.loop-form.invariant);
+  none = λ _. subst (λ (l : FormList). NoForm l.forms c.args.text.now) c.self.view_is
+      (all_tried c.self.inside.forms.now c.args.text.now c.loop-form.form c.loop-form-test.false
+      (λ g. NoLiteral (notation_of g.syntax) c.args.text.now) c.loop-form.invariant.0);
+  furthest = c.furthest.ensures;
 }

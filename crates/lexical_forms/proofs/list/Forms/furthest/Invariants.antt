@@ -1,9 +1,9 @@
 use Rattle.lexical_forms.proofs.Common.{◌-◌, length}
-use Rattle.lexical_forms.proofs.FormLemmas.{IsBest, goes}
+use Rattle.lexical_forms.specs.Additions.Forms.{Leads}
 use Rattle.lexical_forms.proofs.list.Forms.furthest.Given as goal
 
 abbrev pub invariant-loop-form : goal.invariant-loop-form
-invariant-loop-form l = IsBest (goes l.text) l.self-inside.forms.now l.form l.furthest
+invariant-loop-form l = Leads l.self-inside.forms.now l.text l.form l.furthest
 
 abbrev pub decreases-loop-form : goal.decreases-loop-form
 decreases-loop-form l = length l.self-inside.forms.now - l.form

@@ -6,10 +6,10 @@ use Rattle.lexical_literal.specs.Additions.GroupSize.{goes}
 use Rattle.lexical_literal.proofs.BlameLemmas.{refusal_at}
 use Rattle.lexical_literal.proofs.StoppedLemmas.{refused_there}
 use Rattle.lexical_literal.proofs.StopLemmas.{goes_too, is_read_of}
-use Rattle.lexical_literal.proofs.stop.Stopped.refuse.Goals as goal
+use Rattle.lexical_literal.proofs.stop.Stopped.spot.Goals as goal
 
-pub returns : goal.returns
-returns _ c =
+pub returns-clause-refusal : goal.returns-clause-refusal
+returns-clause-refusal c =
     let g = c.args.syntax.now in
     let m = notation_of g in
     let text = c.args.text.now in
@@ -24,7 +24,7 @@ returns _ c =
     let one_group : stopped.group ≡ group = let other = stopped.read.grouped in cc in
     let refused = sym (goes_too m of.ready of.sizes front s group read grouped (slice_get text size))
     ∙ ap (λ (group : Group). goes m s group (slice_get text size)) (sym one_group) ∙ refused_there m text c.args.self stopped c.requires.refused in
-    let made = c.spot-spot.ensures
+    let made = c.spot.ensures
     ∙ (λ j. spot_of (of.value j) (c.front_of-front.ensures j) s c.byte_at-byte.result c.tail_at-tail.result group.separated) in
     subst (λ spot. IsRefusal m text (refusal_of (notation_of (grammar_at spot)) spot)) (sym made)
     (refusal_at g text s group.separated c.tail_at-tail.result size stopped.valid.within stopped.valid

@@ -1,9 +1,0 @@
-use Rattle.lexical_forms.proofs.Common.{take, ◌-◌, length, NoForm}
-use Rattle.lexical_forms.proofs.FormLemmas.{IsBest, beyond}
-use Rattle.lexical_forms.proofs.list.Forms.read.Given as goal
-
-abbrev pub invariant-loop-form : goal.invariant-loop-form
-invariant-loop-form l = NoForm (take l.form l.self-inside.forms.now) l.text × IsBest (beyond l.text) l.self-inside.forms.now l.form l.furthest
-
-abbrev pub decreases-loop-form : goal.decreases-loop-form
-decreases-loop-form l = length l.self-inside.forms.now - l.form
