@@ -1,10 +1,12 @@
 -- Several forms: what has been found in the first of them, and what one form more adds.
 use Rattle.lexical_forms.proofs.Common.{ℕ, ◌≡◌, ◌*◌, inl, inr, Bool, true, false, ◌<◌, ◌≤◌, ◌+◌, List, Ok, Option, Some, None, All, IsSomeAnd, []}
 use Rattle.lexical_forms.proofs.Common.{◌∷◌, take, get_or, IsNone, refl, sym, subst, ap, arith, nat_tests, cases_lt, false≢true, take_all, All-more}
-use Rattle.lexical_forms.proofs.Common.{◌∙◌, length-take-le, slice_get-get_or, Literal, Reads, Notation, notation_of, common_steps, if◌then◌else◌, length, slice_get}
+use Rattle.lexical_forms.proofs.Common.{◌∙◌, length-take-le, slice_get-get_or, Literal, Reads}
+use Rattle.lexical_forms.proofs.Common.{Notation, notation_of, common_steps, if◌then◌else◌, length, slice_get}
 use Rattle.lexical_forms.proofs.Common.{IsFurthestForm, sign_size, IsCountedFront, IsStopped, IsRefusal, Refusal, FormList, NoForm, ReadsForm, is_stray, reach}
 use Rattle.lexical_forms.proofs.Common.{IsValidUpTo, NoFront, ReadsFront, Read, Found, Stopped, Form}
-use Rattle.lexical_forms.specs.Additions.Forms.{AreBelow, GoesTo, IsBehind, IsFoundForm, IsFoundFrontForm, IsLed, IsNoBetter, IsRefusedAt, Leads, greater, limit, longer}
+use Rattle.lexical_forms.specs.Additions.Forms.{AreBelow, GoesTo, IsBehind, IsFoundForm, IsFoundFrontForm, IsLed}
+use Rattle.lexical_forms.specs.Additions.Forms.{IsNoBetter, IsRefusedAt, Leads, greater, limit, longer}
 use Rattle.lexical_forms.specs.Forms.{HasFront, HasKind, IsErrorOfForm, IsFirst, IsFormError, IsGreatest, IsReadByForms, Reaches}
 use Rattle.std.specs.Option.{ForSome}
 use Rattle.std.proofs.Math.Nat.{le_antisymm}

@@ -6,7 +6,8 @@ ghost use Rattle.lexical_forms.specs.Additions.Forms.{IsFurthestForm, PlaysNoRol
 ghost use Rattle.lexical_literal.specs.Additions.Stop.{HasBegun, IsCountedFront, IsMeasured, IsStopped};
 ghost use Rattle.lexical_literal.specs.Additions.Literal.{AreSums, cut};
 ghost use Rattle.lexical_literal.specs.Additions.Step.{cuts_of};
-ghost use Rattle.lexical_forms.specs.Additions.Token.{AreNear, FrontsWithin, IsBestOf, IsEnd, IsLeading, IsMade, IsNear, IsOwn, IsPicked, IsWithin, NoOwn, better};
+ghost use Rattle.lexical_forms.specs.Additions.Token.{AreNear, FrontsWithin, IsBestOf, IsEnd, IsLeading, IsMade};
+ghost use Rattle.lexical_forms.specs.Additions.Token.{IsNear, IsOwn, IsPicked, IsWithin, NoOwn, better};
 ghost use Rattle.lexical_forms.specs.Additions.Token.{goes_on};
 ghost use Rattle.lexical_forms.specs.Additions.Token.{has_float, has_prefix, suffixed, whole};
 ghost use Rattle.lexical_literal.specs.Cause.{is_in};

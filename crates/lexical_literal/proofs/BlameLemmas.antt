@@ -3,7 +3,8 @@ use Rattle.lexical_literal.proofs.Common.{ℕ, ◌≡◌, ◌≤◌, ◌↔◌, 
 use Rattle.lexical_literal.proofs.Common.{subst, ◌∙◌, arith, false≢true, and_parts, and_from, cases_Bool, length-take-le, Flag, raw, Role, Part, all_conditions}
 use Rattle.lexical_literal.proofs.Common.{Notation, has, notation_of, Condition, Grammar, ◌==◌, IsTrue, if◌then◌else◌, length, has_size, Allows, IsRefusal}
 use Rattle.lexical_literal.proofs.Common.{adding, bare, is_one_of, marks_of, number_separator_flags, requirement_flags, span_of, with_rules, IsValidUpTo}
-use Rattle.lexical_literal.proofs.Common.{IsWeaker, lets, place_of, blame, mask_of, unmet, group_allows, unsized, no_condition, role_at, part_of, Blame, ReadErrorKind}
+use Rattle.lexical_literal.proofs.Common.{IsWeaker, lets, place_of, blame, mask_of, unmet}
+use Rattle.lexical_literal.proofs.Common.{group_allows, unsized, no_condition, role_at, part_of, Blame, ReadErrorKind}
 use Rattle.lexical_literal.proofs.Common.{Group, Summary, sum_by}
 use Rattle.lexical_literal.specs.Cause.{IsCaseFlag, IsCause, IsRequirement, IsUnmet, Permits, RefusesAlone, binds, case_set, error_of, first_unmet}
 use Rattle.lexical_literal.specs.Cause.{is_at, lowest, requiring, tail_of}

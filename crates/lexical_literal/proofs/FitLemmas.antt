@@ -2,7 +2,8 @@
 use Rattle.lexical_literal.proofs.Common.{ℕ, ◌≡◌, ◌≤◌, ◌+◌, ◌-◌, inl, inr, Bool, true, false, not, ◌&&◌, ◌||◌, nat_lt, List, [], ◌∷◌, ◌++◌, Option, Some, None}
 use Rattle.lexical_literal.proofs.Common.{refl, sym, ap, subst, ◌∙◌, arith, zero, suc, false≢true, and_parts, and_from, cases_Bool, or_left, or_right}
 use Rattle.lexical_literal.proofs.Common.{nat_tests, list_any, separators_in, Role, Part, Literal, Reads, Notation, ◌==◌, if◌then◌else◌, nat_le, append_assoc}
-use Rattle.lexical_literal.proofs.Common.{IsFront, has_size, has_sizes, HasRoles, HasSizes, IsReady, first_group, group_allows, group_after, grow, grown, unsized}
+use Rattle.lexical_literal.proofs.Common.{IsFront, has_size, has_sizes, HasRoles, HasSizes, IsReady}
+use Rattle.lexical_literal.proofs.Common.{first_group, group_allows, group_after, grow, grown, unsized}
 use Rattle.lexical_literal.proofs.Common.{admits, after, after_mark, gap_fits, has_digit, is_open, is_signed, lacks_prefix, may_follow, part_of, role_at, walk}
 use Rattle.lexical_literal.proofs.Common.{start, takes, takes_in, Group, Stage, Summary}
 use Rattle.lexical_literal.specs.Groups.{higher, inner_fits, last_fits}

@@ -3,7 +3,8 @@ use Rattle.lexical_literal.proofs.Common.{ℕ, ◌≡◌, ◌+◌, inl, inr, Boo
 use Rattle.lexical_literal.proofs.Common.{get_or, take, refl, sym, ap, subst, ◌∙◌, arith, false≢true, and_parts, cases_Bool, eqb-true, or_left, or_right}
 use Rattle.lexical_literal.proofs.Common.{length-take-le, Flag, separators_in, signs, Role, Part, Literal, IsSpelled, Reads, is_absent, is_none_or_one}
 use Rattle.lexical_literal.proofs.Common.{is_none_or_prefix, text_of, Notation, ◌==◌, if◌then◌else◌, IsTrue, length, is_one_of, requirement_flags, has_size}
-use Rattle.lexical_literal.proofs.Common.{has_sizes, AllIn, run_byte, HasRoles, HasSizes, first_group, group_allows, group_after, grow, grown, unsized, role_at, Group}
+use Rattle.lexical_literal.proofs.Common.{has_sizes, AllIn, run_byte, HasRoles, HasSizes, first_group}
+use Rattle.lexical_literal.proofs.Common.{group_allows, group_after, grow, grown, unsized, role_at, Group}
 use Rattle.lexical_literal.specs.Groups.{is_grouped}
 use Rattle.lexical_literal.specs.Additions.GroupSize.{follows, is_idle, next_part}
 use Rattle.std.proofs.lemmas.List.{drop_more, get_or-take}

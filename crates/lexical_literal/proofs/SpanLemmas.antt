@@ -1,6 +1,7 @@
 -- The bytes to show for a text that is refused are of the text.
 use Rattle.lexical_literal.proofs.Common.{ℕ, ◌≡◌, ◌≤◌, ◌+◌, List, [], ◌∷◌, take, Option, None, Some, get_or, sym, subst, arith, length-take-le, take_more}
-use Rattle.lexical_literal.proofs.Common.{ByteSet, Flag, Notation, notation_of, Condition, Grammar, common_steps, length, if◌then◌else◌, IsRefusal, index_behind}
+use Rattle.lexical_literal.proofs.Common.{ByteSet, Flag, Notation, notation_of, Condition}
+use Rattle.lexical_literal.proofs.Common.{Grammar, common_steps, length, if◌then◌else◌, IsRefusal, index_behind}
 use Rattle.lexical_literal.proofs.Common.{marks_of, span_of, ReadErrorKind, Refusal}
 use Rattle.lexical_literal.specs.Cause.{first_in, wrong_end}
 use Rattle.std.proofs.Math.Seq.{take-length}

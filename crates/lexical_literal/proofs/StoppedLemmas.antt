@@ -4,7 +4,8 @@ use Rattle.lexical_literal.proofs.Common.{replicate, take, drop, Some, None, ref
 use Rattle.lexical_literal.proofs.Common.{and_parts, cases_Bool, cases_lt, false_from_ne_true, slice_get-get_or, length-take-le, take_more, take_all, Notation}
 use Rattle.lexical_literal.proofs.Common.{Literal, IsLiteral, Reads, Role, common_steps, if◌then◌else◌, length, append_assoc, count, cuts_of, role_at, walk}
 use Rattle.lexical_literal.proofs.Common.{step, is_accepted, part_of, start, no_cuts, HasLengths, Allows, IsFront, IsValidUpTo, NoFront, NoLiteral, ReadsFront}
-use Rattle.lexical_literal.proofs.Common.{IsCountedFront, IsMeasured, IsStopped, first_group, group_allows, group_after, grow, grown, unsized, has_sizes, HasRoles}
+use Rattle.lexical_literal.proofs.Common.{IsCountedFront, IsMeasured, IsStopped, first_group, group_allows}
+use Rattle.lexical_literal.proofs.Common.{group_after, grow, grown, unsized, has_sizes, HasRoles}
 use Rattle.lexical_literal.proofs.Common.{HasSizes, IsReady, IsAt, Found, Stopped, Group, Summary}
 use Rattle.lexical_literal.specs.Additions.Step.{is_complete, tally}
 use Rattle.lexical_literal.specs.Additions.Stop.{HasBegun, HasFound, IsFronted, IsLongest, IsUnderway}

@@ -1,5 +1,6 @@
 -- The first form that reads the text, or the form whose error is that of the list.
-use Rattle.lexical_forms.proofs.Common.{ℕ, ◌≡◌, ◌+◌, IfSome, IsSomeAnd, None, Option, length-take-le, take, refl, sym, subst, arith, slice_get, All-more, notation_of}
+use Rattle.lexical_forms.proofs.Common.{ℕ, ◌≡◌, ◌+◌, IfSome, IsSomeAnd, None, Option, length-take-le}
+use Rattle.lexical_forms.proofs.Common.{take, refl, sym, subst, arith, slice_get, All-more, notation_of}
 use Rattle.lexical_forms.proofs.Common.{FormList, Grammar, NoForm, NoLiteral, Stopped}
 use Rattle.lexical_forms.specs.Additions.Forms.{IsBehind, IsLed, IsRefusedAt}
 use Rattle.lexical_forms.specs.declared.list.Furthest.{Furthest}
