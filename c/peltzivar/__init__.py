@@ -1655,8 +1655,8 @@ class _Language(_Several, _Named):
     `forms` has the same forms, with the syntax of each by its name, and the spellings of NaN and infinity. In the
     repository, docs/LANGUAGES.md describes each language, with its standard, and what no format can accept.
 
-    Numbers have a sign in CSS, CSV_DE, CSV_EN, FORTRAN, JSON, RUBY, SQL, SWIFT, TOML, XML_SCHEMA, YAML and YAML_1_1. In
-    the other languages, `-` is an operator: they refuse `-5`, so read what is behind it.
+    Numbers have a sign in CSS, CSV_DE, CSV_EN, FORTRAN, JSON, JSON5, NIM, RUBY, SQL, SWIFT, TOML, XML_SCHEMA, YAML and
+    YAML_1_1. In the other languages, `-` is an operator: they refuse `-5`, so read what is behind it.
     """
 
     def __init__(self, name: str) -> None:

@@ -79,7 +79,7 @@ class Columns(unittest.TestCase):
         cells, german = ["1.234,5", "-0,07", None, "1,999", "x", "NaN", "9" * 17, "-92233720368547758,08"], Language.CSV_DE
         values, wrong, missing = german.column(cells, int, errors="coerce", fill=-1, scale=2)
         self.assertEqual((values.typecode, values.tolist(), missing), ("q", [123450, -7, -1, -1, -1, -1, -1, -(2**63)], (2,)))
-        self.assertEqual([str(it)[:9] for it in wrong], ["not whole", "unexpecte", "unexpecte", "above the"])
+        self.assertEqual([str(it)[:10] for it in wrong], ["not whole ", "unexpected", "unexpected", "above the "])
         self.assertRegex(str(Language.TOML.column(["inf"], int, errors="coerce", fill=0, scale=2).wrong[0]), "^NaN or infinity")
         data, offsets = b"1,5-7x9", array("i", [0, 3, 5, 6, 99, 6, 7])
         self.assertEqual(german.column((data, offsets), int, errors="coerce", fill=0, scale=1).values.tolist(), [15, -70, 0, 0, 0, 90])
